@@ -1,10 +1,10 @@
 -- Every nucleolus has the shares of payments over another denominator, so it is payments.
-use Rattle.std.proofs.Common.{◌≡◌, ℕ, zero, suc, ◌<◌, ◌≤◌, ◌^◌, List, length, get_or}
-use Rattle.std.proofs.Common.{ℤ, pos, ◌+ℤ◌, ◌*ℤ◌, neg_ℤ, ◌≤ℤ◌, ◌<ℤ◌, sym, ap, ◌∙◌, arith}
-use lib.IntN.{*ℤ_comm, neg_ℤ-neg_ℤ}
+use Rattle.std.proofs.Common.{◌≡◌, ℕ, zero, suc, ◌<◌, ◌≤◌, ◌^◌, List, length, get_or, ℤ, pos, ◌+ℤ◌, ◌*ℤ◌, neg_ℤ, ◌≤ℤ◌}
+use Rattle.std.proofs.Common.{◌<ℤ◌, sym, ap, ◌∙◌, arith}
+use lib.IntN.{neg_ℤ-neg_ℤ}
 use Rattle.definitions.proofs.Families.{allocation_of}
-use Rattle.definitions.proofs.Ring.{linear, mul-leℤ, mul-le_cancelℤ, mul-lt_cancelℤ, mul-ltℤ, mul-cancelℤ}
-use Rattle.definitions.proofs.Ring.{mul-addℤ, mul-negℤ, neg-mulℤ, mul-zeroℤ, mul_left_commℤ}
+use Rattle.definitions.proofs.Ring.{linear, mul-leℤ, mul-le_cancelℤ, mul-lt_cancelℤ, mul-ltℤ, mul-cancelℤ, mul-zeroℤ}
+use Rattle.definitions.proofs.Ring.{mul_left_commℤ}
 use Rattle.definitions.specs.Sums.{sum_below}
 use Rattle.definitions.specs.Coalitions.{grand_coalition, sum_over}
 use Rattle.definitions.specs.Classes.{greatest_cost}
@@ -20,48 +20,32 @@ use Rattle.laws.proofs.LittlechildPayments.{group, all_pay, nobody_more}
 use Rattle.airport_laws.proofs.OrdersExist.{order_exists}
 use Rattle.airport_laws.proofs.PaymentsExist.{payments_exist}
 use Rattle.airport_laws.proofs.PaymentsAreTheNucleolus.{payments_nucleolus}
+use Rattle.theorems.proofs.Products.{products, sorted_products}
 
 -- ---- the same payments over another denominator
 
 module _ (n : ℕ) (c : ℕ → ℕ) (pay more : ℕ → ℤ) (p q : ℤ) (h : IsScheme n c pay p) (one : pos 1 ≤ℤ q)
     (same : (k : ℕ) → k < n → p *ℤ more k ≡ q *ℤ pay k) where
   p_positive : pos 0 <ℤ p
-  p_positive = let e = h.positive in omega (arith, linear, e)
+  p_positive = omega (arith, linear, h.positive)
 
   sums : (k : ℕ) → k ≤ n → p *ℤ sum_below k more ≡ q *ℤ sum_below k pay
   sums zero le = mul-zeroℤ p ∙ sym (mul-zeroℤ q)
-  sums (suc k) le =
-      omega (
-        arith,
-        linear,
-        sums k (omega arith),
-        same k (omega arith),
-        mul-addℤ p (sum_below k more) (more k),
-        mul-addℤ q (sum_below k pay) (pay k),
-      )
+  sums (suc k) le = omega (products, sums k (omega arith), same k (omega arith))
 
   -- p times q times a cost
   costs_times : (k : ℕ) → q *ℤ (p *ℤ pos (c k)) ≡ p *ℤ (q *ℤ pos (c k))
   costs_times k = mul_left_commℤ q p (pos (c k))
 
   with_own : (k : ℕ) → k < n → p *ℤ (sum_below (suc k) more +ℤ more k) ≡ q *ℤ (sum_below (suc k) pay +ℤ pay k)
-  with_own k lt =
-      omega (
-        arith,
-        linear,
-        sums (suc k) lt,
-        same k lt,
-        mul-addℤ p (sum_below (suc k) more) (more k),
-        mul-addℤ q (sum_below (suc k) pay) (pay k),
-      )
+  with_own k lt = omega (products, sums (suc k) lt, same k lt)
 
   scheme_over : IsScheme n c more q
   scheme_over = record {
     positive = one;
     least = λ k lt.
         mul-le_cancelℤ p (pos 0) (more k) p_positive
-        (let up = mul-leℤ q (pos 0) (pay k) (omega (arith, linear, one)) (h.least k lt) in
-        omega (arith, linear, up, same k lt, mul-zeroℤ p, mul-zeroℤ q));
+        (omega (products, mul-leℤ q (pos 0) (pay k) (omega (arith, linear, one)) (h.least k lt), same k lt));
     rises = λ j k lt le.
         mul-le_cancelℤ p (more j) (more k) p_positive
         (let up = mul-leℤ q (pay j) (pay k) (omega (arith, linear, one)) (h.rises j k lt le) in
@@ -73,10 +57,10 @@ module _ (n : ℕ) (c : ℕ → ℕ) (pay more : ℕ → ℤ) (p q : ℤ) (h : I
         omega (arith, linear, up, with_own k (omega arith), costs_times k));
     tight = λ k lt up.
         mul-cancelℤ p (sum_below (suc k) more +ℤ more k) (q *ℤ pos (c k)) p_positive
-        (with_own k (omega arith) ∙ ap (λ (z : ℤ). q *ℤ z) (h.tight k lt (risen k lt up)) ∙ costs_times k);
+        (with_own k (omega arith) ∙ ap (◌*ℤ◌ q) (h.tight k lt (risen k lt up)) ∙ costs_times k);
     all = λ k e.
         mul-cancelℤ p (sum_below n more) (q *ℤ pos (c k)) p_positive
-        (sums n (omega arith) ∙ ap (λ (z : ℤ). q *ℤ z) (h.all k e) ∙ costs_times k);
+        (sums n (omega arith) ∙ ap (◌*ℤ◌ q) (h.all k e) ∙ costs_times k);
   }
     where
       risen : (k : ℕ) → suc k < n → more k <ℤ more (suc k) → pay k <ℤ pay (suc k)
@@ -113,17 +97,7 @@ nucleolus_paid family costs at y o h =
     )
   where
     turned : (a b z p q : ℤ) → a *ℤ q ≡ b *ℤ p → a ≡ neg_ℤ z → p *ℤ neg_ℤ b ≡ q *ℤ z
-    turned a b z p q e f =
-        omega (
-          arith,
-          linear,
-          e,
-          ap (λ (u : ℤ). u *ℤ q) f,
-          neg-mulℤ z q,
-          mul-negℤ p b,
-          *ℤ_comm b p,
-          *ℤ_comm z q,
-        )
+    turned a b z p q e f = omega (sorted_products, e, ap (λ (u : ℤ). u *ℤ q) f)
 
 -- ---- the laws of payments
 

@@ -1,10 +1,10 @@
 -- Any players have an order by their numbers: the last player is put in behind all others of no greater number.
-use Rattle.std.proofs.Common.{◌≡◌, ◌⊎◌, ℕ, zero, suc, ◌+◌, ◌-◌, ◌*◌, ◌^◌, ◌<◌, ◌≤◌}
-use Rattle.std.proofs.Common.{cond, nat_lt, nat_eq, refl, sym, ap, ◌∙◌, inl, inr, arith, add-zero, add-suc}
+use Rattle.std.proofs.Common.{◌≡◌, ◌⊎◌, ℕ, zero, suc, ◌+◌, ◌-◌, ◌*◌, ◌^◌, ◌<◌, ◌≤◌, cond, nat_lt, nat_eq, refl, sym, ap}
+use Rattle.std.proofs.Common.{◌∙◌, inl, inr, arith, add-zero, add-suc}
 use Rattle.std.proofs.Math.Nat.{pow-suc, mul_comm}
 use Rattle.std.proofs.Math.Pow.{pow_pos}
-use Rattle.definitions.proofs.Cases.{less_or_last, less_same_or_greater, nat_lt-less, nat_lt-past}
-use Rattle.definitions.proofs.Cases.{nat_eq-same, nat_eq-other, suc-less_one, below_or_above}
+use Rattle.definitions.proofs.Cases.{less_or_last, less_same_or_greater, nat_lt-less, nat_lt-past, nat_eq-same}
+use Rattle.definitions.proofs.Cases.{nat_eq-other, suc-less_one, below_or_above}
 use Rattle.orders.specs.Orders.{front, IsOrder}
 
 -- ---- the place of the last player
@@ -12,8 +12,7 @@ use Rattle.orders.specs.Orders.{front, IsOrder}
 gap_up_to : (n : ℕ) (number at : ℕ → ℕ) (c : ℕ) → IsOrder n number at → (m : ℕ) → m ≤ n
     → (p : ℕ) × (p ≤ m) × ((k : ℕ) → k < p → number (at k) ≤ c)
     × ((k : ℕ) → p ≤ k → k < m → c ≤ number (at k))
-gap_up_to n number at c o zero le =
-    (0, omega arith, λ k lt. absurd (omega arith), λ k ge lt. absurd (omega arith))
+gap_up_to n number at c o zero le = (0, omega arith, λ k lt. absurd (omega arith), λ k ge lt. absurd (omega arith))
 gap_up_to n number at c o (suc m) le =
     let ih = gap_up_to n number at c o m (omega arith) in
     elim (below_or_above c (number (at m))) [
@@ -88,15 +87,13 @@ module _ (n : ℕ) (number at : ℕ → ℕ) (o : IsOrder n number at) (p : ℕ)
       cases (inl a) (inl b) =
           o.apart j k lt (omega arith) (sym (put-before at n p j a) ∙ same ∙ put-before at n p k b)
       cases (inl a) (inr (inl b)) =
-          let few = o.below j (omega arith) in
-          omega (arith, few, put-before at n p j a, put-here at n p k b, same)
+          omega (arith, o.below j (omega arith), put-before at n p j a, put-here at n p k b, same)
       cases (inl a) (inr (inr (h, le, is))) =
           o.apart j h (omega arith) (omega arith) (sym (put-before at n p j a) ∙ same ∙ to-behind k h le is)
       cases (inr (inl a)) (inl b) = omega arith
       cases (inr (inl a)) (inr (inl b)) = omega arith
       cases (inr (inl a)) (inr (inr (h, le, is))) =
-          let few = o.below h (omega arith) in
-          omega (arith, few, put-here at n p j a, to-behind k h le is, same)
+          omega (arith, o.below h (omega arith), put-here at n p j a, to-behind k h le is, same)
       cases (inr (inr (i, le, is))) (inl b) = omega arith
       cases (inr (inr (i, le, is))) (inr (inl b)) = omega arith
       cases (inr (inr (i, le, is))) (inr (inr (h, ge, here))) =
@@ -111,16 +108,14 @@ module _ (n : ℕ) (number at : ℕ → ℕ) (o : IsOrder n number at) (p : ℕ)
           let up = o.rising j k lt (omega arith) in
           omega (arith, up, ap number (put-before at n p j a), ap number (put-before at n p k b))
       cases (inl a) (inr (inl b)) =
-          let up = low j a in
-          omega (arith, up, ap number (put-before at n p j a), ap number (put-here at n p k b))
+          omega (arith, low j a, ap number (put-before at n p j a), ap number (put-here at n p k b))
       cases (inl a) (inr (inr (h, le, is))) =
           let up = o.rising j h (omega arith) (omega arith) in
           omega (arith, up, ap number (put-before at n p j a), ap number (to-behind k h le is))
       cases (inr (inl a)) (inl b) = absurd (omega arith)
       cases (inr (inl a)) (inr (inl b)) = absurd (omega arith)
       cases (inr (inl a)) (inr (inr (h, le, is))) =
-          let up = high h le (omega arith) in
-          omega (arith, up, ap number (put-here at n p j a), ap number (to-behind k h le is))
+          omega (arith, high h le (omega arith), ap number (put-here at n p j a), ap number (to-behind k h le is))
       cases (inr (inr (i, le, is))) (inl b) = absurd (omega arith)
       cases (inr (inr (i, le, is))) (inr (inl b)) = absurd (omega arith)
       cases (inr (inr (i, le, is))) (inr (inr (h, ge, here))) =
@@ -130,19 +125,13 @@ module _ (n : ℕ) (number at : ℕ → ℕ) (o : IsOrder n number at) (p : ℕ)
   front-before : (k : ℕ) → k ≤ p → front to k ≡ front at k
   front-before zero le = refl
   front-before (suc k) le =
-      let ih = front-before k (omega arith) in
-      let here = ap (λ (i : ℕ). 2 ^ i) (put-before at n p k (omega arith)) in
-      omega (arith, ih, here)
+      omega (arith, front-before k (omega arith), ap (λ (i : ℕ). 2 ^ i) (put-before at n p k (omega arith)))
 
   front-behind : (d : ℕ) → front to (suc (p + d)) ≡ front at (p + d) + 2 ^ n
   front-behind zero =
-      let ih = front-before p (omega arith) in
-      let here = ap (λ (i : ℕ). 2 ^ i) (put-here at n p p refl) in
-      rw add-zero (omega (arith, ih, here))
+      rw add-zero (omega (arith, front-before p (omega arith), ap (λ (i : ℕ). 2 ^ i) (put-here at n p p refl)))
   front-behind (suc d) =
-      let ih = front-behind d in
-      let here = ap (λ (i : ℕ). 2 ^ i) (put-behind at n p (p + d) (omega arith)) in
-      rw add-suc (omega (arith, ih, here))
+      rw add-suc (omega (arith, front-behind d, ap (λ (i : ℕ). 2 ^ i) (put-behind at n p (p + d) (omega arith))))
 
   to_full : front to (suc n) ≡ 2 ^ suc n - 1
   to_full =
@@ -150,8 +139,7 @@ module _ (n : ℕ) (number at : ℕ → ℕ) (o : IsOrder n number at) (p : ℕ)
       let sum = ap (λ (k : ℕ). front to (suc k)) (sym all) ∙ front-behind (n - p)
       ∙ ap (λ (k : ℕ). front at k + 2 ^ n) all in
       let double : 2 ^ suc n ≡ 2 * 2 ^ n = pow-suc 2 n ∙ mul_comm (2 ^ n) 2 in
-      let some = pow_pos n in
-      omega (arith, sum, o.full, double, some)
+      omega (arith, sum, o.full, double, pow_pos n)
 
   one_more : IsOrder (suc n) number to
   one_more = record { below = to_below; apart = to_apart; rising = to_rising; full = to_full }

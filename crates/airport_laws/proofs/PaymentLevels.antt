@@ -1,7 +1,6 @@
 -- Of any payments there are the levels of all blocks, and these fit a certificate but for the size of its lists.
-use Rattle.std.proofs.Common.{◌≡◌, ℕ, zero, suc, ◌+◌, ◌-◌, ◌<◌, ◌≤◌, true, cond, nat_lt}
-use Rattle.std.proofs.Common.{List, [], ◌∷◌, ◌++◌, ℤ, pos, negsuc, ◌-ℤ◌, neg_ℤ}
-use Rattle.std.proofs.Common.{refl, ap, ◌∙◌, inl, inr, arith}
+use Rattle.std.proofs.Common.{◌≡◌, ℕ, zero, suc, ◌+◌, ◌-◌, ◌<◌, ◌≤◌, true, cond, nat_lt, List, [], ◌∷◌, ◌++◌, ℤ, pos}
+use Rattle.std.proofs.Common.{negsuc, ◌-ℤ◌, neg_ℤ, refl, ap, ◌∙◌, inl, inr, arith}
 use Rattle.std.proofs.lemmas.Int.{by_lt_z}
 use Rattle.definitions.proofs.Cases.{below_or_above, less_or_last, from_nat_lt}
 use Rattle.definitions.proofs.Ring.{linear}
@@ -26,14 +25,13 @@ module _ (n : ℕ) (c at : ℕ → ℕ) (pay : ℕ → ℤ) (den : ℤ) (h : IsS
   end_from (suc fuel) i k some within enough same = elim (below_or_above k n) [
     | inr ge ↦ (k, record { some = some; within = within; same = same; until = λ lt e. omega arith })
     | inl lt ↦
-        let up = h.rises i k some lt in
         by_lt_z (pay i) (pay k)
         (λ more. (
           k,
           record { some = some; within = within; same = same; until = λ _ e. omega (arith, linear, more, e) },
         ))
         (λ le.
-        let here : pay k ≡ pay i = omega (arith, linear, up, le) in
+        let here : pay k ≡ pay i = omega (arith, linear, h.rises i k some lt, le) in
         end_from fuel i (suc k) (omega arith) (omega arith) (omega arith)
         (λ j low high. elim (less_or_last j k high)
         [ inl less ↦ same j low less | inr last ↦ ap pay last ∙ here ]))
@@ -77,8 +75,7 @@ module _ (n : ℕ) (c at : ℕ → ℕ) (pay : ℕ → ℤ) (den : ℤ) (h : IsS
     | inr ge ↦ ([], i, refl, ge)
     | inl lt ↦
         let r = run_end i (omega arith) in
-        let some = r.1.some in
-        let rest = chain_from fuel r.0 (omega (arith, some)) in
+        let rest = chain_from fuel r.0 (omega (arith, r.1.some)) in
         let b = IsBlock-level i r.0 (omega arith) r.1 in
         (level_of i r.0 ∷ rest.0, rest.1, (r.0, b, rest.2), rest.3)
   ]

@@ -1,7 +1,7 @@
 -- Whatever shares are payments, the levels of their blocks certify them, so they are the nucleolus. Where there are no
 -- players, all shares are the same.
-use Rattle.std.proofs.Common.{◌≡◌, ℕ, ◌≤◌, List, length, get_or, ℤ, pos, neg_ℤ, ◌*ℤ◌}
-use Rattle.std.proofs.Common.{refl, sym, ap, ◌∙◌, inl, inr, arith}
+use Rattle.std.proofs.Common.{◌≡◌, ℕ, ◌≤◌, List, length, get_or, ℤ, pos, neg_ℤ, ◌*ℤ◌, refl, sym, ap, ◌∙◌, inl, inr}
+use Rattle.std.proofs.Common.{arith}
 use Rattle.definitions.proofs.Ring.{mul-zeroℤ}
 use Rattle.definitions.specs.Coalitions.{grand_coalition, sum_over}
 use Rattle.definitions.specs.Classes.{greatest_cost}
@@ -41,7 +41,7 @@ module _ (costs : List ℕ) (at : ℕ → ℕ) (pay : ℕ → ℤ) (x : Allocati
       let all = grand_coalition (length costs) in
       let worth = ap (λ (n : ℕ). neg_ℤ (pos (greatest_cost n (λ k. get_or costs k 0) all))) none in
       ap (λ (n : ℕ). sum_over n (share x) all) (p.players ∙ none)
-      ∙ sym (ap (λ (z : ℤ). x.den *ℤ z) worth ∙ mul-zeroℤ x.den)
+      ∙ sym (ap (◌*ℤ◌ x.den) worth ∙ mul-zeroℤ x.den)
 
   nobody_in_family : (family : Family) → InFamily family (game_of costs) x
   nobody_in_family Imputations =

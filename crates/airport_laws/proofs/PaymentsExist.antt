@@ -1,7 +1,7 @@
 -- In each order of the players by their costs there are payments: those of the scheme, looked up by place. Where there
 -- are no players, nobody pays.
-use Rattle.std.proofs.Common.{◌≡◌, ℕ, zero, suc, ◌<◌, ◌≤◌, cond, nat_eq, List, [], length, get_or, map}
-use Rattle.std.proofs.Common.{ℤ, pos, neg_ℤ, refl, sym, ◌∙◌, inl, inr, arith}
+use Rattle.std.proofs.Common.{◌≡◌, ℕ, zero, suc, ◌<◌, ◌≤◌, cond, nat_eq, List, [], length, get_or, map, ℤ, pos, neg_ℤ}
+use Rattle.std.proofs.Common.{refl, sym, ◌∙◌, inl, inr, arith}
 use Rattle.std.specs.List.{range_with_len}
 use Rattle.std.proofs.lemmas.List.FromFn.{get_or-map-range_with_len, length-map-range_with_len}
 use Rattle.definitions.proofs.Cases.{less_or_last, nat_eq-same, nat_eq-other}

@@ -1,6 +1,6 @@
 -- Littlechild's scheme has payments for any costs at any number of places: from block to block by the least term.
-use Rattle.std.proofs.Common.{◌≡◌, ℕ, zero, suc, ◌+◌, ◌-◌, ◌<◌, ◌≤◌, cond, nat_lt, ℤ, pos, ◌-ℤ◌, ◌*ℤ◌}
-use Rattle.std.proofs.Common.{refl, subst, inl, inr, arith}
+use Rattle.std.proofs.Common.{◌≡◌, ℕ, zero, suc, ◌+◌, ◌-◌, ◌<◌, ◌≤◌, cond, nat_lt, ℤ, pos, ◌-ℤ◌, ◌*ℤ◌, refl, subst, inl}
+use Rattle.std.proofs.Common.{inr, arith}
 use Rattle.std.proofs.lemmas.Int.{by_lt_z}
 use Rattle.definitions.proofs.Cases.{below_or_above, nat_lt-less, nat_lt-past}
 use Rattle.definitions.specs.Sums.{sum_below}
@@ -83,8 +83,7 @@ module _ (n : ℕ) (c : ℕ → ℕ) where
   next_exists pay den i lt =
       let paid = sum_below i pay in
       let least = least_term den paid i lt in
-      let from = least.3.term.from in
-      let place : least.0 ≡ i + (least.0 - i) = omega (arith, from) in (
+      let place : least.0 ≡ i + (least.0 - i) = omega (arith, least.3.term.from) in (
         least.0 - i,
         least.1,
         least.2,

@@ -1,13 +1,12 @@
 -- The Shapley total is minus the units of the player's cost, each over the number of those above it; and a number of
 -- players divides n!. By place the units are the steps.
-use Rattle.std.proofs.Common.{◌≡◌, ◌↔◌, ℕ, zero, suc, ◌-◌, ◌*◌, ◌/◌, ◌<◌, ◌≤◌}
-use Rattle.std.proofs.Common.{List, length, slice_index, ℤ, pos, ◌*ℤ◌, neg_ℤ}
-use Rattle.std.proofs.Common.{sym, ap, ◌∙◌, inl, inr, arith}
+use Rattle.std.proofs.Common.{◌≡◌, ◌↔◌, ℕ, zero, suc, ◌-◌, ◌*◌, ◌/◌, ◌<◌, ◌≤◌, List, length, slice_index, ℤ, pos, ◌*ℤ◌}
+use Rattle.std.proofs.Common.{neg_ℤ, sym, ap, ◌∙◌, inl, inr, arith}
 use Rattle.std.proofs.lemmas.Int.{ints}
 use Rattle.std.proofs.Math.Nat.{mul-div_cancel_left}
 use lib.IntN.{*ℤ_comm}
 use Rattle.definitions.proofs.Cases.{last_or_less}
-use Rattle.definitions.proofs.Ring.{linear, mul-cancelℤ, mul-negℤ, mul_left_commℤ}
+use Rattle.definitions.proofs.Ring.{mul-cancelℤ}
 use Rattle.definitions.proofs.Members.{sum_below-same, sum_below-times}
 use Rattle.definitions.specs.Sums.{sum_below}
 use Rattle.definitions.specs.Games.{Allocation, share}
@@ -20,6 +19,7 @@ use Rattle.shapley.proofs.Steps.{count-few, some_above}
 use Rattle.laws.proofs.SharesAddToAll.{factorial-positive}
 use Rattle.airport_laws.specs.Steps.{step, IsByStep}
 use Rattle.airport_laws.proofs.UnitsByPlace.{units_by_place}
+use Rattle.theorems.proofs.Products.{sorted_products}
 
 -- ---- a number of players divides n!
 
@@ -46,8 +46,7 @@ total_units : (costs : List ℕ) (i : ℕ) → i < length costs
     → shapley_total (game_of_costs costs) i ≡ neg_ℤ (units_below costs (factorial (length costs)) (slice_index costs i))
 total_units costs i lt =
     let n = length costs in
-    let e =
-    airport-shares costs i (factorial n) lt
+    let e = airport-shares costs i (factorial n) lt
     (λ u h. factorial-divided n (count (above (slice_index costs) u) n) (some_above costs i u lt h)
     (count-few (above (slice_index costs) u) n)) in
     mul-cancelℤ (pos (factorial n)) (shapley_total (game_of_costs costs) i)
@@ -63,8 +62,7 @@ module _ (costs : List ℕ) (at : ℕ → ℕ) (o : IsOrder (length costs) (slic
   share_of j = pos (step costs at j * (factorial n / (n - j)))
 
   total-at : (k : ℕ) → k < n → shapley_total (game_of_costs costs) (at k) ≡ neg_ℤ (sum_below (suc k) share_of)
-  total-at k lt =
-      total_units costs (at k) (o.below k lt) ∙ ap neg_ℤ (units_by_place costs at o (factorial n) k lt)
+  total-at k lt = total_units costs (at k) (o.below k lt) ∙ ap neg_ℤ (units_by_place costs at o (factorial n) k lt)
 
   -- the parts of a step are equal and add to the step
   parts-equal : (j : ℕ) → j < n
@@ -72,14 +70,11 @@ module _ (costs : List ℕ) (at : ℕ → ℕ) (o : IsOrder (length costs) (slic
   parts-equal j lt =
       let exact = factorial-divided n (n - j) (omega arith) (omega arith) in
       let whole = times_step (n - j) (step costs at j) (factorial n / (n - j)) (factorial n) exact in
-      mul_left_commℤ (pos (n - j)) x.den (share_of j)
-      ∙ ap (λ (z : ℤ). x.den *ℤ z) whole
-      ∙ mul_left_commℤ x.den (pos (factorial n)) (pos (step costs at j))
+      omega (sorted_products, ap (◌*ℤ◌ x.den) whole)
     where
       times_step : (k d q f : ℕ) → k * q ≡ f → pos k *ℤ pos (d * q) ≡ pos f *ℤ pos d
       times_step k d q f e =
-          let times = ap (λ (m : ℕ). m * d) e in
-          let same : k * (d * q) ≡ f * d = omega (arith, times) in
+          let same : k * (d * q) ≡ f * d = omega (arith, ap (λ (m : ℕ). m * d) e) in
           ap pos same
 
   steps-times : (k : ℕ) → sum_below (suc k) (λ j. x.den *ℤ share_of j) ≡ x.den *ℤ sum_below (suc k) share_of
@@ -98,8 +93,7 @@ module _ (costs : List ℕ) (at : ℕ → ℕ) (o : IsOrder (length costs) (slic
   }
     where
       paid : (s f d t z : ℤ) → s *ℤ f ≡ d *ℤ t → t ≡ neg_ℤ z → f *ℤ neg_ℤ s ≡ d *ℤ z
-      paid s f d t z e g =
-          omega (arith, linear, e, ap (λ (y : ℤ). d *ℤ y) g, mul-negℤ f s, mul-negℤ d z, *ℤ_comm s f)
+      paid s f d t z e g = omega (sorted_products, e, ap (◌*ℤ◌ d) g)
 
   part-is : (h : IsByStep costs at x) → (j : ℕ) → j < n → h.part j ≡ x.den *ℤ share_of j
   part-is h j lt =
@@ -110,8 +104,7 @@ module _ (costs : List ℕ) (at : ℕ → ℕ) (o : IsOrder (length costs) (slic
   from_steps h = ((h.players, h.positive), each)
     where
       owed : (s f d t z : ℤ) → f *ℤ neg_ℤ s ≡ d *ℤ z → t ≡ neg_ℤ z → s *ℤ f ≡ d *ℤ t
-      owed s f d t z e g =
-          omega (arith, linear, e, ap (λ (y : ℤ). d *ℤ y) g, mul-negℤ f s, mul-negℤ d z, *ℤ_comm s f)
+      owed s f d t z e g = omega (sorted_products, e, ap (◌*ℤ◌ d) g)
 
       at_place : (k : ℕ) → k < n
           → share x (at k) *ℤ pos (factorial n) ≡ x.den *ℤ shapley_total (game_of_costs costs) (at k)

@@ -19,10 +19,7 @@ part_of (suc (suc j)) = pos 36
 
 steps_are_equal : (j : ℕ) → j < 3
     → pos (3 - j) *ℤ part_of j ≡ pos (factorial 3) *ℤ (by_step.den *ℤ pos (step costs (λ k. k) j))
-steps_are_equal zero lt = refl
-steps_are_equal (suc zero) lt = refl
-steps_are_equal (suc (suc zero)) lt = refl
-steps_are_equal (suc (suc (suc j))) lt = absurd (omega arith)
+steps_are_equal j lt = grind arith
 
 met : IsByStep costs (λ k. k) by_step
 met = record {
@@ -34,10 +31,7 @@ met = record {
 }
   where
     at : (k : ℕ) → k < 3 → pos (factorial 3) *ℤ pays by_step k ≡ sum_below (suc k) part_of
-    at zero lt = refl
-    at (suc zero) lt = refl
-    at (suc (suc zero)) lt = refl
-    at (suc (suc (suc k))) lt = absurd (omega arith)
+    at k lt = grind arith
 
 -- a third of the first step is 2/3, and not 1
 not_met : ¬ IsByStep costs (λ k. k) payments

@@ -1,8 +1,8 @@
--- What a player pays for the units of its cost, place by place: between two costs that follow each other, all from the
+-- What a player pays for the units of its cost, place by place: between two costs that follow each other, all from
+-- the
 -- second one's place on are above each unit.
-use Rattle.std.proofs.Common.{◌≡◌, ℕ, zero, suc, ◌+◌, ◌-◌, ◌*◌, ◌/◌, ◌<◌, ◌≤◌, Bool, true, false, cond}
-use Rattle.std.proofs.Common.{nat_lt, List, length, slice_index, ℤ, pos, ◌+ℤ◌}
-use Rattle.std.proofs.Common.{refl, sym, ap, ◌∙◌, inl, inr, arith}
+use Rattle.std.proofs.Common.{◌≡◌, ℕ, zero, suc, ◌+◌, ◌-◌, ◌*◌, ◌/◌, ◌<◌, ◌≤◌, Bool, cond, nat_lt, List, length}
+use Rattle.std.proofs.Common.{slice_index, ℤ, pos, ◌+ℤ◌, refl, sym, ap, ◌∙◌, inl, inr, arith}
 use Rattle.std.proofs.lemmas.Int.{ints}
 use Rattle.definitions.proofs.Cases.{less_or_last, below_or_above, same_or_less, nat_lt-less, nat_lt-past}
 use Rattle.definitions.proofs.Ring.{linear, mul-oneℤ}
@@ -14,6 +14,7 @@ use Rattle.shapley.specs.Layers.{above, count, units_below}
 use Rattle.shapley.proofs.Steps.{units_more, sum_below-constant}
 use Rattle.talmud.proofs.Sharing.{sum-places}
 use Rattle.airport_laws.specs.Steps.{cost_before, step}
+use Rattle.theorems.proofs.Products.{products}
 
 -- ---- how many are above
 
@@ -25,8 +26,7 @@ count-sum m zero = refl
 count-sum m (suc n) = one_either (m n) (count m n) (sum_below n (λ i. one_if (m i))) (count-sum m n)
   where
     one_either : (b : Bool) (c : ℕ) (z : ℤ) → pos c ≡ z → pos (cond b (suc c) c) ≡ z +ℤ one_if b
-    one_either true c z e = omega (arith, ints, e)
-    one_either false c z e = omega (arith, ints, e)
+    one_either b c z e = grind (arith, ints)
 
 -- where the players from place k on are those above u
 count-past : (n : ℕ) (cost at : ℕ → ℕ) → IsOrder n cost at → (u k : ℕ) → k ≤ n
@@ -40,7 +40,8 @@ count-past n cost at o u k le low high =
     let parts = ap (λ (m : ℕ). sum_below m f) (sym whole) ∙ sum_below-split k d f in
     let none = sum_below-zero k f (λ j lt. none_at j (low j lt)) in
     let ones =
-    sum_below-same d (λ j. f (k + j)) (λ j. pos 1) (λ j lt. one_at (k + j) (high (k + j) (omega arith) (omega arith)))
+    sum_below-same d (λ j. f (k + j)) (λ j. pos 1)
+    (λ j lt. one_at (k + j) (high (k + j) (omega arith) (omega arith)))
     ∙ sum_below-constant d (pos 1) ∙ mul-oneℤ (pos d) in
     omega (arith, ints, all, parts, none, ones)
   where
@@ -53,8 +54,7 @@ count-past n cost at o u k le low high =
 -- ---- the units up to a place
 
 times_same : (d q r l : ℕ) → (1 ≤ d → q ≡ r) → d * (l / q) ≡ d * (l / r)
-times_same zero q r l h = omega arith
-times_same (suc d) q r l h = ap (λ (k : ℕ). suc d * (l / k)) (h (omega arith))
+times_same d q r l h = grind arith
 
 module _ (costs : List ℕ) (at : ℕ → ℕ) (o : IsOrder (length costs) (slice_index costs) at) (l : ℕ) where
   abbrev cost : ℕ → ℕ
@@ -68,8 +68,7 @@ module _ (costs : List ℕ) (at : ℕ → ℕ) (o : IsOrder (length costs) (slic
   ]
 
   before-rises : (k : ℕ) → k < length costs → cost_before costs at k ≤ cost (at k)
-  before-rises zero lt = omega arith
-  before-rises (suc k) lt = o.rising k (suc k) (omega arith) lt
+  before-rises k lt = grind arith
 
   behind : (k m : ℕ) → k ≤ m → m < length costs → cost (at k) ≤ cost (at m)
   behind k m le lt = elim (same_or_less k m le) [
@@ -90,17 +89,20 @@ module _ (costs : List ℕ) (at : ℕ → ℕ) (o : IsOrder (length costs) (slic
       → units_below costs l (cost (at k))
       ≡ units_below costs l (cost_before costs at k) +ℤ pos (step costs at k * (l / (length costs - k)))
   one_step k lt =
-      units_more costs l (cost_before costs at k) (cost (at k)) (before-rises k lt) (λ j hj more. upto k j lt hj more)
-      ∙ ap (λ (m : ℕ). units_below costs l (cost_before costs at k) +ℤ pos m)
-      (times_same (step costs at k) (count (above (slice_index costs) (cost_before costs at k)) (length costs))
-      (length costs - k) l
-      (λ some. count-past (length costs) (slice_index costs) at o (cost_before costs at k) k (omega arith)
-      (λ j less. before-low k j lt less) (λ j le h. (let up = behind k j le h in omega (arith, up, some)))))
+      omega (
+        products,
+        units_more costs l (cost_before costs at k) (cost (at k)) (before-rises k lt)
+            (λ j hj more. upto k j lt hj more),
+        ap (λ (m : ℕ). units_below costs l (cost_before costs at k) +ℤ pos m)
+            (times_same (step costs at k) (count (above (slice_index costs) (cost_before costs at k)) (length costs))
+            (length costs - k) l
+            (λ some. count-past (length costs) (slice_index costs) at o (cost_before costs at k) k (omega arith)
+            (λ j less. before-low k j lt less)
+            (λ j le h. (let up = behind k j le h in omega (arith, up, some))))),
+      )
 
   pub units_by_place : (k : ℕ) → k < length costs
-      → units_below costs l (cost (at k)) ≡ sum_below (suc k) (λ j. pos (step costs at j * (l / (length costs - j))))
+      → units_below costs l (cost (at k))
+      ≡ sum_below (suc k) (λ j. pos (step costs at j * (l / (length costs - j))))
   units_by_place zero lt = one_step zero lt
-  units_by_place (suc k) lt =
-      let ih = units_by_place k (omega arith) in
-      let here = one_step (suc k) lt in
-      omega (arith, linear, ih, here)
+  units_by_place (suc k) lt = omega (arith, linear, units_by_place k (omega arith), one_step (suc k) lt)

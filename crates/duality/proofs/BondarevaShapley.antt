@@ -1,16 +1,13 @@
 -- Every game has a core point or a balanced collection of excess worth, by Farkas's lemma: the shares are the unknowns,
 -- each coalition asks for its worth, and that of all asks for no more. The factors of a contradiction are the weights.
-use Rattle.std.proofs.Common.{◌≡◌, ℕ, zero, suc, ◌+◌, ◌-◌, ◌^◌, ◌<◌, ◌≤◌, Bool}
-use Rattle.std.proofs.Common.{true, false}
-use Rattle.std.proofs.Common.{cond, List, [], ◌∷◌, length, slice_index_or, ℤ, pos, neg_ℤ, ◌+ℤ◌}
-use Rattle.std.proofs.Common.{◌*ℤ◌, ◌<ℤ◌, ◌≤ℤ◌}
-use Rattle.std.proofs.Common.{int_lt, refl, sym, ap, ◌∙◌, inl, inr, arith, nat_eq, if◌then◌else◌}
+use Rattle.std.proofs.Common.{◌≡◌, ℕ, zero, suc, ◌+◌, ◌-◌, ◌^◌, ◌<◌, ◌≤◌, Bool, cond, List, [], ◌∷◌, length}
+use Rattle.std.proofs.Common.{slice_index_or, ℤ, pos, neg_ℤ, ◌+ℤ◌, ◌*ℤ◌, ◌<ℤ◌, ◌≤ℤ◌, int_lt, refl, sym, ap, ◌∙◌, inl}
+use Rattle.std.proofs.Common.{inr, arith, nat_eq, if◌then◌else◌}
 use Rattle.std.specs.List.{AllByRecursion}
 use Rattle.std.proofs.lemmas.Int.{ints, by_lt_z}
-use Rattle.definitions.proofs.Ring.{linear, mul-zeroℤ, zero-mulℤ, mul-oneℤ, one-mulℤ, neg-mulℤ, mul-negℤ}
-use Rattle.definitions.proofs.Members.{has_player-empty, sum_below-same, sum_below-times}
-use Rattle.definitions.proofs.Members.{sum_below-zero, sum_below-front, sum_over-grand_coalition}
-use Rattle.definitions.proofs.Members.{sum_below-nonnegative, times_bit}
+use Rattle.definitions.proofs.Ring.{linear, mul-zeroℤ, zero-mulℤ, mul-oneℤ, one-mulℤ}
+use Rattle.definitions.proofs.Members.{has_player-empty, sum_below-same, sum_below-times, sum_below-zero}
+use Rattle.definitions.proofs.Members.{sum_below-front, sum_over-grand_coalition, sum_below-nonnegative, times_bit}
 use Rattle.definitions.proofs.SumsOver.{sum_over-same}
 use Rattle.definitions.proofs.Masks.{grand_coalition-within}
 use Rattle.definitions.proofs.Cases.{nat_eq-same, nat_eq-less, less_or_last}
@@ -24,6 +21,7 @@ use Rattle.theorems.proofs.Bondareva.{collection_blocks}
 use Rattle.definitions.proofs.SomeMembers.{some_member}
 use Rattle.duality.proofs.CommonDivisors.{IsUnreduced, reduced}
 use Rattle.duality.proofs.Farkas.{farkas}
+use Rattle.theorems.proofs.Products.{products}
 
 -- ---- what the coalitions ask for
 
@@ -40,8 +38,7 @@ abbrev wanted : Game → ℕ → ℤ
 wanted g s = if nat_eq s (2 ^ g.players) then neg_ℤ (g.worth (grand_coalition g.players)) else g.worth s
 
 pub member_times : (b : Bool) (z : ℤ) → cond b (pos 1) (pos 0) *ℤ z ≡ cond b z (pos 0)
-member_times true z = one-mulℤ z
-member_times false z = zero-mulℤ z
+member_times b z = grind (arith, one-mulℤ, zero-mulℤ)
 
 asked_members : (n s : ℕ) (x : ℕ → ℤ) → s < 2 ^ n → sum_below n (λ i. asked n s i *ℤ x i) ≡ sum_over n x s
 asked_members n s x h =
@@ -50,17 +47,9 @@ asked_members n s x h =
 
 asked_all : (n : ℕ) (x : ℕ → ℤ) → sum_below n (λ i. asked n (2 ^ n) i *ℤ x i) ≡ neg_ℤ (sum_below n x)
 asked_all n x =
-    let same =
-    sum_below-same n (λ i. asked n (2 ^ n) i *ℤ x i) (λ i. neg_ℤ (pos 1) *ℤ x i)
+    let same = sum_below-same n (λ i. asked n (2 ^ n) i *ℤ x i) (λ i. neg_ℤ (pos 1) *ℤ x i)
     (λ i lt. rw (nat_eq-same (2 ^ n)) refl) in
-    omega (
-      arith,
-      linear,
-      same,
-      sum_below-times n x (neg_ℤ (pos 1)),
-      neg-mulℤ (pos 1) (sum_below n x),
-      one-mulℤ (sum_below n x),
-    )
+    omega (products, same, sum_below-times n x (neg_ℤ (pos 1)))
 
 wanted_of : (g : Game) (s : ℕ) → s < 2 ^ g.players → wanted g s ≡ g.worth s
 wanted_of g s h = rw (nat_eq-less s (2 ^ g.players) h) refl
@@ -101,26 +90,17 @@ core_point g x q meets = (
   where
     low : (s : ℕ) → s < 2 ^ g.players → (q *ℤ g.worth s) ≤ℤ sum_over g.players x s
     low s lt =
-        omega (
-          arith,
-          linear,
-          meets.1 s (omega arith),
-          asked_members g.players s x lt,
-          ap (λ (z : ℤ). q *ℤ z) (wanted_of g s lt),
-        )
+        omega (products, meets.1 s (omega arith), asked_members g.players s x lt, ap (◌*ℤ◌ q) (wanted_of g s lt))
 
     efficient : amount (point g.players x q) (grand_coalition g.players) ≡ q *ℤ g.worth (grand_coalition g.players)
     efficient =
         let all = grand_coalition g.players in
-        let high = meets.1 (2 ^ g.players) (omega arith) in
         omega (
-          arith,
-          linear,
+          products,
           low all (grand_coalition-within g.players),
-          high,
+          meets.1 (2 ^ g.players) (omega arith),
           asked_all g.players x,
-          ap (λ (z : ℤ). q *ℤ z) (wanted_all g),
-          mul-negℤ q (g.worth all),
+          ap (◌*ℤ◌ q) (wanted_all g),
           sum_over-grand_coalition g.players x,
           amount_point g.players x q all,
         )
@@ -139,8 +119,7 @@ collected_ascends w low j (suc c) h =
   where
     ascends_either : (b : Bool) → AscendsFrom j (collected w (j + 1) c) → AscendsFrom low (collected w (j + 1) c)
         → AscendsFrom low (cond b ((j, w j) ∷ collected w (j + 1) c) (collected w (j + 1) c))
-    ascends_either true taken left = (h, taken)
-    ascends_either false taken left = left
+    ascends_either b taken left = grind arith
 
 collected_within : (w : ℕ → ℤ) (j c n : ℕ) → j + c ≤ n → AllByRecursion (λ (p : ℕ × ℤ). p.0 < n) (collected w j c)
 collected_within w j zero n h = tt
@@ -149,8 +128,7 @@ collected_within w j (suc c) n h = within_either (int_lt (pos 0) (w j)) (collect
     within_either : (b : Bool) → AllByRecursion (λ (p : ℕ × ℤ). p.0 < n) (collected w (j + 1) c)
         → AllByRecursion (λ (p : ℕ × ℤ). p.0 < n)
         (cond b ((j, w j) ∷ collected w (j + 1) c) (collected w (j + 1) c))
-    within_either true ih = (omega arith, ih)
-    within_either false ih = ih
+    within_either b ih = grind arith
 
 collected_positive : (w : ℕ → ℤ) (j c : ℕ) → AllByRecursion (λ (p : ℕ × ℤ). pos 1 ≤ℤ p.1) (collected w j c)
 collected_positive w j zero = tt
@@ -160,16 +138,14 @@ collected_positive w j (suc c) = positive_either (int_lt (pos 0) (w j)) refl (co
         → AllByRecursion (λ (p : ℕ × ℤ). pos 1 ≤ℤ p.1) (collected w (j + 1) c)
         → AllByRecursion (λ (p : ℕ × ℤ). pos 1 ≤ℤ p.1)
         (cond b ((j, w j) ∷ collected w (j + 1) c) (collected w (j + 1) c))
-    positive_either true e ih = (omega (arith, ints, e), ih)
-    positive_either false e ih = ih
+    positive_either b e ih = grind (arith, ints)
 
 collected_sum : (f w : ℕ → ℤ) (j c : ℕ) → ((s : ℕ) → s < j + c → pos 0 ≤ℤ w s)
     → weighted_sum f (collected w j c) ≡ sum_below c (λ t. w (j + t) *ℤ f (j + t))
 collected_sum f w j zero low = refl
 collected_sum f w j (suc c) low =
     let ih = collected_sum f w (j + 1) c (λ s h. low s (omega arith)) in
-    let moved =
-    sum_below-same c (λ t. w (j + 1 + t) *ℤ f (j + 1 + t)) (λ t. w (j + suc t) *ℤ f (j + suc t))
+    let moved = sum_below-same c (λ t. w (j + 1 + t) *ℤ f (j + 1 + t)) (λ t. w (j + suc t) *ℤ f (j + suc t))
     (λ t h. ap (λ (s : ℕ). w s *ℤ f s) (shift t)) in
     let first : w (j + 0) *ℤ f (j + 0) ≡ w j *ℤ f j = ap (λ (s : ℕ). w s *ℤ f s) (omega arith) in
     sum_either (int_lt (pos 0) (w j)) refl ∙ ap (λ (z : ℤ). w j *ℤ f j +ℤ z) (ih ∙ moved)
@@ -182,10 +158,7 @@ collected_sum f w j (suc c) low =
     sum_either : (b : Bool) → int_lt (pos 0) (w j) ≡ b
         → weighted_sum f (cond b ((j, w j) ∷ collected w (j + 1) c) (collected w (j + 1) c))
         ≡ w j *ℤ f j +ℤ weighted_sum f (collected w (j + 1) c)
-    sum_either true e = refl
-    sum_either false e =
-        let none : w j ≡ pos 0 = omega (arith, ints, e, low j (omega arith)) in
-        omega (arith, linear, ap (λ (z : ℤ). z *ℤ f j) none, zero-mulℤ (f j))
+    sum_either b e = grind (arith, ints, low, zero-mulℤ)
 
 pub weights_at : (ps : List (ℕ × ℤ)) (i : ℕ) → weight_at ps i ≡ weighted_sum (λ s. member s i) ps
 weights_at [] i = refl
@@ -197,16 +170,13 @@ without_empty : (n : ℕ) (f w : ℕ → ℤ) → ((s : ℕ) → s < 2 ^ n → p
 without_empty n f w low none =
     let some = grand_coalition-within n in
     let e : 2 ^ n ≡ suc (2 ^ n - 1) = omega (arith, some) in
-    let moved =
-    sum_below-same (2 ^ n - 1) (λ t. w (1 + t) *ℤ f (1 + t)) (λ t. w (suc t) *ℤ f (suc t))
+    let moved = sum_below-same (2 ^ n - 1) (λ t. w (1 + t) *ℤ f (1 + t)) (λ t. w (suc t) *ℤ f (suc t))
     (λ t h. ap (λ (s : ℕ). w s *ℤ f s) (shift t)) in
-    let whole = ap (λ (m : ℕ). sum_below m (λ s. w s *ℤ f s)) e in
     omega (
-      arith,
-      linear,
+      products,
       collected_sum f w 1 (2 ^ n - 1) (λ s h. low s (omega (arith, some))),
       moved,
-      whole,
+      ap (λ (m : ℕ). sum_below m (λ s. w s *ℤ f s)) e,
       sum_below-front (2 ^ n - 1) (λ s. w s *ℤ f s),
       none,
     )
@@ -226,8 +196,7 @@ one_of_sum (suc m) s f low lt = elim (less_or_last s m lt) [
 ]
 
 member_low : (b : Bool) (z : ℤ) → pos 0 ≤ℤ z → pos 0 ≤ℤ (z *ℤ cond b (pos 1) (pos 0))
-member_low true z h = omega (arith, linear, h, mul-oneℤ z)
-member_low false z h = omega (arith, linear, mul-zeroℤ z)
+member_low b z h = grind (arith, linear, mul-oneℤ, mul-zeroℤ)
 
 module _ (g : Game) (nobody : g.worth 0 ≡ pos 0) (w : ℕ → ℤ)
     (c : Contradicts (suc (2 ^ g.players)) g.players (asked g.players) (wanted g) w) where
@@ -242,27 +211,23 @@ module _ (g : Game) (nobody : g.worth 0 ≡ pos 0) (w : ℕ → ℤ)
 
   balance : (i : ℕ) → i < n → sum_below (2 ^ n) (λ s. w s *ℤ member s i) ≡ k
   balance i lt =
-      let same =
-      sum_below-same (2 ^ n) (λ s. w s *ℤ asked n s i) (λ s. w s *ℤ member s i)
-      (λ s h. ap (λ (z : ℤ). w s *ℤ z) (rw (nat_eq-less s (2 ^ n) h) refl)) in
+      let same = sum_below-same (2 ^ n) (λ s. w s *ℤ asked n s i) (λ s. w s *ℤ member s i)
+      (λ s h. ap (◌*ℤ◌ (w s)) (rw (nat_eq-less s (2 ^ n) h) refl)) in
       let last : asked n (2 ^ n) i ≡ neg_ℤ (pos 1) = rw (nat_eq-same (2 ^ n)) refl in
-      omega (arith, linear, c.1 i lt, same, ap (λ (z : ℤ). k *ℤ z) last, mul-negℤ k (pos 1), mul-oneℤ k)
+      omega (products, c.1 i lt, same, ap (◌*ℤ◌ k) last)
 
   excess : (k *ℤ g.worth (grand_coalition n)) <ℤ sum_below (2 ^ n) (λ s. w s *ℤ g.worth s)
   excess =
-      let same =
-      sum_below-same (2 ^ n) (λ s. w s *ℤ wanted g s) (λ s. w s *ℤ g.worth s)
-      (λ s h. ap (λ (z : ℤ). w s *ℤ z) (wanted_of g s h)) in
-      omega
-      (arith, linear, c.2, same, ap (λ (z : ℤ). k *ℤ z) (wanted_all g), mul-negℤ k (g.worth (grand_coalition n)))
+      let same = sum_below-same (2 ^ n) (λ s. w s *ℤ wanted g s) (λ s. w s *ℤ g.worth s)
+      (λ s h. ap (◌*ℤ◌ (w s)) (wanted_of g s h)) in
+      omega (products, c.2, same, ap (◌*ℤ◌ k) (wanted_all g))
 
   -- without a weight of all no coalition with members has a weight
   no_weight : k ≤ℤ pos 0 → (s : ℕ) → s < 2 ^ n → w s *ℤ g.worth s ≡ pos 0
-  no_weight le zero lt = ap (λ (z : ℤ). w 0 *ℤ z) nobody ∙ mul-zeroℤ (w 0)
+  no_weight le zero lt = ap (◌*ℤ◌ (w 0)) nobody ∙ mul-zeroℤ (w 0)
   no_weight le (suc t) lt =
       let i = some_member n (suc t) (omega arith) lt in
-      let part =
-      one_of_sum (2 ^ n) (suc t) (λ s. w s *ℤ member s i.0)
+      let part = one_of_sum (2 ^ n) (suc t) (λ s. w s *ℤ member s i.0)
       (λ s h. member_low (has_player s i.0) (w s) (low s h)) lt in
       let is : w (suc t) *ℤ member (suc t) i.0 ≡ w (suc t) = rw i.2 (mul-oneℤ (w (suc t))) in
       let none : w (suc t) ≡ pos 0 = omega (arith, linear, part, is, balance i.0 i.1, le, low (suc t) lt) in
@@ -273,27 +238,19 @@ module _ (g : Game) (nobody : g.worth 0 ≡ pos 0) (w : ℕ → ℤ)
       let zero_weight : k ≡ pos 0 = omega (arith, linear, le, c.0 (2 ^ n) (omega arith)) in
       let none = sum_below-zero (2 ^ n) (λ s. w s *ℤ g.worth s) (no_weight le) in
       absurd
-      (omega (
-        arith,
-        linear,
-        excess,
-        none,
-        ap (λ (z : ℤ). z *ℤ g.worth (grand_coalition n)) zero_weight,
-        zero-mulℤ (g.worth (grand_coalition n)),
-      )))
+      (omega (products, excess, none, ap (λ (z : ℤ). z *ℤ g.worth (grand_coalition n)) zero_weight)))
 
   collection : IsUnreduced g (collected w 1 (2 ^ n - 1)) k
   collection = record {
     positive = positive;
     ascends = collected_ascends w 0 1 (2 ^ n - 1) (omega arith);
-    within =
-        (let some = grand_coalition-within n in collected_within w 1 (2 ^ n - 1) (2 ^ n) (omega (arith, some)));
+    within = (let some = grand_coalition-within n in collected_within w 1 (2 ^ n - 1) (2 ^ n) (omega (arith, some)));
     weights = collected_positive w 1 (2 ^ n - 1);
     balanced = λ i lt. weights_at (collected w 1 (2 ^ n - 1)) i
         ∙ without_empty n (λ s. member s i) w low (rw (has_player-empty i) (mul-zeroℤ (w 0))) ∙ balance i lt;
     excess_worth =
         omega
-        (arith, linear, excess, without_empty n g.worth w low (ap (λ (z : ℤ). w 0 *ℤ z) nobody ∙ mul-zeroℤ (w 0)));
+        (arith, linear, excess, without_empty n g.worth w low (ap (◌*ℤ◌ (w 0)) nobody ∙ mul-zeroℤ (w 0)));
   }
 
   pub found : HasBalancedCollection g

@@ -1,15 +1,11 @@
 -- Pairs of a key and a weight, one for each number that passes a test, in ascending order.
-use Rattle.std.proofs.Common.{◌≡◌, ℕ, zero, suc, ◌+◌, ◌<◌, ◌≤◌, Bool, true, false}
-use Rattle.std.proofs.Common.{cond, ◌&&◌, nat_eq, List}
-use Rattle.std.proofs.Common.{[], ◌∷◌, length, ℤ, pos, ◌+ℤ◌, ◌*ℤ◌, int_le, refl, ap}
-use Rattle.std.proofs.Common.{subst, ◌∙◌, inl, inr}
-use Rattle.std.proofs.Common.{arith, if◌then◌else◌}
+use Rattle.std.proofs.Common.{◌≡◌, ℕ, zero, suc, ◌+◌, ◌<◌, ◌≤◌, Bool, true, false, cond, ◌&&◌, nat_eq, List, [], ◌∷◌}
+use Rattle.std.proofs.Common.{length, ℤ, pos, ◌+ℤ◌, ◌*ℤ◌, int_le, refl, ap, subst, ◌∙◌, inl, inr, arith, if◌then◌else◌}
 use Rattle.std.specs.List.{AllByRecursion, list_any}
 use Rattle.std.proofs.lemmas.Bool.{false≢true}
 use Rattle.definitions.proofs.Ring.{linear, zero-mulℤ}
 use Rattle.definitions.proofs.Members.{times_bit, sum_below-same, sum_below-front}
-use Rattle.definitions.proofs.Cases.{from_nat_eq, nat_eq-same, or_cases, or_left, or_right, and_parts}
-use Rattle.definitions.proofs.Cases.{same_or_later}
+use Rattle.definitions.proofs.Cases.{from_nat_eq, nat_eq-same, or_cases, or_left, or_right, and_parts, same_or_later}
 use Rattle.definitions.specs.Sums.{sum_below, weighted_sum}
 use Rattle.definitions.specs.Coalitions.{weight_at}
 use Rattle.definitions.specs.Certificates.{number_at, Ascends}
@@ -33,8 +29,7 @@ chosen_ascends key test w rises low t (suc c) h =
     ascends_either : (b : Bool) → Ascends (key t + 1) (chosen key test w (t + 1) c)
         → Ascends low (chosen key test w (t + 1) c)
         → Ascends low (cond b ((key t, w t) ∷ chosen key test w (t + 1) c) (chosen key test w (t + 1) c))
-    ascends_either true taken left = (h, taken)
-    ascends_either false taken left = left
+    ascends_either b taken left = grind arith
 
 pub chosen_all : (P : ℕ × ℤ → Type 0) (key : ℕ → ℕ) (test : ℕ → Bool) (w : ℕ → ℤ) (t c : ℕ)
     → ((k : ℕ) → k < t + c → test k ≡ true → P (key k, w k)) → AllByRecursion P (chosen key test w t c)
@@ -44,8 +39,7 @@ chosen_all P key test w t (suc c) h =
   where
     all_either : (b : Bool) → test t ≡ b → AllByRecursion P (chosen key test w (t + 1) c)
         → AllByRecursion P (cond b ((key t, w t) ∷ chosen key test w (t + 1) c) (chosen key test w (t + 1) c))
-    all_either true e ih = (h t (omega arith) e, ih)
-    all_either false e ih = ih
+    all_either b e ih = grind arith
 
 -- numbers that don't pass weigh nothing, so nothing is lost
 pub chosen_sum : (f : ℕ → ℤ) (key : ℕ → ℕ) (test : ℕ → Bool) (w : ℕ → ℤ) (t c : ℕ)
@@ -67,8 +61,7 @@ chosen_sum f key test w t (suc c) none =
     sum_either : (b : Bool) → test t ≡ b
         → weighted_sum f (cond b ((key t, w t) ∷ chosen key test w (t + 1) c) (chosen key test w (t + 1) c))
         ≡ w t *ℤ f (key t) +ℤ weighted_sum f (chosen key test w (t + 1) c)
-    sum_either true e = refl
-    sum_either false e = omega (arith, linear, ap (λ (z : ℤ). z *ℤ f (key t)) (none t e), zero-mulℤ (f (key t)))
+    sum_either b e = grind (arith, linear, zero-mulℤ)
 
 pub chosen_from_zero : (f : ℕ → ℤ) (key : ℕ → ℕ) (test : ℕ → Bool) (w : ℕ → ℤ) (c : ℕ)
     → ((k : ℕ) → test k ≡ false → w k ≡ pos 0)
@@ -114,17 +107,13 @@ chosen_any key test w t (suc c) k low high e = elim (same_or_later t k low) [
         → list_any (is_key (key k))
         (cond b ((key t, w t) ∷ chosen key test w (t + 1) c) (chosen key test w (t + 1) c))
         ≡ true
-    here true e same =
-        or_left (nat_eq (key t) (key k)) (list_any (is_key (key k)) (chosen key test w (t + 1) c))
-        (ap (λ (s : ℕ). nat_eq s (key k)) same ∙ nat_eq-same (key k))
-    here false e same = absurd (false≢true e)
+    here b e same = grind (arith, nat_eq-same, or_left)
 
     any_either : (b : Bool) → list_any (is_key (key k)) (chosen key test w (t + 1) c) ≡ true
         → list_any (is_key (key k))
         (cond b ((key t, w t) ∷ chosen key test w (t + 1) c) (chosen key test w (t + 1) c))
         ≡ true
-    any_either true ih = or_right (nat_eq (key t) (key k)) (list_any (is_key (key k)) (chosen key test w (t + 1) c)) ih
-    any_either false ih = ih
+    any_either b ih = grind (arith, or_right)
 
 pub some_any : (test : ℕ × ℤ → Bool) (ps : List (ℕ × ℤ)) → list_any test ps ≡ true → 1 ≤ length ps
 some_any test [] e = absurd (false≢true e)

@@ -1,9 +1,6 @@
 -- Weights over their greatest common divisor.
-use Rattle.std.proofs.Common.{◌≡◌, ℕ, zero, suc, ◌*◌, ◌/◌, ◌%◌, ◌^◌, ◌<◌, ◌≤◌}
-use Rattle.std.proofs.Common.{Bool, true, false, cond, List}
-use Rattle.std.proofs.Common.{[], ◌∷◌, ℤ, pos, ◌*ℤ◌, ◌<ℤ◌, ◌≤ℤ◌, unsigned_abs, sym, ap}
-use Rattle.std.proofs.Common.{subst}
-use Rattle.std.proofs.Common.{◌∙◌, inl, inr, arith, mod-lt, eq-zero-or-pos, if◌then◌else◌}
+use Rattle.std.proofs.Common.{◌≡◌, ℕ, zero, suc, ◌*◌, ◌/◌, ◌%◌, ◌^◌, ◌<◌, ◌≤◌, Bool, cond, List, [], ◌∷◌, ℤ, pos, ◌*ℤ◌}
+use Rattle.std.proofs.Common.{◌<ℤ◌, ◌≤ℤ◌, unsigned_abs, sym, ap, subst, ◌∙◌, inl, inr, arith, mod-lt, eq-zero-or-pos}
 use Prim.Native.Nat.{◌∣◌}
 use Rattle.std.specs.Int.{IsGcd}
 use Rattle.std.specs.List.{AllByRecursion}
@@ -11,12 +8,13 @@ use Rattle.std.proofs.lemmas.Int.{ints, unsigned_abs-mul}
 use Rattle.std.proofs.lemmas.Nat.Gcd.{dvd_refl, dvd_trans, IsGcd-from_zero, IsGcd-from_mod}
 use Rattle.std.proofs.Math.Nat.{dvd-mul_right, le_refl}
 use native.Mathlib.Nat.{le_of_dvd, mul-div_cancel', mul-dvd-mul_left, pos_of_dvd_of_pos}
-use Rattle.definitions.proofs.Ring.{linear, mul-addℤ, mul_assocℤ, mul-zeroℤ, mul-cancelℤ, mul-lt_cancelℤ}
+use Rattle.definitions.proofs.Ring.{mul_assocℤ, mul-zeroℤ, mul-cancelℤ, mul-lt_cancelℤ}
 use Rattle.definitions.proofs.Alls.{all_weaken}
 use Rattle.definitions.specs.Sums.{weighted_sum}
 use Rattle.definitions.specs.Coalitions.{has_player, grand_coalition, weight_at}
 use Rattle.definitions.specs.Games.{Game}
 use Rattle.definitions.specs.Balanced.{AscendsFrom, Divides, IsBalancedOfExcessWorth}
+use Rattle.theorems.proofs.Products.{products}
 
 -- ---- the greatest common divisor
 
@@ -72,8 +70,7 @@ over_positive : (g : ℕ) (z : ℤ) → pos 1 ≤ℤ z → g ∣ unsigned_abs z 
 over_positive g z h k = quotient_positive (unsigned_abs z / g) (times_over g z h k)
   where
     quotient_positive : (c : ℕ) → pos g *ℤ pos c ≡ z → pos 1 ≤ℤ pos c
-    quotient_positive zero e = absurd (omega (arith, linear, e, h, mul-zeroℤ (pos g)))
-    quotient_positive (suc c) e = omega (arith, ints)
+    quotient_positive c e = grind (arith, ints, mul-zeroℤ)
 
 abbrev Positive : ℕ × ℤ → Type 0
 Positive p = pos 1 ≤ℤ p.1
@@ -87,30 +84,15 @@ weighted_over g f [] h k = mul-zeroℤ (pos g)
 weighted_over g f (p ∷ ps) h k =
     let here =
     sym (mul_assocℤ (pos g) (over g p.1) (f p.0)) ∙ ap (λ (z : ℤ). z *ℤ f p.0) (times_over g p.1 h.0 k.0) in
-    omega (
-      arith,
-      linear,
-      weighted_over g f ps h.1 k.1,
-      here,
-      mul-addℤ (pos g) (over g p.1 *ℤ f p.0) (weighted_sum f (all_over g ps)),
-    )
+    omega (products, weighted_over g f ps h.1 k.1, here)
 
 weight_over : (g : ℕ) (i : ℕ) (ps : List (ℕ × ℤ)) → AllByRecursion Positive ps → AllByRecursion (Whole g) ps
     → pos g *ℤ weight_at (all_over g ps) i ≡ weight_at ps i
 weight_over g i [] h k = mul-zeroℤ (pos g)
-weight_over g i (p ∷ ps) h k =
-    let here = times_either (has_player p.0 i) in
-    omega (
-      arith,
-      linear,
-      weight_over g i ps h.1 k.1,
-      here,
-      mul-addℤ (pos g) (if has_player p.0 i then over g p.1 else pos 0) (weight_at (all_over g ps) i),
-    )
+weight_over g i (p ∷ ps) h k = omega (products, weight_over g i ps h.1 k.1, times_either (has_player p.0 i))
   where
     times_either : (b : Bool) → pos g *ℤ cond b (over g p.1) (pos 0) ≡ cond b p.1 (pos 0)
-    times_either true = times_over g p.1 h.0 k.0
-    times_either false = mul-zeroℤ (pos g)
+    times_either b = grind (arith, mul-zeroℤ, times_over)
 
 ascends_over : (g low : ℕ) (ps : List (ℕ × ℤ)) → AscendsFrom low ps → AscendsFrom low (all_over g ps)
 ascends_over g low [] h = tt
@@ -144,9 +126,7 @@ times_divide g d [] h k = tt
 times_divide g d (p ∷ ps) h k = (times_divides g d p.1 h.0 k.0, times_divide g d ps h.1 k.1)
 
 at_most_one : (g d : ℕ) → 0 < g → g * d ≤ g → d ≤ 1
-at_most_one g zero h k = omega arith
-at_most_one g (suc zero) h k = omega arith
-at_most_one g (suc (suc d)) h k = absurd (omega arith)
+at_most_one g d h k = grind arith
 
 -- ---- the collection in lowest terms
 
@@ -183,8 +163,7 @@ reduced g ps k h =
             (weighted_sum g.worth (all_over c ps))
             above
             (omega (
-              arith,
-              linear,
+              products,
               h.excess_worth,
               weighted_over c g.worth ps h.weights r.1.each,
               sym (mul_assocℤ (pos c) (over c k) (g.worth (grand_coalition g.players)))

@@ -1,15 +1,11 @@
 -- By Farkas's lemma: some transfer between players raises what each of some coalitions gets and leaves others as they
 -- are, or weights on these coalitions balance (Kohlberg 1971; Sobolev 1975).
-use Rattle.std.proofs.Common.{◌≡◌, ◌⊎◌, ℕ, zero, suc, ◌<◌, Bool, true, false, cond}
-use Rattle.std.proofs.Common.{◌||◌, List, [], ◌∷◌, ◌++◌}
-use Rattle.std.proofs.Common.{ℤ, pos, neg_ℤ, ◌+ℤ◌, ◌-ℤ◌, ◌*ℤ◌, ◌<ℤ◌, ◌≤ℤ◌, refl, sym}
-use Rattle.std.proofs.Common.{ap, ◌∙◌, inl, inr, arith}
-use Rattle.std.proofs.Common.{if◌then◌else◌}
+use Rattle.std.proofs.Common.{◌≡◌, ◌⊎◌, ℕ, zero, suc, ◌<◌, Bool, true, false, cond, ◌||◌, List, [], ◌∷◌, ◌++◌, ℤ, pos}
+use Rattle.std.proofs.Common.{neg_ℤ, ◌+ℤ◌, ◌-ℤ◌, ◌*ℤ◌, ◌<ℤ◌, ◌≤ℤ◌, refl, sym, ap, ◌∙◌, inl, inr, arith, if◌then◌else◌}
 use Rattle.std.specs.List.{AllByRecursion}
 use Rattle.std.proofs.lemmas.Bool.{false≢true}
 use Rattle.std.proofs.lemmas.Int.{by_lt_z}
-use Rattle.definitions.proofs.Ring.{linear, mul-zeroℤ, zero-mulℤ, one-mulℤ, mul-oneℤ, neg-mulℤ, mul-negℤ}
-use Rattle.definitions.proofs.Ring.{mul_assocℤ, mul-subℤ, mul-addℤ, mul-nonnegativeℤ}
+use Rattle.definitions.proofs.Ring.{linear, mul-zeroℤ, zero-mulℤ, mul-oneℤ, mul_assocℤ, mul-nonnegativeℤ}
 use Rattle.definitions.proofs.Members.{sum_below-same, sum_below-times, sum_below-zero, sum_below-front}
 use Rattle.definitions.proofs.Alls.{all_join, all_left, all_right}
 use Rattle.definitions.proofs.Cases.{less_or_last, or_left, or_right}
@@ -18,6 +14,7 @@ use Rattle.definitions.specs.Coalitions.{has_player, sum_over}
 use Rattle.duality.proofs.Elimination.{Row, Meets, combined, IsClosed, Contradiction, value_combined, eliminate}
 use Rattle.duality.proofs.Farkas.{unit_at, unit_at-low, unit_at-other, sum_below-unit}
 use Rattle.duality.proofs.BondarevaShapley.{member, member_times}
+use Rattle.theorems.proofs.Products.{products}
 
 -- ---- rows of the numbers that pass a test
 
@@ -32,14 +29,12 @@ rows_all Q test f (suc k) h = next_all (test k) refl (rows_all Q test f k (λ t 
   where
     next_all : (b : Bool) → test k ≡ b → AllByRecursion Q (rows_where test f k)
         → AllByRecursion Q (cond b (f k ∷ rows_where test f k) (rows_where test f k))
-    next_all true e ih = (h k (omega arith) e, ih)
-    next_all false e ih = ih
+    next_all b e ih = grind arith
 
 rows_at : (Q : Row → Type 0) (test : ℕ → Bool) (f : ℕ → Row) (k t : ℕ) → AllByRecursion Q (rows_where test f k)
     → t < k → test t ≡ true → Q (f t)
 rows_at Q test f zero t h lt e = absurd (omega arith)
-rows_at Q test f (suc k) t h lt e =
-    next_at (test k) refl (λ all less. rows_at Q test f k t all less e) h
+rows_at Q test f (suc k) t h lt e = next_at (test k) refl (λ all less. rows_at Q test f k t all less e) h
   where
     next_at : (b : Bool) → test k ≡ b → (AllByRecursion Q (rows_where test f k) → t < k → Q (f t))
         → AllByRecursion Q (cond b (f k ∷ rows_where test f k) (rows_where test f k)) → Q (f t)
@@ -61,14 +56,13 @@ sum_one_weight : (m t : ℕ) (c : ℤ) (f : ℕ → ℤ) → t < m → sum_below
 sum_one_weight m t c f lt =
     sum_below-same m (λ k. (c *ℤ unit_at t k) *ℤ f k) (λ k. c *ℤ (unit_at t k *ℤ f k))
     (λ k h. mul_assocℤ c (unit_at t k) (f k)) ∙ sum_below-times m (λ k. unit_at t k *ℤ f k) c
-    ∙ ap (λ (z : ℤ). c *ℤ z) (sum_below-unit m t f lt)
+    ∙ ap (◌*ℤ◌ c) (sum_below-unit m t f lt)
 
 unit_apart : (test : ℕ → Bool) (t k : ℕ) (c : ℤ) → test t ≡ true → test k ≡ false → c *ℤ unit_at t k ≡ pos 0
 unit_apart test t k c e f =
-    let zero : unit_at t k ≡ pos 0 =
-    sym (mul-oneℤ (unit_at t k)) ∙ unit_at-other t k (pos 1)
+    let zero : unit_at t k ≡ pos 0 = sym (mul-oneℤ (unit_at t k)) ∙ unit_at-other t k (pos 1)
     (λ same. false≢true (sym f ∙ ap test same ∙ e)) in
-    ap (λ (z : ℤ). c *ℤ z) zero ∙ mul-zeroℤ c
+    ap (◌*ℤ◌ c) zero ∙ mul-zeroℤ c
 
 -- ---- the rows, unknown 0 in front of the players
 
@@ -124,15 +118,7 @@ module _ (n m : ℕ) (riser still : ℕ → Bool) (low fixed : ℕ → Bool) whe
         ≡ total
 
   combined_zero : (c d p q : ℤ) → p ≡ pos 0 → q ≡ pos 0 → c *ℤ p +ℤ d *ℤ q ≡ pos 0
-  combined_zero c d p q e f =
-      omega (
-        arith,
-        linear,
-        ap (λ (z : ℤ). c *ℤ z) e,
-        ap (λ (z : ℤ). d *ℤ z) f,
-        mul-zeroℤ c,
-        mul-zeroℤ d,
-      )
+  combined_zero c d p q e f = omega (products, ap (◌*ℤ◌ c) e, ap (◌*ℤ◌ d) f)
 
   combined_low : (c d p q : ℤ) → pos 0 ≤ℤ c → pos 0 ≤ℤ d → pos 0 ≤ℤ p → pos 0 ≤ℤ q → pos 0 ≤ℤ (c *ℤ p +ℤ d *ℤ q)
   combined_low c d p q hc hd hp hq = omega (arith, linear, mul-nonnegativeℤ c p hc hp, mul-nonnegativeℤ d q hd hq)
@@ -149,26 +135,17 @@ module _ (n m : ℕ) (riser still : ℕ → Bool) (low fixed : ℕ → Bool) whe
     bounds_positive = λ i e. combined_low c d (p.bounds i) (q.bounds i) hc hd (p.bounds_positive i e)
         (q.bounds_positive i e);
     on_bounds = λ i e. combined_zero c d (p.bounds i) (q.bounds i) (p.on_bounds i e) (q.on_bounds i e);
-    head =
-        (let a = sum_below m (λ t. p.weights t *ℤ pos 1) in
+    head = (let a = sum_below m (λ t. p.weights t *ℤ pos 1) in
         let b = sum_below m (λ t. q.weights t *ℤ pos 1) in
-        omega (
-          arith,
-          linear,
-          value_combined m (λ t. pos 1) c d p.weights q.weights,
-          ap (λ (z : ℤ). c *ℤ z) p.head,
-          ap (λ (z : ℤ). d *ℤ z) q.head,
-          mul-negℤ c a,
-          mul-negℤ d b,
-        ));
+        omega
+        (products, value_combined m (λ t. pos 1) c d p.weights q.weights, ap (◌*ℤ◌ c) p.head, ap (◌*ℤ◌ d) q.head));
     entries = λ i.
         let a = sum_below m (λ t. p.weights t *ℤ member (suc t) i) in
         let b = sum_below m (λ t. p.others t *ℤ member (suc t) i) in
         let a' = sum_below m (λ t. q.weights t *ℤ member (suc t) i) in
         let b' = sum_below m (λ t. q.others t *ℤ member (suc t) i) in
         omega (
-          arith,
-          linear,
+          products,
           value_combined m (λ t. member (suc t) i) c d p.weights q.weights,
           value_combined m (λ t. member (suc t) i) c d p.others q.others,
           spread c (u (suc i)) a b (p.bounds i) p.total (p.entries i),
@@ -177,15 +154,7 @@ module _ (n m : ℕ) (riser still : ℕ → Bool) (low fixed : ℕ → Bool) whe
   }
     where
       spread : (c u a b k t : ℤ) → u ≡ a +ℤ b +ℤ k -ℤ t → c *ℤ u ≡ c *ℤ a +ℤ c *ℤ b +ℤ c *ℤ k -ℤ c *ℤ t
-      spread c u a b k t e =
-          omega (
-            arith,
-            linear,
-            ap (λ (z : ℤ). c *ℤ z) e,
-            mul-subℤ c (a +ℤ b +ℤ k) t,
-            mul-addℤ c (a +ℤ b) k,
-            mul-addℤ c a b,
-          )
+      spread c u a b k t e = omega (products, ap (◌*ℤ◌ c) e)
 
   -- ---- each row is made
 
@@ -198,17 +167,15 @@ module _ (n m : ℕ) (riser still : ℕ → Bool) (low fixed : ℕ → Bool) whe
     others = none;
     bounds = none;
     total = pos 0;
-    positive = λ k. omega (arith, linear, one-mulℤ (unit_at t k), unit_at-low t k);
+    positive = λ k. omega (products, unit_at-low t k);
     on_risers = λ k f. unit_apart riser t k (pos 1) e f;
     on_still = λ k f. refl;
     bounds_positive = λ i f. omega (arith, linear);
     on_bounds = λ i f. refl;
-    head = omega (arith, linear, sum_one_weight m t (pos 1) (λ k. pos 1) lt, one-mulℤ (pos 1));
+    head = omega (products, sum_one_weight m t (pos 1) (λ k. pos 1) lt);
     entries = λ i. omega (
-      arith,
-      linear,
+      products,
       sum_one_weight m t (pos 1) (λ k. member (suc k) i) lt,
-      one-mulℤ (member (suc t) i),
       sum_no_weight m (λ k. member (suc k) i),
     );
   }
@@ -226,8 +193,7 @@ module _ (n m : ℕ) (riser still : ℕ → Bool) (low fixed : ℕ → Bool) whe
     on_bounds = λ i f. refl;
     head = omega (arith, linear, sum_no_weight m (λ k. pos 1));
     entries = λ i. omega (
-      arith,
-      linear,
+      products,
       sum_one_weight m t c (λ k. member (suc k) i) lt,
       sum_no_weight m (λ k. member (suc k) i),
     );
@@ -329,7 +295,7 @@ module _ (n m : ℕ) (riser still : ℕ → Bool) (low fixed : ℕ → Bool) whe
       → sum_below n (λ i. (c *ℤ member s i) *ℤ z i) ≡ c *ℤ sum_over n z s
   times_members c s z =
       sum_below-same n (λ i. (c *ℤ member s i) *ℤ z i) (λ i. c *ℤ (if has_player s i then z i else pos 0))
-      (λ i lt. mul_assocℤ c (member s i) (z i) ∙ ap (λ (k : ℤ). c *ℤ k) (member_times (has_player s i) (z i)))
+      (λ i lt. mul_assocℤ c (member s i) (z i) ∙ ap (◌*ℤ◌ c) (member_times (has_player s i) (z i)))
       ∙ sum_below-times n (λ i. if has_player s i then z i else pos 0) c
 
   plain_members : (s : ℕ) (z : ℕ → ℤ) → sum_below n (λ i. member s i *ℤ z i) ≡ sum_over n z s
@@ -351,77 +317,38 @@ module _ (n m : ℕ) (riser still : ℕ → Bool) (low fixed : ℕ → Bool) whe
       let cs = all_left Q (still_rows down) after_down rest2 in
       let ds = all_left Q bound_rows after_bounds rest3 in
       let es = all_left Q fixed_rows all_rows rest4 in
-      let no_unit = zero-mulℤ (y 0) in
-      let bound_low : (i : ℕ) → i < n → (low i || fixed i) ≡ true → pos 0 ≤ℤ z i =
-      λ i lt e.
+      let bound_low : (i : ℕ) → i < n → (low i || fixed i) ≡ true → pos 0 ≤ℤ z i = λ i lt e.
       let h = rows_at Q (λ i. low i || fixed i) (λ i. vector (pos 0) (λ k. up *ℤ unit_at i k)) n i ds lt e in
-      omega (
-        arith,
-        linear,
-        h,
-        value_vector (pos 0) (λ k. up *ℤ unit_at i k) y,
-        no_unit,
-        sum_one_weight n i up z lt,
-        one-mulℤ (z i),
-      ) in
+      omega (products, h, value_vector (pos 0) (λ k. up *ℤ unit_at i k) y, sum_one_weight n i up z lt) in
       record {
         gain = z;
         total = omega (
-          arith,
-          linear,
+          products,
           rest5.0,
           rest5.1.0,
           value_vector (pos 0) (λ i. up) y,
           value_vector (pos 0) (λ i. down) y,
-          no_unit,
           sum_below-times n z up,
           sum_below-times n z down,
-          one-mulℤ (sum_below n z),
-          neg-mulℤ (pos 1) (sum_below n z),
         );
         risers = λ t lt e.
             let h = rows_at Q riser (λ t. vector down (member (suc t))) m t rs lt e in
-            omega (
-              arith,
-              linear,
-              h,
-              value_vector down (member (suc t)) y,
-              plain_members (suc t) z,
-              neg-mulℤ (pos 1) (y 0),
-              one-mulℤ (y 0),
-              one,
-            );
+            omega (products, h, value_vector down (member (suc t)) y, plain_members (suc t) z, one);
         stills = λ t lt e.
-            let h = rows_at Q still (λ t. vector (pos 0) (λ i. up *ℤ member (suc t) i)) m t bs lt e in
-            let k = rows_at Q still (λ t. vector (pos 0) (λ i. down *ℤ member (suc t) i)) m t cs lt e in
             omega (
-              arith,
-              linear,
-              h,
-              k,
+              products,
+              rows_at Q still (λ t. vector (pos 0) (λ i. up *ℤ member (suc t) i)) m t bs lt e,
+              rows_at Q still (λ t. vector (pos 0) (λ i. down *ℤ member (suc t) i)) m t cs lt e,
               value_vector (pos 0) (λ i. up *ℤ member (suc t) i) y,
               value_vector (pos 0) (λ i. down *ℤ member (suc t) i) y,
-              no_unit,
               times_members up (suc t) z,
               times_members down (suc t) z,
-              one-mulℤ (sum_over n z (suc t)),
-              neg-mulℤ (pos 1) (sum_over n z (suc t)),
             );
         lows = λ i lt e. bound_low i lt (or_left (low i) (fixed i) e);
         fixeds = λ i lt e.
             let h = bound_low i lt (or_right (low i) (fixed i) e) in
             let k = rows_at Q fixed (λ i. vector (pos 0) (λ k. down *ℤ unit_at i k)) n i es lt e in
-            omega (
-              arith,
-              linear,
-              h,
-              k,
-              value_vector (pos 0) (λ k. down *ℤ unit_at i k) y,
-              no_unit,
-              sum_one_weight n i down z lt,
-              neg-mulℤ (pos 1) (z i),
-              one-mulℤ (z i),
-            );
+            omega (products, h, k, value_vector (pos 0) (λ k. down *ℤ unit_at i k) y, sum_one_weight n i down z lt);
       }
 
   -- ---- a contradiction is a balance
@@ -432,14 +359,13 @@ module _ (n m : ℕ) (riser still : ℕ → Bool) (low fixed : ℕ → Bool) whe
   one_positive (suc k) w h =
       by_lt_z (pos 0) (w k) (λ lt. (k, omega arith, omega (arith, linear, lt)))
       (λ le.
-      let r = one_positive k w (omega (arith, linear, h, le, mul-oneℤ (w k))) in
-      (r.0, (let lt = r.1 in omega (arith, lt)), r.2))
+      let r = one_positive k w (omega (products, h, le)) in
+      (r.0, (omega (arith, r.1)), r.2))
 
   balance_of : Contradiction n Made → Balance
   balance_of c =
       let w = c.made in
-      let one =
-      one_positive m w.weights (let h = c.negative in let e = w.head in omega (arith, linear, h, e)) in
+      let one = one_positive m w.weights (omega (arith, linear, c.negative, w.head)) in
       record {
         weights = w.weights;
         others = w.others;
@@ -454,8 +380,7 @@ module _ (n m : ℕ) (riser still : ℕ → Bool) (low fixed : ℕ → Bool) whe
         within = one.1;
         weighs = one.2;
         balanced = λ i lt.
-            let z = c.zeros (suc i) (omega arith) (omega arith) in
-            omega (arith, linear, z, w.entries i);
+            omega (arith, linear, c.zeros (suc i) (omega arith) (omega arith), w.entries i);
       }
 
   pub direction_or_balance : Direction ⊎ Balance

@@ -4,19 +4,16 @@
 -- A row u asks of a point x that u 0 * x 0 + .. + u n * x n be at least 0, where x 0 is at least 1. So x i over x 0 are
 -- fractions. Either some point meets all rows, or one row that combines them by factors of at least 0 has a negative
 -- first entry and no other.
-use Rattle.std.proofs.Common.{◌≡◌, ◌⊎◌, ℕ, zero, suc, ◌<◌, List, [], ◌∷◌, ◌++◌}
-use Rattle.std.proofs.Common.{ℤ, pos, neg_ℤ, ◌+ℤ◌, ◌*ℤ◌}
-use Rattle.std.proofs.Common.{◌<ℤ◌, ◌≤ℤ◌, refl, ap, inl, inr, arith, nat_eq, if◌then◌else◌}
+use Rattle.std.proofs.Common.{◌≡◌, ◌⊎◌, ℕ, zero, suc, ◌<◌, List, [], ◌∷◌, ◌++◌, ℤ, pos, neg_ℤ, ◌+ℤ◌, ◌*ℤ◌, ◌<ℤ◌, ◌≤ℤ◌}
+use Rattle.std.proofs.Common.{refl, ap, inl, inr, arith, nat_eq, if◌then◌else◌}
 use Rattle.std.specs.List.{AllByRecursion}
 use Rattle.std.proofs.lemmas.Int.{by_lt_z}
-use Rattle.definitions.proofs.Ring.{linear, ring_laws, add-mulℤ, mul-zeroℤ, zero-mulℤ, mul-oneℤ}
-use Rattle.definitions.proofs.Ring.{neg-mulℤ, mul-negℤ, mul_left_commℤ, mul_assocℤ, mul-leℤ}
-use Rattle.definitions.proofs.Ring.{mul-le_cancelℤ, mul-nonnegativeℤ, mul-positiveℤ}
+use Rattle.definitions.proofs.Ring.{linear, mul_left_commℤ, mul-leℤ, mul-le_cancelℤ, mul-nonnegativeℤ, mul-positiveℤ}
 use Rattle.definitions.proofs.Members.{sum_below-same, sum_below-add, sum_below-times}
 use Rattle.definitions.proofs.Alls.{all_weaken, all_both, all_with, all_join, all_left, all_right}
 use Rattle.definitions.proofs.Cases.{nat_eq-same, nat_eq-other, less_or_last}
 use Rattle.definitions.specs.Sums.{sum_below}
-use lib.IntN.{*ℤ_comm}
+use Rattle.theorems.proofs.Products.{products, sorted_products}
 
 -- an entry for each unknown; a number for each
 abbrev pub Row : Type 0
@@ -69,7 +66,7 @@ none_left C us h = elim (heads C us h) [
         unit = omega (arith, linear);
         meets =
             all_weaken (λ (u : Row). pos 0 ≤ℤ u 0) (Meets 1 (λ i. pos 1)) us
-            (λ u le. omega (arith, linear, le, mul-oneℤ (u 0))) low;
+            (λ u le. omega (products, le)) low;
       })
   | inr found ↦ inr found
 ]
@@ -142,7 +139,7 @@ crossed_without : (n : ℕ) (C : Row → Type 0) → IsClosed C → (p q : Row) 
     → C q × (q n <ℤ pos 0) → Without n C (crossed n p q)
 crossed_without n C closed p q h k = (
   closed (neg_ℤ (q n)) (p n) p q (omega (arith, linear, k.1)) (omega (arith, linear, h.1)) h.0 k.0,
-  omega (arith, linear, neg-mulℤ (q n) (p n), *ℤ_comm (q n) (p n)),
+  omega sorted_products,
 )
 
 pairs_with_without : (n : ℕ) (C : Row → Type 0) → IsClosed C → (p : Row) (qs : List Row) → C p × (pos 0 <ℤ p n)
@@ -175,7 +172,7 @@ from_pairs n Q (p ∷ ps) qs h = (
 pub without_closed : (n : ℕ) (C : Row → Type 0) → IsClosed C → IsClosed (Without n C)
 without_closed n C closed a b u v h k p q = (
   closed a b u v h k p.0 q.0,
-  omega (arith, linear, ap (λ (z : ℤ). a *ℤ z) p.1, ap (λ (z : ℤ). b *ℤ z) q.1, mul-zeroℤ a, mul-zeroℤ b),
+  omega (products, ap (◌*ℤ◌ a) p.1, ap (◌*ℤ◌ b) q.1),
 )
 
 -- ---- the least of fractions
@@ -185,10 +182,7 @@ fractions_ascend : (a b c p q r : ℤ) → pos 0 <ℤ p → pos 0 <ℤ q → pos
 fractions_ascend a b c p q r hp hq hr h k =
     let one = mul-leℤ r (a *ℤ q) (b *ℤ p) (omega (arith, linear)) h in
     let two = mul-leℤ p (b *ℤ r) (c *ℤ q) (omega (arith, linear)) k in
-    let e1 : q *ℤ (a *ℤ r) ≡ r *ℤ (a *ℤ q) = simp ring_laws refl in
-    let e2 : r *ℤ (b *ℤ p) ≡ p *ℤ (b *ℤ r) = simp ring_laws refl in
-    let e3 : p *ℤ (c *ℤ q) ≡ q *ℤ (c *ℤ p) = simp ring_laws refl in
-    mul-le_cancelℤ q (a *ℤ r) (c *ℤ p) hq (omega (arith, linear, one, two, e1, e2, e3))
+    mul-le_cancelℤ q (a *ℤ r) (c *ℤ p) hq (omega (sorted_products, one, two))
 
 -- a row whose fraction is at most that of each
 pub record Least (e c : Row → ℤ) (Q : Row → Type 0) (us : List Row) : Type 0 where
@@ -229,15 +223,8 @@ pub record Next (n : ℕ) (x : Row) (ps qs : List Row) : Type 0 where
 pub value_combined : (n : ℕ) (x : Row) (a b : ℤ) (u v : Row)
     → value_at n x (combined a b u v) ≡ a *ℤ value_at n x u +ℤ b *ℤ value_at n x v
 value_combined n x a b u v =
-    let same =
-    sum_below-same n (λ i. (a *ℤ u i +ℤ b *ℤ v i) *ℤ x i) (λ i. a *ℤ (u i *ℤ x i) +ℤ b *ℤ (v i *ℤ x i))
-    (λ i h. omega (
-      arith,
-      linear,
-      add-mulℤ (a *ℤ u i) (b *ℤ v i) (x i),
-      mul_assocℤ a (u i) (x i),
-      mul_assocℤ b (v i) (x i),
-    )) in
+    let same = sum_below-same n (λ i. (a *ℤ u i +ℤ b *ℤ v i) *ℤ x i) (λ i. a *ℤ (u i *ℤ x i) +ℤ b *ℤ (v i *ℤ x i))
+    (λ i h. omega sorted_products) in
     let split = sum_below-add n (λ i. a *ℤ (u i *ℤ x i)) (λ i. b *ℤ (v i *ℤ x i)) in
     omega (arith, linear, same, split, sum_below-times n (λ i. u i *ℤ x i) a, sum_below-times n (λ i. v i *ℤ x i) b)
 
@@ -259,18 +246,10 @@ next n x [] (q ∷ qs) h k pairs =
       below =
           all_weaken (λ (v : Row). (value_at n x m *ℤ neg_ℤ (v n)) ≤ℤ (value_at n x v *ℤ neg_ℤ (m n)))
           (λ (u : Row). pos 0 ≤ℤ (neg_ℤ (m n) *ℤ value_at n x u +ℤ u n *ℤ value_at n x m)) (q ∷ qs)
-          (λ v le. omega (
-            arith,
-            linear,
-            le,
-            mul-negℤ (value_at n x m) (v n),
-            *ℤ_comm (value_at n x m) (v n),
-            *ℤ_comm (value_at n x v) (neg_ℤ (m n)),
-          )) r.least;
+          (λ v le. omega (sorted_products, le)) r.least;
     }
 next n x (p ∷ ps) qs h k pairs =
-    let r =
-    least_of (value_at n x) (λ u. u n)
+    let r = least_of (value_at n x) (λ u. u n)
     (λ (u : Row). (pos 0 <ℤ u n) × AllByRecursion (λ (q : Row). Meets n x (crossed n u q)) qs) (λ u q. q.0) p
     ps (h.0, pairs.0)
     (all_both (λ (u : Row). pos 0 <ℤ u n)
@@ -283,25 +262,11 @@ next n x (p ∷ ps) qs h k pairs =
       above =
           all_weaken (λ (v : Row). (value_at n x m *ℤ v n) ≤ℤ (value_at n x v *ℤ m n))
           (λ (u : Row). pos 0 ≤ℤ (m n *ℤ value_at n x u +ℤ u n *ℤ neg_ℤ (value_at n x m))) (p ∷ ps)
-          (λ v le. omega (
-            arith,
-            linear,
-            le,
-            mul-negℤ (v n) (value_at n x m),
-            *ℤ_comm (value_at n x m) (v n),
-            *ℤ_comm (value_at n x v) (m n),
-          )) r.least;
+          (λ v le. omega (sorted_products, le)) r.least;
       below =
           all_weaken (λ (q : Row). Meets n x (crossed n m q))
           (λ (u : Row). pos 0 ≤ℤ (m n *ℤ value_at n x u +ℤ u n *ℤ neg_ℤ (value_at n x m))) qs
-          (λ v le. omega (
-            arith,
-            linear,
-            le,
-            value_combined n x (neg_ℤ (v n)) (m n) m v,
-            mul-negℤ (v n) (value_at n x m),
-            neg-mulℤ (v n) (value_at n x m),
-          )) r.holds.1;
+          (λ v le. omega (products, le, value_combined n x (neg_ℤ (v n)) (m n) m v)) r.holds.1;
     }
 
 -- ---- the point with one more number
@@ -312,8 +277,7 @@ longer n by last x = λ i. if nat_eq i n then last else by *ℤ x i
 pub value_longer : (n : ℕ) (by last : ℤ) (x u : Row)
     → value_at (suc n) (longer n by last x) u ≡ by *ℤ value_at n x u +ℤ u n *ℤ last
 value_longer n by last x u =
-    let low =
-    sum_below-same n (λ i. u i *ℤ longer n by last x i) (λ i. by *ℤ (u i *ℤ x i))
+    let low = sum_below-same n (λ i. u i *ℤ longer n by last x i) (λ i. by *ℤ (u i *ℤ x i))
     (λ i h. rw (nat_eq-other i n (λ e. omega arith)) (mul_left_commℤ (u i) by (x i))) in
     let here : u n *ℤ longer n by last x n ≡ u n *ℤ last = rw (nat_eq-same n) refl in
     omega (arith, linear, low, here, sum_below-times n (λ i. u i *ℤ x i) by)
@@ -343,30 +307,25 @@ pub lengthened : (n : ℕ) (C : Row → Type 0) (us : List Row) → (r : Parts (
 lengthened n C us r found =
     let m = suc n in
     let x = found.at in
-    let crossings =
-    from_pairs m (Meets m x) r.ps r.ns (all_right (Meets m x) r.zs (pairs m r.ps r.ns) found.meets) in
+    let crossings = from_pairs m (Meets m x) r.ps r.ns (all_right (Meets m x) r.zs (pairs m r.ps r.ns) found.meets) in
     let up =
     all_weaken (λ (u : Row). C u × (pos 0 <ℤ u m)) (λ (u : Row). pos 0 <ℤ u m) r.ps (λ u h. h.1) r.positive in
     let down =
     all_weaken (λ (u : Row). C u × (u m <ℤ pos 0)) (λ (u : Row). u m <ℤ pos 0) r.ns (λ u h. h.1) r.negative in
     let k = next m x r.ps r.ns up down crossings in
-    let flat =
-    all_with (Meets m x) (λ (u : Row). C u × (u m ≡ pos 0))
+    let flat = all_with (Meets m x) (λ (u : Row). C u × (u m ≡ pos 0))
     (λ (u : Row). pos 0 ≤ℤ (k.by *ℤ value_at m x u +ℤ u m *ℤ k.last)) r.zs
     (λ u le h. omega (
-      arith,
-      linear,
+      products,
       mul-nonnegativeℤ k.by (value_at m x u) (omega (arith, linear, k.positive)) le,
       ap (λ (z : ℤ). z *ℤ k.last) h.1,
-      zero-mulℤ k.last,
     ))
     (all_left (Meets m x) r.zs (pairs m r.ps r.ns) found.meets) r.none in
     let first : longer m k.by k.last x 0 ≡ k.by *ℤ x 0 = rw (nat_eq-other 0 m (λ e. omega arith)) refl in
     record {
       point = record {
         at = longer m k.by k.last x;
-        unit =
-            omega (arith, linear, first, mul-positiveℤ k.by (x 0) k.positive (omega (arith, linear, found.unit)));
+        unit = omega (arith, linear, first, mul-positiveℤ k.by (x 0) k.positive (omega (arith, linear, found.unit)));
         meets =
             r.back (longer m k.by k.last x) (to_longer m k.by k.last x r.ps k.above)
             (to_longer m k.by k.last x r.ns k.below) (to_longer m k.by k.last x r.zs flat);

@@ -1,28 +1,25 @@
 -- Either fractions meet all inequalities, or factors contradict them, and never both (Farkas 1902).
-use Rattle.std.proofs.Common.{◌≡◌, ◌≢◌, ℕ, zero, suc, ◌<◌, ◌≤◌, Bool, true, false}
-use Rattle.std.proofs.Common.{cond, List, [], ◌∷◌, ℤ, pos}
-use Rattle.std.proofs.Common.{neg_ℤ, ◌*ℤ◌, ◌≤ℤ◌, refl, sym, ap, ◌∙◌, inl, inr, arith}
-use Rattle.std.proofs.Common.{nat_eq, if◌then◌else◌}
+use Rattle.std.proofs.Common.{◌≡◌, ◌≢◌, ℕ, zero, suc, ◌<◌, ◌≤◌, Bool, cond, List, [], ◌∷◌, ℤ, pos, neg_ℤ, ◌*ℤ◌, ◌≤ℤ◌}
+use Rattle.std.proofs.Common.{refl, sym, ap, ◌∙◌, inl, inr, arith, nat_eq, if◌then◌else◌}
 use Rattle.std.specs.List.{AllByRecursion}
-use Rattle.definitions.proofs.Ring.{linear, mul-zeroℤ, zero-mulℤ, one-mulℤ, neg-mulℤ, mul-negℤ}
-use Rattle.definitions.proofs.Ring.{mul_left_commℤ, mul_assocℤ, mul-leℤ, mul-nonnegativeℤ, mul-positiveℤ}
-use Rattle.definitions.proofs.Members.{sum_below-same, sum_below-add, sum_below-times}
-use Rattle.definitions.proofs.Members.{sum_below-zero, sum_below-front}
+use Rattle.definitions.proofs.Ring.{linear, mul-zeroℤ, zero-mulℤ, one-mulℤ, mul_assocℤ, mul-leℤ, mul-nonnegativeℤ}
+use Rattle.definitions.proofs.Ring.{mul-positiveℤ}
+use Rattle.definitions.proofs.Members.{sum_below-same, sum_below-add, sum_below-times, sum_below-zero, sum_below-front}
 use Rattle.definitions.proofs.Cases.{nat_eq-same, nat_eq-other, less_or_last}
 use Rattle.definitions.proofs.Parts.{sum_below-le}
 use Rattle.definitions.specs.Sums.{sum_below}
 use Rattle.duality.specs.Farkas.{MeetsAll, Contradicts, Farkas}
-use Rattle.duality.proofs.Elimination.{Row, Meets, IsClosed, combined, Point}
-use Rattle.duality.proofs.Elimination.{Contradiction, value_combined, eliminate}
+use Rattle.duality.proofs.Elimination.{Row, Meets, IsClosed, combined, Point, Contradiction, value_combined, eliminate}
 use Rattle.std.proofs.Math.Nat.{le_refl}
 use lib.IntN.{*ℤ_comm}
+use Rattle.theorems.proofs.Products.{products, sorted_products}
 
 -- ---- sums
 
 sum_below-negative : (n : ℕ) (w b : ℕ → ℤ)
     → sum_below n (λ s. w s *ℤ neg_ℤ (b s)) ≡ neg_ℤ (sum_below n (λ s. w s *ℤ b s))
 sum_below-negative zero w b = refl
-sum_below-negative (suc n) w b = omega (arith, linear, sum_below-negative n w b, mul-negℤ (w n) (b n))
+sum_below-negative (suc n) w b = omega (products, sum_below-negative n w b)
 
 sum_below-exchange : (m n : ℕ) (f : ℕ → ℕ → ℤ)
     → sum_below m (λ s. sum_below n (λ i. f s i)) ≡ sum_below n (λ i. sum_below m (λ s. f s i))
@@ -41,8 +38,7 @@ unit_at-same : (s : ℕ) (z : ℤ) → unit_at s s *ℤ z ≡ z
 unit_at-same s z = rw (nat_eq-same s) (one-mulℤ z)
 
 pub one_or_none-low : (b : Bool) → pos 0 ≤ℤ cond b (pos 1) (pos 0)
-one_or_none-low true = omega (arith, linear)
-one_or_none-low false = omega (arith, linear)
+one_or_none-low b = grind (arith, linear)
 
 pub unit_at-low : (s t : ℕ) → pos 0 ≤ℤ unit_at s t
 unit_at-low s t = one_or_none-low (nat_eq t s)
@@ -53,8 +49,7 @@ sum_below-unit (suc m) s f lt = elim (less_or_last s m lt) [
   | inl less ↦ omega (arith, linear, sum_below-unit m s f less, unit_at-other s m (f m) (λ e. omega arith))
   | inr same ↦ rw (sym same)
       (omega (
-        arith,
-        linear,
+        products,
         sum_below-zero s (λ t. unit_at s t *ℤ f t) (λ t less. unit_at-other s t (f t) (λ e. omega arith)),
         unit_at-same s (f s),
       ))
@@ -81,17 +76,15 @@ made_closed : (m : ℕ) (a : ℕ → ℕ → ℤ) (b : ℕ → ℤ) → IsClosed
 made_closed m a b c d u v hc hd p q = record {
   factor = combined c d p.factor q.factor;
   low = λ s lt. omega (
-    arith,
-    linear,
+    products,
     mul-nonnegativeℤ c (p.factor s) hc (p.low s lt),
     mul-nonnegativeℤ d (q.factor s) hd (q.low s lt),
   );
   entries = λ i. omega (
-    arith,
-    linear,
+    products,
     value_combined m (λ s. row a b s i) c d p.factor q.factor,
-    ap (λ (z : ℤ). c *ℤ z) (p.entries i),
-    ap (λ (z : ℤ). d *ℤ z) (q.entries i),
+    ap (◌*ℤ◌ c) (p.entries i),
+    ap (◌*ℤ◌ d) (q.entries i),
   );
 }
 
@@ -122,14 +115,7 @@ met m n a b r = (
   r.unit,
   λ s lt.
       let le = at_row (Meets (suc n) r.at) m s a b r.meets lt in
-      omega (
-        arith,
-        linear,
-        le,
-        sum_below-front n (λ i. row a b s i *ℤ r.at i),
-        neg-mulℤ (b s) (r.at 0),
-        *ℤ_comm (b s) (r.at 0),
-      ),
+      omega (sorted_products, le, sum_below-front n (λ i. row a b s i *ℤ r.at i)),
 )
 
 contradicted : (m n : ℕ) (a : ℕ → ℕ → ℤ) (b : ℕ → ℤ) (r : Contradiction n (Made m a b))
@@ -145,21 +131,17 @@ contradicted m n a b r =
 pub never_both : (m n : ℕ) (a : ℕ → ℕ → ℤ) (b x : ℕ → ℤ) (q : ℤ) (w : ℕ → ℤ) → MeetsAll m n a b x q
     → Contradicts m n a b w → ⊥
 never_both m n a b x q w meets c =
-    let each =
-    sum_below-le m (λ s. q *ℤ (w s *ℤ b s)) (λ s. sum_below n (λ i. w s *ℤ (a s i *ℤ x i)))
+    let each = sum_below-le m (λ s. q *ℤ (w s *ℤ b s)) (λ s. sum_below n (λ i. w s *ℤ (a s i *ℤ x i)))
     (λ s lt. omega (
-      arith,
-      linear,
+      sorted_products,
       mul-leℤ (w s) (q *ℤ b s) (sum_below n (λ i. a s i *ℤ x i)) (c.0 s lt) (meets.1 s lt),
-      mul_left_commℤ q (w s) (b s),
       sum_below-times n (λ i. a s i *ℤ x i) (w s),
     )) in
     let exchange = sum_below-exchange m n (λ s i. w s *ℤ (a s i *ℤ x i)) in
-    let none =
-    sum_below-zero n (λ i. sum_below m (λ s. w s *ℤ (a s i *ℤ x i)))
+    let none = sum_below-zero n (λ i. sum_below m (λ s. w s *ℤ (a s i *ℤ x i)))
     (λ i lt. sum_below-same m (λ s. w s *ℤ (a s i *ℤ x i)) (λ s. x i *ℤ (w s *ℤ a s i))
     (λ s k. sym (mul_assocℤ (w s) (a s i) (x i)) ∙ *ℤ_comm (w s *ℤ a s i) (x i))
-    ∙ sum_below-times m (λ s. w s *ℤ a s i) (x i) ∙ ap (λ (z : ℤ). x i *ℤ z) (c.1 i lt)
+    ∙ sum_below-times m (λ s. w s *ℤ a s i) (x i) ∙ ap (◌*ℤ◌ (x i)) (c.1 i lt)
     ∙ mul-zeroℤ (x i)) in
     let more = mul-positiveℤ q (sum_below m (λ s. w s *ℤ b s)) (omega (arith, linear, meets.0)) c.2 in
     omega (arith, linear, each, exchange, none, more, sum_below-times m (λ s. w s *ℤ b s) q)

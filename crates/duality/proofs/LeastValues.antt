@@ -1,21 +1,18 @@
 -- The least value of an unknown over the points that meet rows: where there is a point and no lesser bound is
 -- broken, some point has it.
-use Rattle.std.proofs.Common.{◌≡◌, ◌⊎◌, ℕ, zero, suc, ◌≤◌, List, [], ◌∷◌, ◌++◌}
-use Rattle.std.proofs.Common.{ℤ, pos, neg_ℤ, ◌+ℤ◌}
-use Rattle.std.proofs.Common.{◌*ℤ◌, ◌<ℤ◌, ◌≤ℤ◌, refl, sym, ap, subst, ◌∙◌, inl, inr}
-use Rattle.std.proofs.Common.{arith}
+use Rattle.std.proofs.Common.{◌≡◌, ◌⊎◌, ℕ, zero, suc, ◌≤◌, List, [], ◌∷◌, ◌++◌, ℤ, pos, neg_ℤ, ◌+ℤ◌, ◌*ℤ◌, ◌<ℤ◌, ◌≤ℤ◌}
+use Rattle.std.proofs.Common.{refl, sym, ap, subst, ◌∙◌, inl, inr, arith}
 use Rattle.std.specs.List.{AllByRecursion}
 use Rattle.std.proofs.lemmas.Int.{by_lt_z}
-use Rattle.definitions.proofs.Ring.{linear, ring_laws, add-mulℤ, mul-zeroℤ, zero-mulℤ, mul-oneℤ, one-mulℤ}
-use Rattle.definitions.proofs.Ring.{neg-mulℤ, mul-negℤ, mul_left_commℤ, mul_assocℤ, mul-leℤ, mul-ltℤ}
-use Rattle.definitions.proofs.Ring.{mul-le_cancelℤ, mul-nonnegativeℤ, mul-positiveℤ}
+use Rattle.definitions.proofs.Ring.{linear, zero-mulℤ, mul-oneℤ, mul-leℤ, mul-ltℤ, mul-le_cancelℤ, mul-nonnegativeℤ}
+use Rattle.definitions.proofs.Ring.{mul-positiveℤ}
 use Rattle.definitions.proofs.Members.{sum_below-front, sum_below-zero}
 use Rattle.definitions.proofs.Alls.{all_weaken, all_both, all_with, all_join, all_left, all_right}
 use Rattle.definitions.proofs.Cases.{less_or_last}
 use Rattle.duality.proofs.Elimination.{Row, value_at, Meets, IsClosed, Point, Contradiction, heads, Parts, parts}
-use Rattle.duality.proofs.Elimination.{Without, crossed, pairs, pairs_without, from_pairs, without_closed}
-use Rattle.duality.proofs.Elimination.{lengthened, least_of, longer, to_longer, value_combined}
-use lib.IntN.{*ℤ_comm}
+use Rattle.duality.proofs.Elimination.{Without, crossed, pairs, pairs_without, from_pairs, without_closed, lengthened}
+use Rattle.duality.proofs.Elimination.{least_of, longer, to_longer, value_combined}
+use Rattle.theorems.proofs.Products.{products, sorted_products}
 
 -- a point over a positive number, and the rows are met
 abbrev pub In : ℕ → List Row → Row → Type 0
@@ -67,15 +64,7 @@ one_at = λ i. pos 1
 times_low : (c t : ℤ) → pos 1 ≤ℤ c → t ≤ℤ pos 0 → (c *ℤ t) ≤ℤ t
 times_low c t h k =
     let d = mul-nonnegativeℤ (c +ℤ neg_ℤ (pos 1)) (neg_ℤ t) (omega (arith, linear, h)) (omega (arith, linear, k)) in
-    let e : (c +ℤ neg_ℤ (pos 1)) *ℤ neg_ℤ t ≡ t +ℤ neg_ℤ (c *ℤ t) =
-    omega (
-      arith,
-      linear,
-      mul-negℤ (c +ℤ neg_ℤ (pos 1)) t,
-      add-mulℤ c (neg_ℤ (pos 1)) t,
-      neg-mulℤ (pos 1) t,
-      one-mulℤ t,
-    ) in
+    let e : (c +ℤ neg_ℤ (pos 1)) *ℤ neg_ℤ t ≡ t +ℤ neg_ℤ (c *ℤ t) = omega products in
     omega (arith, linear, d, e)
 
 -- where no row bounds unknown 1 from below, it can be under each bound
@@ -87,35 +76,21 @@ under_all C us r P a b hb none flat =
     let x = longer 1 (pos 1) t one_at in
     let empty : AllByRecursion (Meets 2 x) r.ps =
     subst (λ (ps : List Row). AllByRecursion (Meets 2 x) ps) (sym none) tt in
-    let down =
-    to_longer 1 (pos 1) t one_at r.ns
+    let down = to_longer 1 (pos 1) t one_at r.ns
     (all_with (λ (u : Row). t ≤ℤ u 0) (λ (u : Row). C u × (u 1 <ℤ pos 0))
     (λ (u : Row). pos 0 ≤ℤ (pos 1 *ℤ value_at 1 one_at u +ℤ u 1 *ℤ t)) r.ns
     (λ u le neg. omega (
-      arith,
-      linear,
+      products,
       le,
       times_low (neg_ℤ (u 1)) t (omega (arith, linear, neg.1)) k.1,
-      neg-mulℤ (u 1) t,
-      one-mulℤ (value_at 1 one_at u),
-      mul-oneℤ (u 0),
     )) k.3 r.negative) in
-    let level =
-    to_longer 1 (pos 1) t one_at r.zs
+    let level = to_longer 1 (pos 1) t one_at r.zs
     (all_with (λ (u : Row). pos 0 ≤ℤ u 0) (λ (u : Row). C u × (u 1 ≡ pos 0))
     (λ (u : Row). pos 0 ≤ℤ (pos 1 *ℤ value_at 1 one_at u +ℤ u 1 *ℤ t)) r.zs
-    (λ u le zero. omega (
-      arith,
-      linear,
-      le,
-      ap (λ (z : ℤ). z *ℤ t) zero.1,
-      zero-mulℤ t,
-      one-mulℤ (value_at 1 one_at u),
-      mul-oneℤ (u 0),
-    )) flat r.none) in
+    (λ u le zero. omega (products, le, ap (λ (z : ℤ). z *ℤ t) zero.1)) flat r.none) in
     record {
-      point = record { at = x; unit = omega (arith, linear, mul-oneℤ (pos 1)); meets = r.back x empty down level };
-      ends = inr (omega (arith, linear, times_low b t hb k.1, k.2, mul-oneℤ a));
+      point = record { at = x; unit = omega products; meets = r.back x empty down level };
+      ends = inr (omega (products, times_low b t hb k.1, k.2));
     }
 
 -- the row of least fraction is met with equality there
@@ -125,24 +100,19 @@ low_by_row P x m high hx e meets y hy =
     let le = meets y hy in
     let scaled =
     mul-nonnegativeℤ (x 0) (m 0 *ℤ y 0 +ℤ m 1 *ℤ y 1) (omega (arith, linear, hx)) (omega (arith, linear, le)) in
-    let same = ap (λ (z : ℤ). y 0 *ℤ z) e in
-    let e1 : x 0 *ℤ (m 0 *ℤ y 0 +ℤ m 1 *ℤ y 1) ≡ m 0 *ℤ (x 0 *ℤ y 0) +ℤ m 1 *ℤ (y 1 *ℤ x 0) = simp ring_laws refl in
-    let e2 : y 0 *ℤ (m 0 *ℤ x 0 +ℤ m 1 *ℤ x 1) ≡ m 0 *ℤ (x 0 *ℤ y 0) +ℤ m 1 *ℤ (x 1 *ℤ y 0) = simp ring_laws refl in
     mul-le_cancelℤ (m 1) (x 1 *ℤ y 0) (y 1 *ℤ x 0) high
-    (omega (arith, linear, scaled, same, e1, e2, mul-zeroℤ (y 0)))
+    (omega (sorted_products, scaled, ap (◌*ℤ◌ (y 0)) e))
 
 -- where some row does, the least value that they allow
 least_by_rows : (C : Row → Type 0) (us : List Row) (r : Parts 1 C us) (P : Row → Type 0)
     → ((u : Row) → C u → (y : Row) → P y → Meets 2 y u) → (p : Row) (ps : List Row) → r.ps ≡ p ∷ ps
     → AllByRecursion (λ (u : Row). pos 0 ≤ℤ u 0) (r.zs ++ pairs 1 r.ps r.ns) → (a b : ℤ) → Found 1 us (Ends P a b)
 least_by_rows C us r P sound p ps e heads_low a b =
-    let crossings =
-    from_pairs 1 (λ (u : Row). pos 0 ≤ℤ u 0) r.ps r.ns
+    let crossings = from_pairs 1 (λ (u : Row). pos 0 ≤ℤ u 0) r.ps r.ns
     (all_right (λ (u : Row). pos 0 ≤ℤ u 0) r.zs (pairs 1 r.ps r.ns) heads_low) in
     let Q : Row → Type 0 =
     λ (u : Row). (C u × (pos 0 <ℤ u 1)) × AllByRecursion (λ (q : Row). pos 0 ≤ℤ crossed 1 u q 0) r.ns in
-    let both : AllByRecursion Q (p ∷ ps) =
-    subst (λ (vs : List Row). AllByRecursion Q vs) e
+    let both : AllByRecursion Q (p ∷ ps) = subst (λ (vs : List Row). AllByRecursion Q vs) e
     (all_both (λ (u : Row). C u × (pos 0 <ℤ u 1))
     (λ (u : Row). AllByRecursion (λ (q : Row). pos 0 ≤ℤ crossed 1 u q 0) r.ns) r.ps r.positive crossings) in
     let s = least_of (λ u. u 0) (λ u. u 1) Q (λ u q. q.0.1) p ps both.0 both.1 in
@@ -150,60 +120,32 @@ least_by_rows C us r P sound p ps e heads_low a b =
     let by = m 1 in
     let last = neg_ℤ (m 0) in
     let x = longer 1 by last one_at in
-    let up =
-    to_longer 1 by last one_at (p ∷ ps)
+    let up = to_longer 1 by last one_at (p ∷ ps)
     (all_weaken (λ (v : Row). (m 0 *ℤ v 1) ≤ℤ (v 0 *ℤ m 1))
     (λ (u : Row). pos 0 ≤ℤ (by *ℤ value_at 1 one_at u +ℤ u 1 *ℤ last)) (p ∷ ps)
-    (λ v le. omega (
-      arith,
-      linear,
-      le,
-      mul-negℤ (v 1) (m 0),
-      *ℤ_comm (m 0) (v 1),
-      *ℤ_comm (v 0) (m 1),
-      ap (λ (z : ℤ). m 1 *ℤ z) (value_one one_at v ∙ mul-oneℤ (v 0)),
-    )) s.least) in
-    let ups : AllByRecursion (Meets 2 x) r.ps =
-    subst (λ (vs : List Row). AllByRecursion (Meets 2 x) vs) (sym e) up in
-    let down =
-    to_longer 1 by last one_at r.ns
+    (λ v le. omega (sorted_products, le, ap (◌*ℤ◌ (m 1)) (value_one one_at v ∙ mul-oneℤ (v 0)))) s.least) in
+    let ups : AllByRecursion (Meets 2 x) r.ps = subst (λ (vs : List Row). AllByRecursion (Meets 2 x) vs) (sym e) up in
+    let down = to_longer 1 by last one_at r.ns
     (all_weaken (λ (q : Row). pos 0 ≤ℤ crossed 1 m q 0)
     (λ (u : Row). pos 0 ≤ℤ (by *ℤ value_at 1 one_at u +ℤ u 1 *ℤ last)) r.ns
-    (λ v le. omega (
-      arith,
-      linear,
-      le,
-      mul-negℤ (v 1) (m 0),
-      neg-mulℤ (v 1) (m 0),
-      ap (λ (z : ℤ). m 1 *ℤ z) (value_one one_at v ∙ mul-oneℤ (v 0)),
-    )) s.holds.1) in
-    let level =
-    to_longer 1 by last one_at r.zs
+    (λ v le. omega (products, le, ap (◌*ℤ◌ (m 1)) (value_one one_at v ∙ mul-oneℤ (v 0)))) s.holds.1) in
+    let level = to_longer 1 by last one_at r.zs
     (all_with (λ (u : Row). pos 0 ≤ℤ u 0) (λ (u : Row). C u × (u 1 ≡ pos 0))
     (λ (u : Row). pos 0 ≤ℤ (by *ℤ value_at 1 one_at u +ℤ u 1 *ℤ last)) r.zs
     (λ u le zero. omega (
-      arith,
-      linear,
-      mul-nonnegativeℤ by (u 0) (let h = s.holds.0.1 in omega (arith, linear, h)) le,
+      products,
+      mul-nonnegativeℤ by (u 0) (omega (arith, linear, s.holds.0.1)) le,
       ap (λ (z : ℤ). z *ℤ last) zero.1,
-      zero-mulℤ last,
-      ap (λ (z : ℤ). m 1 *ℤ z) (value_one one_at u ∙ mul-oneℤ (u 0)),
+      ap (◌*ℤ◌ (m 1)) (value_one one_at u ∙ mul-oneℤ (u 0)),
     ))
     (all_left (λ (u : Row). pos 0 ≤ℤ u 0) r.zs (pairs 1 r.ps r.ns) heads_low) r.none) in
-    let unit : pos 1 ≤ℤ x 0 = let h = s.holds.0.1 in omega (arith, linear, h, mul-oneℤ (m 1)) in
+    let unit : pos 1 ≤ℤ x 0 = omega (products, s.holds.0.1) in
     record {
       point = record { at = x; unit = unit; meets = r.back x ups down level };
       ends =
           inl
           (low_by_row P x m s.holds.0.1 unit
-          (omega (
-            arith,
-            linear,
-            mul-oneℤ (m 1),
-            mul-negℤ (m 1) (m 0),
-            *ℤ_comm (m 0) (m 1),
-            ap (λ (z : ℤ). m 0 *ℤ z) (mul-oneℤ (m 1)),
-          )) (sound m s.holds.0.0));
+          (omega sorted_products) (sound m s.holds.0.0));
     }
 
 -- ---- one unknown after the other
@@ -239,29 +181,12 @@ low_longer : (P : Row → Type 0) (by : ℤ) (x z : Row) → pos 0 <ℤ by → z
     → IsLow P z
 low_longer P by x z h e f low y hy =
     let le = mul-leℤ by (x 1 *ℤ y 0) (y 1 *ℤ x 0) (omega (arith, linear, h)) (low y hy) in
-    omega (
-      arith,
-      linear,
-      le,
-      ap (λ (t : ℤ). t *ℤ y 0) f,
-      ap (λ (t : ℤ). y 1 *ℤ t) e,
-      mul_assocℤ by (x 1) (y 0),
-      mul_left_commℤ (y 1) by (x 0),
-    )
+    omega (sorted_products, le, ap (λ (t : ℤ). t *ℤ y 0) f, ap (◌*ℤ◌ (y 1)) e)
 
 under_longer : (a b by : ℤ) (x z : Row) → pos 0 <ℤ by → z 0 ≡ by *ℤ x 0 → z 1 ≡ by *ℤ x 1 → IsUnder a b x
     → IsUnder a b z
 under_longer a b by x z h e f under =
-    let lt = mul-ltℤ by (b *ℤ x 1) (a *ℤ x 0) h under in
-    omega (
-      arith,
-      linear,
-      lt,
-      ap (λ (t : ℤ). b *ℤ t) f,
-      ap (λ (t : ℤ). a *ℤ t) e,
-      mul_left_commℤ b by (x 1),
-      mul_left_commℤ a by (x 0),
-    )
+    omega (sorted_products, mul-ltℤ by (b *ℤ x 1) (a *ℤ x 0) h under, ap (◌*ℤ◌ b) f, ap (◌*ℤ◌ a) e)
 
 one_unknown_more : (P : Row → Type 0) (a b : ℤ) (n : ℕ) → 1 ≤ n → Finds P a b n → Finds P a b (suc n)
 one_unknown_more P a b n some ih C closed sound us h =
@@ -295,8 +220,7 @@ one_unknown_more P a b n some ih C closed sound us h =
     ]
   where
     smaller : (u : Row) → Without (suc n) C u → (y : Row) → P y → Meets (suc n) y u
-    smaller u w y hy =
-        omega (arith, linear, sound u w.0 y hy, ap (λ (z : ℤ). z *ℤ y (suc n)) w.1, zero-mulℤ (y (suc n)))
+    smaller u w y hy = omega (products, sound u w.0 y hy, ap (λ (z : ℤ). z *ℤ y (suc n)) w.1)
 
 finds : (P : Row → Type 0) (a b : ℤ) → pos 1 ≤ℤ b → (n : ℕ) → Finds P a b (suc n)
 finds P a b hb zero = first_unknown P a b hb
@@ -310,8 +234,7 @@ Sound n us u = (y : Row) → In n us y → Meets (suc n) y u
 sound_closed : (n : ℕ) (us : List Row) → IsClosed (Sound n us)
 sound_closed n us a b u v ha hb hu hv y hy =
     omega (
-      arith,
-      linear,
+      products,
       value_combined (suc n) y a b u v,
       mul-nonnegativeℤ a (value_at (suc n) y u) ha (hu y hy),
       mul-nonnegativeℤ b (value_at (suc n) y v) hb (hv y hy),
@@ -325,14 +248,12 @@ sound_rows n us (v ∷ vs) h = ((λ y hy. (h y hy).0), sound_rows n us vs (λ y 
 none_contradicts : (n : ℕ) (us : List Row) (z : Row) → In n us z → Contradiction n (Sound n us) → ⊥
 none_contradicts n us z hz c =
     let u = c.row in
-    let rest =
-    sum_below-zero n (λ i. u (suc i) *ℤ z (suc i))
+    let rest = sum_below-zero n (λ i. u (suc i) *ℤ z (suc i))
     (λ i lt. ap (λ (t : ℤ). t *ℤ z (suc i)) (c.zeros (suc i) (omega arith) (omega arith))
     ∙ zero-mulℤ (z (suc i))) in
-    let negative =
-    mul-positiveℤ (neg_ℤ (u 0)) (z 0) (let h = c.negative in omega (arith, linear, h))
-    (let h = hz.0 in omega (arith, linear, h)) in
-    omega (arith, linear, c.made z hz, sum_below-front n (λ i. u i *ℤ z i), rest, negative, neg-mulℤ (u 0) (z 0))
+    let negative = mul-positiveℤ (neg_ℤ (u 0)) (z 0) (omega (arith, linear, c.negative))
+    (omega (arith, linear, hz.0)) in
+    omega (products, c.made z hz, sum_below-front n (λ i. u i *ℤ z i), rest, negative)
 
 -- where some point meets the rows, one has the least fraction of unknown 1, or one below a/b
 pub least_value : (n : ℕ) (us : List Row) (z : Row) → In (suc n) us z → (a b : ℤ) → pos 1 ≤ℤ b

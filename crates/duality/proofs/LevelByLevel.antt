@@ -1,21 +1,18 @@
 -- The levels one after the other: at each, the least greatest value of the forms that are left, and a form that has it
 -- at all points which attain it. That form leaves. In the end each form has one value at all points that are left.
-use Rattle.std.proofs.Common.{◌≡◌, ◌⊎◌, ℕ, zero, suc, ◌<◌, List, [], ◌∷◌, ◌++◌}
-use Rattle.std.proofs.Common.{length, ℤ, pos, neg_ℤ}
-use Rattle.std.proofs.Common.{◌+ℤ◌, ◌*ℤ◌, ◌<ℤ◌, ◌≤ℤ◌, refl, sym, ap, subst, inl, inr}
-use Rattle.std.proofs.Common.{arith}
+use Rattle.std.proofs.Common.{◌≡◌, ◌⊎◌, ℕ, zero, suc, ◌<◌, List, [], ◌∷◌, ◌++◌, length, ℤ, pos, neg_ℤ, ◌+ℤ◌, ◌*ℤ◌, ◌<ℤ◌}
+use Rattle.std.proofs.Common.{◌≤ℤ◌, refl, sym, ap, subst, inl, inr, arith}
 use Rattle.std.specs.List.{AllByRecursion}
 use Rattle.std.proofs.lemmas.Int.{by_lt_z}
-use Rattle.definitions.proofs.Ring.{linear, ring_laws, mul-addℤ, add-mulℤ, one-mulℤ, neg-mulℤ, mul_left_commℤ}
-use Rattle.definitions.proofs.Ring.{mul_assocℤ, mul-leℤ, mul-ltℤ, mul-le_cancelℤ, mul-cancelℤ, mul-positiveℤ}
+use Rattle.definitions.proofs.Ring.{linear, mul-leℤ, mul-ltℤ, mul-le_cancelℤ, mul-cancelℤ, mul-positiveℤ}
 use Rattle.definitions.proofs.Ring.{mul-lt_cancelℤ}
 use Rattle.definitions.proofs.Alls.{all_weaken, all_join, all_right}
 use Rattle.duality.proofs.Elimination.{Row, Meets}
 use Rattle.duality.proofs.LeastValues.{In}
-use Rattle.duality.proofs.Levels.{Member, all_member, Choice, pick, upto, upto_member, upto_below, val, Flat}
-use Rattle.duality.proofs.Levels.{set_one, val_set, in_set, scaled, val_scaled, in_scaled, Tops, minimax, cappeds}
-use Rattle.duality.proofs.Levels.{cappeds_flat, Caps, to_cappeds, cap_at, Fixed, Loose, fixed_or_loose, below_all}
-use lib.IntN.{*ℤ_comm}
+use Rattle.duality.proofs.Levels.{Member, all_member, Choice, pick, upto, upto_member, upto_below, val, Flat, set_one}
+use Rattle.duality.proofs.Levels.{val_set, in_set, scaled, val_scaled, in_scaled, Tops, minimax, cappeds, cappeds_flat}
+use Rattle.duality.proofs.Levels.{Caps, to_cappeds, cap_at, Fixed, Loose, fixed_or_loose, below_all}
+use Rattle.theorems.proofs.Products.{products, sorted_products}
 
 module _ (n m : ℕ) (e : ℕ → Row) (level : (j : ℕ) → Flat (e j)) (base : List Row) where
   -- the values of x at y's scale, and those of y at that of x: at some bound the forms are equal or those of x at
@@ -67,14 +64,12 @@ module _ (n m : ℕ) (e : ℕ → Row) (level : (j : ℕ) → Flat (e j)) (base 
     | inl left ↦ record {
       a = p.least;
       b = p.own +ℤ p.other;
-      positive = (let h = p.own_positive in let k = p.other_positive in omega (arith, linear, h, k));
+      positive = omega (arith, linear, p.own_positive, p.other_positive);
       holds = λ y hy tops.
-          let one =
-          mul-leℤ p.own (val n y (e j)) (y 1) (let h = p.own_positive in omega (arith, linear, h)) tops.0 in
-          let two =
-          mul-leℤ p.other (val n y (e p.partner)) (y 1) (let h = p.other_positive in omega (arith, linear, h))
+          let one = mul-leℤ p.own (val n y (e j)) (y 1) (omega (arith, linear, p.own_positive)) tops.0 in
+          let two = mul-leℤ p.other (val n y (e p.partner)) (y 1) (omega (arith, linear, p.other_positive))
           (all_member (λ (i : ℕ). val n y (e i) ≤ℤ y 1) (j ∷ js) p.partner tops left) in
-          omega (arith, linear, p.bound y (s.within y hy), one, two, add-mulℤ p.own p.other (y 1));
+          omega (products, p.bound y (s.within y hy), one, two);
     }
     | inr known ↦
         let x = s.point in
@@ -83,33 +78,20 @@ module _ (n m : ℕ) (e : ℕ → Row) (level : (j : ℕ) → Flat (e j)) (base 
           a = x 0 *ℤ p.least +ℤ neg_ℤ (p.other *ℤ c);
           b = x 0 *ℤ p.own;
           positive =
-              (let q =
-              mul-positiveℤ (x 0) p.own (let h = s.inside.0 in omega (arith, linear, h))
-              (let h = p.own_positive in omega (arith, linear, h)) in
+              (let q = mul-positiveℤ (x 0) p.own (omega (arith, linear, s.inside.0))
+              (omega (arith, linear, p.own_positive)) in
               omega (arith, linear, q));
           holds = λ y hy tops.
               let u = val n y (e j) in
               let v = val n y (e p.partner) in
-              let one =
-              mul-leℤ (x 0 *ℤ p.own) u (y 1)
-              (let q =
-              mul-positiveℤ (x 0) p.own (let h = s.inside.0 in omega (arith, linear, h))
-              (let h = p.own_positive in omega (arith, linear, h)) in
+              let one = mul-leℤ (x 0 *ℤ p.own) u (y 1)
+              (let q = mul-positiveℤ (x 0) p.own (omega (arith, linear, s.inside.0))
+              (omega (arith, linear, p.own_positive)) in
               omega (arith, linear, q)) tops.0 in
-              let two =
-              mul-leℤ (x 0) (p.least *ℤ y 0) (p.own *ℤ u +ℤ p.other *ℤ v)
-              (let h = s.inside.0 in omega (arith, linear, h)) (p.bound y (s.within y hy)) in
+              let two = mul-leℤ (x 0) (p.least *ℤ y 0) (p.own *ℤ u +ℤ p.other *ℤ v)
+              (omega (arith, linear, s.inside.0)) (p.bound y (s.within y hy)) in
               let agree : y 0 *ℤ c ≡ x 0 *ℤ v = known x y s.inside hy in
-              let e1 = ap (λ (z : ℤ). p.other *ℤ z) agree in
-              let e2 = add-mulℤ (x 0 *ℤ p.least) (neg_ℤ (p.other *ℤ c)) (y 0) in
-              let e3 = neg-mulℤ (p.other *ℤ c) (y 0) in
-              let e4 = mul_assocℤ p.other c (y 0) in
-              let e5 = ap (λ (z : ℤ). p.other *ℤ z) (*ℤ_comm c (y 0)) in
-              let e6 = mul_assocℤ (x 0) p.least (y 0) in
-              let e7 = mul-addℤ (x 0) (p.own *ℤ u) (p.other *ℤ v) in
-              let e8 = mul_left_commℤ (x 0) p.other v in
-              let e9 = mul_assocℤ (x 0) p.own u in
-              omega (arith, linear, one, two, e1, e2, e3, e4, e5, e6, e7, e8, e9);
+              omega (sorted_products, one, two, ap (◌*ℤ◌ p.other) agree);
         }
   ]
 
@@ -122,28 +104,22 @@ module _ (n m : ℕ) (e : ℕ → Row) (level : (j : ℕ) → Flat (e j)) (base 
   not_all_loose us js x flat hx low z hz under =
       let q = x 0 in
       let p = x 1 in
-      let some : pos 0 <ℤ q = (let h = hx.0 in omega (arith, linear, h)) in
+      let some : pos 0 <ℤ q = omega (arith, linear, hx.0) in
       let t = p *ℤ z 0 +ℤ neg_ℤ (pos 1) in
       let y = set_one t (scaled q z) in
       let inside = in_set n us t (scaled q z) flat (in_scaled n us q z some hz) in
-      let le = low y inside (tops js (λ k h. h)) in
-      let e1 : p *ℤ (q *ℤ z 0) ≡ (p *ℤ z 0) *ℤ q = simp ring_laws refl in
-      let e2 = add-mulℤ (p *ℤ z 0) (neg_ℤ (pos 1)) q in
-      let e3 = neg-mulℤ (pos 1) q in
-      omega (arith, linear, le, e1, e2, e3, one-mulℤ q, some)
+      omega (sorted_products, low y inside (tops js (λ k h. h)), some)
     where
       tops : (ks : List ℕ) → ((k : ℕ) → Member k ks → Member k js)
           → Tops n e level (set_one (x 1 *ℤ z 0 +ℤ neg_ℤ (pos 1)) (scaled (x 0) z)) ks
       tops [] sub = tt
       tops (k ∷ ks) sub = (
-        let lt = under k (sub k (inl refl)) in
-            omega (
-              arith,
-              linear,
-              lt,
-              val_set n (x 1 *ℤ z 0 +ℤ neg_ℤ (pos 1)) (scaled (x 0) z) (e k) (level k),
-              val_scaled n (x 0) z (e k),
-            ),
+        omega (
+          products,
+          under k (sub k (inl refl)),
+          val_set n (x 1 *ℤ z 0 +ℤ neg_ℤ (pos 1)) (scaled (x 0) z) (e k) (level k),
+          val_scaled n (x 0) z (e k),
+        ),
         tops ks (λ i h. sub i (inr h)),
       )
 
@@ -203,7 +179,7 @@ module _ (n m : ℕ) (e : ℕ → Row) (level : (j : ℕ) → Flat (e j)) (base 
       }
     where
       some : pos 0 <ℤ x 0
-      some = (let h = hx.0 in omega (arith, linear, h))
+      some = omega (arith, linear, hx.0)
 
       outer : (y : Row) → In (suc n) (cappeds n e level (x 1) (x 0) js ++ us) y → In (suc n) us y
       outer y hy = (hy.0, all_right (Meets (suc (suc n)) y) (cappeds n e level (x 1) (x 0) js) us hy.1)
@@ -213,20 +189,8 @@ module _ (n m : ℕ) (e : ℕ → Row) (level : (j : ℕ) → Flat (e j)) (base 
       agree y z hy hz =
           let u = val n y (e c.one) in
           let v = val n z (e c.one) in
-          let a = ap (λ (t : ℤ). z 0 *ℤ t) (c.is y hy) in
-          let b = ap (λ (t : ℤ). y 0 *ℤ t) (c.is z hz) in
           mul-cancelℤ (x 0) (z 0 *ℤ u) (y 0 *ℤ v) some
-          (omega (
-            arith,
-            linear,
-            a,
-            b,
-            mul_left_commℤ (x 0) (z 0) u,
-            mul_left_commℤ (x 0) (y 0) v,
-            mul_left_commℤ (z 0) (x 1) (y 0),
-            mul_left_commℤ (y 0) (x 1) (z 0),
-            ap (λ (t : ℤ). x 1 *ℤ t) (*ℤ_comm (y 0) (z 0)),
-          ))
+          (omega (sorted_products, ap (◌*ℤ◌ (z 0)) (c.is y hy), ap (◌*ℤ◌ (y 0)) (c.is z hz)))
 
       better : (y z : Row) → In (suc n) (cappeds n e level (x 1) (x 0) js ++ us) y → In (suc n) us z → (k : ℕ)
           → Member k js → (x 1 *ℤ z 0) <ℤ (x 0 *ℤ val n z (e k)) → Better y z
@@ -239,31 +203,16 @@ module _ (n m : ℕ) (e : ℕ → Row) (level : (j : ℕ) → Flat (e j)) (base 
         one = k;
         within = s.below k member;
         low = low k member;
-        high =
-            (let scaled =
-            mul-ltℤ (y 0) (x 1 *ℤ z 0) (x 0 *ℤ val n z (e k)) (let h = hy.0 in omega (arith, linear, h)) above in
-            let a = ap (λ (t : ℤ). z 0 *ℤ t) (c.is y hy) in
+        high = (let scaled = mul-ltℤ (y 0) (x 1 *ℤ z 0) (x 0 *ℤ val n z (e k)) (omega (arith, linear, hy.0)) above in
             mul-lt_cancelℤ (x 0) (z 0 *ℤ val n y (e c.one)) (y 0 *ℤ val n z (e k)) some
-            (omega (
-              arith,
-              linear,
-              scaled,
-              a,
-              mul_left_commℤ (x 0) (z 0) (val n y (e c.one)),
-              mul_left_commℤ (x 0) (y 0) (val n z (e k)),
-              mul_left_commℤ (z 0) (x 1) (y 0),
-              mul_left_commℤ (y 0) (x 1) (z 0),
-              ap (λ (t : ℤ). x 1 *ℤ t) (*ℤ_comm (y 0) (z 0)),
-            )));
+            (omega (sorted_products, scaled, ap (◌*ℤ◌ (z 0)) (c.is y hy))));
       }
         where
           low : (j : ℕ) → Member j js → (z 0 *ℤ val n y (e j)) ≤ℤ (z 0 *ℤ val n y (e c.one))
           low j left =
-              let cap = cap_at n e level (x 1) (x 0) us js y hy j left in
-              let le =
-              mul-le_cancelℤ (x 0) (val n y (e j)) (val n y (e c.one)) some
-              (omega (arith, linear, cap, c.is y hy)) in
-              mul-leℤ (z 0) (val n y (e j)) (val n y (e c.one)) (let h = hz.0 in omega (arith, linear, h)) le
+              let le = mul-le_cancelℤ (x 0) (val n y (e j)) (val n y (e c.one)) some
+              (omega (arith, linear, cap_at n e level (x 1) (x 0) us js y hy j left, c.is y hy)) in
+              mul-leℤ (z 0) (val n y (e j)) (val n y (e c.one)) (omega (arith, linear, hz.0)) le
 
   next_level : (us : List Row) (j : ℕ) (js : List ℕ) → Stage us (j ∷ js) → Paired j → Further (j ∷ js)
   next_level us j js s paired =
@@ -272,11 +221,9 @@ module _ (n m : ℕ) (e : ℕ → Row) (level : (j : ℕ) → Flat (e j)) (base 
       let x = r.0 in
       let p = x 1 in
       let q = x 0 in
-      let caps =
-      all_weaken (λ (i : ℕ). val n x (e i) ≤ℤ x 1) (Caps n e level p q x) (j ∷ js)
+      let caps = all_weaken (λ (i : ℕ). val n x (e i) ≤ℤ x 1) (Caps n e level p q x) (j ∷ js)
       (λ i le.
-      (let h = r.1.0 in
-      omega (arith, linear, mul-leℤ q (val n x (e i)) p (omega (arith, linear, h)) le, *ℤ_comm p q))) r.2 in
+      (omega (sorted_products, mul-leℤ q (val n x (e i)) p (omega (arith, linear, r.1.0)) le))) r.2 in
       let vs = cappeds n e level p q (j ∷ js) ++ us in
       let flat = all_join Flat (cappeds n e level p q (j ∷ js)) us (cappeds_flat n e level p q (j ∷ js)) s.flat in
       let hx : In (suc n) vs x = (
@@ -292,8 +239,7 @@ module _ (n m : ℕ) (e : ℕ → Row) (level : (j : ℕ) → Flat (e j)) (base 
             (λ y hy. cap_at n e level p q us (j ∷ js) y hy i member))) [
               | inl c ↦ one_level us (j ∷ js) s x r.1 caps c
               | inr loose ↦ (
-                  let z =
-                  below_all n e level p q vs x hx (j ∷ js)
+                  let z = below_all n e level p q vs x hx (j ∷ js)
                   (λ y hy k member. cap_at n e level p q us (j ∷ js) y hy k member) loose in
                   absurd
                   (not_all_loose us (j ∷ js) x s.flat r.1 low z.0
@@ -322,7 +268,7 @@ module _ (n m : ℕ) (e : ℕ → Row) (level : (j : ℕ) → Flat (e j)) (base 
   all_levels zero us (j ∷ js) few s paired = absurd (omega (arith, few))
   all_levels (suc k) us (j ∷ js) few s paired =
       let f = next_level us j js s (paired j (s.below j (inl refl))) in
-      all_levels k f.us f.rest (let h = f.fewer in omega (arith, h, few)) f.stage paired
+      all_levels k f.us f.rest (omega (arith, f.fewer, few)) f.stage paired
 
   -- some point comes first
   pub first_point : AllByRecursion Flat base → (z : Row) → In (suc n) base z → ((j : ℕ) → j < m → Paired j) → First

@@ -1,19 +1,18 @@
 -- Of finitely many linear forms on the points that meet rows: a point whose values, from the greatest, come first,
 -- found level by level (Maschler, Peleg and Shapley 1979).
-use Rattle.std.proofs.Common.{◌≡◌, ◌⊎◌, ℕ, zero, suc, ◌<◌, List, [], ◌∷◌, ◌++◌}
-use Rattle.std.proofs.Common.{length, ℤ, pos, neg_ℤ, ◌+ℤ◌, ◌*ℤ◌}
-use Rattle.std.proofs.Common.{◌<ℤ◌, ◌≤ℤ◌, refl, sym, ap, subst, ◌∙◌, inl, inr, arith}
-use Rattle.std.proofs.Common.{nat_eq, if◌then◌else◌}
+use Rattle.std.proofs.Common.{◌≡◌, ◌⊎◌, ℕ, zero, suc, ◌<◌, List, [], ◌∷◌, ◌++◌, length, ℤ, pos, neg_ℤ, ◌+ℤ◌, ◌*ℤ◌, ◌<ℤ◌}
+use Rattle.std.proofs.Common.{◌≤ℤ◌, refl, sym, ap, subst, ◌∙◌, inl, inr, arith, nat_eq, if◌then◌else◌}
 use Rattle.std.specs.List.{AllByRecursion}
 use Rattle.std.proofs.lemmas.Int.{by_lt_z}
-use Rattle.definitions.proofs.Ring.{linear, ring_laws, mul-addℤ, mul-zeroℤ, zero-mulℤ, one-mulℤ, neg-mulℤ}
-use Rattle.definitions.proofs.Ring.{mul_left_commℤ, mul-leℤ, mul-le_cancelℤ, mul-nonnegativeℤ, mul-positiveℤ}
+use Rattle.definitions.proofs.Ring.{linear, mul-addℤ, mul_left_commℤ, mul-leℤ, mul-le_cancelℤ, mul-nonnegativeℤ}
+use Rattle.definitions.proofs.Ring.{mul-positiveℤ}
 use Rattle.definitions.proofs.Members.{sum_below-same, sum_below-add, sum_below-times}
 use Rattle.definitions.proofs.Alls.{all_weaken, all_with, all_join, all_left, all_right}
 use Rattle.definitions.proofs.Cases.{nat_eq-other, less_or_last, same_or_other}
 use Rattle.duality.proofs.Elimination.{Row, value_at, Meets, combined, value_combined}
 use Rattle.duality.proofs.Farkas.{unit_at, sum_below-unit}
 use Rattle.duality.proofs.LeastValues.{In, IsUnder, least_value}
+use Rattle.theorems.proofs.Products.{products, sorted_products}
 
 -- ---- lists of numbers
 
@@ -85,13 +84,9 @@ tight u = combined (pos 1) (neg_ℤ (pos 1)) (unit_at 1) u
 val_tight : (n : ℕ) (y u : Row) → val n y (tight u) ≡ y 1 +ℤ neg_ℤ (val n y u)
 val_tight n y u =
     omega (
-      arith,
-      linear,
+      products,
       value_combined (suc (suc n)) y (pos 1) (neg_ℤ (pos 1)) (unit_at 1) u,
       sum_below-unit (suc (suc n)) 1 y (omega arith),
-      one-mulℤ (value_at (suc (suc n)) y (unit_at 1)),
-      neg-mulℤ (pos 1) (val n y u),
-      one-mulℤ (val n y u),
     )
 
 abbrev capped : ℤ → ℤ → Row → Row
@@ -100,15 +95,13 @@ capped p q u = combined p (neg_ℤ q) (unit_at 0) u
 pub val_capped : (n : ℕ) (p q : ℤ) (y u : Row) → val n y (capped p q u) ≡ p *ℤ y 0 +ℤ neg_ℤ (q *ℤ val n y u)
 val_capped n p q y u =
     omega (
-      arith,
-      linear,
+      products,
       value_combined (suc (suc n)) y p (neg_ℤ q) (unit_at 0) u,
-      ap (λ (z : ℤ). p *ℤ z) (sum_below-unit (suc (suc n)) 0 y (omega arith)),
-      neg-mulℤ q (val n y u),
+      ap (◌*ℤ◌ p) (sum_below-unit (suc (suc n)) 0 y (omega arith)),
     )
 
 capped_flat : (p q : ℤ) (u : Row) → Flat u → Flat (capped p q u)
-capped_flat p q u h = omega (arith, linear, mul-zeroℤ p, ap (λ (z : ℤ). neg_ℤ q *ℤ z) h, mul-zeroℤ (neg_ℤ q))
+capped_flat p q u h = omega (products, ap (◌*ℤ◌ (neg_ℤ q)) h)
 
 abbrev pub set_one : ℤ → Row → Row
 set_one t y = λ i. if nat_eq i 1 then t else y i
@@ -124,8 +117,7 @@ val_set n t y u flat =
     sum_below-same (suc (suc n)) (λ i. u i *ℤ set_one t y i) (λ i. u i *ℤ y i) (λ i lt. elim (same_or_other i 1) [
       | inl e ↦
           (let z = ap u e ∙ flat in
-          ap (λ (k : ℤ). k *ℤ set_one t y i) z ∙ zero-mulℤ (set_one t y i) ∙ sym (zero-mulℤ (y i))
-          ∙ sym (ap (λ (k : ℤ). k *ℤ y i) z))
+          omega (products, ap (λ (k : ℤ). k *ℤ set_one t y i) z, ap (λ (k : ℤ). k *ℤ y i) z))
       | inr ne ↦ rw (nat_eq-other i 1 ne) refl
     ])
 
@@ -163,7 +155,7 @@ val_scaled n q y u =
 pub in_scaled : (n : ℕ) (us : List Row) (q : ℤ) (y : Row) → pos 0 <ℤ q → In (suc n) us y
     → In (suc n) us (scaled q y)
 in_scaled n us q y hq h = (
-  (let p = mul-positiveℤ q (y 0) hq (let le = h.0 in omega (arith, linear, le)) in omega (arith, linear, p)),
+  (let p = mul-positiveℤ q (y 0) hq (omega (arith, linear, h.0)) in omega (arith, linear, p)),
   all_weaken (Meets (suc (suc n)) y) (Meets (suc (suc n)) (scaled q y)) us
       (λ u a. omega
       (arith, linear, mul-nonnegativeℤ q (val n y u) (omega (arith, linear, hq)) a, val_scaled n q y u))
@@ -285,21 +277,10 @@ module _ (n : ℕ) (e : ℕ → Row) (level : (j : ℕ) → Flat (e j)) where
             let least =
             low (set_one t y) (in_set n us t y flat hy) (tops_set t y (j ∷ []) (omega (arith, linear), tt)) in
             let least' : (z 1 *ℤ y 0) ≤ℤ (t *ℤ z 0) =
-            omega (
-              arith,
-              linear,
-              least,
-              ap (λ (k : ℤ). z 1 *ℤ k) (set_zero t y),
-              ap (λ (k : ℤ). k *ℤ z 0) (set_at t y),
-            ) in
+            omega (products, least, ap (◌*ℤ◌ (z 1)) (set_zero t y), ap (λ (k : ℤ). k *ℤ z 0) (set_at t y)) in
             let one = mul-leℤ q (z 1 *ℤ y 0) (t *ℤ z 0) (omega (arith, linear, hq)) least' in
-            let two = mul-leℤ (y 0) (p *ℤ z 0) (q *ℤ z 1) (let h = hy.0 in omega (arith, linear, h)) le in
-            let e1 : z 0 *ℤ (p *ℤ y 0) ≡ y 0 *ℤ (p *ℤ z 0) = simp ring_laws refl in
-            let e2 : y 0 *ℤ (q *ℤ z 1) ≡ q *ℤ (z 1 *ℤ y 0) = simp ring_laws refl in
-            let e3 : q *ℤ (t *ℤ z 0) ≡ z 0 *ℤ (q *ℤ t) = simp ring_laws refl in
-            let high =
-            mul-le_cancelℤ (z 0) (p *ℤ y 0) (q *ℤ t) (let h = r.1.0 in omega (arith, linear, h))
-            (omega (arith, linear, one, two, e1, e2, e3)) in
+            let high = mul-le_cancelℤ (z 0) (p *ℤ y 0) (q *ℤ t) (omega (arith, linear, r.1.0))
+            (omega (sorted_products, one, mul-leℤ (y 0) (p *ℤ z 0) (q *ℤ z 1) (omega (arith, linear, hy.0)) le)) in
             omega (arith, linear, high, cap y hy))
       ])
 
@@ -316,30 +297,10 @@ module _ (n : ℕ) (e : ℕ → Row) (level : (j : ℕ) → Flat (e j)) where
         in_added n us w z h.0.1 r.1,
         λ k m. elim m [
           | inl same ↦ (
-              let a = h.0.2 in
-              let b = cap z r.1 j (inl refl) in
               let s : (q *ℤ val n (added w z) (e j)) <ℤ (p *ℤ added w z 0) =
-              omega (
-                arith,
-                linear,
-                a,
-                b,
-                ap (λ (t : ℤ). q *ℤ t) (val_added n w z (e j)),
-                mul-addℤ q (val n w (e j)) (val n z (e j)),
-                mul-addℤ p (w 0) (z 0),
-              ) in
+              omega (products, h.0.2, cap z r.1 j (inl refl), ap (◌*ℤ◌ q) (val_added n w z (e j))) in
               subst (λ (i : ℕ). (q *ℤ val n (added w z) (e i)) <ℤ (p *ℤ added w z 0)) (sym same) s)
           | inr rest ↦ (
-              let a = r.2 k rest in
-              let b = cap w h.0.1 k (inr rest) in
-              omega (
-                arith,
-                linear,
-                a,
-                b,
-                ap (λ (t : ℤ). q *ℤ t) (val_added n w z (e k)),
-                mul-addℤ q (val n w (e k)) (val n z (e k)),
-                mul-addℤ p (w 0) (z 0),
-              ))
+              omega (products, r.2 k rest, cap w h.0.1 k (inr rest), ap (◌*ℤ◌ q) (val_added n w z (e k))))
         ],
       )

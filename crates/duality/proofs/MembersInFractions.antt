@@ -1,10 +1,9 @@
 -- Where a family has a member over a linearly ordered abelian group with a unit above zero, it has one in fractions:
 -- the worths are integers.
-use Rattle.std.proofs.Common.{◌≡◌, ℕ, zero, suc, ◌<◌, Bool, cond, List, [], ℤ}
-use Rattle.std.proofs.Common.{pos, ◌+ℤ◌}
-use Rattle.std.proofs.Common.{◌≤ℤ◌, refl, sym, ap, arith, if◌then◌else◌}
+use Rattle.std.proofs.Common.{◌≡◌, ℕ, zero, suc, ◌<◌, Bool, cond, List, [], ℤ, pos, ◌+ℤ◌, ◌≤ℤ◌, refl, sym, ap, arith}
+use Rattle.std.proofs.Common.{if◌then◌else◌}
 use Rattle.std.proofs.lemmas.Int.{by_lt_z}
-use Rattle.definitions.proofs.Ring.{linear, one-mulℤ}
+use Rattle.definitions.proofs.Ring.{linear}
 use Rattle.definitions.proofs.Members.{has_player-grand_coalition}
 use Rattle.definitions.specs.Sums.{sum_below}
 use Rattle.definitions.specs.Coalitions.{has_player, singleton, grand_coalition}
@@ -18,6 +17,7 @@ use Rattle.real_shares.proofs.Multiples.{chain, back, equal_path, plus-at_most, 
 use Rattle.real_shares.proofs.Multiples.{times-at_most, added-low, total_below-equal}
 use Rattle.real_shares.proofs.Soundness.{length_over, efficient_over}
 use Rattle.duality.proofs.Nucleoli.{some_preimputation, imputations_exist}
+use Rattle.theorems.proofs.Products.{products}
 
 module _ {C : Type 0} (N : Numbers C) (L : IsOrderedGroup N) where
   -- multiples of the unit are in the order of their factors
@@ -28,8 +28,7 @@ module _ {C : Type 0} (N : Numbers C) (L : IsOrderedGroup N) where
       let u = times N b N.unit in
       let one = times N (pos 1) N.unit in
       let more = times-at_most N L (b +ℤ pos 1) a (omega (arith, linear, lt)) in
-      let high =
-      L.transitive (N.plus u one) (times N (b +ℤ pos 1) N.unit) u (times-add N L b (pos 1) N.unit).1
+      let high = L.transitive (N.plus u one) (times N (b +ℤ pos 1) N.unit) u (times-add N L b (pos 1) N.unit).1
       (L.transitive (times N (b +ℤ pos 1) N.unit) (times N a N.unit) u more h) in
       absurd
       (L.positive (L.transitive N.unit one N.zero (times-one N L N.unit).1 (added-low N L u one high))))
@@ -71,8 +70,7 @@ module _ {C : Type 0} (N : Numbers C) (L : IsOrderedGroup N) where
       → g.worth (grand_coalition g.players) ≡ pos 0
   nothing family g y h e =
       let w = g.worth (grand_coalition g.players) in
-      let is : Equal N (times N (pos 0) N.unit) (times N w N.unit) =
-      chain N L
+      let is : Equal N (times N (pos 0) N.unit) (times N w N.unit) = chain N L
       (equal_path N L (times N (pos 0) N.unit) (total_below N g.players (number_of N y))
       (ap (λ k. total_below N k (number_of N y)) (sym e))) (total_is family g y h) in
       omega (arith, linear, unit_order (pos 0) w is.0, unit_order w (pos 0) is.1)
@@ -105,7 +103,7 @@ module _ {C : Type 0} (N : Numbers C) (L : IsOrderedGroup N) where
             no_shares,
             (
               (sym e, omega (arith, linear)),
-              omega (arith, linear, w, one-mulℤ (g.worth (grand_coalition g.players))),
+              omega (products, w),
               λ i lt. absurd (omega (arith, e)),
             ),
           )
@@ -114,7 +112,7 @@ module _ {C : Type 0} (N : Numbers C) (L : IsOrderedGroup N) where
             no_shares,
             (
               (sym e, omega (arith, linear)),
-              omega (arith, linear, w, one-mulℤ (g.worth (grand_coalition g.players))),
+              omega (products, w),
             ),
           )
       by_count (suc k) e Imputations h = (imputations_exist g (omega (arith, e))).1 (covers g y h)

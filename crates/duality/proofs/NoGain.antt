@@ -1,13 +1,10 @@
 -- At a nucleolus no transfer raises what each of the coalitions of the greatest excess gets, and leaves the others as
 -- they are or takes from those of less excess: a small part of it would make shares that come before.
-use Rattle.std.proofs.Common.{◌≡◌, ◌⊎◌, ℕ, zero, suc, ◌-◌, ◌^◌, ◌<◌, Bool, true}
-use Rattle.std.proofs.Common.{false, ◌&&◌, ℤ, pos, neg_ℤ, ◌+ℤ◌}
-use Rattle.std.proofs.Common.{◌*ℤ◌, ◌<ℤ◌, ◌≤ℤ◌, int_le, refl, sym, ap, ◌∙◌, inl, inr}
-use Rattle.std.proofs.Common.{arith}
-use Rattle.std.proofs.lemmas.Bool.{false≢true}
+use Rattle.std.proofs.Common.{◌≡◌, ◌⊎◌, ℕ, zero, suc, ◌-◌, ◌^◌, ◌<◌, Bool, true, false, ◌&&◌, ℤ, pos, neg_ℤ, ◌+ℤ◌, ◌*ℤ◌}
+use Rattle.std.proofs.Common.{◌<ℤ◌, ◌≤ℤ◌, int_le, refl, sym, ap, ◌∙◌, inl, inr, arith}
 use Rattle.std.proofs.lemmas.Int.{by_lt_z, ints}
-use Rattle.definitions.proofs.Ring.{linear, ring_laws, mul-addℤ, add-mulℤ, mul-zeroℤ, zero-mulℤ, mul-oneℤ}
-use Rattle.definitions.proofs.Ring.{mul-negℤ, mul_assocℤ, mul-subℤ, mul-leℤ, mul-cancelℤ, mul-positiveℤ}
+use Rattle.definitions.proofs.Ring.{linear, ring_laws, mul-zeroℤ, zero-mulℤ, mul-subℤ, mul-leℤ, mul-cancelℤ}
+use Rattle.definitions.proofs.Ring.{mul-positiveℤ}
 use Rattle.definitions.proofs.Members.{sum_below-add, sum_below-times}
 use Rattle.definitions.proofs.SumsOver.{sum_over-same, sum_over-zero}
 use Rattle.definitions.proofs.Measured.{weight}
@@ -26,9 +23,9 @@ use Rattle.duality.proofs.LeastValues.{In}
 use Rattle.duality.proofs.Levels.{val, scaled, val_scaled, added, val_added}
 use Rattle.duality.proofs.LevelByLevel.{Better}
 use Rattle.duality.proofs.BondarevaShapley.{listed_at}
-use Rattle.duality.proofs.Nucleoli.{asks, shares_of, form, base, row_of, allocation, Efficient, val_form}
-use Rattle.duality.proofs.Nucleoli.{efficient_row, in_member, point_in, excess_row, weigh_positive, beaten}
-use lib.IntN.{*ℤ_comm}
+use Rattle.duality.proofs.Nucleoli.{asks, shares_of, form, base, row_of, allocation, Efficient, val_form, efficient_row}
+use Rattle.duality.proofs.Nucleoli.{in_member, point_in, excess_row, weigh_positive, beaten}
+use Rattle.theorems.proofs.Products.{products, sorted_products}
 
 -- ---- players at their bound
 
@@ -41,22 +38,18 @@ abbrev pub at_bound : Family → Game → Allocation → ℕ → Bool
 at_bound family g x i = has_bounds family && int_le (share x i) (x.den *ℤ g.worth (singleton i))
 
 pub has_bounds-imputations : (family : Family) → has_bounds family ≡ true → family ≡ Imputations
-has_bounds-imputations Imputations e = refl
-has_bounds-imputations Preimputations e = absurd (false≢true e)
+has_bounds-imputations family e = grind arith
 
 pub at_bound-tight : (family : Family) (g : Game) (x : Allocation) (i : ℕ) → InFamily family g x → i < g.players
     → at_bound family g x i ≡ true → (share x i ≡ x.den *ℤ g.worth (singleton i)) × (family ≡ Imputations)
 at_bound-tight family g x i h lt e =
     let both = and_parts (has_bounds family) (int_le (share x i) (x.den *ℤ g.worth (singleton i))) e in
     let is = has_bounds-imputations family both.0 in
-    let low = individual_of family g x h is i lt in
-    let high = both.1 in
-    (omega (arith, linear, ints, low, high), is)
+    (omega (arith, linear, ints, individual_of family g x h is i lt, both.1), is)
 
 at_bound-above : (g : Game) (x : Allocation) (family : Family) (i : ℕ) → at_bound family g x i ≡ false
     → family ≡ Imputations → (x.den *ℤ g.worth (singleton i)) <ℤ share x i
-at_bound-above g x Imputations i e is = omega (arith, linear, ints, e)
-at_bound-above g x Preimputations i e is = absurd (cc)
+at_bound-above g x family i e is = grind (arith, ints)
 
 -- ---- a number above finitely many
 
@@ -72,7 +65,7 @@ bound_of (suc k) f =
     ))
     (λ le. (
       f k +ℤ pos 1,
-      (let one = r.1 in omega (arith, linear, one, le)),
+      (omega (arith, linear, r.1, le)),
       λ t lt. elim (less_or_last t k lt) [
         | inl h ↦ (let low = r.2 t h in omega (arith, linear, low, le))
         | inr same ↦ omega (arith, linear, ap f same)
@@ -117,7 +110,7 @@ module _ (family : Family) (measure : Measure) (g : Game) (m : IsMeasurable meas
         linear,
         val_form measure g s zr,
         mul-subℤ w (pos 0 *ℤ v) (gained s),
-        ap (λ (t : ℤ). w *ℤ t) (zero-mulℤ v),
+        ap (◌*ℤ◌ w) (zero-mulℤ v),
         mul-zeroℤ w,
       )
 
@@ -128,12 +121,11 @@ module _ (family : Family) (measure : Measure) (g : Game) (m : IsMeasurable meas
       → val n (moved K) (form measure g s) ≡ K *ℤ me s +ℤ neg_ℤ (weight measure s *ℤ gained s)
   at_moved K s =
       omega (
-        arith,
-        linear,
+        products,
         val_added n (scaled K xr) zr (form measure g s),
         val_scaled n K xr (form measure g s),
         at_gain s,
-        ap (λ (t : ℤ). K *ℤ t) (at_x s),
+        ap (◌*ℤ◌ K) (at_x s),
       )
 
   moved_efficient : (K : ℤ) → Efficient g (moved K)
@@ -141,12 +133,10 @@ module _ (family : Family) (measure : Measure) (g : Game) (m : IsMeasurable meas
       let v = g.worth (grand_coalition n) in
       let e = efficient_row g x (allocation_of family g x h.0) (efficient_of family g x h.0) in
       omega (
-        arith,
-        linear,
+        sorted_products,
         sum_below-add n (λ i. K *ℤ share x i) z,
         sum_below-times n (share x) K,
-        ap (λ (t : ℤ). K *ℤ t) e,
-        mul_assocℤ K x.den v,
+        ap (◌*ℤ◌ K) e,
         ap (λ (t : ℤ). t *ℤ v) (moved_den K),
         total,
       )
@@ -157,27 +147,16 @@ module _ (family : Family) (measure : Measure) (g : Game) (m : IsMeasurable meas
       let v = g.worth (singleton i) in
       let a = share x i in
       let e1 = ap (λ (t : ℤ). t *ℤ v) (moved_den K) in
-      let e2 = mul_assocℤ K x.den v in
       elim (true_or_false (at_bound family g x i)) [
         | inl here ↦
             (let tight = (at_bound-tight family g x i h.0 lt here).0 in
-            omega (arith, linear, e1, e2, ap (λ (t : ℤ). K *ℤ t) tight, low i lt here))
+            omega (sorted_products, e1, ap (◌*ℤ◌ K) tight, low i lt here))
         | inr off ↦
             (let above = at_bound-above g x family i off is in
             let le =
             mul-leℤ K (x.den *ℤ v) (a +ℤ neg_ℤ (pos 1)) (omega (arith, linear, k1)) (omega (arith, linear, above))
             in
-            omega (
-              arith,
-              linear,
-              e1,
-              e2,
-              le,
-              mul-addℤ K a (neg_ℤ (pos 1)),
-              mul-negℤ K (pos 1),
-              mul-oneℤ K,
-              k2 i lt,
-            ))
+            omega (sorted_products, e1, le, k2 i lt))
       ]
 
   moved_in : (K : ℤ) → pos 1 ≤ℤ K → ((i : ℕ) → i < n → (neg_ℤ (z i) +ℤ pos 1) ≤ℤ K)
@@ -218,46 +197,26 @@ module _ (family : Family) (measure : Measure) (g : Game) (m : IsMeasurable meas
         let q =
         mul-leℤ K (me (suc t)) (e +ℤ neg_ℤ (pos 1)) (omega (arith, linear, k1)) (omega (arith, linear, less)) in
         under (suc t)
-        (omega (
-          arith,
-          linear,
-          q,
-          mul-addℤ K e (neg_ℤ (pos 1)),
-          mul-negℤ K (pos 1),
-          mul-oneℤ K,
-          k3 t lt,
-          at_moved K (suc t),
-        ))
+        (omega (products, q, k3 t lt, at_moved K (suc t)))
 
     unmoved : (s : ℕ) → gained s ≡ pos 0
         → xr 0 *ℤ val n (moved K) (form measure g s) ≡ moved K 0 *ℤ val n xr (form measure g s)
     unmoved s none =
         let v = val n (moved K) (form measure g s) in
-        let same : v ≡ K *ℤ me s =
-        omega (
-          arith,
-          linear,
-          at_moved K s,
-          ap (λ (t : ℤ). weight measure s *ℤ t) none,
-          mul-zeroℤ (weight measure s),
-        ) in
+        let same : v ≡ K *ℤ me s = omega (products, at_moved K s, ap (◌*ℤ◌ (weight measure s)) none) in
         shaped x.den K (me s) v (moved K 0) (val n xr (form measure g s)) same (moved_den K) (at_x s)
       where
         shaped : (d k a v q b : ℤ) → v ≡ k *ℤ a → q ≡ k *ℤ d → b ≡ a → d *ℤ v ≡ q *ℤ b
         shaped d k a v q b e f h =
             let e1 : d *ℤ (k *ℤ a) ≡ (k *ℤ d) *ℤ a = simp ring_laws refl in
-            ap (λ (t : ℤ). d *ℤ t) e ∙ e1 ∙ ap (λ (t : ℤ). t *ℤ a) (sym f) ∙ ap (λ (t : ℤ). q *ℤ t) (sym h)
+            ap (◌*ℤ◌ d) e ∙ e1 ∙ ap (λ (t : ℤ). t *ℤ a) (sym f) ∙ ap (◌*ℤ◌ q) (sym h)
 
     above : (d : ℕ) → me (suc d) ≡ e → bound <ℤ (moved K 0 *ℤ val n xr (form measure g (suc d)))
     above d is =
         shaped x.den K e (moved K 0) (val n xr (form measure g (suc d))) (moved_den K) (at_x (suc d) ∙ is) den_positive
       where
         shaped : (d k e q b : ℤ) → q ≡ k *ℤ d → b ≡ e → pos 1 ≤ℤ d → (d *ℤ (k *ℤ e +ℤ neg_ℤ (pos 1))) <ℤ (q *ℤ b)
-        shaped d k e q b f h one =
-            let e1 : d *ℤ (k *ℤ e +ℤ neg_ℤ (pos 1)) ≡ (k *ℤ d) *ℤ e +ℤ d *ℤ neg_ℤ (pos 1) = simp ring_laws refl in
-            let e2 = ap (λ (t : ℤ). t *ℤ b) f in
-            let e3 = ap (λ (t : ℤ). (k *ℤ d) *ℤ t) h in
-            omega (arith, linear, e1, e2, e3, mul-negℤ d (pos 1), mul-oneℤ d, one)
+        shaped d k e q b f h one = omega (sorted_products, ap (λ (t : ℤ). t *ℤ b) f, ap (◌*ℤ◌ ((k *ℤ d))) h, one)
 
   -- who gains has other shares
   same_none : (K : ℤ) → IsSame g x (allocation g (moved K)) → (i : ℕ) → i < n → z i ≡ pos 0
@@ -267,21 +226,8 @@ module _ (family : Family) (measure : Measure) (g : Game) (m : IsMeasurable meas
     where
       shaped : (d k a z q s : ℤ) → pos 1 ≤ℤ d → q ≡ k *ℤ d → s ≡ k *ℤ a +ℤ z → a *ℤ q ≡ s *ℤ d → z ≡ pos 0
       shaped d k a z q s one f h e =
-          let e1 = ap (λ (t : ℤ). a *ℤ t) f in
-          let e2 = ap (λ (t : ℤ). t *ℤ d) h in
-          let e3 : a *ℤ (k *ℤ d) ≡ (k *ℤ a) *ℤ d = simp ring_laws refl in
           mul-cancelℤ d z (pos 0) (omega (arith, linear, one))
-          (omega (
-            arith,
-            linear,
-            e,
-            e1,
-            e2,
-            e3,
-            add-mulℤ (k *ℤ a) z d,
-            mul-zeroℤ d,
-            *ℤ_comm d z,
-          ))
+          (omega (sorted_products, e, ap (◌*ℤ◌ a) f, ap (λ (t : ℤ). t *ℤ d) h))
 
   -- each coalition gains nothing, gains and has at most the greatest excess, or has less; and one that has it gains
   pub no_gain : (e : ℤ) (d : ℕ) → d < 2 ^ n - 2 → me (suc d) ≡ e → pos 1 ≤ℤ gained (suc d)
@@ -292,13 +238,11 @@ module _ (family : Family) (measure : Measure) (g : Game) (m : IsMeasurable meas
       let b1 = bound_of (2 ^ n - 2) (λ t. neg_ℤ (weight measure (suc t) *ℤ gained (suc t))) in
       let b2 = bound_of n (λ i. neg_ℤ (z i)) in
       let K = b1.0 +ℤ b2.0 in
-      let one1 = b1.1 in
-      let one2 = b2.1 in
-      let k1 : pos 1 ≤ℤ K = omega (arith, linear, one1, one2) in
+      let k1 : pos 1 ≤ℤ K = omega (arith, linear, b1.1, b2.1) in
       let k2 : (i : ℕ) → i < n → (neg_ℤ (z i) +ℤ pos 1) ≤ℤ K =
-      λ i lt. (let r = b2.2 i lt in omega (arith, linear, r, one1)) in
+      λ i lt. (let r = b2.2 i lt in omega (arith, linear, r, b1.1)) in
       let k3 : (t : ℕ) → t < 2 ^ n - 2 → (neg_ℤ (weight measure (suc t) *ℤ gained (suc t)) +ℤ pos 1) ≤ℤ K =
-      λ t lt. (let r = b1.2 t lt in omega (arith, linear, r, one2)) in
+      λ t lt. (let r = b1.2 t lt in omega (arith, linear, r, b2.1)) in
       let y = allocation g (moved K) in
       let inside = moved_in K k1 k2 in
       let better : Better n (2 ^ n - 2) (λ j. form measure g (suc j)) (λ j. refl) (base family g) (moved K) xr =
@@ -319,6 +263,5 @@ module _ (family : Family) (measure : Measure) (g : Game) (m : IsMeasurable meas
       } in
       beats_one_way measure g x y
       (h.1 y (in_member family g (moved K) inside) (λ same.
-      (let none =
-      sum_over-same n z (λ i. pos 0) (suc d) (same_none K same) ∙ sum_over-zero n (suc d) in
+      (let none = sum_over-same n z (λ i. pos 0) (suc d) (same_none K same) ∙ sum_over-zero n (suc d) in
       omega (arith, linear, none, gain)))) (beaten family measure g m (moved K) inside x h.0 better)

@@ -1,15 +1,11 @@
 -- The nucleolus exists: the excesses are linear forms on the points that are members of the family.
-use Rattle.std.proofs.Common.{◌≡◌, ◌⊎◌, ℕ, zero, suc, ◌+◌, ◌-◌, ◌^◌, ◌<◌, ◌≤◌}
-use Rattle.std.proofs.Common.{Bool, true, false, cond}
-use Rattle.std.proofs.Common.{List, [], ◌∷◌, map, ℤ, pos, neg_ℤ, ◌+ℤ◌, ◌-ℤ◌, ◌*ℤ◌}
-use Rattle.std.proofs.Common.{◌≤ℤ◌, refl, sym, ap}
-use Rattle.std.proofs.Common.{subst, ◌∙◌, inl, inr, arith, nat_eq, if◌then◌else◌}
+use Rattle.std.proofs.Common.{◌≡◌, ◌⊎◌, ℕ, zero, suc, ◌+◌, ◌-◌, ◌^◌, ◌<◌, ◌≤◌, Bool, cond, List, [], ◌∷◌, map, ℤ, pos}
+use Rattle.std.proofs.Common.{neg_ℤ, ◌+ℤ◌, ◌-ℤ◌, ◌*ℤ◌, ◌≤ℤ◌, refl, sym, ap, subst, ◌∙◌, inl, inr, arith, nat_eq}
+use Rattle.std.proofs.Common.{if◌then◌else◌}
 use Rattle.std.specs.List.{AllByRecursion}
-use Rattle.definitions.proofs.Ring.{linear, ring_laws, zero-mulℤ, one-mulℤ, neg-mulℤ}
-use Rattle.definitions.proofs.Ring.{mul_left_commℤ, mul_assocℤ, mul-subℤ, mul-cancelℤ, mul-le_cancelℤ}
+use Rattle.definitions.proofs.Ring.{linear, ring_laws, zero-mulℤ, one-mulℤ, neg-mulℤ, mul-cancelℤ, mul-le_cancelℤ}
 use Rattle.definitions.proofs.Members.{sum_below-same, sum_below-add, sum_below-times, sum_below-front}
-use Rattle.definitions.proofs.Members.{sum_over-grand_coalition, sum_over-singleton, sum_over-complement}
-use Rattle.definitions.proofs.Members.{scaled_either}
+use Rattle.definitions.proofs.Members.{sum_over-grand_coalition, sum_over-singleton, sum_over-complement, scaled_either}
 use Rattle.definitions.proofs.Masks.{grand_coalition-within, singleton-within, proper_or_all}
 use Rattle.definitions.proofs.Measured.{weight, measured-weight, weight-positive}
 use Rattle.definitions.proofs.Families.{allocation_of, efficient_of}
@@ -17,8 +13,8 @@ use Rattle.definitions.proofs.Cases.{less_or_last}
 use Rattle.definitions.specs.Sums.{sum_below}
 use Rattle.definitions.specs.Coalitions.{has_player, singleton, grand_coalition, proper_coalitions, sum_over}
 use Rattle.definitions.specs.Measures.{IsMeasurable}
-use Rattle.definitions.specs.Games.{Game, Allocation, share, excess, measured_excess, Beats}
-use Rattle.definitions.specs.Games.{IsAllocation, IsEfficient, InFamily, IsNucleolus}
+use Rattle.definitions.specs.Games.{Game, Allocation, share, excess, measured_excess, Beats, IsAllocation, IsEfficient}
+use Rattle.definitions.specs.Games.{InFamily, IsNucleolus}
 use Rattle.definitions.specs.declared.Family.{Family}
 use Rattle.definitions.specs.declared.Family.TheVariants.{Imputations, Preimputations}
 use Rattle.definitions.specs.declared.Measure.{Measure}
@@ -34,7 +30,7 @@ use Rattle.duality.proofs.Levels.{val, Flat}
 use Rattle.duality.proofs.LevelByLevel.{Better, Agree, Paired, first_point}
 use Rattle.duality.proofs.BondarevaShapley.{listed_length, listed_at, point, amount_point}
 use Rattle.std.proofs.Math.Nat.{le_refl}
-use lib.IntN.{*ℤ_comm}
+use Rattle.theorems.proofs.Products.{products, sorted_products}
 
 -- ---- rows: the denominator, the level, and the shares behind them
 
@@ -50,11 +46,9 @@ pub val_asks : (n : ℕ) (c : ℤ) (f : ℕ → ℤ) (y : Row)
     → val n y (asks c f) ≡ c *ℤ y 0 +ℤ sum_below n (λ i. f i *ℤ shares_of y i)
 val_asks n c f y =
     omega (
-      arith,
-      linear,
+      products,
       sum_below-front (suc n) (λ i. asks c f i *ℤ y i),
       sum_below-front n (λ i. asks c f (suc i) *ℤ y (suc i)),
-      zero-mulℤ (y 1),
     )
 
 -- ---- the excesses
@@ -76,13 +70,9 @@ pub val_form : (measure : Measure) (g : Game) (s : ℕ) (y : Row)
 val_form measure g s y =
     let w = weight measure s in
     omega (
-      arith,
-      linear,
+      sorted_products,
       val_asks g.players (w *ℤ g.worth s) (λ i. if has_player s i then neg_ℤ w else pos 0) y,
       sum_form g.players s w (shares_of y),
-      mul-subℤ w (y 0 *ℤ g.worth s) (sum_over g.players (shares_of y) s),
-      mul_assocℤ w (g.worth s) (y 0),
-      ap (λ (t : ℤ). w *ℤ t) (*ℤ_comm (g.worth s) (y 0)),
     )
 
 -- ---- members of the family as points
@@ -106,8 +96,7 @@ singles_flat g zero = tt
 singles_flat g (suc k) = (refl, singles_flat g k)
 
 base_flat : (family : Family) (g : Game) → AllByRecursion Flat (base family g)
-base_flat Imputations g = (refl, (refl, singles_flat g g.players))
-base_flat Preimputations g = (refl, (refl, tt))
+base_flat family g = grind (arith, singles_flat)
 
 val_enough : (g : Game) (y : Row)
     → val g.players y (enough g)
@@ -116,7 +105,7 @@ val_enough g y =
     let v = g.worth (grand_coalition g.players) in
     let same =
     sum_below-same g.players (λ i. pos 1 *ℤ shares_of y i) (shares_of y) (λ i lt. one-mulℤ (shares_of y i)) in
-    omega (arith, linear, val_asks g.players (neg_ℤ v) (λ i. pos 1) y, same, neg-mulℤ v (y 0), *ℤ_comm v (y 0))
+    omega (sorted_products, val_asks g.players (neg_ℤ v) (λ i. pos 1) y, same)
 
 val_no_more : (g : Game) (y : Row)
     → val g.players y (no_more g)
@@ -124,29 +113,14 @@ val_no_more : (g : Game) (y : Row)
 val_no_more g y =
     let v = g.worth (grand_coalition g.players) in
     let times = sum_below-times g.players (shares_of y) (neg_ℤ (pos 1)) in
-    omega (
-      arith,
-      linear,
-      val_asks g.players v (λ i. neg_ℤ (pos 1)) y,
-      times,
-      neg-mulℤ (pos 1) (sum_below g.players (shares_of y)),
-      one-mulℤ (sum_below g.players (shares_of y)),
-      *ℤ_comm v (y 0),
-    )
+    omega (sorted_products, val_asks g.players v (λ i. neg_ℤ (pos 1)) y, times)
 
 val_single : (g : Game) (k : ℕ) (y : Row) → k < g.players
     → val g.players y (asks (neg_ℤ (g.worth (singleton k))) (unit_at k))
     ≡ shares_of y k +ℤ neg_ℤ (y 0 *ℤ g.worth (singleton k))
 val_single g k y lt =
     let v = g.worth (singleton k) in
-    omega (
-      arith,
-      linear,
-      val_asks g.players (neg_ℤ v) (unit_at k) y,
-      sum_below-unit g.players k (shares_of y) lt,
-      neg-mulℤ v (y 0),
-      *ℤ_comm v (y 0),
-    )
+    omega (sorted_products, val_asks g.players (neg_ℤ v) (unit_at k) y, sum_below-unit g.players k (shares_of y) lt)
 
 abbrev pub Efficient : Game → Row → Type 0
 Efficient g y = sum_below g.players (shares_of y) ≡ y 0 *ℤ g.worth (grand_coalition g.players)
@@ -270,12 +244,9 @@ paired_value measure g s y lt e =
         → c ≡ q *ℤ v → u *ℤ f +ℤ w *ℤ h ≡ ((w *ℤ u) *ℤ (v1 +ℤ v2 -ℤ v)) *ℤ q
     shaped w u v1 v2 v q a b c f h ef eh eb ec =
         let total : a ≡ q *ℤ v -ℤ b = omega (arith, linear, eb, ec) in
-        let e1 = ap (λ (z : ℤ). u *ℤ z) ef in
-        let e2 = ap (λ (z : ℤ). w *ℤ z) eh in
         let e3 : u *ℤ (w *ℤ (q *ℤ v1 -ℤ (q *ℤ v -ℤ b))) +ℤ w *ℤ (u *ℤ (q *ℤ v2 -ℤ b))
         ≡ ((w *ℤ u) *ℤ (v1 +ℤ v2 -ℤ v)) *ℤ q = simp ring_laws (omega (arith, linear)) in
-        let e4 = ap (λ (z : ℤ). u *ℤ (w *ℤ (q *ℤ v1 -ℤ z))) total in
-        omega (arith, linear, e1, e2, e3, e4)
+        omega (arith, linear, ap (◌*ℤ◌ u) ef, ap (◌*ℤ◌ w) eh, e3, ap (λ (z : ℤ). u *ℤ (w *ℤ (q *ℤ v1 -ℤ z))) total)
 
 -- ---- the point that comes first is the nucleolus
 
@@ -312,9 +283,9 @@ module _ (family : Family) (measure : Measure) (g : Game) (m : IsMeasurable meas
       let e = better.bound in
       let ay = allocation_of family g y hy in
       let at_x : (s : ℕ) → f s ≡ y.den *ℤ val n x (form measure g s) =
-      λ s. ap (λ (z : ℤ). y.den *ℤ z) (excess_point measure g x s) in
+      λ s. ap (◌*ℤ◌ y.den) (excess_point measure g x s) in
       let at_y : (s : ℕ) → h s ≡ x 0 *ℤ val n (row_of y) (form measure g s) =
-      λ s. ap (λ (z : ℤ). x 0 *ℤ z) (excess_row measure g y s ay) in
+      λ s. ap (◌*ℤ◌ (x 0)) (excess_row measure g y s ay) in
       let each : (j : ℕ) → j < 2 ^ n - 2 → (f (suc j) ≡ h (suc j)) ⊎ (f (suc j) ≤ℤ e) =
       λ j lt. elim (better.each j lt) [
         | inl same ↦ inl (at_x (suc j) ∙ same ∙ sym (at_y (suc j)))
@@ -325,12 +296,11 @@ module _ (family : Family) (measure : Measure) (g : Game) (m : IsMeasurable meas
         | suc j ↦ λ lo hi. each j (omega arith)
       ] in
       let c = better.one in
-      let within = better.within in
       ComesBefore-sorted e (map f (proper_coalitions n)) (map h (proper_coalitions n))
       (SameOrLow-range e f h 1 (2 ^ n - 2) from_one)
-      (SomeAbove-range e f h 1 (2 ^ n - 2) (suc c) (omega arith) (omega (arith, within))
-      (let k = better.low in omega (arith, linear, k, at_x (suc c)))
-      (let k = better.high in omega (arith, linear, k, at_y (suc c))))
+      (SomeAbove-range e f h 1 (2 ^ n - 2) (suc c) (omega arith) (omega (arith, better.within))
+      (omega (arith, linear, better.low, at_x (suc c)))
+      (omega (arith, linear, better.high, at_y (suc c))))
 
   -- the amounts are the same where the excesses are
   amounts_same : (x : Row) → In (suc n) (base family g) x → (y : Allocation) → InFamily family g y
@@ -349,33 +319,21 @@ module _ (family : Family) (measure : Measure) (g : Game) (m : IsMeasurable meas
           let same : y.den *ℤ val n x (form measure g s) ≡ x 0 *ℤ val n (row_of y) (form measure g s) =
           subst (λ (t : ℕ). y.den *ℤ val n x (form measure g t) ≡ x 0 *ℤ val n (row_of y) (form measure g t))
           back (agree (s - 1) (omega arith)) in
-          let e1 = ap (λ (z : ℤ). y.den *ℤ z) (val_form measure g s x) in
-          let e2 = ap (λ (z : ℤ). x 0 *ℤ z) (val_form measure g s (row_of y)) in
-          let e3 = mul_left_commℤ y.den w (x 0 *ℤ v -ℤ a) in
-          let e4 = mul_left_commℤ (x 0) w (y.den *ℤ v -ℤ b) in
-          let whole =
-          mul-cancelℤ w (y.den *ℤ (x 0 *ℤ v -ℤ a)) (x 0 *ℤ (y.den *ℤ v -ℤ b))
-          (weight-positive measure n s m low high) (omega (arith, linear, same, e1, e2, e3, e4)) in
-          omega (
-            arith,
-            linear,
-            whole,
-            mul-subℤ y.den (x 0 *ℤ v) a,
-            mul-subℤ (x 0) (y.den *ℤ v) b,
-            mul_left_commℤ y.den (x 0) v,
-          )
+          let e1 = ap (◌*ℤ◌ y.den) (val_form measure g s x) in
+          let e2 = ap (◌*ℤ◌ (x 0)) (val_form measure g s (row_of y)) in
+          let whole = mul-cancelℤ w (y.den *ℤ (x 0 *ℤ v -ℤ a)) (x 0 *ℤ (y.den *ℤ v -ℤ b))
+          (weight-positive measure n s m low high) (omega (sorted_products, same, e1, e2)) in
+          omega (sorted_products, whole)
       by_lt (inr all) =
           let v = g.worth (grand_coalition n) in
           let ex = efficient_in family g x hx in
           let ey = efficient_row g y (allocation_of family g y hy) (efficient_of family g y hy) in
-          let e1 = ap (λ (z : ℤ). y.den *ℤ z) (sum_over-grand_coalition n (shares_of x) ∙ ex) in
-          let e2 = ap (λ (z : ℤ). x 0 *ℤ z) (sum_over-grand_coalition n (share y) ∙ ey) in
-          rw all (omega (arith, linear, e1, e2, mul_left_commℤ y.den (x 0) v))
+          let e1 = ap (◌*ℤ◌ y.den) (sum_over-grand_coalition n (shares_of x) ∙ ex) in
+          rw all (omega (sorted_products, e1, ap (◌*ℤ◌ (x 0)) (sum_over-grand_coalition n (share y) ∙ ey)))
 
   nucleolus_of : (y : Allocation) → InFamily family g y → (x : Allocation) × IsNucleolus family measure g x
   nucleolus_of z hz =
-      let r =
-      first_point n (2 ^ n - 2) forms (λ j. refl) (base family g) (base_flat family g) (row_of z)
+      let r = first_point n (2 ^ n - 2) forms (λ j. refl) (base family g) (base_flat family g) (row_of z)
       (member_in family g z hz) paired in
       let x = r.point in (
         allocation g x,
@@ -384,20 +342,16 @@ module _ (family : Family) (measure : Measure) (g : Game) (m : IsMeasurable meas
           λ y hy differs. elim (r.first (row_of y) (member_in family g y hy)) [
             | inr better ↦ beaten x r.inside y hy better
             | inl agree ↦ absurd (differs (λ i lt.
-                let same =
-                amounts_same x r.inside y hy agree (singleton i)
+                let same = amounts_same x r.inside y hy agree (singleton i)
                 (let h = grand_coalition-within i in omega (arith, h)) (singleton-within n i lt) in
                 let a = sum_over-singleton n i (shares_of x) lt in
                 let b = sum_over-singleton n i (share y) lt in
                 omega (
-                  arith,
-                  linear,
+                  sorted_products,
                   ap (λ (t : ℤ). t *ℤ y.den) (listed_at n (shares_of x) i lt),
                   same,
-                  ap (λ (t : ℤ). y.den *ℤ t) a,
-                  ap (λ (t : ℤ). x 0 *ℤ t) b,
-                  *ℤ_comm (shares_of x i) y.den,
-                  *ℤ_comm (share y i) (x 0),
+                  ap (◌*ℤ◌ y.den) a,
+                  ap (◌*ℤ◌ (x 0)) b,
                 )))
           ],
         ),
@@ -444,8 +398,7 @@ module _ (g : Game) where
   rest_low le i = no_less_either (nat_eq i 0)
     where
       no_less_either : (b : Bool) → alone i ≤ℤ (alone i +ℤ cond b (pos 1) (pos 0) *ℤ rest)
-      no_less_either true = omega (arith, linear, le, one-mulℤ rest)
-      no_less_either false = omega (arith, linear, zero-mulℤ rest)
+      no_less_either b = grind (arith, linear, one-mulℤ, zero-mulℤ)
 
   imputation_of : 1 ≤ g.players → sum_below g.players alone ≤ℤ v → (y : Allocation) × InFamily Imputations g y
   imputation_of some le =
@@ -456,8 +409,8 @@ module _ (g : Game) where
         (
           (listed_length n f, omega (arith, linear)),
           amount_point n f (pos 1) (grand_coalition n) ∙ sum_over-grand_coalition n f
-              ∙ omega (arith, linear, total, one, one-mulℤ v),
-          λ i lt. omega (arith, linear, rest_low le i, listed_at n f i lt, one-mulℤ (alone i)),
+              ∙ omega (products, total, one),
+          λ i lt. omega (products, rest_low le i, listed_at n f i lt),
         ),
       )
 
@@ -465,10 +418,8 @@ module _ (g : Game) where
   singles_low y h =
       let n = g.players in
       let low = sum_below-le n (λ i. y.den *ℤ alone i) (share y) h.2 in
-      let times = sum_below-times n alone y.den in
-      let total = efficient_row g y h.0 h.1 in
-      mul-le_cancelℤ y.den (sum_below n alone) v (let d = h.0.1 in omega (arith, linear, d))
-      (omega (arith, linear, low, times, total))
+      mul-le_cancelℤ y.den (sum_below n alone) v (omega (arith, linear, h.0.1))
+      (omega (arith, linear, low, sum_below-times n alone y.den, efficient_row g y h.0 h.1))
 
 pub imputations_exist : ImputationsExist
 imputations_exist g some = ((λ y. singles_low g y.0 y.1), imputation_of g some)

@@ -1,20 +1,16 @@
 -- Every nucleolus has a certificate (Kohlberg 1971; Sobolev 1975): level by level, the coalitions of the greatest
 -- excess among those that the levels in front don't fix have weights that balance, since otherwise a transfer would
 -- gain.
-use Rattle.std.proofs.Common.{◌≡◌, ◌⊎◌, ℕ, zero, suc, ◌-◌, ◌^◌, ◌<◌, ◌≤◌, Bool}
-use Rattle.std.proofs.Common.{true, false, cond}
-use Rattle.std.proofs.Common.{◌&&◌, ◌||◌, nat_eq, List, [], ◌∷◌, ◌++◌, length, ℤ, pos}
-use Rattle.std.proofs.Common.{◌+ℤ◌, ◌*ℤ◌, ◌≤ℤ◌}
-use Rattle.std.proofs.Common.{int_le, int_lt, IsTrue, refl, sym, ap, subst, ◌∙◌, inl, inr}
-use Rattle.std.proofs.Common.{arith, if◌then◌else◌}
+use Rattle.std.proofs.Common.{◌≡◌, ◌⊎◌, ℕ, zero, suc, ◌-◌, ◌^◌, ◌<◌, ◌≤◌, Bool, true, false, cond, ◌&&◌, ◌||◌, nat_eq}
+use Rattle.std.proofs.Common.{List, [], ◌∷◌, ◌++◌, length, ℤ, pos, ◌+ℤ◌, ◌*ℤ◌, ◌≤ℤ◌, int_le, int_lt, IsTrue, refl, sym}
+use Rattle.std.proofs.Common.{ap, subst, ◌∙◌, inl, inr, arith, if◌then◌else◌}
 use Rattle.std.specs.List.{AllByRecursion}
 use Rattle.std.proofs.lemmas.Bool.{false≢true}
 use Rattle.std.proofs.lemmas.Int.{by_lt_z, ints}
-use Rattle.definitions.proofs.Ring.{linear, mul-leℤ, mul-zeroℤ, one-mulℤ, unit_laws}
-use Rattle.definitions.proofs.Members.{sum_below-same, sum_below-times}
-use Rattle.definitions.proofs.Members.{sum_over-grand_coalition, sum_over-singleton}
-use Rattle.definitions.proofs.Members.{weighted_sum-sum_over, has_player-grand_coalition}
-use Rattle.definitions.proofs.Members.{weighted_sum-zero_terms, scaled_either}
+use Rattle.definitions.proofs.Ring.{linear, mul-leℤ, one-mulℤ, unit_laws}
+use Rattle.definitions.proofs.Members.{sum_below-same, sum_below-times, sum_over-grand_coalition, sum_over-singleton}
+use Rattle.definitions.proofs.Members.{weighted_sum-sum_over, has_player-grand_coalition, weighted_sum-zero_terms}
+use Rattle.definitions.proofs.Members.{scaled_either}
 use Rattle.definitions.proofs.Masks.{grand_coalition-within, singleton-within, proper_or_all}
 use Rattle.definitions.proofs.Measured.{measured_den-above}
 use Rattle.definitions.proofs.Families.{allocation_of}
@@ -23,9 +19,8 @@ use Rattle.definitions.proofs.Cases.{less_or_last, true_or_false, or_cases, and_
 use Rattle.definitions.specs.Coalitions.{has_player, singleton, grand_coalition, sum_over, weight_at}
 use Rattle.definitions.specs.Measures.{measured_den, IsMeasurable}
 use Rattle.definitions.specs.Games.{Game, Allocation, share, measured_excess, IsNucleolus}
-use Rattle.definitions.specs.Certificates.{Level, is_listed, has_bound, IsFixedVector, InSpan, IsOutside}
-use Rattle.definitions.specs.Certificates.{HasExcess, BoundWeighs, LevelHolds, LevelsHold}
-use Rattle.definitions.specs.Certificates.{Certifies}
+use Rattle.definitions.specs.Certificates.{Level, is_listed, has_bound, IsFixedVector, InSpan, IsOutside, HasExcess}
+use Rattle.definitions.specs.Certificates.{BoundWeighs, LevelHolds, LevelsHold, Certifies}
 use Rattle.definitions.specs.declared.Family.{Family}
 use Rattle.definitions.specs.declared.Family.TheVariants.{Imputations}
 use Rattle.definitions.specs.declared.Measure.{Measure}
@@ -34,12 +29,12 @@ use Rattle.theorems.proofs.Transfers.{some_greatest}
 use Rattle.duality.specs.Kohlberg.{LevelShape, LevelsShape, HasShape}
 use Rattle.duality.proofs.Levels.{upto, upto_member}
 use Rattle.duality.proofs.Reductions.{Reduces, Pivot, spanned_or_pivot, reduces_more}
-use Rattle.duality.proofs.Chosen.{chosen, chosen_ascends, chosen_all, chosen_weight, chosen_number}
-use Rattle.duality.proofs.Chosen.{chosen_any, some_any, any_key, any_weighty}
+use Rattle.duality.proofs.Chosen.{chosen, chosen_ascends, chosen_all, chosen_weight, chosen_number, chosen_any}
+use Rattle.duality.proofs.Chosen.{some_any, any_key, any_weighty}
 use Rattle.duality.proofs.LevelTests.{last_any, front_any, new_any, lists, bounds_player}
 use Rattle.duality.proofs.Directions.{Direction, Balance, direction_or_balance}
 use Rattle.duality.proofs.NoGain.{at_bound, at_bound-tight, no_gain}
-use lib.IntN.{*ℤ_comm}
+use Rattle.theorems.proofs.Products.{products, sorted_products}
 
 -- ---- sums and tests
 
@@ -59,9 +54,7 @@ second_of_two (inr b) e = b
 
 wider : (n : ℕ) (front : List Level) (l : Level) (s : ℕ) → IsFixedVector n front s
     → IsFixedVector n (front ++ l ∷ []) s
-wider n front l s (inl all) = inl all
-wider n front l s (inr (inl listed)) = inr (inl (front_any (lists s) front l listed))
-wider n front l s (inr (inr b)) = inr (inr (b.0, b.1, b.2, front_any (bounds_player b.0) front l b.3))
+wider n front l s h = grind (arith, bounds_player, front_any, lists)
 
 spanned_itself : (n : ℕ) (Fixed : ℕ → Type 0) (s : ℕ) → Fixed s → InSpan n Fixed s
 spanned_itself n Fixed s fixed = (
@@ -84,11 +77,10 @@ spanned_zero n Fixed z zero_at s span =
     let ps = span.2 in
     let none = weighted_sum-zero_terms (sum_over n z) ps (all_zero Fixed (sum_over n z) zero_at ps span.3) in
     let sums = weighted_sum-sum_over n z ps in
-    let same =
-    sum_below-same n (λ i. weight_at ps i *ℤ z i) (λ i. m *ℤ (if has_player s i then z i else pos 0))
+    let same = sum_below-same n (λ i. weight_at ps i *ℤ z i) (λ i. m *ℤ (if has_player s i then z i else pos 0))
     (λ i lt. ap (λ (t : ℤ). t *ℤ z i) (span.4 i lt) ∙ scaled_either (has_player s i) m (z i)) in
     let times = sum_below-times n (λ i. if has_player s i then z i else pos 0) m in
-    cancel m (sum_over n z s) (pos 0) span.1 (omega (arith, linear, none, sums, same, times, mul-zeroℤ m))
+    cancel m (sum_over n z s) (pos 0) span.1 (omega (products, none, sums, same, times))
 
 -- ---- the levels of a nucleolus
 
@@ -169,9 +161,7 @@ module _ (family : Family) (measure : Measure) (g : Game) (m : IsMeasurable meas
     riser_excess : (t : ℕ) → t < count → riser t ≡ true → me (suc t) ≡ e
     riser_excess t lt r =
         let both = and_parts (out front js s t) (int_le e (me (suc t))) r in
-        let top = high t lt both.0 in
-        let low = both.1 in
-        omega (arith, linear, ints, top, low)
+        omega (arith, linear, ints, high t lt both.0, both.1)
 
     to_riser : (t : ℕ) → out front js s t ≡ true → e ≤ℤ me (suc t) → riser t ≡ true
     to_riser t o le = and_both (out front js s t) (int_le e (me (suc t))) o (is_le e (me (suc t)) le)
@@ -237,9 +227,7 @@ module _ (family : Family) (measure : Measure) (g : Game) (m : IsMeasurable meas
     no_bound : (b : Weights) (i : ℕ) → binds b i ≡ false → b.bounds i ≡ pos 0
     no_bound b i f =
         let both = neither (int_lt (pos 0) (b.bounds i)) (fixed i) f in
-        let p = b.bounds_positive i both.1 in
-        let q = both.0 in
-        omega (arith, linear, ints, p, q)
+        omega (arith, linear, ints, b.bounds_positive i both.1, both.0)
 
     bound_tight : (b : Weights) (i : ℕ) → i < n → binds b i ≡ true → AtWorth i
     bound_tight b i lt f = elim (or_cases (int_lt (pos 0) (b.bounds i)) (fixed i) f) [
@@ -262,7 +250,7 @@ module _ (family : Family) (measure : Measure) (g : Game) (m : IsMeasurable meas
     -- a coalition of the level that the levels in front don't span
     lists_one : (b : Weights) → lists (suc b.one) (level b) ≡ true
     lists_one b =
-        chosen_any suc (weighs b) b.weights 0 count b.one (omega arith) (let lt = b.within in omega (arith, lt))
+        chosen_any suc (weighs b) b.weights 0 count b.one (omega arith) (omega (arith, b.within))
         (weighs_one b)
 
     all_proper : (b : Weights) → AllByRecursion (λ c. (0 < c.0) × (c.0 < grand_coalition n)) (level b).coalitions
@@ -290,19 +278,18 @@ module _ (family : Family) (measure : Measure) (g : Game) (m : IsMeasurable meas
 
     outside_low : (q : ℕ) → IsOutside Span n front q
         → (me q *ℤ measured_den measure x.den) ≤ℤ (e *ℤ measured_den measure x.den)
-    outside_low zero o = absurd (let p = o.0 in omega (arith, p))
+    outside_low zero o = absurd (omega (arith, o.0))
     outside_low (suc t) o = elim (true_or_false (out front js s t)) [
       | inr inside ↦ absurd (o.2 (in_span front js s t inside))
       | inl outside ↦
-          (let top = high t (let p = o.1 in omega (arith, p)) outside in
+          (let top = high t (omega (arith, o.1)) outside in
           let d = measured_den measure x.den in
           let p = measured_den-above measure x.den (allocation_of family g x h.0).1 in
           times_le d (me (suc t)) e (omega (arith, linear, p)) top)
     ]
       where
         times_le : (d a b : ℤ) → pos 0 ≤ℤ d → a ≤ℤ b → (a *ℤ d) ≤ℤ (b *ℤ d)
-        times_le d a b low le =
-            (let p = mul-leℤ d a b low le in omega (arith, linear, p, *ℤ_comm a d, *ℤ_comm b d))
+        times_le d a b low le = (let p = mul-leℤ d a b low le in omega (sorted_products, p))
 
     holds_of : (b : Weights) → LevelHolds Span family measure g x front (level b)
     holds_of b = record {
@@ -317,8 +304,7 @@ module _ (family : Family) (measure : Measure) (g : Game) (m : IsMeasurable meas
             | inr earlier ↦ inr earlier
           ]);
       balanced = λ i lt. omega (
-        arith,
-        linear,
+        products,
         chosen_weight suc (weighs b) b.weights count i (no_weight b),
         chosen_weight suc still b.others count i b.on_still,
         chosen_number (binds b) b.bounds n i lt (no_bound b),
@@ -365,8 +351,7 @@ module _ (family : Family) (measure : Measure) (g : Game) (m : IsMeasurable meas
     | inr found ↦
         let e = found.0 in
         let greatest = found.1 in
-        let high : (t : ℕ) → t < count → out front js s t ≡ true → me (suc t) ≤ℤ e =
-        λ t lt o. greatest.1 t (lt, o) in
+        let high : (t : ℕ) → t < count → out front js s t ≡ true → me (suc t) ≤ℤ e = λ t lt o. greatest.1 t (lt, o) in
         elim
         (direction_or_balance n count (riser front js s e high) (still front js s e high) (low front js s e high)
         (fixed front js s e high)) [
@@ -386,16 +371,15 @@ module _ (family : Family) (measure : Measure) (g : Game) (m : IsMeasurable meas
   build : (k : ℕ) (front : List Level) (js : List ℕ) → length js ≡ k → Stage front js → Finished front k
   build zero front js few s = elim (next_level front js s) [
     | inl all ↦ finished front zero all
-    | inr r ↦ absurd (let fewer = r.fewer in omega (arith, few, fewer))
+    | inr r ↦ absurd (omega (arith, few, r.fewer))
   ]
   build (suc k) front js few s = elim (next_level front js s) [
     | inl all ↦ finished front (suc k) all
     | inr r ↦
-        let f =
-        build k (front ++ r.level_here ∷ []) r.rest (let fewer = r.fewer in omega (arith, few, fewer)) r.stage in
+        let f = build k (front ++ r.level_here ∷ []) r.rest (omega (arith, few, r.fewer)) r.stage in
         record {
           levels = r.level_here ∷ f.levels;
-          few = (let le = f.few in omega (arith, le));
+          few = omega (arith, f.few);
           shape = (r.shape, f.shape);
           holds = (r.holds, f.holds);
         }
@@ -421,8 +405,7 @@ module _ (family : Family) (measure : Measure) (g : Game) (m : IsMeasurable meas
   }
     where
       weight_of_one_pair : (b : Bool) (u v : ℤ) → b ≡ true → u ≡ v → cond b u (pos 0) +ℤ pos 0 ≡ pos 1 *ℤ v
-      weight_of_one_pair true u v is same = omega (arith, linear, same, one-mulℤ v)
-      weight_of_one_pair false u v is same = absurd (false≢true is)
+      weight_of_one_pair b u v is same = grind (arith, linear, one-mulℤ)
 
   certified : (c : ℕ) → n ≡ c → (levels : List Level) × HasShape n levels × Certifies Span family measure g x levels
   certified zero e = (
@@ -433,7 +416,7 @@ module _ (family : Family) (measure : Measure) (g : Game) (m : IsMeasurable meas
   certified (suc k) e =
       let f = build (length (upto k)) [] (upto k) refl (first_stage k e) in (
         f.levels,
-        record { few = (let le = f.few in omega (arith, le, e, upto_length k)); each = f.shape },
+        record { few = (omega (arith, f.few, e, upto_length k)); each = f.shape },
         (h.0, f.holds),
       )
     where

@@ -1,10 +1,9 @@
 -- A linear program that has a solution and a bound attains its least value: one form, and the least greatest value
 -- of one.
-use Rattle.std.proofs.Common.{◌≡◌, ℕ, zero, suc, ◌<◌, List, [], ◌∷◌, ℤ, pos}
-use Rattle.std.proofs.Common.{neg_ℤ}
-use Rattle.std.proofs.Common.{◌+ℤ◌, ◌*ℤ◌, ◌≤ℤ◌, refl, inl, inr, arith}
+use Rattle.std.proofs.Common.{◌≡◌, ℕ, zero, suc, ◌<◌, List, [], ◌∷◌, ℤ, pos, neg_ℤ, ◌+ℤ◌, ◌*ℤ◌, ◌≤ℤ◌, refl, inl, inr}
+use Rattle.std.proofs.Common.{arith}
 use Rattle.std.specs.List.{AllByRecursion}
-use Rattle.definitions.proofs.Ring.{linear, neg-mulℤ, zero-mulℤ, one-mulℤ, mul-leℤ}
+use Rattle.definitions.proofs.Ring.{linear, mul-leℤ}
 use Rattle.definitions.proofs.Cases.{less_or_last}
 use Rattle.definitions.specs.Sums.{sum_below}
 use Rattle.duality.specs.Farkas.{MeetsAll}
@@ -12,7 +11,7 @@ use Rattle.duality.specs.Optima.{linear_value, OptimaExist}
 use Rattle.duality.proofs.Elimination.{Row, Meets}
 use Rattle.duality.proofs.Levels.{val, Flat, minimax}
 use Rattle.duality.proofs.Nucleoli.{asks, shares_of, val_asks}
-use lib.IntN.{*ℤ_comm}
+use Rattle.theorems.proofs.Products.{products, sorted_products}
 
 module _ (n : ℕ) (a : ℕ → ℕ → ℤ) (b c : ℕ → ℤ) where
   abbrev rows : ℕ → List Row
@@ -28,10 +27,10 @@ module _ (n : ℕ) (a : ℕ → ℕ → ℤ) (b c : ℕ → ℤ) where
 
   val_row : (s : ℕ) (y : Row)
       → val n y (asks (neg_ℤ (b s)) (a s)) ≡ sum_below n (λ i. a s i *ℤ shares_of y i) +ℤ neg_ℤ (y 0 *ℤ b s)
-  val_row s y = omega (arith, linear, val_asks n (neg_ℤ (b s)) (a s) y, neg-mulℤ (b s) (y 0), *ℤ_comm (b s) (y 0))
+  val_row s y = omega (sorted_products, val_asks n (neg_ℤ (b s)) (a s) y)
 
   val_objective : (y : Row) → val n y (asks (pos 0) c) ≡ linear_value n c (shares_of y)
-  val_objective y = omega (arith, linear, val_asks n (pos 0) c y, zero-mulℤ (y 0))
+  val_objective y = omega (products, val_asks n (pos 0) c y)
 
   to_rows : (y : Row) (m : ℕ) → ((s : ℕ) → s < m → (y 0 *ℤ b s) ≤ℤ sum_below n (λ i. a s i *ℤ shares_of y i))
       → AllByRecursion (Meets (suc (suc n)) y) (rows m)
@@ -59,25 +58,23 @@ module _ (n : ℕ) (a : ℕ → ℕ → ℤ) (b c : ℕ → ℤ) where
       × ((z : ℕ → ℤ) (p : ℤ) → MeetsAll m n a b z p → (linear_value n c y *ℤ p) ≤ℤ (linear_value n c z *ℤ r))
   optimum m x q low meets bound =
       let z = with_level x q (pos 0) in
-      let r =
-      minimax n objective (λ j. refl) (rows m) (rows_flat m) z (meets.0, to_rows z m meets.1) (0 ∷ []) low
+      let r = minimax n objective (λ j. refl) (rows m) (rows_flat m) z (meets.0, to_rows z m meets.1) (0 ∷ []) low
       (pos 1) (omega (arith, linear)) in
       let y = r.0 in
       let solves : MeetsAll m n a b (shares_of y) (y 0) = (r.1.0, from_rows y m r.1.1) in
       let top : linear_value n c (shares_of y) ≤ℤ y 1 =
-      (let h = r.2.0 in omega (arith, linear, h, val_objective y)) in (
+      (omega (arith, linear, r.2.0, val_objective y)) in (
         shares_of y,
         y 0,
         solves,
         elim r.3 [
-          | inr under ↦ absurd (omega (arith, linear, under, bound (shares_of y) (y 0) solves, top, one-mulℤ (y 1)))
+          | inr under ↦ absurd (omega (products, under, bound (shares_of y) (y 0) solves, top))
           | inl least ↦ λ u p hu.
               let t = linear_value n c u in
               let w = with_level u p t in
               let le = least w (hu.0, to_rows w m hu.1) (omega (arith, linear, val_objective w), tt) in
-              let scaled =
-              mul-leℤ p (linear_value n c (shares_of y)) (y 1) (let h = hu.0 in omega (arith, linear, h)) top in
-              omega (arith, linear, le, scaled, *ℤ_comm p (linear_value n c (shares_of y)), *ℤ_comm p (y 1))
+              let scaled = mul-leℤ p (linear_value n c (shares_of y)) (y 1) (omega (arith, linear, hu.0)) top in
+              omega (sorted_products, le, scaled)
         ],
       )
 

@@ -7,8 +7,7 @@ use Rattle.real_shares.proofs.ForReals.{IsNucleolusForReals-from_levels}
 use Rattle.real_shares.proofs.RealNumbers.{are_ordered}
 use Rattle.real_shares.proofs.Multiples.{chain, times-equal}
 use Rattle.real_shares.proofs.OneNucleolus.{one_among}
-use Rattle.duality.specs.RealNucleoli.{NucleoliAreReal, NucleoliOverGroups, RealNucleoliExist}
-use Rattle.duality.specs.RealNucleoli.{RealNucleoliAreFractions}
+use Rattle.duality.specs.RealNucleoli.{NucleoliAreReal, NucleoliOverGroups, RealNucleoliExist, RealNucleoliAreFractions}
 use Rattle.duality.proofs.NucleoliAreCertified.{nucleoli_are_certified}
 use Rattle.duality.proofs.KohlbergTheorem.{shape_fits}
 use Rattle.duality.proofs.Nucleoli.{nucleoli_exist}

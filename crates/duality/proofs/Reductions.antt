@@ -1,8 +1,7 @@
 -- The span of fixed coalitions, by elimination of one player after the other: each vector is a combination of the fixed
 -- ones but at some players. A coalition whose vector isn't such a combination there takes one more player away.
-use Rattle.std.proofs.Common.{◌≡◌, ◌≢◌, ◌⊎◌, ℕ, ◌<◌, List, [], ◌∷◌, ◌++◌, ℤ}
-use Rattle.std.proofs.Common.{pos, neg_ℤ}
-use Rattle.std.proofs.Common.{◌+ℤ◌, ◌*ℤ◌, refl, sym, ap, subst, ◌∙◌, inl, inr, arith}
+use Rattle.std.proofs.Common.{◌≡◌, ◌≢◌, ◌⊎◌, ℕ, ◌<◌, List, [], ◌∷◌, ◌++◌, ℤ, pos, neg_ℤ, ◌+ℤ◌, ◌*ℤ◌, refl, sym, ap}
+use Rattle.std.proofs.Common.{subst, ◌∙◌, inl, inr, arith}
 use Rattle.std.specs.List.{AllByRecursion}
 use Rattle.std.proofs.lemmas.Int.{by_lt_z}
 use Rattle.definitions.proofs.Ring.{linear, ring_laws, mul-zeroℤ}
@@ -14,6 +13,7 @@ use Rattle.definitions.specs.Coalitions.{has_player, weight_at}
 use Rattle.definitions.specs.Certificates.{InSpan}
 use Rattle.duality.proofs.BondarevaShapley.{member}
 use Rattle.duality.proofs.Levels.{Member, all_member, Choice, pick}
+use Rattle.theorems.proofs.Products.{sorted_products}
 
 -- ---- vectors but for some players
 
@@ -81,8 +81,7 @@ module _ (n : ℕ) (Fixed More : ℕ → Type 0) (js : List ℕ) (wider : (t : �
   left w r = r.factor *ℤ w one +ℤ neg_ℤ (weight_at r.pairs one)
 
   abbrev joined : (w : ℕ → ℤ) → Reduced n Fixed js w → List (ℕ × ℤ)
-  joined w r =
-      scaled_pairs a r.pairs ++ (scaled_pairs (neg_ℤ (left w r)) v.pairs ++ ((s, left w r *ℤ v.factor) ∷ []))
+  joined w r = scaled_pairs a r.pairs ++ (scaled_pairs (neg_ℤ (left w r)) v.pairs ++ ((s, left w r *ℤ v.factor) ∷ []))
 
   joined_at : (w : ℕ → ℤ) (r : Reduced n Fixed js w) (i : ℕ)
       → weight_at (joined w r) i
@@ -94,11 +93,9 @@ module _ (n : ℕ) (Fixed More : ℕ → Type 0) (js : List ℕ) (wider : (t : �
       let e0 = weight_at-append (scaled_pairs a r.pairs) (scaled_pairs (neg_ℤ b) v.pairs ++ ((s, b *ℤ f) ∷ [])) i in
       let e1 = weight_at-append (scaled_pairs (neg_ℤ b) v.pairs) ((s, b *ℤ f) ∷ []) i in
       let e2 = weight_at-scaled a r.pairs i in
-      let e3 = weight_at-scaled (neg_ℤ b) v.pairs i in
-      let e4 = times_bit (has_player s i) (b *ℤ f) in
       let e5 : b *ℤ (f *ℤ member s i +ℤ neg_ℤ t) ≡ (b *ℤ f) *ℤ member s i +ℤ neg_ℤ b *ℤ t =
       shaped b f (member s i) t in
-      omega (arith, linear, e0, e1, e2, e3, e4, e5)
+      omega (arith, linear, e0, e1, e2, weight_at-scaled (neg_ℤ b) v.pairs i, times_bit (has_player s i) (b *ℤ f), e5)
     where
       shaped : (b f h t : ℤ) → b *ℤ (f *ℤ h +ℤ neg_ℤ t) ≡ (b *ℤ f) *ℤ h +ℤ neg_ℤ b *ℤ t
       shaped b f h t = simp ring_laws refl
@@ -113,18 +110,13 @@ module _ (n : ℕ) (Fixed More : ℕ → Type 0) (js : List ℕ) (wider : (t : �
       shaped : (a b f z u k t : ℤ) → u ≡ f *ℤ z → t ≡ k → a *ℤ u +ℤ b *ℤ (k +ℤ neg_ℤ t) ≡ (a *ℤ f) *ℤ z
       shaped a b f z u k t e h =
           let zero : k +ℤ neg_ℤ t ≡ pos 0 = omega (arith, linear, h) in
-          let e1 = ap (λ (y : ℤ). b *ℤ y) zero in
-          let e2 = ap (λ (y : ℤ). a *ℤ y) e in
-          let e3 : (a *ℤ f) *ℤ z ≡ a *ℤ (f *ℤ z) = simp ring_laws refl in
-          omega (arith, linear, e1, e2, e3, mul-zeroℤ b)
+          omega (sorted_products, ap (◌*ℤ◌ b) zero, ap (◌*ℤ◌ a) e)
 
   at_one : (w : ℕ → ℤ) (r : Reduced n Fixed js w) → weight_at (joined w r) one ≡ (a *ℤ r.factor) *ℤ w one
   at_one w r = joined_at w r one ∙ shaped a r.factor (w one) (weight_at r.pairs one)
     where
       shaped : (a f z u : ℤ) → a *ℤ u +ℤ (f *ℤ z +ℤ neg_ℤ u) *ℤ a ≡ (a *ℤ f) *ℤ z
-      shaped a f z u =
-          let e1 : (f *ℤ z +ℤ neg_ℤ u) *ℤ a ≡ (a *ℤ f) *ℤ z +ℤ neg_ℤ (a *ℤ u) = simp ring_laws refl in
-          omega (arith, linear, e1)
+      shaped a f z u = omega sorted_products
 
   pub reduces_more : Reduces n Fixed js → Reduces n More p.choice.rest
   reduces_more reduce w =

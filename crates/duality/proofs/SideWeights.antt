@@ -1,21 +1,18 @@
 -- Weights that balance, on a coalition and on others that pass a test: by Farkas's lemma, where no transfer between the
 -- players gives that coalition more and takes from none of the others.
-use Rattle.std.proofs.Common.{◌≡◌, ℕ, zero, suc, ◌-◌, ◌^◌, ◌<◌, ◌≤◌, Bool, true, false, cond, nat_eq}
-use Rattle.std.proofs.Common.{ℤ, pos, neg_ℤ, ◌+ℤ◌, ◌-ℤ◌, ◌*ℤ◌, ◌≤ℤ◌}
-use Rattle.std.proofs.Common.{refl, sym, ap, ◌∙◌, inl, inr, arith}
-use Rattle.std.proofs.lemmas.Bool.{false≢true}
+use Rattle.std.proofs.Common.{◌≡◌, ℕ, zero, suc, ◌-◌, ◌^◌, ◌<◌, ◌≤◌, Bool, true, false, cond, nat_eq, ℤ, pos, neg_ℤ}
+use Rattle.std.proofs.Common.{◌+ℤ◌, ◌-ℤ◌, ◌*ℤ◌, ◌≤ℤ◌, refl, sym, ap, ◌∙◌, inl, inr, arith}
 use Rattle.std.proofs.lemmas.Int.{ints}
-use Rattle.definitions.proofs.Ring.{linear, one-mulℤ, mul-oneℤ, mul-zeroℤ, zero-mulℤ, mul-negℤ, mul-nonnegativeℤ}
+use Rattle.definitions.proofs.Ring.{linear, one-mulℤ, mul-oneℤ, mul-zeroℤ, zero-mulℤ, mul-nonnegativeℤ}
 use Rattle.std.proofs.Math.Nat.{pow-suc}
-use Rattle.definitions.proofs.Cases.{less_or_last, nat_eq-same}
-use Rattle.definitions.proofs.Cases.{nat_eq-other, nat_eq-equal, from_nat_eq}
+use Rattle.definitions.proofs.Cases.{less_or_last, nat_eq-same, nat_eq-other, nat_eq-equal, from_nat_eq}
 use Rattle.definitions.proofs.Masks.{grand_coalition-within}
 use Rattle.definitions.proofs.Members.{sum_below-same, sum_below-zero, sum_below-add, sum_below-times}
 use Rattle.definitions.specs.Sums.{sum_below}
 use Rattle.definitions.specs.Coalitions.{has_player, grand_coalition, sum_over}
-use Rattle.duality.proofs.Farkas.{one_or_none-low}
+use Rattle.duality.proofs.Farkas.{one_or_none-low, farkas}
 use Rattle.duality.specs.Farkas.{MeetsAll, Contradicts}
-use Rattle.duality.proofs.Farkas.{farkas}
+use Rattle.theorems.proofs.Products.{products}
 
 -- one term of a sum
 sum_at : (n k : ℕ) (f : ℕ → ℤ) → k < n → sum_below n (λ s. cond (nat_eq s k) (f s) (pos 0)) ≡ f k
@@ -101,14 +98,13 @@ module _ (n : ℕ) (is_high : ℕ → Bool) (some : 1 ≤ n) where
             omega (arith, linear, meets_it, same)
           where
             times_one : (b : Bool) (u : ℤ) → cond b (pos 1) (pos 0) *ℤ u ≡ cond b u (pos 0)
-            times_one true u = one-mulℤ u
-            times_one false u = zero-mulℤ u
+            times_one b u = grind (arith, one-mulℤ, zero-mulℤ)
 
         gains : (t : ℕ) → t < count → is_high (suc d) ≡ true → (q *ℤ aim (suc d)) ≤ℤ sum_over n z (suc d)
             → pos 1 ≤ℤ sum_over n z (suc d)
         gains t less h le =
             let one : aim (suc d) ≡ pos 1 = rw (nat_eq-same (suc d)) refl in
-            let all_of = ap (λ u. q *ℤ u) one ∙ mul-oneℤ q in omega (arith, linear, le, all_of, meets.0)
+            let all_of = ap (◌*ℤ◌ q) one ∙ mul-oneℤ q in omega (arith, linear, le, all_of, meets.0)
 
         total : sum_below n z ≡ pos 0
         total =
@@ -121,20 +117,7 @@ module _ (n : ℕ) (is_high : ℕ → Bool) (some : 1 ≤ n) where
             let b = sum_below-same n (λ i. row all i *ℤ z i) (λ i. neg_ℤ (pos 1) *ℤ z i)
             (λ i k. ap (λ u. u *ℤ z i) (row_all i)) in
             let c = sum_below-times n z (neg_ℤ (pos 1)) in
-            let m = minus (sum_below n z) in
-            omega (
-              arith,
-              linear,
-              up,
-              down,
-              ap (λ u. q *ℤ u) none,
-              ap (λ u. q *ℤ u) last,
-              mul-zeroℤ q,
-              a,
-              b,
-              c,
-              m,
-            )
+            omega (products, up, down, ap (◌*ℤ◌ q) none, ap (◌*ℤ◌ q) last, a, b, c, minus (sum_below n z))
           where
             minus : (u : ℤ) → neg_ℤ (pos 1) *ℤ u ≡ neg_ℤ u
             minus u = omega (arith, ints)
@@ -155,29 +138,13 @@ module _ (n : ℕ) (is_high : ℕ → Bool) (some : 1 ≤ n) where
         let parts = sum_below-add k w (λ s. a s +ℤ b s) in
         let rest = sum_below-add k a b in
         let first = sum_at k all (λ s. neg_ℤ (f s)) (grand_coalition-within n) in
-        let second = sum_at k 0 f (omega (arith, two)) in
-        let none = c.1 i less in
-        omega (arith, linear, each, parts, rest, first, second, none)
+        omega (arith, linear, each, parts, rest, first, sum_at k 0 f (omega (arith, two)), c.1 i less)
       where
         term : (s : ℕ) (p : Bool) → nat_eq s all ≡ p → (r : Bool) → nat_eq s 0 ≡ r → (h : Bool)
             → f s *ℤ cond p (neg_ℤ (pos 1)) (cond r (pos 1) (cond h (cond (has_player s i) (pos 1) (pos 0)) (pos 0)))
             ≡ cond p (pos 0) (cond r (pos 0) (cond h (f s) (pos 0))) *ℤ cond (has_player s i) (pos 1) (pos 0)
             +ℤ (cond p (neg_ℤ (f s)) (pos 0) +ℤ cond r (f s) (pos 0))
-        term s true e1 true e2 h =
-            absurd (omega (arith, all_positive, from_nat_eq s all e1, from_nat_eq s 0 e2))
-        term s true e1 false e2 h =
-            omega (
-              arith,
-              linear,
-              mul-negℤ (f s) (pos 1),
-              mul-oneℤ (f s),
-              zero-mulℤ (cond (has_player s i) (pos 1) (pos 0)),
-            )
-        term s false e1 true e2 h =
-            omega (arith, linear, mul-oneℤ (f s), zero-mulℤ (cond (has_player s i) (pos 1) (pos 0)))
-        term s false e1 false e2 true = omega (arith, linear)
-        term s false e1 false e2 false =
-            omega (arith, linear, mul-zeroℤ (f s), zero-mulℤ (cond (has_player s i) (pos 1) (pos 0)))
+        term s p e1 r e2 h = grind (arith, linear, all_positive, from_nat_eq, products)
 
     of_factors : (f : ℕ → ℤ) → Contradicts (2 ^ n) n row aim f → SideWeights d
     of_factors f c = record {
@@ -195,31 +162,21 @@ module _ (n : ℕ) (is_high : ℕ → Bool) (some : 1 ≤ n) where
       where
         not_less : (s : ℕ) (p r h : Bool) → pos 0 ≤ℤ f s
             → pos 0 ≤ℤ cond p (pos 0) (cond r (pos 0) (cond h (f s) (pos 0)))
-        not_less s true r h low = omega (arith, linear)
-        not_less s false true h low = omega (arith, linear)
-        not_less s false false true low = low
-        not_less s false false false low = omega (arith, linear)
+        not_less s p r h low = grind (arith, linear)
 
         at_here : pos 1 ≤ℤ weights_of f (suc d)
         at_here =
             let one = sum_below-same (2 ^ n) (λ s. f s *ℤ aim s) (λ s. cond (nat_eq s (suc d)) (f s) (pos 0))
             (λ s h. times_one (nat_eq s (suc d)) (f s)) in
-            let term = sum_at (2 ^ n) (suc d) f (omega (arith, lt)) in
-            let positive = c.2 in
-            let value : weights_of f (suc d) ≡ f (suc d) =
-            rw (nat_eq-other (suc d) all (λ h. omega (arith, lt, h)))
+            let value : weights_of f (suc d) ≡ f (suc d) = rw (nat_eq-other (suc d) all (λ h. omega (arith, lt, h)))
             (rw (nat_eq-other (suc d) 0 (λ h. omega (arith, h))) (rw top refl)) in
-            omega (arith, linear, one, term, positive, value)
+            omega (arith, linear, one, sum_at (2 ^ n) (suc d) f (omega (arith, lt)), c.2, value)
           where
             times_one : (b : Bool) (u : ℤ) → u *ℤ cond b (pos 1) (pos 0) ≡ cond b u (pos 0)
-            times_one true u = mul-oneℤ u
-            times_one false u = mul-zeroℤ u
+            times_one b u = grind (arith, mul-oneℤ, mul-zeroℤ)
 
         off : (s : ℕ) (p r h : Bool) → h ≡ false → cond p (pos 0) (cond r (pos 0) (cond h (f s) (pos 0))) ≡ pos 0
-        off s true r h e = refl
-        off s false true h e = refl
-        off s false false false e = refl
-        off s false false true e = absurd (false≢true (sym e))
+        off s p r h e = grind arith
 
     pub side_weights : SideWeights d
     side_weights = elim (farkas (2 ^ n) n row aim) [

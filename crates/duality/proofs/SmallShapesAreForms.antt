@@ -1,8 +1,6 @@
 -- Levels in the form without limits of size, of at most 16 players and with weights within the limits, have the form of
 -- a certificate: their coalitions ascend, so they aren't too many.
-use Rattle.std.proofs.Common.{◌≡◌, ℕ, ◌^◌, ◌<◌, ◌≤◌, true, List, [], ◌∷◌, ◌++◌}
-use Rattle.std.proofs.Common.{length, ℤ}
-use Rattle.std.proofs.Common.{IsTrue, inl, inr, arith}
+use Rattle.std.proofs.Common.{◌≡◌, ℕ, ◌^◌, ◌<◌, ◌≤◌, true, List, [], ◌∷◌, ◌++◌, length, ℤ, IsTrue, inl, inr, arith}
 use Rattle.std.specs.List.{AllByRecursion}
 use Rattle.std.proofs.lemmas.Bool.{false≢true}
 use Rattle.std.proofs.Math.Nat.{pow-le-pow_right}
@@ -23,8 +21,7 @@ module _ (n : ℕ) (few : n ≤ 16) where
   few_masks ps rises within =
       let positive : 0 < 2 = omega arith in
       let most : 2 ^ n ≤ 2 ^ 16 = pow-le-pow_right positive few in
-      let short = Ascends-few 0 (2 ^ n) ps rises within in
-      omega (arith, most, short)
+      omega (arith, most, Ascends-few 0 (2 ^ n) ps rises within)
 
   level_form : (front : List Level) (l : Level) → ListsWithin front → LevelShape n front l → AreSmall (l ∷ [])
       → LevelForm n front l
@@ -61,6 +58,6 @@ module _ (n : ℕ) (few : n ≤ 16) where
 pub small_shapes_are_forms : SmallShapesAreForms
 small_shapes_are_forms n levels some few shape small = record {
   players = inr few;
-  few = (let less = shape.few in omega (arith, less, some));
+  few = omega (arith, shape.few, some);
   each = levels_form n few [] levels (λ s listed. absurd (false≢true listed)) shape.each small;
 }

@@ -1,9 +1,7 @@
 -- Who adds no less, by the numbers of the class: who needs no more of a runway, who claims no less of an estate, who
 -- has no fewer votes.
-use Rattle.std.proofs.Common.{◌≡◌, ℕ, ◌+◌, ◌^◌, ◌<◌, ◌≤◌, Bool, true, false, cond}
-use Rattle.std.proofs.Common.{List, length, get_or, int_le}
-use Rattle.std.proofs.Common.{ℤ, pos, ◌-ℤ◌, ◌≤ℤ◌, refl, sym, ap, ◌∙◌, inl, inr}
-use Rattle.std.proofs.Common.{arith}
+use Rattle.std.proofs.Common.{◌≡◌, ℕ, ◌+◌, ◌^◌, ◌<◌, ◌≤◌, Bool, true, false, cond, List, length, get_or, int_le, ℤ, pos}
+use Rattle.std.proofs.Common.{◌-ℤ◌, ◌≤ℤ◌, refl, sym, ap, ◌∙◌, inl, inr, arith}
 use Rattle.std.specs.Int.{int_max}
 use Rattle.std.proofs.lemmas.Int.{ints, clamps}
 use Rattle.definitions.proofs.Cases.{same_or_other}
@@ -15,6 +13,7 @@ use Rattle.definitions.specs.Classes.{greatest_cost}
 use Rattle.laws.specs.ClassGames.{airport_game, bankruptcy_game, voting_game}
 use Rattle.airport.proofs.GreatestCosts.{greatest_cost-at_least, greatest_cost-at_most}
 use Rattle.definitions.specs.Players.{AddsNoLess}
+use Rattle.theorems.proofs.Products.{products}
 
 -- the numbers of the members, as integers
 abbrev numbers : List ℕ → ℕ → ℤ
@@ -27,8 +26,7 @@ sums : (xs : List ℕ) (i j s : ℕ) → i < length xs → j < length xs → get
 sums xs i j s hi hj le out other =
     let less : pos (get_or xs j 0) ≤ℤ pos (get_or xs i 0) = omega (arith, ints, le) in
     omega (
-      arith,
-      linear,
+      products,
       less,
       sum_over-more (length xs) s i (numbers xs) hi out,
       sum_over-more (length xs) s j (numbers xs) hj other,
@@ -41,16 +39,12 @@ votes quota weights i j hi hj le s lt out other =
   where
     wins : (q a b : ℤ) → a ≤ℤ b → (x y : Bool) → int_le q a ≡ x → int_le q b ≡ y
         → cond x (pos 1) (pos 0) ≤ℤ cond y (pos 1) (pos 0)
-    wins q a b le true true e f = omega (arith, linear)
-    wins q a b le true false e f = absurd (omega (arith, linear, le, e, f))
-    wins q a b le false true e f = omega (arith, linear)
-    wins q a b le false false e f = omega (arith, linear)
+    wins q a b le x y e f = grind (arith, linear)
 
 pub need : (costs : List ℕ) (i j : ℕ) → i < length costs → j < length costs → get_or costs i 0 ≤ get_or costs j 0
     → AddsNoLess (airport_game costs) i j
 need costs i j hi hj le s lt out other =
-    let less =
-    greatest_cost-at_most (length costs) (λ k. get_or costs k 0) (s + 2 ^ i)
+    let less = greatest_cost-at_most (length costs) (λ k. get_or costs k 0) (s + 2 ^ i)
     (greatest_cost (length costs) (λ k. get_or costs k 0) (s + 2 ^ j)) at in
     omega (arith, ints, less)
   where
@@ -58,8 +52,7 @@ need costs i j hi hj le s lt out other =
         → get_or costs k 0 ≤ greatest_cost (length costs) (λ h. get_or costs h 0) (s + 2 ^ j)
     at k h has = elim (same_or_other k i) [
       | inl same ↦
-          let own =
-          greatest_cost-at_least (length costs) (λ h. get_or costs h 0) (s + 2 ^ j) j hj
+          let own = greatest_cost-at_least (length costs) (λ h. get_or costs h 0) (s + 2 ^ j) j hj
           (has_player-more_same s j other) in
           rw same (omega (arith, own, le))
       | inr ne ↦ elim (same_or_other k j) [

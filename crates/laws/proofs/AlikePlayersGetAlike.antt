@@ -7,6 +7,7 @@ use Rattle.definitions.specs.Games.{Game, Allocation, share, IsNucleolus}
 use Rattle.definitions.specs.declared.Family.{Family}
 use Rattle.definitions.specs.declared.Measure.{Measure}
 use Rattle.definitions.specs.Players.{AddsNoLess, AreInterchangeable}
+use Rattle.theorems.proofs.Products.{products}
 
 first : (g : Game) (i j : ℕ) → AreInterchangeable g i j → AddsNoLess g i j
 first g i j alike s within a b = omega (arith, linear, alike s within a b)
@@ -19,8 +20,7 @@ pub alike_get_alike : (family : Family) (measure : Measure) (g : Game) (x : Allo
     → AreInterchangeable g i j → share x i ≡ share x j
 alike_get_alike family measure g x i j can h hi hj alike =
     omega (
-      arith,
-      linear,
+      products,
       adds_gets_no_less family measure g x i j can h hi hj (first g i j alike),
       adds_gets_no_less family measure g x j i can h hj hi (second g i j alike),
     )

@@ -1,5 +1,5 @@
 -- A number of one player, and 0 of all others.
-use Rattle.std.proofs.Common.{◌≡◌, ℕ, ◌<◌, Bool, true, false, cond, ℤ, pos, refl, ◌∙◌}
+use Rattle.std.proofs.Common.{◌≡◌, ℕ, ◌<◌, Bool, cond, ℤ, pos, ◌∙◌, arith}
 use Rattle.definitions.proofs.Members.{sum_below-same, sum_over-singleton}
 use Rattle.definitions.specs.Coalitions.{has_player, singleton, sum_over}
 
@@ -14,7 +14,4 @@ sum_over-at_player n s w c lt =
     ∙ sum_over-singleton n w (λ i. cond (has_player s i) c (pos 0)) lt
   where
     swap : (a b : Bool) → cond a (cond b c (pos 0)) (pos 0) ≡ cond b (cond a c (pos 0)) (pos 0)
-    swap true true = refl
-    swap true false = refl
-    swap false true = refl
-    swap false false = refl
+    swap a b = grind arith

@@ -1,18 +1,17 @@
 -- At a core point of a bankruptcy game the surplus of one claimant against another is the greater of minus what the
 -- first gets and minus what the other loses. Where the two surpluses are the same, that is the contested garment
 -- (Aumann and Maschler 1985).
-use Rattle.std.proofs.Common.{◌≡◌, ◌≢◌, ℕ, ◌-◌, ◌^◌, ◌<◌, not, List, length, ℤ}
-use Rattle.std.proofs.Common.{pos}
-use Rattle.std.proofs.Common.{◌-ℤ◌, ◌*ℤ◌, ◌≤ℤ◌, neg_ℤ, sym, ap, ◌∙◌, arith}
+use Rattle.std.proofs.Common.{◌≡◌, ◌≢◌, ℕ, ◌-◌, ◌^◌, ◌<◌, not, List, length, ℤ, pos, ◌-ℤ◌, ◌*ℤ◌, ◌≤ℤ◌, neg_ℤ, sym, ap}
+use Rattle.std.proofs.Common.{◌∙◌, arith}
 use Rattle.std.specs.Int.{int_max, int_min}
 use Rattle.std.proofs.lemmas.Int.{ints, clamps, by_lt_z}
 use Rattle.std.proofs.Math.Pow.{pow-lt}
 use Rattle.definitions.proofs.Cases.{and_parts, and_both, from_not}
 use Rattle.definitions.proofs.Masks.{grand_coalition-within, singleton-within}
-use Rattle.definitions.proofs.Members.{has_player-singleton, has_player-singleton_other}
-use Rattle.definitions.proofs.Members.{sum_over-singleton, sum_over-complement, sum_over-grand_coalition}
+use Rattle.definitions.proofs.Members.{has_player-singleton, has_player-singleton_other, sum_over-singleton}
+use Rattle.definitions.proofs.Members.{sum_over-complement, sum_over-grand_coalition}
 use Rattle.definitions.proofs.Parts.{others_has, others_lacks}
-use Rattle.definitions.proofs.Ring.{linear, mul-leℤ, mul-subℤ, mul-zeroℤ}
+use Rattle.definitions.proofs.Ring.{linear, mul-leℤ}
 use Rattle.definitions.specs.Coalitions.{has_player, singleton, grand_coalition, sum_over}
 use Rattle.definitions.specs.Classes.{bankruptcy_worth}
 use Rattle.definitions.specs.Games.{Allocation, share, amount, InCore}
@@ -22,6 +21,7 @@ use Rattle.laws.specs.TalmudRule.{IsGarment, IsConsistent}
 use Rattle.laws.proofs.EachTwoAreAGarment.{cut_claimed, uncut}
 use Rattle.talmud.proofs.Excesses.{excess-outside}
 use Rattle.talmud.proofs.Worths.{game_of, Divides, cut_claim, worth-cut, worth-grand_coalition, excess-others}
+use Rattle.theorems.proofs.Products.{products}
 
 -- the two surpluses, of shares y and z of the claims a and d
 balanced : (a d y z m : ℤ) → m ≡ int_max (neg_ℤ y) (neg_ℤ (d -ℤ z)) → m ≡ int_max (neg_ℤ z) (neg_ℤ (a -ℤ y))
@@ -46,7 +46,7 @@ module _ (estate : ℕ) (claims : List ℕ) (x : Allocation) (core : InCore (gam
   n = length claims
 
   den_some : pos 0 ≤ℤ x.den
-  den_some = let positive = core.0.1 in omega (arith, linear, positive)
+  den_some = omega (arith, linear, core.0.1)
 
   amount-is : (s : ℕ) → amount x s ≡ sum_over n (share x) s
   amount-is s = ap (λ (k : ℕ). sum_over k (share x) s) core.0.0
@@ -59,22 +59,13 @@ module _ (estate : ℕ) (claims : List ℕ) (x : Allocation) (core : InCore (gam
 
   whole : sum_over n (share x) (grand_coalition n) ≡ x.den *ℤ pos estate
   whole =
-      sym (amount-is (grand_coalition n)) ∙ core.1
-      ∙ ap (λ (z : ℤ). x.den *ℤ z) (worth-grand_coalition estate claims)
+      omega (products, amount-is (grand_coalition n), core.1, ap (◌*ℤ◌ x.den) (worth-grand_coalition estate claims))
 
   gains : (i : ℕ) → i < n → pos 0 ≤ℤ share x i
   gains i lt =
-      let some =
-      mul-leℤ x.den (pos 0) (bankruptcy_worth estate claims (singleton i)) den_some
+      let some = mul-leℤ x.den (pos 0) (bankruptcy_worth estate claims (singleton i)) den_some
       (worth-least estate claims (singleton i)) in
-      omega (
-        arith,
-        linear,
-        some,
-        mul-zeroℤ x.den,
-        unblocked (singleton i) (pow-lt lt),
-        sum_over-singleton n i (share x) lt,
-      )
+      omega (products, some, unblocked (singleton i) (pow-lt lt), sum_over-singleton n i (share x) lt)
 
   losses : (i : ℕ) → i < n → pos 0 ≤ℤ loss estate claims x i
   losses i lt =
@@ -91,17 +82,8 @@ module _ (estate : ℕ) (claims : List ℕ) (x : Allocation) (core : InCore (gam
       mul-leℤ x.den (pos estate -ℤ cut_claim estate claims i) (bankruptcy_worth estate claims s) den_some low in
       let parts = sum_over-complement n (singleton i) (share x) small in
       let all = sum_over-grand_coalition n (share x) in
-      omega (
-        arith,
-        linear,
-        scaled,
-        mul-subℤ x.den (pos estate) (cut_claim estate claims i),
-        unblocked s (omega (arith, within)),
-        parts,
-        all,
-        whole,
-        sum_over-singleton n i (share x) lt,
-      )
+      omega
+      (products, scaled, unblocked s (omega (arith, within)), parts, all, whole, sum_over-singleton n i (share x) lt)
     where
       below : (v c d : ℤ) → v ≡ int_max (pos 0) (pos estate -ℤ c) → c ≡ d → (pos estate -ℤ d) ≤ℤ v
       below v c d e f = omega (arith, ints, clamps, e, f)
@@ -138,8 +120,7 @@ module _ (estate : ℕ) (claims : List ℕ) (x : Allocation) (core : InCore (gam
 
       alone : neg_ℤ (share x i) ≤ℤ m
       alone =
-          let some =
-          mul-leℤ x.den (pos 0) (bankruptcy_worth estate claims (singleton i)) den_some
+          let some = mul-leℤ x.den (pos 0) (bankruptcy_worth estate claims (singleton i)) den_some
           (worth-least estate claims (singleton i)) in
           let lacks = ap not (has_player-singleton_other i j (λ e. ne (sym e))) in
           let le =
@@ -148,17 +129,15 @@ module _ (estate : ℕ) (claims : List ℕ) (x : Allocation) (core : InCore (gam
             and_both (has_player (singleton i) i) (not (has_player (singleton i) j)) (has_player-singleton i)
                 lacks,
           ) in
-          omega
-          (arith, linear, le, some, mul-zeroℤ x.den, amount-is (singleton i), sum_over-singleton n i (share x) hi)
+          omega (products, le, some, amount-is (singleton i), sum_over-singleton n i (share x) hi)
 
       others : neg_ℤ (loss estate claims x j) ≤ℤ m
       others =
           let s = grand_coalition n - singleton j in
-          let within = grand_coalition-within n in
           let lacks = ap not (others_lacks n j (singleton-within n j hj) hj) in
           let le =
           h.1 s (
-            omega (arith, within),
+            omega (arith, grand_coalition-within n),
             and_both (has_player s i) (not (has_player s j)) (others_has n j i (singleton-within n j hj) hi ne) lacks,
           ) in
           omega (arith, linear, le, excess-others estate claims x j divides hj)

@@ -1,6 +1,5 @@
 -- Who adds no less than another, with a number of its own that counts beside the game, gets no less with it.
-use Rattle.std.proofs.Common.{◌≡◌, ℕ, ◌+◌, ◌^◌, ◌<◌, false, ℤ, ◌+ℤ◌, ◌*ℤ◌, ◌≤ℤ◌}
-use Rattle.std.proofs.Common.{arith}
+use Rattle.std.proofs.Common.{◌≡◌, ℕ, ◌+◌, ◌^◌, ◌<◌, false, ℤ, ◌+ℤ◌, ◌*ℤ◌, ◌≤ℤ◌, arith}
 use Rattle.definitions.proofs.Families.{allocation_of}
 use Rattle.definitions.proofs.Parts.{sum_over-more}
 use Rattle.definitions.proofs.Ring.{linear}
@@ -24,8 +23,7 @@ pub gets_no_less_with : (b : ℕ → ℤ) (family : Family) (measure : Measure) 
     → IsMeasurable measure g.players → IsNucleolus family measure g x → i < g.players → j < g.players
     → AddsNoLessWith b g i j → (share x j +ℤ x.den *ℤ b j) ≤ℤ (share x i +ℤ x.den *ℤ b i)
 gets_no_less_with b family measure g x i j can h hi hj adds =
-    let less =
-    adds_gets_no_less family measure (shifted_game b g) (shifted b x) i j can
+    let less = adds_gets_no_less family measure (shifted_game b g) (shifted b x) i j can
     (((shifted_alike b g x hx).nucleolus family measure).0 h) hi hj adds_shifted in
     omega (arith, linear, less, share-at b g x i hx hi, share-at b g x j hx hj)
   where

@@ -1,22 +1,20 @@
 -- What each class makes of k times its numbers is k times its worths.
-use Rattle.std.proofs.Common.{◌≡◌, ℕ, zero, suc, ◌-◌, ◌*◌, ◌<◌, ◌≤◌, Bool, true}
-use Rattle.std.proofs.Common.{false, cond}
-use Rattle.std.proofs.Common.{max, nat_eq, List, [], ◌∷◌, length, map, get_or, ℤ, pos}
-use Rattle.std.proofs.Common.{neg_ℤ, ◌-ℤ◌, ◌*ℤ◌}
-use Rattle.std.proofs.Common.{◌≤ℤ◌, refl, sym, ap, ap₂, ◌∙◌, inl, inr, arith}
+use Rattle.std.proofs.Common.{◌≡◌, ℕ, zero, suc, ◌-◌, ◌*◌, ◌<◌, ◌≤◌, Bool, true, false, cond, max, nat_eq, List, []}
+use Rattle.std.proofs.Common.{◌∷◌, length, map, get_or, ℤ, pos, neg_ℤ, ◌-ℤ◌, ◌*ℤ◌, ◌≤ℤ◌, refl, sym, ap, ap₂, ◌∙◌, inl}
+use Rattle.std.proofs.Common.{inr, arith}
 use Rattle.std.proofs.lemmas.Int.{ints}
 use Rattle.std.proofs.lemmas.List.{length-map}
 use Rattle.std.proofs.Math.Nat.{le_refl, mul-le-mul}
 use Rattle.std.specs.Int.{int_max}
 use Rattle.definitions.proofs.Cases.{int_max-cases}
-use Rattle.definitions.proofs.Ring.{linear, mul-negℤ, mul-subℤ, mul-zeroℤ, mul-leℤ}
+use Rattle.definitions.proofs.Ring.{mul-negℤ, mul-zeroℤ, mul-leℤ}
 use Rattle.definitions.proofs.SumsOver.{sum_over-same, sum_over-times}
 use Rattle.theorems.proofs.Scaled.{share_times}
 use Rattle.definitions.specs.Coalitions.{has_player, grand_coalition, sum_over}
-use Rattle.definitions.specs.Classes.{greatest_cost}
-use Rattle.definitions.specs.Classes.{Matrix, plan_cost, matching_value}
-use Rattle.laws.specs.CommonScales.{matrix_times, TableTimes, CostTableTimes, AirportTimes}
-use Rattle.laws.specs.CommonScales.{EstateTimes, TreeTimes, AssignmentTimes}
+use Rattle.definitions.specs.Classes.{greatest_cost, Matrix, plan_cost, matching_value}
+use Rattle.laws.specs.CommonScales.{matrix_times, TableTimes, CostTableTimes, AirportTimes, EstateTimes, TreeTimes}
+use Rattle.laws.specs.CommonScales.{AssignmentTimes}
+use Rattle.theorems.proofs.Products.{products}
 
 -- a product of naturals, as an integer
 natural_product : (a b : ℕ) → pos (a * b) ≡ pos a *ℤ pos b
@@ -34,7 +32,7 @@ pub table_times : TableTimes
 table_times k worths s = worth_times (nat_eq s 0)
   where
     worth_times : (b : Bool)
-        → cond b (pos 0) (get_or (map (λ z. k *ℤ z) worths) (s - 1) (pos 0))
+        → cond b (pos 0) (get_or (map (◌*ℤ◌ k) worths) (s - 1) (pos 0))
         ≡ k *ℤ cond b (pos 0) (get_or worths (s - 1) (pos 0))
     worth_times true = sym (mul-zeroℤ k)
     worth_times false = share_times k (record { shares = worths; den = pos 1 }) (s - 1)
@@ -48,8 +46,7 @@ max_times : (k a b : ℕ) → max (k * a) (k * b) ≡ k * max a b
 max_times k a b = grind arith
 
 if_times : (k c : ℕ) (b : Bool) → cond b (k * c) 0 ≡ k * cond b c 0
-if_times k c true = refl
-if_times k c false = omega arith
+if_times k c b = grind arith
 
 greatest_times : (k n : ℕ) (cost more : ℕ → ℕ) (s : ℕ) → ((i : ℕ) → i < n → more i ≡ k * cost i)
     → greatest_cost n more s ≡ k * greatest_cost n cost s
@@ -75,21 +72,17 @@ airport_times k costs s =
 max_times-integer : (k a : ℤ) → pos 0 ≤ℤ k → int_max (pos 0) (k *ℤ a) ≡ k *ℤ int_max (pos 0) a
 max_times-integer k a p = elim (int_max-cases (pos 0) a) [
   | inl low ↦
-      let down = mul-leℤ k a (pos 0) p low.1 in
-      let here : k *ℤ int_max (pos 0) a ≡ pos 0 = ap (λ (z : ℤ). k *ℤ z) low.0 ∙ mul-zeroℤ k in
+      let here : k *ℤ int_max (pos 0) a ≡ pos 0 = ap (◌*ℤ◌ k) low.0 ∙ mul-zeroℤ k in
       elim (int_max-cases (pos 0) (k *ℤ a)) [
         | inl b ↦ b.0 ∙ sym here
         | inr b ↦
-            (let e = b.0 in
-            let up = b.1 in let zero = mul-zeroℤ k in omega (arith, linear, e, up, down, zero, here))
+            (omega (products, b.0, b.1, mul-leℤ k a (pos 0) p low.1, here))
       ]
   | inr high ↦
-      let up = mul-leℤ k (pos 0) a p high.1 in
-      let here : k *ℤ int_max (pos 0) a ≡ k *ℤ a = ap (λ (z : ℤ). k *ℤ z) high.0 in
+      let here : k *ℤ int_max (pos 0) a ≡ k *ℤ a = ap (◌*ℤ◌ k) high.0 in
       elim (int_max-cases (pos 0) (k *ℤ a)) [
         | inl b ↦
-            (let e = b.0 in
-            let down = b.1 in let zero = mul-zeroℤ k in omega (arith, linear, e, down, up, zero, here))
+            (omega (products, b.0, b.1, mul-leℤ k (pos 0) a p high.1, here))
         | inr b ↦ b.0 ∙ sym here
       ]
 ]
@@ -106,7 +99,7 @@ estate_times k estate claims s =
     (λ i lt. ap pos (number_times k claims i lt) ∙ natural_product k (get_or claims i 0))
     ∙ sum_over-times n claim (pos k) others in
     let whole : pos (k * estate) -ℤ sum_over n more others ≡ pos k *ℤ left =
-    omega (arith, linear, sums, natural_product k estate, mul-subℤ (pos k) (pos estate) (sum_over n claim others))
+    omega (products, sums, natural_product k estate)
     in
     ap (λ (m : ℕ). int_max (pos 0) (pos (k * estate) -ℤ sum_over m more (grand_coalition m - s)))
     (length-map claims (λ c. k * c))
@@ -134,7 +127,7 @@ tree_times k matrix g h s lt =
     let cost = found.0 in
     let least = found.2 in (
       k * cost,
-      ap (λ (z : ℤ). pos k *ℤ z) found.1 ∙ mul-negℤ (pos k) (pos cost) ∙ ap neg_ℤ (sym (natural_product k cost)),
+      ap (◌*ℤ◌ (pos k)) found.1 ∙ mul-negℤ (pos k) (pos cost) ∙ ap neg_ℤ (sym (natural_product k cost)),
       record {
         reached = (
           least.reached.0,
@@ -153,7 +146,7 @@ assignment_times k matrix rows g h s lt =
     let value = found.0 in
     let best = found.2 in (
       k * value,
-      ap (λ (z : ℤ). pos k *ℤ z) found.1 ∙ sym (natural_product k value),
+      ap (◌*ℤ◌ (pos k)) found.1 ∙ sym (natural_product k value),
       record {
         reached = (
           best.reached.0,

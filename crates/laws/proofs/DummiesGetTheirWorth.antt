@@ -1,21 +1,18 @@
 -- A player that adds its worth alone to each coalition without it gets that: else every coalition of greatest
 -- excess would be on one side of the player, and a small transfer there would beat the nucleolus.
-use Rattle.std.proofs.Common.{◌≡◌, ◌≢◌, ◌⊎◌, ℕ, ◌+◌, ◌-◌, ◌^◌, ◌<◌, ◌≤◌, Bool}
-use Rattle.std.proofs.Common.{true, false, not, ℤ, pos, ◌+ℤ◌}
-use Rattle.std.proofs.Common.{◌-ℤ◌, ◌*ℤ◌, ◌<ℤ◌, ◌≤ℤ◌, refl, sym, ap, ◌∙◌, inl, inr}
-use Rattle.std.proofs.Common.{length, arith}
+use Rattle.std.proofs.Common.{◌≡◌, ◌≢◌, ◌⊎◌, ℕ, ◌+◌, ◌-◌, ◌^◌, ◌<◌, ◌≤◌, Bool, true, false, not, ℤ, pos, ◌+ℤ◌, ◌-ℤ◌}
+use Rattle.std.proofs.Common.{◌*ℤ◌, ◌<ℤ◌, ◌≤ℤ◌, refl, sym, ap, ◌∙◌, inl, inr, length, arith}
 use Rattle.std.proofs.lemmas.Bool.{false≢true}
 use Rattle.std.proofs.lemmas.Int.{by_lt_z}
-use lib.IntN.{*ℤ_comm}
 use Rattle.definitions.proofs.Cases.{from_not}
 use Rattle.definitions.proofs.Families.{allocation_of, efficient_of}
 use Rattle.definitions.proofs.Halves.{size_below-more}
 use Rattle.definitions.proofs.Masks.{singleton-within}
-use Rattle.definitions.proofs.Measured.{weight, measured-weight, weight-positive}
-use Rattle.definitions.proofs.Measured.{measured-order, measured-positive, measured-zero}
+use Rattle.definitions.proofs.Measured.{weight, measured-weight, weight-positive, measured-order, measured-positive}
+use Rattle.definitions.proofs.Measured.{measured-zero}
 use Rattle.definitions.proofs.Members.{has_player-empty, has_player-singleton}
 use Rattle.definitions.proofs.Parts.{others_lacks, sum_over-more, more-lt, has_player-more_same}
-use Rattle.definitions.proofs.Ring.{linear, mul-addℤ, mul-zeroℤ, mul-leℤ}
+use Rattle.definitions.proofs.Ring.{linear, mul-leℤ}
 use Rattle.definitions.proofs.Sizes.{size-at}
 use Rattle.definitions.proofs.SumsOver.{amount-empty}
 use Rattle.theorems.proofs.Moves.{moved, excess-raised, measured-less, parted, joined, proper_of, no_gain}
@@ -26,14 +23,15 @@ use Rattle.laws.proofs.Withouts.{without}
 use Rattle.definitions.specs.Sums.{IsGreatest}
 use Rattle.definitions.specs.Coalitions.{has_player, singleton, grand_coalition}
 use Rattle.definitions.specs.Measures.{divisor, measured, IsMeasurable}
-use Rattle.definitions.specs.Games.{Game, Allocation, share, excess, measured_excess}
-use Rattle.definitions.specs.Games.{IsAllocation, IsEfficient, IsNucleolus}
+use Rattle.definitions.specs.Games.{Game, Allocation, share, excess, measured_excess, IsAllocation, IsEfficient}
+use Rattle.definitions.specs.Games.{IsNucleolus}
 use Rattle.definitions.specs.Prekernel.{holds_without}
 use Rattle.definitions.specs.declared.Family.{Family}
 use Rattle.definitions.specs.declared.Family.TheVariants.{Imputations, Preimputations}
 use Rattle.definitions.specs.declared.Measure.{Measure}
 use Rattle.definitions.specs.declared.Measure.TheVariants.{Plain, PerHead}
 use Rattle.definitions.specs.Players.{IsDummy}
+use Rattle.theorems.proofs.Products.{products, sorted_products}
 
 -- ---- excesses beside a dummy
 
@@ -46,9 +44,7 @@ excess-with : (g : Game) (x : Allocation) (r i : ℕ) → IsDummy g i → IsAllo
     → i < g.players → has_player r i ≡ false → excess g x (r + 2 ^ i) ≡ excess g x r -ℤ over g x i
 excess-with g x r i dummy h within hi lacks =
     let n = length x.shares in
-    let gets = sum_over-more n r i (share x) (rw h.0 hi) lacks in
-    let worth = ap (λ (z : ℤ). x.den *ℤ z) (dummy r within lacks) in
-    omega (arith, linear, gets, worth, mul-addℤ x.den (g.worth r) (g.worth (singleton i)))
+    omega (products, sum_over-more n r i (share x) (rw h.0 hi) lacks, ap (◌*ℤ◌ x.den) (dummy r within lacks))
 
 nobody : (i : ℕ) → 0 + 2 ^ i ≡ 2 ^ i
 nobody i = omega arith
@@ -58,7 +54,7 @@ excess-empty : (g : Game) (x : Allocation) (i : ℕ) → IsDummy g i → i < g.p
 excess-empty g x i dummy hi =
     let alone = dummy 0 (omega (arith, singleton-within g.players i hi)) (has_player-empty i) in
     let none : g.worth 0 ≡ pos 0 = omega (arith, linear, alone, ap g.worth (nobody i)) in
-    omega (arith, linear, ap (λ (z : ℤ). x.den *ℤ z) none, mul-zeroℤ x.den, amount-empty x)
+    omega (products, ap (◌*ℤ◌ x.den) none, amount-empty x)
 
 excess-alone : (g : Game) (x : Allocation) (i : ℕ) → IsDummy g i → IsAllocation g x → i < g.players
     → excess g x (singleton i) ≡ pos 0 -ℤ over g x i
@@ -81,16 +77,7 @@ excess-others g x i dummy h e hi =
 -- with one player more, a coalition's excess is divided by no less
 divisor_grows : (measure : Measure) (n r i : ℕ) → IsMeasurable measure n → r < 2 ^ n → i < n
     → has_player r i ≡ false → divisor measure r ≤ divisor measure (r + 2 ^ i)
-divisor_grows Plain n r i m within hi lacks = omega arith
-divisor_grows PerHead n r i (inl e) within hi lacks = absurd (cc)
-divisor_grows PerHead n r i (inr few) within hi lacks =
-    let all : n ≤ 64 = omega arith in
-    omega (
-      arith,
-      size-at n r all within,
-      size-at n (r + 2 ^ i) all (more-lt n r i within hi lacks),
-      size_below-more n i r hi lacks,
-    )
+divisor_grows measure n r i m within hi lacks = grind (arith, more-lt, size-at, size_below-more)
 
 -- an excess above 0 that is no less and divided by no more measures no less
 measures_less : (measure : Measure) (n r i : ℕ) (u k : ℤ) → IsMeasurable measure n → 0 < r → r < 2 ^ n → i < n
@@ -101,18 +88,15 @@ measures_less measure n r i u k m some within hi lacks le up =
     let grows : pos a ≤ℤ pos b =
     let h = divisor_grows measure n r i m within hi lacks in omega (arith, linear, h) in
     let none : pos 0 ≤ℤ pos a = omega (arith, linear) in
-    let first = mul-leℤ (pos a) u k none le in
-    let second = mul-leℤ k (pos a) (pos b) up grows in
     measured-order measure n (r + 2 ^ i) r u k m (omega arith) (more-lt n r i within hi lacks) some within
-    (omega (arith, linear, first, second, *ℤ_comm u (pos a), *ℤ_comm k (pos a)))
+    (omega (sorted_products, mul-leℤ (pos a) u k none le, mul-leℤ k (pos a) (pos b) up grows))
 
 measured-at_most : (measure : Measure) (n s : ℕ) (e : ℤ) → IsMeasurable measure n → 0 < s → s < 2 ^ n → e ≤ℤ pos 0
     → measured measure s e ≤ℤ pos 0
 measured-at_most measure n s e m some within low =
     let w = weight measure s in
     let up = weight-positive measure n s m some within in
-    omega
-    (arith, linear, mul-leℤ w e (pos 0) (omega (arith, linear, up)) low, measured-weight measure s e, mul-zeroℤ w)
+    omega (products, mul-leℤ w e (pos 0) (omega (arith, linear, up)) low, measured-weight measure s e)
 
 -- ---- the nucleolus
 
@@ -143,8 +127,7 @@ no_more family measure g x i can h hi dummy up =
     let most = greatest_of measure g x (λ s. not (has_player s i)) others within pass in
     let high : pos 1 ≤ℤ most.0 =
     omega (
-      arith,
-      linear,
+      products,
       most.1.1 others (within, pass),
       measured-positive measure n others (excess g x others) can some within (omega (arith, linear, up, free)),
     ) in
@@ -163,8 +146,7 @@ no_more family measure g x i can h hi dummy up =
         let n = g.players in
         let t = most.0.0 in
         let some : t ≢ 0 = λ e. omega (
-          arith,
-          linear,
+          products,
           high,
           most.0.2,
           ap (measured_excess measure g x) e,
@@ -177,8 +159,7 @@ no_more family measure g x i can h hi dummy up =
         let surplus = measured_surplus_of measure g x j i member.1 ne in
         let reaches : m ≤ℤ surplus.0 =
         omega (
-          arith,
-          linear,
+          products,
           most.0.2,
           surplus.1.1 t (most.0.1.0, joined (has_player t j) (has_player t i) member.2 most.0.1.1),
         ) in
@@ -197,8 +178,7 @@ no_more family measure g x i can h hi dummy up =
             let u = excess g (moved (pos 1) x j i) s in
             let falls : u ≤ℤ (e +ℤ e -ℤ pos 1) =
             omega (
-              arith,
-              linear,
+              products,
               up,
               excess-raised (pos 1) g x j i s hx hj hi holds,
               ap (excess g x) part.3,
@@ -212,11 +192,9 @@ no_more family measure g x i can h hi dummy up =
             λ z. omega (arith, linear, above, ap (excess g x) z, excess-empty g x i dummy hi) in
             omega (arith, none) in
             let here = ap (λ (k : ℕ). measured measure k u) part.3 in
-            let first =
-            measures_less measure n r i u (e +ℤ e -ℤ pos 1) can some part.1 hi part.2 falls
+            let first = measures_less measure n r i u (e +ℤ e -ℤ pos 1) can some part.1 hi part.2 falls
             (omega (arith, linear, above)) in
-            let second =
-            measured-less measure n r e (pos 1) m can some part.1 (omega (arith, linear))
+            let second = measured-less measure n r e (pos 1) m can some part.1 (omega (arith, linear))
             (most.1 r (part.1, ap not part.2)) in
             omega (arith, linear, here, first, second) in
             by_lt_z (pos 0) e (λ lt. high_one (omega (arith, linear, lt)))
@@ -230,15 +208,12 @@ no_less g x i h hi dummy down =
     let hx = h.0.0 in
     let single = singleton-within n i hi in
     let most = greatest_of Plain g x (λ s. has_player s i) (singleton i) single (has_player-singleton i) in
-    let high = most.1.1 (singleton i) (single, has_player-singleton i) in
     let t = most.1.0.0 in
-    let at_t = most.1.0.2 in
     let not_all : t ≢ grand_coalition n = λ e. omega (
-      arith,
-      linear,
-      high,
+      products,
+      most.1.1 (singleton i) (single, has_player-singleton i),
       down,
-      at_t,
+      most.1.0.2,
       excess-alone g x i dummy hx hi,
       ap (excess g x) e,
       excess_grand g x h.0.1,
@@ -247,21 +222,17 @@ no_less g x i h hi dummy down =
     let j = outsider.0 in
     let ne : i ≢ j = λ e. false≢true (sym outsider.2 ∙ sym (ap (has_player t) e) ∙ most.1.0.1.1) in
     let surplus = surplus_of g x i j hi ne in
-    let reaches =
-    surplus.1.1 t (most.1.0.1.0, joined (has_player t i) (has_player t j) most.1.0.1.1 (ap not outsider.2)) in
     no_gain Preimputations Plain (pos 1) g x i j surplus.0 (inl refl) h (omega (arith, linear)) hi outsider.1 ne
     (λ e. absurd (cc)) surplus.1
     (λ s within passes.
     let both = parted (has_player s j) (has_player s i) passes in
     let lacks = from_not (has_player s i) both.1 in
-    let below = most.1.1 (s + 2 ^ i) (more-lt n s i within hi lacks, has_player-more_same s i lacks) in
     omega (
-      arith,
-      linear,
+      products,
       down,
-      below,
-      at_t,
-      reaches,
+      most.1.1 (s + 2 ^ i) (more-lt n s i within hi lacks, has_player-more_same s i lacks),
+      most.1.0.2,
+      surplus.1.1 t (most.1.0.1.0, joined (has_player t i) (has_player t j) most.1.0.1.1 (ap not outsider.2)),
       excess-raised (pos 1) g x i j s hx hi outsider.1 passes,
       excess-with g x s i dummy hx within hi lacks,
     ))

@@ -1,9 +1,7 @@
 -- Per head the prenucleolus may give a player less than the worth alone that it adds everywhere: in a vote by majority
 -- of three beside a fourth who adds nothing. Two of the three are alike.
-use Rattle.std.proofs.Common.{◌≡◌, ℕ, zero, suc, ◌+◌, ◌<◌, Bool, true, false, ◌||◌}
-use Rattle.std.proofs.Common.{if◌then◌else◌, List, [], ◌∷◌, ℤ}
-use Rattle.std.proofs.Common.{pos, negsuc, ◌+ℤ◌, ◌*ℤ◌, ◌<ℤ◌, int_le, refl, inr, inl, arith}
-use Rattle.std.proofs.Common.{rules}
+use Rattle.std.proofs.Common.{◌≡◌, ℕ, zero, suc, ◌+◌, ◌<◌, Bool, true, false, ◌||◌, if◌then◌else◌, List, [], ◌∷◌, ℤ}
+use Rattle.std.proofs.Common.{pos, negsuc, ◌+ℤ◌, ◌*ℤ◌, ◌<ℤ◌, int_le, refl, inr, inl, arith, rules}
 use Rattle.std.proofs.lemmas.Int.{ints}
 use Rattle.std.specs.Ordering.{int_eq}
 use Rattle.theorems.proofs.Examples.{from_int_eq, balances}
@@ -12,8 +10,8 @@ use Rattle.definitions.specs.Classes.{table_worth}
 use Rattle.definitions.specs.Coalitions.{has_player, singleton, weight_at, members}
 use Rattle.definitions.specs.Measures.{measured_den}
 use Rattle.definitions.specs.Games.{Game, Allocation, share, measured_excess, IsNucleolus}
-use Rattle.definitions.specs.Certificates.{Level, HasForm, LevelHolds, Certifies}
-use Rattle.definitions.specs.Certificates.{HasAtMostExcess, IsFixedVector, InSpan}
+use Rattle.definitions.specs.Certificates.{Level, HasForm, LevelHolds, Certifies, HasAtMostExcess, IsFixedVector}
+use Rattle.definitions.specs.Certificates.{InSpan}
 use Rattle.definitions.specs.declared.Family.TheVariants.{Preimputations}
 use Rattle.definitions.specs.declared.Measure.TheVariants.{PerHead}
 use Rattle.definitions.specs.declared.Mode.TheVariants.{Span}
@@ -24,9 +22,7 @@ use Rattle.laws.specs.Nucleolus.{DummiesMayGetLess}
 -- ---- two of three who vote by majority
 
 either : (b c : Bool) (u v : ℤ) → (b || (c || int_eq u v)) ≡ true → b ≡ false → c ≡ false → u ≡ v
-either true c u v h e f = absurd (cc)
-either false true u v h e f = absurd (cc)
-either false false u v h e f = from_int_eq u v h
+either b c u v h e f = grind (arith, from_int_eq)
 
 -- ---- the same vote beside a player who adds nothing
 
@@ -69,8 +65,7 @@ only_level = record {
 low : (s : ℕ) → s < 16 → HasAtMostExcess PerHead beside shared only_level s
 unfolding members
 low s h =
-    let e =
-    passes_below-at 16
+    let e = passes_below-at 16
     (λ s. int_le (measured_excess PerHead beside shared s *ℤ pos 8) (pos 1 *ℤ measured_den PerHead (pos 8)))
     refl s h in
     omega (arith, ints, e)

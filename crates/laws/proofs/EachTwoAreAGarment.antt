@@ -1,14 +1,12 @@
 -- What the Talmud rule promises: by the one sentence that the part of each is the lesser of half of the cut claim
 -- and a bound for all.
-use Rattle.std.proofs.Common.{◌≡◌, ◌≢◌, ◌⊎◌, ℕ, zero, suc, ◌<◌, ◌≤◌, Bool, true}
-use Rattle.std.proofs.Common.{false, cond, List, length, get_or}
-use Rattle.std.proofs.Common.{min, ℤ, pos, ◌+ℤ◌, ◌-ℤ◌, ◌*ℤ◌, ◌≤ℤ◌, sym, ap, ◌∙◌}
-use Rattle.std.proofs.Common.{inl, inr, arith}
+use Rattle.std.proofs.Common.{◌≡◌, ◌≢◌, ◌⊎◌, ℕ, zero, suc, ◌<◌, ◌≤◌, Bool, true, false, cond, List, length, get_or, min}
+use Rattle.std.proofs.Common.{ℤ, pos, ◌+ℤ◌, ◌-ℤ◌, ◌*ℤ◌, ◌≤ℤ◌, sym, ap, ◌∙◌, inl, inr, arith}
 use Rattle.std.specs.Int.{int_min}
 use Rattle.std.proofs.lemmas.Int.{ints, clamps}
 use Rattle.std.proofs.lemmas.List.{get_or-map}
 use Rattle.definitions.proofs.Cases.{less_or_last, less_or_greater}
-use Rattle.definitions.proofs.Ring.{linear, mul-leℤ, mul-subℤ, mul-nonnegativeℤ}
+use Rattle.definitions.proofs.Ring.{linear, mul-leℤ, mul-nonnegativeℤ}
 use Rattle.definitions.proofs.Members.{sum_below-nonnegative}
 use Rattle.definitions.specs.Sums.{sum_below}
 use Rattle.definitions.specs.Games.{Allocation, share}
@@ -16,6 +14,7 @@ use Rattle.talmud.specs.Rule.{cut, is_little, IsTalmud}
 use Rattle.laws.specs.TalmudRule.{unclaimed, IsGarment, claimed}
 use Rattle.talmud.proofs.Worths.{Divides}
 use Rattle.definitions.proofs.Casts.{pos-le}
+use Rattle.theorems.proofs.Products.{products}
 
 -- ---- numbers: y and z are shares, a and d the cut claims, t the bound
 
@@ -24,8 +23,7 @@ abbrev IsPart : Bool → ℤ → ℤ → ℤ → Type 0
 IsPart little a t y = cond little y (a -ℤ y) +ℤ cond little y (a -ℤ y) ≡ int_min a (t +ℤ t)
 
 between : (little : Bool) (a t y : ℤ) → pos 0 ≤ℤ t → pos 0 ≤ℤ a → IsPart little a t y → (pos 0 ≤ℤ y) × (y ≤ℤ a)
-between true a t y h k e = (omega (arith, ints, clamps), omega (arith, ints, clamps))
-between false a t y h k e = (omega (arith, ints, clamps), omega (arith, ints, clamps))
+between little a t y h k e = grind (arith, ints, clamps)
 
 rising : (little : Bool) (a d t y z : ℤ) → a ≤ℤ d → IsPart little a t y → IsPart little d t z
     → (y ≤ℤ z) × ((a -ℤ y) ≤ℤ (d -ℤ z))
@@ -40,8 +38,7 @@ garment false a d t y z h k l e f = omega (arith, ints, clamps)
 -- a claim that is cut leaves nothing of what is at most the estate, before and after
 leaves : (amount top a c : ℤ) → amount ≤ℤ top → a ≤ℤ c → (a ≡ c) ⊎ (a ≡ top)
     → unclaimed amount a ≡ unclaimed amount c
-leaves amount top a c h le (inl whole) = ap (unclaimed amount) whole
-leaves amount top a c h le (inr cut) = omega (arith, ints, clamps)
+leaves amount top a c h le k = grind (arith, ints, clamps)
 
 -- ---- two shares are at most all
 
@@ -55,8 +52,7 @@ one_of (suc n) i f h lt = elim (less_or_last i n lt) [
       (omega (arith, linear, ih.0, last), omega (arith, linear, ih.1, last))
   | inr same ↦
       let rest = sum_below-nonnegative n f (λ k l. h k (omega arith)) in
-      let last = h n (omega arith) in
-      (omega (arith, linear, rest, last), omega (arith, linear, rest, ap f same))
+      (omega (arith, linear, rest, h n (omega arith)), omega (arith, linear, rest, ap f same))
 ]
 
 pub two_of : (n i j : ℕ) (f : ℕ → ℤ) → ((k : ℕ) → k < n → pos 0 ≤ℤ f k) → i < j → j < n
@@ -166,13 +162,7 @@ module _ (estate : ℕ) (claims : List ℕ) (x : Allocation) (h : IsTalmud estat
       let a = cut estate claims i in
       let d = cut estate claims j in
       let small = naturals c e a d le (cut-is estate claims i hi) (cut-is estate claims j hj) in
-      omega (
-        arith,
-        linear,
-        mul-leℤ x.den (pos c -ℤ pos a) (pos e -ℤ pos d) den_some small,
-        mul-subℤ x.den (pos c) (pos a),
-        mul-subℤ x.den (pos e) (pos d),
-      )
+      omega (products, mul-leℤ x.den (pos c -ℤ pos a) (pos e -ℤ pos d) den_some small)
     where
       naturals : (c e a d : ℕ) → c ≤ e → a ≡ min c estate → d ≡ min e estate → (pos c -ℤ pos a) ≤ℤ (pos e -ℤ pos d)
       naturals c e a d le f g = omega (arith, ints, f, g)
@@ -180,8 +170,7 @@ module _ (estate : ℕ) (claims : List ℕ) (x : Allocation) (h : IsTalmud estat
   pub more : (i j : ℕ) → i < length claims → j < length claims → get_or claims i 0 ≤ get_or claims j 0
       → (share x i ≤ℤ share x j) × ((claimed claims x i -ℤ share x i) ≤ℤ (claimed claims x j -ℤ share x j))
   more i j hi hj le =
-      let low =
-      mul-leℤ x.den (pos (cut estate claims i)) (pos (cut estate claims j)) den_some
+      let low = mul-leℤ x.den (pos (cut estate claims i)) (pos (cut estate claims j)) den_some
       (pos-le _ _ (rw (cut-is estate claims i hi, cut-is estate claims j hj) (omega (arith, le)))) in
       let both =
       rising (is_little estate claims) (cut_claimed estate claims x i) (cut_claimed estate claims x j) bound

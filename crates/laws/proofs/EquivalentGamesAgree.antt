@@ -1,49 +1,41 @@
 -- A game and the game of k times its worths agree, for shares times k, and so do games that are strategically
 -- equivalent.
-use Rattle.std.proofs.Common.{◌≡◌, ℕ, List, map, ℤ, pos, ◌-ℤ◌, ◌*ℤ◌, ◌≤ℤ◌, sym}
-use Rattle.std.proofs.Common.{ap, subst, ◌∙◌, arith}
+use Rattle.std.proofs.Common.{◌≡◌, ℕ, List, map, ℤ, pos, ◌-ℤ◌, ◌*ℤ◌, ◌≤ℤ◌, sym, ap, subst, ◌∙◌, arith}
 use Rattle.std.proofs.lemmas.Int.{by_lt_z}
 use Rattle.std.proofs.lemmas.List.{length-map}
 use Rattle.definitions.proofs.Measured.{weight, measured-weight}
-use Rattle.definitions.proofs.Ring.{linear, mul_left_commℤ, mul-subℤ, mul-leℤ, mul-ltℤ}
-use Rattle.definitions.proofs.Ring.{mul-le_cancelℤ, mul-cancelℤ, mul-positiveℤ, one-mulℤ, mul_assoc_commℤ}
+use Rattle.definitions.proofs.Ring.{linear, mul_left_commℤ, mul-leℤ, mul-ltℤ, mul-le_cancelℤ, mul-cancelℤ}
+use Rattle.definitions.proofs.Ring.{mul-positiveℤ, one-mulℤ, mul_assoc_commℤ}
 use Rattle.definitions.proofs.Alls.{map_same}
 use Rattle.theorems.proofs.Scaled.{above_zero, share_times, amount_times, same_from, part, part_same}
 use Rattle.theorems.proofs.ScaledLists.{order_kept, values_times}
 use Rattle.laws.proofs.ShiftsChangeNothing.{shifted_alike}
 use Rattle.definitions.specs.Coalitions.{singleton, grand_coalition, proper_coalitions}
 use Rattle.definitions.specs.Measures.{measured}
-use Rattle.definitions.specs.Games.{Game, Allocation, share, amount, excess, measured_excess}
-use Rattle.definitions.specs.Games.{excess_list, IsAllocation, IsEfficient, IsIndividuallyRational}
-use Rattle.definitions.specs.Games.{InFamily, Beats, IsNucleolus, Blocks, InCore}
+use Rattle.definitions.specs.Games.{Game, Allocation, share, amount, excess, measured_excess, excess_list, IsAllocation}
+use Rattle.definitions.specs.Games.{IsEfficient, IsIndividuallyRational, InFamily, Beats, IsNucleolus, Blocks, InCore}
 use Rattle.definitions.specs.Order.{sorted, ComesBefore}
 use Rattle.definitions.specs.Scales.{times}
 use Rattle.definitions.specs.declared.Family.{Family}
 use Rattle.definitions.specs.declared.Family.TheVariants.{Imputations, Preimputations}
 use Rattle.definitions.specs.declared.Measure.{Measure}
 use Rattle.laws.specs.StrategicEquivalence.{scaled_game, AreEquivalent}
+use Rattle.theorems.proofs.Products.{sorted_products}
 
 -- ---- excesses
 
 excess-scaled : (k : ℤ) (g : Game) (x : Allocation) (s : ℕ)
     → excess (scaled_game k g) (times k x) s ≡ k *ℤ excess g x s
-excess-scaled k g x s =
-    omega (
-      arith,
-      linear,
-      amount_times k x s,
-      mul_left_commℤ x.den k (g.worth s),
-      mul-subℤ k (x.den *ℤ g.worth s) (amount x s),
-    )
+excess-scaled k g x s = omega (sorted_products, amount_times k x s)
 
 measured-scaled : (k : ℤ) (measure : Measure) (g : Game) (x : Allocation) (s : ℕ)
     → measured_excess measure (scaled_game k g) (times k x) s ≡ k *ℤ measured_excess measure g x s
 measured-scaled k measure g x s =
     let w = weight measure s in
     measured-weight measure s (excess (scaled_game k g) (times k x) s)
-    ∙ ap (λ (z : ℤ). w *ℤ z) (excess-scaled k g x s)
+    ∙ ap (◌*ℤ◌ w) (excess-scaled k g x s)
     ∙ mul_left_commℤ w k (excess g x s)
-    ∙ sym (ap (λ (z : ℤ). k *ℤ z) (measured-weight measure s (excess g x s)))
+    ∙ sym (ap (◌*ℤ◌ k) (measured-weight measure s (excess g x s)))
 
 -- ---- families
 
@@ -53,7 +45,7 @@ allocation_to k g x h = (length-map x.shares (λ a. k *ℤ a) ∙ h.0, h.1)
 efficient_to : (k : ℤ) (g : Game) (x : Allocation) → IsEfficient g x → IsEfficient (scaled_game k g) (times k x)
 efficient_to k g x e =
     let all = grand_coalition g.players in
-    amount_times k x all ∙ ap (λ (z : ℤ). k *ℤ z) e ∙ mul_left_commℤ k x.den (g.worth all)
+    amount_times k x all ∙ ap (◌*ℤ◌ k) e ∙ mul_left_commℤ k x.den (g.worth all)
 
 efficient_from : (k : ℤ) (g : Game) (x : Allocation) → pos 1 ≤ℤ k → IsEfficient (scaled_game k g) (times k x)
     → IsEfficient g x
@@ -66,20 +58,14 @@ rational_to : (k : ℤ) (g : Game) (x : Allocation) → pos 1 ≤ℤ k → IsInd
     → IsIndividuallyRational (scaled_game k g) (times k x)
 rational_to k g x p r = λ i lt.
     let v = g.worth (singleton i) in
-    omega (
-      arith,
-      linear,
-      mul-leℤ k (x.den *ℤ v) (share x i) (omega (arith, linear, p)) (r i lt),
-      mul_left_commℤ x.den k v,
-      share_times k x i,
-    )
+    omega (sorted_products, mul-leℤ k (x.den *ℤ v) (share x i) (omega (arith, linear, p)) (r i lt), share_times k x i)
 
 rational_from : (k : ℤ) (g : Game) (x : Allocation) → pos 1 ≤ℤ k
     → IsIndividuallyRational (scaled_game k g) (times k x) → IsIndividuallyRational g x
 rational_from k g x p r = λ i lt.
     let v = g.worth (singleton i) in
     mul-le_cancelℤ k (x.den *ℤ v) (share x i) (above_zero k p)
-    (omega (arith, linear, r i lt, mul_left_commℤ x.den k v, share_times k x i))
+    (omega (sorted_products, r i lt, share_times k x i))
 
 family_to : (k : ℤ) (f : Family) (g : Game) (x : Allocation) → pos 1 ≤ℤ k → InFamily f g x
     → InFamily f (scaled_game k g) (times k x)
@@ -95,7 +81,7 @@ family_from k Preimputations g x p a h = (a, efficient_from k g x p h.1)
 
 -- an entry of a list of excesses, times k
 entry : (k c u v : ℤ) → v ≡ k *ℤ u → k *ℤ (c *ℤ u) ≡ pos 1 *ℤ (c *ℤ v)
-entry k c u v e = mul_left_commℤ k c u ∙ ap (λ (z : ℤ). c *ℤ z) (sym e) ∙ sym (one-mulℤ (c *ℤ v))
+entry k c u v e = mul_left_commℤ k c u ∙ ap (◌*ℤ◌ c) (sym e) ∙ sym (one-mulℤ (c *ℤ v))
 
 beats_from : (k : ℤ) (measure : Measure) (g : Game) (x y : Allocation) → pos 1 ≤ℤ k
     → Beats measure (scaled_game k g) (times k x) (times k y) → Beats measure g x y
@@ -105,8 +91,8 @@ beats_from k measure g x y p h =
     (excess_list measure g y x.den) (omega (arith, linear)) (above_zero k p) (alike x y.den) (alike y x.den) h
   where
     alike : (z : Allocation) (c : ℤ)
-        → map (λ u. pos 1 *ℤ u) (excess_list measure (scaled_game k g) (times k z) c)
-        ≡ map (λ u. k *ℤ u) (excess_list measure g z c)
+        → map (◌*ℤ◌ (pos 1)) (excess_list measure (scaled_game k g) (times k z) c)
+        ≡ map (◌*ℤ◌ k) (excess_list measure g z c)
     alike z c =
         values_times (pos 1) k (λ s. c *ℤ measured_excess measure (scaled_game k g) (times k z) s)
         (λ s. c *ℤ measured_excess measure g z s) (proper_coalitions g.players)
@@ -129,12 +115,7 @@ part_family k f g y p h = by_family f h
     efficient e = e ∙ sym (mul_assoc_commℤ k y.den (g.worth (grand_coalition g.players)))
 
     by_family : (f : Family) → InFamily f (scaled_game k g) y → InFamily f g (part k y)
-    by_family Imputations h = (
-      allocation h.0,
-      efficient h.1,
-      λ i lt. subst (λ (z : ℤ). z ≤ℤ share y i) (sym (mul_assoc_commℤ k y.den (g.worth (singleton i)))) (h.2 i lt),
-    )
-    by_family Preimputations h = (allocation h.0, efficient h.1)
+    by_family f h = grind (arith, allocation, efficient, mul_assoc_commℤ)
 
 part_beats : (k : ℤ) (measure : Measure) (g : Game) (x y : Allocation) → Beats measure g x (part k y)
     → Beats measure (scaled_game k g) (times k x) y
@@ -147,7 +128,7 @@ part_beats k measure g x y h =
         map_same (λ s. (k *ℤ y.den) *ℤ measured_excess measure g x s)
         (λ s. y.den *ℤ measured_excess measure (scaled_game k g) (times k x) s) (proper_coalitions g.players)
         (λ s. mul_assoc_commℤ k y.den (measured_excess measure g x s)
-        ∙ ap (λ (z : ℤ). y.den *ℤ z) (sym (measured-scaled k measure g x s)))
+        ∙ ap (◌*ℤ◌ y.den) (sym (measured-scaled k measure g x s)))
 
     second : excess_list measure g (part k y) x.den ≡ excess_list measure (scaled_game k g) y x.den
     second =
@@ -174,19 +155,16 @@ nucleolus_from k f measure g x p a n = (
 -- ---- the core
 
 core_to : (k : ℤ) (g : Game) (x : Allocation) → pos 1 ≤ℤ k → InCore g x → InCore (scaled_game k g) (times k x)
-core_to k g x p h =
-    (allocation_to k g x h.0, efficient_to k g x h.1, λ s lt blocks. h.2 s lt (less s blocks))
+core_to k g x p h = (allocation_to k g x h.0, efficient_to k g x h.1, λ s lt blocks. h.2 s lt (less s blocks))
   where
     less : (s : ℕ) → Blocks (scaled_game k g) (times k x) s → Blocks g x s
     less s blocks =
         by_lt_z (amount x s) (x.den *ℤ g.worth s) (λ lt. lt)
         (λ le. absurd
         (omega (
-          arith,
-          linear,
+          sorted_products,
           blocks,
           amount_times k x s,
-          mul_left_commℤ x.den k (g.worth s),
           mul-leℤ k (x.den *ℤ g.worth s) (amount x s) (omega (arith, linear, p)) le,
         )))
 
@@ -196,13 +174,8 @@ core_from k g x p a h = (a, efficient_from k g x p h.1, λ s lt blocks. h.2 s lt
   where
     more : (s : ℕ) → Blocks g x s → Blocks (scaled_game k g) (times k x) s
     more s blocks =
-        omega (
-          arith,
-          linear,
-          amount_times k x s,
-          mul_left_commℤ x.den k (g.worth s),
-          mul-ltℤ k (amount x s) (x.den *ℤ g.worth s) (above_zero k p) blocks,
-        )
+        omega
+        (sorted_products, amount_times k x s, mul-ltℤ k (amount x s) (x.den *ℤ g.worth s) (above_zero k p) blocks)
 
 -- ---- both changes
 

@@ -1,7 +1,6 @@
 -- The rule's shares are a core point, so every nucleolus of the game is one, and its prenucleolus. So it balances
 -- every two players, and has the rule's shares.
-use Rattle.std.proofs.Common.{◌≡◌, ℕ, ◌<◌, List, length, ℤ, ◌*ℤ◌}
-use Rattle.std.proofs.Common.{refl, sym, ap, ◌∙◌, inl, arith}
+use Rattle.std.proofs.Common.{◌≡◌, ℕ, ◌<◌, List, length, ℤ, ◌*ℤ◌, refl, sym, ap, ◌∙◌, inl, arith}
 use Rattle.definitions.proofs.Members.{sum_over-grand_coalition}
 use Rattle.definitions.proofs.Ring.{linear}
 use Rattle.definitions.specs.Coalitions.{grand_coalition}
@@ -27,7 +26,7 @@ rule_in_core estate claims x h = (
   amount-at estate claims x d (grand_coalition n)
       ∙ sum_over-grand_coalition n (share x)
       ∙ h.all
-      ∙ ap (λ (z : ℤ). x.den *ℤ z) (sym (worth-grand_coalition estate claims)),
+      ∙ ap (◌*ℤ◌ x.den) (sym (worth-grand_coalition estate claims)),
   λ s lt blocks. let low = excess-core estate claims x s d lt in omega (arith, linear, low, blocks),
 )
   where
@@ -51,7 +50,6 @@ pub every_nucleolus : (family : Family) (estate : ℕ) (claims : List ℕ) (x y 
 every_nucleolus family estate claims x y h k =
     let core =
     nucleolus_in_core family Plain (game_of estate claims) y x (inl refl) k (rule_in_core estate claims x h) in
-    let balance =
-    prenucleolus_in_prekernel (game_of estate claims) y
+    let balance = prenucleolus_in_prekernel (game_of estate claims) y
     (as_prenucleolus family estate claims x y (rule_in_core estate claims x h) k) in
     no_other estate claims x y h (consistent estate claims y core balance)

@@ -1,17 +1,14 @@
 -- A rule with the four properties gives the Shapley value (Shapley 1953): a game is a sum of games in which just
 -- one coalition counts, and such a game leaves it no choice.
-use Rattle.std.proofs.Common.{◌≡◌, ◌↔◌, ℕ, zero, suc, ◌+◌, ◌-◌, ◌^◌, ◌<◌, ◌≤◌}
-use Rattle.std.proofs.Common.{Bool, true, false, cond, ℤ, pos}
-use Rattle.std.proofs.Common.{◌+ℤ◌, ◌-ℤ◌, ◌*ℤ◌, ◌<ℤ◌, refl, sym, ap, subst, ◌∙◌}
-use Rattle.std.proofs.Common.{inl, inr, arith}
+use Rattle.std.proofs.Common.{◌≡◌, ◌↔◌, ℕ, zero, suc, ◌+◌, ◌-◌, ◌^◌, ◌<◌, ◌≤◌, Bool, true, false, cond, ℤ, pos, ◌+ℤ◌}
+use Rattle.std.proofs.Common.{◌-ℤ◌, ◌*ℤ◌, ◌<ℤ◌, refl, sym, ap, subst, ◌∙◌, inl, inr, arith}
 use lib.IntN.{*ℤ_comm}
 use Rattle.definitions.proofs.Cases.{same_or_other}
 use Rattle.definitions.proofs.Halves.{size_below}
 use Rattle.definitions.proofs.Masks.{grand_coalition-within}
 use Rattle.definitions.proofs.Members.{sum_below-same, sum_below-add, sum_below-times}
 use Rattle.definitions.proofs.Parts.{has_player-more_other, more-lt}
-use Rattle.definitions.proofs.Ring.{ring_laws, linear, mul-cancelℤ, mul-addℤ}
-use Rattle.definitions.proofs.Ring.{mul-zeroℤ, mul_left_commℤ, mul-positiveℤ}
+use Rattle.definitions.proofs.Ring.{ring_laws, linear, mul-cancelℤ, mul-addℤ, mul-zeroℤ, mul_left_commℤ, mul-positiveℤ}
 use Rattle.definitions.specs.Sums.{sum_below}
 use Rattle.definitions.specs.Coalitions.{has_player, grand_coalition}
 use Rattle.definitions.specs.Games.{Game, Allocation, share}
@@ -25,6 +22,7 @@ use Rattle.laws.proofs.SharesAddToAll.{amount-all, efficient, factorial-positive
 use Rattle.shapley.proofs.Orders.{orders_are_subsets}
 use Rattle.laws.proofs.LevelledSums.{IsLevelled, all_same}
 use Rattle.laws.proofs.UnanimityGames.{carried, misses-member, misses-outside, misses-less, below_next}
+use Rattle.theorems.proofs.Products.{products}
 
 -- the game of n players and these worths
 abbrev game : ℕ → (ℕ → ℤ) → Game
@@ -39,11 +37,9 @@ totals-sum n i u w v lt sum =
     let a = orders_are_subsets (game n u) i lt in
     let b = orders_are_subsets (game n w) i lt in
     let c = orders_are_subsets (game n v) i lt in
-    let same =
-    sum_below-same (2 ^ n) (subset_term v n i) (λ s. subset_term u n i s +ℤ subset_term w n i s)
+    let same = sum_below-same (2 ^ n) (subset_term v n i) (λ s. subset_term u n i s +ℤ subset_term w n i s)
     (λ s h. at s h (has_player s i) refl) in
-    let add = sum_below-add (2 ^ n) (subset_term u n i) (subset_term w n i) in
-    omega (arith, linear, a, b, c, same, add)
+    omega (arith, linear, a, b, c, same, sum_below-add (2 ^ n) (subset_term u n i) (subset_term w n i))
   where
     at : (s : ℕ) → s < 2 ^ n → (b : Bool) → has_player s i ≡ b
         → cond b (pos 0) (pos (orders_with n (size_below n s)) *ℤ (v (s + 2 ^ i) -ℤ v s))
@@ -52,11 +48,9 @@ totals-sum n i u w v lt sum =
     at s h true e = refl
     at s h false e =
         let k = pos (orders_with n (size_below n s)) in
-        let one = sum s h in
-        let two = sum (s + 2 ^ i) (more-lt n s i h lt e) in
         let split : v (s + 2 ^ i) -ℤ v s ≡ (u (s + 2 ^ i) -ℤ u s) +ℤ (w (s + 2 ^ i) -ℤ w s) =
-        omega (arith, linear, one, two) in
-        ap (λ z. k *ℤ z) split ∙ mul-addℤ k (u (s + 2 ^ i) -ℤ u s) (w (s + 2 ^ i) -ℤ w s)
+        omega (arith, linear, sum s h, sum (s + 2 ^ i) (more-lt n s i h lt e)) in
+        ap (◌*ℤ◌ k) split ∙ mul-addℤ k (u (s + 2 ^ i) -ℤ u s) (w (s + 2 ^ i) -ℤ w s)
 
 -- shares a and b over their denominators d and e, whose totals are t and r
 joined : (f g a b d e t r w : ℤ) → a *ℤ f ≡ d *ℤ t → b *ℤ f ≡ e *ℤ r → w ≡ t +ℤ r
@@ -79,7 +73,7 @@ sum_up : (f g a b c d e t r w : ℤ) → pos 0 <ℤ d → pos 0 <ℤ e → a *�
     → c *ℤ (d *ℤ e) ≡ g *ℤ (a *ℤ e +ℤ b *ℤ d) → c *ℤ f ≡ g *ℤ w
 sum_up f g a b c d e t r w hd he h k same sum =
     mul-cancelℤ (d *ℤ e) (c *ℤ f) (g *ℤ w) (mul-positiveℤ d e hd he)
-    (first ∙ ap (λ (z : ℤ). f *ℤ z) sum ∙ joined f g a b d e t r w h k same ∙ *ℤ_comm (g *ℤ w) (d *ℤ e))
+    (first ∙ ap (◌*ℤ◌ f) sum ∙ joined f g a b d e t r w h k same ∙ *ℤ_comm (g *ℤ w) (d *ℤ e))
   where
     first : (d *ℤ e) *ℤ (c *ℤ f) ≡ f *ℤ (c *ℤ (d *ℤ e))
     first = simp ring_laws
@@ -102,8 +96,7 @@ module _ (n : ℕ) (rule : Game → Allocation) (fair : IsFairRule n rule) where
 
   -- the rule gives these worths the Shapley value
   abbrev Gives : (ℕ → ℤ) → Type 0
-  Gives v =
-      (i : ℕ) → i < n → share (rule (game n v)) i *ℤ f ≡ (rule (game n v)).den *ℤ total_over v i (orders n)
+  Gives v = (i : ℕ) → i < n → share (rule (game n v)) i *ℤ f ≡ (rule (game n v)).den *ℤ total_over v i (orders n)
 
   gives-nothing : (v : ℕ → ℤ) → v 0 ≡ pos 0 → ((s : ℕ) → s < 2 ^ n → v s ≡ pos 0) → Gives v
   gives-nothing v nobody none i lt =
@@ -113,7 +106,7 @@ module _ (n : ℕ) (rule : Game → Allocation) (fair : IsFairRule n rule) where
       ∙ *ℤ_comm (pos 0) f
       ∙ mul-zeroℤ f
       ∙ sym (mul-zeroℤ x.den)
-      ∙ ap (λ (z : ℤ). x.den *ℤ z) (sym (null-total (game n v) i lt adds))
+      ∙ ap (◌*ℤ◌ x.den) (sym (null-total (game n v) i lt adds))
 
   carried-alike : (k : ℕ) (c : ℤ) (i j : ℕ) → i < n → j < n → has_player k i ≡ true → has_player k j ≡ true
       → AreInterchangeable (game n (carried n k c)) i j
@@ -153,28 +146,23 @@ module _ (n : ℕ) (rule : Game → Allocation) (fair : IsFairRule n rule) where
       outside : (j : ℕ) → j < n → has_player k j ≡ false → a j ≡ b j
       outside j h out =
           let adds = carried-nothing k c j out in
-          ap (λ (z : ℤ). f *ℤ z) (fair.nothing g j ok h adds)
-          ∙ mul-zeroℤ f
-          ∙ sym (mul-zeroℤ x.den)
-          ∙ ap (λ (z : ℤ). x.den *ℤ z) (sym (null-total g j h adds))
+          omega (products, ap (◌*ℤ◌ f) (fair.nothing g j ok h adds), ap (◌*ℤ◌ x.den) (sym (null-total g j h adds)))
 
       left : IsLevelled n (has_player k) a
-      left j l hj hl kj kl =
-          ap (λ (z : ℤ). f *ℤ z) (fair.alike g j l ok hj hl (carried-alike k c j l hj hl kj kl))
+      left j l hj hl kj kl = ap (◌*ℤ◌ f) (fair.alike g j l ok hj hl (carried-alike k c j l hj hl kj kl))
 
       right : IsLevelled n (has_player k) b
-      right j l hj hl kj kl =
-          ap (λ (z : ℤ). x.den *ℤ z) (totals-alike g j l hj hl (carried-alike k c j l hj hl kj kl))
+      right j l hj hl kj kl = ap (◌*ℤ◌ x.den) (totals-alike g j l hj hl (carried-alike k c j l hj hl kj kl))
 
       sums : sum_below n a ≡ sum_below n b
       sums =
           let w = carried n k c (grand_coalition n) in
-          let nobody : w -ℤ carried n k c 0 ≡ w = (let e = ok.1 in omega (arith, linear, e)) in
+          let nobody : w -ℤ carried n k c 0 ≡ w = omega (arith, linear, ok.1) in
           sum_below-times n (share x) f
-          ∙ ap (λ (z : ℤ). f *ℤ z) (sym (amount-all g x (fair.shares g ok).0) ∙ fair.efficient g ok)
+          ∙ ap (◌*ℤ◌ f) (sym (amount-all g x (fair.shares g ok).0) ∙ fair.efficient g ok)
           ∙ mul_left_commℤ f x.den w
           ∙ ap (λ (z : ℤ). x.den *ℤ (f *ℤ z)) (sym nobody)
-          ∙ ap (λ (z : ℤ). x.den *ℤ z) (sym (sum-totals g))
+          ∙ ap (◌*ℤ◌ x.den) (sym (sum-totals g))
           ∙ sym (sum_below-times n (shapley_total g) x.den)
 
   positive : (g : Game) → IsGameOf n g → pos 0 <ℤ (rule g).den
@@ -216,8 +204,7 @@ module _ (n : ℕ) (rule : Game → Allocation) (fair : IsFairRule n rule) where
 -- ---- both ways
 
 only : (n : ℕ) (rule : Game → Allocation) → IsFairRule n rule → (g : Game) → IsGameOf n g → IsShapley g (rule g)
-only n rule fair g ok =
-    gives g.players rule (subst (λ (m : ℕ). IsFairRule m rule) (sym ok.0) fair) g.worth ok.1
+only n rule fair g ok = gives g.players rule (subst (λ (m : ℕ). IsFairRule m rule) (sym ok.0) fair) g.worth ok.1
 
 shapley_is_fair : (n : ℕ) (rule : Game → Allocation) → ((g : Game) → IsGameOf n g → IsShapley g (rule g))
     → IsFairRule n rule

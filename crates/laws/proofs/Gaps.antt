@@ -1,10 +1,10 @@
 -- By how much two allocations differ, over the product of their denominators.
-use Rattle.std.proofs.Common.{◌≡◌, ℕ, ℤ, ◌+ℤ◌, ◌-ℤ◌, ◌*ℤ◌, ◌∙◌, arith}
+use Rattle.std.proofs.Common.{◌≡◌, ℕ, ℤ, ◌+ℤ◌, ◌-ℤ◌, ◌*ℤ◌, ◌∙◌}
 use Rattle.definitions.proofs.Members.{sum_over-combined}
-use Rattle.definitions.proofs.Ring.{linear, mul-subℤ, mul_left_commℤ}
 use Rattle.definitions.proofs.SumsOver.{amount-at}
 use Rattle.definitions.specs.Coalitions.{sum_over}
 use Rattle.definitions.specs.Games.{Game, Allocation, share, amount, excess, IsAllocation}
+use Rattle.theorems.proofs.Products.{sorted_products}
 
 -- what player i gets more in x than in y
 abbrev pub gap : Allocation → Allocation → ℕ → ℤ
@@ -19,12 +19,4 @@ gap-amount g x y s hx hy =
 -- the scaled excesses differ by the gap
 pub excess-gap : (g : Game) (x y : Allocation) (s : ℕ) → IsAllocation g x → IsAllocation g y
     → x.den *ℤ excess g y s ≡ y.den *ℤ excess g x s +ℤ sum_over g.players (gap x y) s
-excess-gap g x y s hx hy =
-    omega (
-      arith,
-      linear,
-      gap-amount g x y s hx hy,
-      mul-subℤ x.den (y.den *ℤ g.worth s) (amount y s),
-      mul-subℤ y.den (x.den *ℤ g.worth s) (amount x s),
-      mul_left_commℤ x.den y.den (g.worth s),
-    )
+excess-gap g x y s hx hy = omega (sorted_products, gap-amount g x y s hx hy)

@@ -1,9 +1,7 @@
 -- What is gathered from finitely many numbers, where their order doesn't matter: a bijection of their places changes
 -- nothing. Sums are so, and so are lists from the greatest.
-use Rattle.std.proofs.Common.{◌≡◌, ◌≢◌, ℕ, zero, suc, ◌+◌, ◌<◌, Bool, true, false}
-use Rattle.std.proofs.Common.{cond, nat_eq, List, [], ◌∷◌, map}
-use Rattle.std.proofs.Common.{ℤ, pos, ◌+ℤ◌, ◌<ℤ◌, int_lt, refl, sym, ap, subst, ◌∙◌}
-use Rattle.std.proofs.Common.{inl, inr, arith, if◌then◌else◌}
+use Rattle.std.proofs.Common.{◌≡◌, ◌≢◌, ℕ, zero, suc, ◌+◌, ◌<◌, Bool, cond, nat_eq, List, [], ◌∷◌, map, ℤ, pos, ◌+ℤ◌}
+use Rattle.std.proofs.Common.{◌<ℤ◌, int_lt, refl, sym, ap, subst, ◌∙◌, inl, inr, arith, if◌then◌else◌}
 use Rattle.std.specs.List.{range_with_len}
 use Rattle.std.proofs.lemmas.Int.{by_lt_z, ints}
 use Rattle.definitions.proofs.Ring.{linear}
@@ -137,10 +135,8 @@ module _ {B : Type 0} (op : ℤ → B → B) (none : B) (commutes : (a b : ℤ) 
           ∙ ap (op (f k)) (exchange f m k u v less) ∙ commutes (f k) v (gathered (put f m u) k)
           ∙ ap (λ z. op v (op z (gathered (put f m u) k))) (sym at_u))
       | inr same ↦
-          (let rest_v =
-          gathered_same (put f m v) f k (λ t h. put_other f m t v (λ e. omega (arith, h, e, same))) in
-          let rest_u =
-          gathered_same (put f m u) f k (λ t h. put_other f m t u (λ e. omega (arith, h, e, same))) in
+          (let rest_v = gathered_same (put f m v) f k (λ t h. put_other f m t v (λ e. omega (arith, h, e, same))) in
+          let rest_u = gathered_same (put f m u) f k (λ t h. put_other f m t u (λ e. omega (arith, h, e, same))) in
           ap (λ z. op u (op z (gathered (put f m v) k))) (put_here f m k v (sym same))
           ∙ ap (λ z. op u (op v z)) rest_v ∙ commutes u v (gathered f k) ∙ ap (λ z. op v (op u z)) (sym rest_u)
           ∙ ap (λ z. op v (op z (gathered (put f m u) k))) (sym (put_here f m k u (sym same))))
@@ -216,10 +212,7 @@ less_commutes a b lt (x ∷ l) = both (int_lt x a) (int_lt x b) refl refl (less_
         → with_number a (with_number b l) ≡ with_number b (with_number a l)
         → with_number a (cond q (b ∷ (x ∷ l)) (x ∷ with_number b l))
         ≡ with_number b (cond p (a ∷ (x ∷ l)) (x ∷ with_number a l))
-    both true true e f ih = rw (int_lt-true a b lt) (rw (int_lt-false b a (omega (arith, linear, lt))) (rw e refl))
-    both true false e f ih = absurd (omega (arith, linear, ints, e, f, lt))
-    both false true e f ih = rw f (rw (int_lt-false b a (omega (arith, linear, lt))) (rw e refl))
-    both false false e f ih = rw e (rw f (ap (λ (z : List ℤ). x ∷ z) ih))
+    both p q e f ih = grind (arith, ints, int_lt-false, int_lt-true)
 
 pub with_number-commutes : (a b : ℤ) (l : List ℤ)
     → with_number a (with_number b l) ≡ with_number b (with_number a l)

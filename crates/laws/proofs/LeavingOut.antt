@@ -1,10 +1,7 @@
 -- The empty coalition and that of all have the same excess at two efficient allocations, and one number more in both of
 -- two lists changes no order: so leaving the two out changes no comparison.
-use Rattle.std.proofs.Common.{◌≡◌, ◌↔◌, ◌⊎◌, ℕ, zero, suc, ◌+◌, ◌-◌, ◌^◌, ◌≤◌}
-use Rattle.std.proofs.Common.{Bool, true, false}
-use Rattle.std.proofs.Common.{cond, List, [], ◌∷◌, length, map, ℤ, pos, ◌*ℤ◌, ◌≤ℤ◌}
-use Rattle.std.proofs.Common.{◌<ℤ◌}
-use Rattle.std.proofs.Common.{int_lt, refl, sym, ap, subst, ◌∙◌, inl, inr, arith}
+use Rattle.std.proofs.Common.{◌≡◌, ◌↔◌, ◌⊎◌, ℕ, zero, suc, ◌+◌, ◌-◌, ◌^◌, ◌≤◌, Bool, true, false, cond, List, [], ◌∷◌}
+use Rattle.std.proofs.Common.{length, map, ℤ, pos, ◌*ℤ◌, ◌≤ℤ◌, ◌<ℤ◌, int_lt, refl, sym, ap, subst, ◌∙◌, inl, inr, arith}
 use Rattle.std.proofs.lemmas.Int.{ints, by_lt_z}
 use Rattle.std.specs.List.{range_with_len}
 use Rattle.definitions.proofs.Families.{allocation_of, efficient_of}
@@ -13,12 +10,12 @@ use Rattle.definitions.proofs.Measured.{weight, measured-weight, measured-zero}
 use Rattle.definitions.proofs.Ring.{linear, mul-zeroℤ, mul_left_commℤ}
 use Rattle.definitions.proofs.SumsOver.{amount-empty}
 use Rattle.laws.proofs.NucleolusIsInCore.{excess_grand}
-use Rattle.laws.proofs.SortedLists.{one_if, Falls-with_number, times_in-with_number}
-use Rattle.laws.proofs.SortedLists.{length-with_number, Falls-sorted, times_in-sorted, falling_same}
+use Rattle.laws.proofs.SortedLists.{one_if, Falls-with_number, times_in-with_number, length-with_number, Falls-sorted}
+use Rattle.laws.proofs.SortedLists.{times_in-sorted, falling_same}
 use Rattle.theorems.proofs.OneWay.{IsLesser-asymmetric}
 use Rattle.definitions.specs.Coalitions.{grand_coalition}
-use Rattle.definitions.specs.Games.{Game, Allocation, excess, measured_excess, IsAllocation}
-use Rattle.definitions.specs.Games.{IsEfficient, InFamily, Beats, IsNucleolus}
+use Rattle.definitions.specs.Games.{Game, Allocation, excess, measured_excess, IsAllocation, IsEfficient, InFamily}
+use Rattle.definitions.specs.Games.{Beats, IsNucleolus}
 use Rattle.definitions.specs.Order.{with_number, sorted, IsLesser, ComesBefore}
 use Rattle.definitions.specs.declared.Family.{Family}
 use Rattle.definitions.specs.declared.Measure.{Measure}
@@ -32,8 +29,7 @@ under_with a x u [] lt = inl lt
 under_with a x u (w ∷ v) lt = lesser_either (int_lt w a) refl
   where
     lesser_either : (b : Bool) → int_lt w a ≡ b → IsLesser (x ∷ u) (cond b (a ∷ (w ∷ v)) (w ∷ with_number a v))
-    lesser_either true e = inl lt
-    lesser_either false e = inl (omega (arith, ints, lt, e))
+    lesser_either b e = grind (arith, ints)
 
 lesser_with : (a : ℤ) (u v : List ℤ) → IsLesser u v → IsLesser (with_number a u) (with_number a v)
 lesser_with a [] v h = absurd h
@@ -52,7 +48,7 @@ lesser_with a (x ∷ u) (y ∷ v) h = lesser_by_tests (lesser_with a u v) (int_l
       | inr same ↦ inr (same, under_with a x u v (omega (arith, ints, e)))
     ]
     lesser_by_tests ih false true e f (inl lt) = absurd (omega (arith, ints, e, f, lt))
-    lesser_by_tests ih false true e f (inr k) = absurd (let same = k.0 in omega (arith, ints, e, f, same))
+    lesser_by_tests ih false true e f (inr k) = absurd (omega (arith, ints, e, f, k.0))
     lesser_by_tests ih false false e f (inl lt) = inl lt
     lesser_by_tests ih false false e f (inr k) = inr (k.0, ih k.1)
 
@@ -78,7 +74,7 @@ pub before_with : (a : ℤ) (u v : List ℤ) → ComesBefore u v ↔ ComesBefore
 before_with a u v = (
   λ h. (length-with_number a u ∙ ap suc h.0 ∙ sym (length-with_number a v), lesser_with a u v h.1),
   λ h. let long : length u ≡ length v =
-      (let p = length-with_number a u in let q = length-with_number a v in let e = h.0 in omega (arith, p, q, e)) in
+      (let p = length-with_number a u in let q = length-with_number a v in omega (arith, p, q, h.0)) in
       (long, back (lesser_or u v long) h.1),
 )
   where
@@ -97,12 +93,10 @@ times_in-last : (z : ℤ) (f : ℕ → ℤ) (a k : ℕ)
     → times_in z (map f (range_with_len a (suc k))) ≡ times_in z (map f (range_with_len a k)) + one_if z (f (a + k))
 times_in-last z f a zero =
     let here : a + 0 ≡ a = omega arith in
-    let e = ap (λ (s : ℕ). one_if z (f s)) here in
-    omega (arith, e)
+    omega (arith, ap (λ (s : ℕ). one_if z (f s)) here)
 times_in-last z f a (suc k) =
     let there : (a + 1) + k ≡ a + suc k = omega arith in
-    let e = ap (λ (s : ℕ). one_if z (f s)) there in
-    omega (arith, e, times_in-last z f (a + 1) k)
+    omega (arith, ap (λ (s : ℕ). one_if z (f s)) there, times_in-last z f (a + 1) k)
 
 -- of at least two masks
 sorted_all : (f : ℕ → ℤ) (m : ℕ)
@@ -123,12 +117,11 @@ sorted_all f m =
         → times_in z (sorted whole) ≡ times_in z (with_number (f 0) (with_number (f (suc m)) (sorted proper)))
     each z =
         let last : 1 + m ≡ suc m = omega arith in
-        let at = ap (λ (s : ℕ). one_if z (f s)) last in
         omega (
           arith,
           times_in-sorted z whole,
           times_in-last z f 1 m,
-          at,
+          ap (λ (s : ℕ). one_if z (f s)) last,
           times_in-with_number z (f 0) (with_number (f (suc m)) (sorted proper)),
           times_in-with_number z (f (suc m)) (sorted proper),
           times_in-sorted z proper,
@@ -197,26 +190,25 @@ empty_same measure g x y =
     let v = g.worth 0 in
     let ex : excess g x 0 ≡ x.den *ℤ v = omega (arith, linear, amount-empty x) in
     let ey : excess g y 0 ≡ y.den *ℤ v = omega (arith, linear, amount-empty y) in
-    ap (λ (z : ℤ). y.den *ℤ z)
-    (measured-weight measure 0 (excess g x 0) ∙ ap (λ (z : ℤ). w *ℤ z) ex ∙ mul_left_commℤ w x.den v)
+    ap (◌*ℤ◌ y.den)
+    (measured-weight measure 0 (excess g x 0) ∙ ap (◌*ℤ◌ w) ex ∙ mul_left_commℤ w x.den v)
     ∙ mul_left_commℤ y.den x.den (w *ℤ v)
     ∙ sym
-    (ap (λ (z : ℤ). x.den *ℤ z)
-    (measured-weight measure 0 (excess g y 0) ∙ ap (λ (z : ℤ). w *ℤ z) ey ∙ mul_left_commℤ w y.den v))
+    (ap (◌*ℤ◌ x.den)
+    (measured-weight measure 0 (excess g y 0) ∙ ap (◌*ℤ◌ w) ey ∙ mul_left_commℤ w y.den v))
 
 grand_zero : (measure : Measure) (g : Game) (x : Allocation) (c : ℤ) → IsEfficient g x
     → c *ℤ measured_excess measure g x (grand_coalition g.players) ≡ pos 0
 grand_zero measure g x c e =
-    ap (λ (z : ℤ). c *ℤ z)
+    ap (◌*ℤ◌ c)
     (measured-zero measure (grand_coalition g.players) (excess g x (grand_coalition g.players))
     (excess_grand g x e)) ∙ mul-zeroℤ c
 
 pub leaving_out : (measure : Measure) (g : Game) (x y : Allocation) → IsAllocation g x → IsAllocation g y
     → IsEfficient g x → IsEfficient g y → Beats measure g x y ↔ BeatsAmongAll measure g x y
 leaving_out measure g x y hx hy ex ey =
-    let within = grand_coalition-within g.players in
     before_all (λ s. y.den *ℤ measured_excess measure g x s) (λ s. x.den *ℤ measured_excess measure g y s)
-    (2 ^ g.players) (omega (arith, within)) (empty_same measure g x y)
+    (2 ^ g.players) (omega (arith, grand_coalition-within g.players)) (empty_same measure g x y)
     (grand_zero measure g x y.den ex ∙ sym (grand_zero measure g y x.den ey))
 
 pub nucleolus_among_all : (family : Family) (measure : Measure) (g : Game) (x : Allocation)

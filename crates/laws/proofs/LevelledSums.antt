@@ -1,7 +1,6 @@
 -- Sums that compare term by term; and numbers that are the same for all who pass a test, and known for the others:
 -- their sum settles them.
-use Rattle.std.proofs.Common.{◌≡◌, ℕ, zero, suc, ◌<◌, Bool, true, false, ℤ, ◌<ℤ◌, ◌≤ℤ◌, sym, ap, inl, inr}
-use Rattle.std.proofs.Common.{arith}
+use Rattle.std.proofs.Common.{◌≡◌, ℕ, zero, suc, ◌<◌, Bool, true, false, ℤ, ◌<ℤ◌, ◌≤ℤ◌, sym, ap, inl, inr, arith}
 use Rattle.std.proofs.lemmas.Int.{by_lt_z}
 use Rattle.definitions.proofs.Cases.{less_or_last, true_or_false}
 use Rattle.definitions.proofs.Parts.{sum_below-le}

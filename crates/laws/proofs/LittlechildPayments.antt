@@ -1,14 +1,12 @@
 -- What Littlechild's payments promise: they rise with the costs, and equal costs pay the same.
-use Rattle.std.proofs.Common.{◌≡◌, ℕ, zero, suc, ◌+◌, ◌-◌, ◌^◌, ◌<◌, ◌≤◌, true}
-use Rattle.std.proofs.Common.{List, length, get_or}
-use Rattle.std.proofs.Common.{ℤ, pos, ◌*ℤ◌, ◌≤ℤ◌, neg_ℤ, sym, ap, ◌∙◌, inl, inr}
-use Rattle.std.proofs.Common.{arith}
+use Rattle.std.proofs.Common.{◌≡◌, ℕ, zero, suc, ◌+◌, ◌-◌, ◌^◌, ◌<◌, ◌≤◌, true, List, length, get_or, ℤ, pos, ◌*ℤ◌}
+use Rattle.std.proofs.Common.{◌≤ℤ◌, neg_ℤ, sym, ap, ◌∙◌, inl, inr, arith}
 use Rattle.std.proofs.lemmas.Bool.{false≢true}
 use Rattle.std.proofs.lemmas.Int.{by_lt_z}
 use Rattle.definitions.proofs.Cases.{less_same_or_greater, same_or_other, next_or_last}
 use Rattle.definitions.proofs.Masks.{singleton-within}
 use Rattle.definitions.proofs.Members.{has_player-singleton_other, sum_over-grand_coalition, sum_over-singleton}
-use Rattle.definitions.proofs.Ring.{linear, mul-leℤ, mul-negℤ, mul-zeroℤ}
+use Rattle.definitions.proofs.Ring.{linear, mul-leℤ}
 use Rattle.definitions.specs.Sums.{sum_below}
 use Rattle.definitions.specs.Coalitions.{has_player, singleton, grand_coalition, sum_over}
 use Rattle.definitions.specs.Classes.{greatest_cost}
@@ -20,6 +18,7 @@ use Rattle.airport_scheme.specs.Scheme.{IsScheme, IsPaid}
 use Rattle.laws.specs.Airports.{pays}
 use Rattle.airport_scheme.proofs.Chains.{InCore-scheme}
 use Rattle.laws.proofs.Numbers.{none_or_some}
+use Rattle.theorems.proofs.Products.{products}
 
 -- ---- by place
 
@@ -38,8 +37,7 @@ module _ (n : ℕ) (c : ℕ → ℕ) (pay : ℕ → ℤ) (den : ℤ) (h : IsSche
             let under = h.under (suc m) next in absurd (omega (arith, linear, tight, least, costs, under, more))
         | inr end ↦
             let all = h.all (suc m) end in
-            let whole = ap (λ (k : ℕ). sum_below k pay) end in
-            absurd (omega (arith, linear, tight, least, costs, all, whole, more))
+            absurd (omega (arith, linear, tight, least, costs, all, ap (λ (k : ℕ). sum_below k pay) end, more))
       ])
       (λ le. le)
 
@@ -53,13 +51,8 @@ module _ (n : ℕ) (c : ℕ → ℕ) (pay : ℕ → ℤ) (den : ℤ) (h : IsSche
       let up = rising (l + d) (l + suc d) (omega arith) lt in
       let low = from l d (omega arith) in
       let one : c (l + d) ≡ c (suc (l + d)) = (let e = ap c next in omega (arith, up, low, same, e)) in
-      omega (
-        arith,
-        linear,
-        flat l d (omega arith) (omega (arith, up, low, same)),
-        one_on (l + d) (omega arith) one,
-        ap pay next,
-      )
+      omega
+      (products, flat l d (omega arith) (omega (arith, up, low, same)), one_on (l + d) (omega arith) one, ap pay next)
     where
       from : (l d : ℕ) → l + d < n → c l ≤ c (l + d)
       from l zero lt = let here : l + 0 ≡ l = omega arith in rw here (omega arith)
@@ -71,8 +64,7 @@ module _ (n : ℕ) (c : ℕ → ℕ) (pay : ℕ → ℤ) (den : ℤ) (h : IsSche
     | inr (inl same) ↦ omega (arith, linear, ap pay same)
     | inr (inr gt) ↦
         let there : l + (k - l) ≡ k = omega arith in
-        let up = rising l k gt hk in
-        let same : c l ≡ c (l + (k - l)) = (let e = ap c there in omega (arith, le, up, e)) in
+        let same : c l ≡ c (l + (k - l)) = (omega (arith, le, rising l k gt hk, ap c there)) in
         omega (arith, linear, flat l (k - l) (omega arith) same, ap pay there)
   ]
 
@@ -89,8 +81,7 @@ module _ (costs : List ℕ) (at : ℕ → ℕ) (pay : ℕ → ℤ) (x : Allocati
       let b = order-place (length costs) (λ k. get_or costs k 0) at p.order j hj in
       let costs_at = λ (k : ℕ). get_or costs (at k) 0 in
       let low : get_or costs (at a.0) 0 ≤ get_or costs (at b.0) 0 = rw (a.2, b.2) le in
-      let e =
-      by_cost (length costs) (λ k. get_or costs (at k) 0) pay x.den p.scheme p.order.rising a.0 b.0 a.1 b.1
+      let e = by_cost (length costs) (λ k. get_or costs (at k) 0) pay x.den p.scheme p.order.rising a.0 b.0 a.1 b.1
       low in
       omega (arith, linear, e, pays-at a.0 a.1, pays-at b.0 b.1, ap (pays x) a.2, ap (pays x) b.2)
 
@@ -102,7 +93,7 @@ module _ (costs : List ℕ) (at : ℕ → ℕ) (pay : ℕ → ℤ) (x : Allocati
       let g = greatest_cost (length costs) (λ k. get_or costs k 0) s in
       by_lt_z (amount x s) (x.den *ℤ neg_ℤ (pos g))
       (λ blocks. absurd (core.2 s lt blocks))
-      (λ le. omega (arith, linear, le, sum_over-paid (length costs) x s p.players, mul-negℤ x.den (pos g)))
+      (λ le. omega (products, le, sum_over-paid (length costs) x s p.players))
 
   pub group : (s : ℕ) → s < 2 ^ length costs
       → sum_over (length costs) (pays x) s
@@ -110,8 +101,7 @@ module _ (costs : List ℕ) (at : ℕ → ℕ) (pay : ℕ → ℤ) (x : Allocati
   group s lt = elim (none_or_some (length costs)) [
     | inl none ↦
         let left = ap (λ (n : ℕ). sum_over n (pays x) s) none in
-        let right = ap (λ (n : ℕ). x.den *ℤ pos (greatest_cost n (λ k. get_or costs k 0) s)) none in
-        omega (arith, linear, left, right, mul-zeroℤ x.den)
+        omega (products, left, ap (λ (n : ℕ). x.den *ℤ pos (greatest_cost n (λ k. get_or costs k 0) s)) none)
     | inr some ↦ some_group s some lt
   ]
 
@@ -122,14 +112,11 @@ module _ (costs : List ℕ) (at : ℕ → ℕ) (pay : ℕ → ℤ) (x : Allocati
       let core = InCore-scheme costs at pay x some p in
       let all = grand_coalition (length costs) in
       let g = greatest_cost (length costs) (λ k. get_or costs k 0) all in
-      let efficient = core.1 in
       omega (
-        arith,
-        linear,
+        products,
         sum_over-grand_coalition (length costs) (pays x),
         sum_over-paid (length costs) x all p.players,
-        efficient,
-        mul-negℤ x.den (pos g),
+        core.1,
       )
 
   pub all_pay : sum_below (length costs) (pays x)
@@ -138,8 +125,7 @@ module _ (costs : List ℕ) (at : ℕ → ℕ) (pay : ℕ → ℤ) (x : Allocati
     | inl none ↦
         let all = grand_coalition (length costs) in
         let left = ap (λ (n : ℕ). sum_below n (pays x)) none in
-        let right = ap (λ (n : ℕ). x.den *ℤ pos (greatest_cost n (λ k. get_or costs k 0) all)) none in
-        omega (arith, linear, left, right, mul-zeroℤ x.den)
+        omega (products, left, ap (λ (n : ℕ). x.den *ℤ pos (greatest_cost n (λ k. get_or costs k 0) all)) none)
     | inr some ↦ some_all_pay some
   ]
 
@@ -150,16 +136,14 @@ module _ (costs : List ℕ) (at : ℕ → ℕ) (pay : ℕ → ℤ) (x : Allocati
       let least = p.scheme.least a.0 a.1 in
       let alone = group (singleton i) (singleton-within (length costs) i lt) in
       let one = sum_over-singleton (length costs) i (pays x) lt in
-      let cost =
-      greatest_cost-at_most (length costs) (λ k. get_or costs k 0) (singleton i) (get_or costs i 0)
+      let cost = greatest_cost-at_most (length costs) (λ k. get_or costs k 0) (singleton i) (get_or costs i 0)
       (λ k h has. only k has) in
-      let scaled =
-      mul-leℤ x.den (pos (greatest_cost (length costs) (λ k. get_or costs k 0) (singleton i)))
+      let scaled = mul-leℤ x.den (pos (greatest_cost (length costs) (λ k. get_or costs k 0) (singleton i)))
       (pos (get_or costs i 0)) positive (omega (arith, linear, cost)) in
       (omega (arith, linear, least, pays-at a.0 a.1, ap (pays x) a.2), omega (arith, linear, alone, one, scaled))
     where
       positive : pos 0 ≤ℤ x.den
-      positive = let e = p.scheme.positive in omega (arith, linear, e)
+      positive = omega (arith, linear, p.scheme.positive)
 
       only : (k : ℕ) → has_player (singleton i) k ≡ true → get_or costs k 0 ≤ get_or costs i 0
       only k has = elim (same_or_other k i) [

@@ -1,10 +1,7 @@
 -- Of what two get together, the garment gives neither less when it is more. So where two divisions of one estate
 -- differ, some two claimants get in one of them no less together, of whom one gets less (Aumann and Maschler 1985).
-use Rattle.std.proofs.Common.{◌≡◌, ◌≢◌, ℕ, zero, suc, ◌<◌, ◌≤◌, List, length, get_or}
-use Rattle.std.proofs.Common.{ℤ, pos, ◌+ℤ◌}
-use Rattle.std.proofs.Common.{◌-ℤ◌, ◌*ℤ◌, ◌<ℤ◌, ◌≤ℤ◌, sym, ap, subst, ◌∙◌, inl, inr}
-use Rattle.std.proofs.Common.{arith}
-use lib.IntN.{*ℤ_comm}
+use Rattle.std.proofs.Common.{◌≡◌, ◌≢◌, ℕ, zero, suc, ◌<◌, ◌≤◌, List, length, get_or, ℤ, pos, ◌+ℤ◌, ◌-ℤ◌, ◌*ℤ◌, ◌<ℤ◌}
+use Rattle.std.proofs.Common.{◌≤ℤ◌, sym, ap, subst, ◌∙◌, inl, inr, arith}
 use Rattle.std.specs.Int.{int_max}
 use Rattle.std.proofs.lemmas.Int.{ints, clamps, by_lt_z}
 use Rattle.definitions.proofs.Cases.{int_max-cases}
@@ -17,6 +14,7 @@ use Rattle.talmud.specs.Rule.{IsTalmud}
 use Rattle.laws.proofs.SomeGreater.{some_greater}
 use Rattle.laws.specs.TalmudRule.{unclaimed, IsGarment, claimed, IsConsistent}
 use Rattle.laws.proofs.EachTwoAreAGarment.{one_of, two_are_a_garment}
+use Rattle.theorems.proofs.Products.{products, sorted_products}
 
 -- ---- the garment
 
@@ -28,12 +26,12 @@ unclaimed-scaled : (k s d : ℤ) → pos 0 <ℤ k → unclaimed (k *ℤ s) (k *�
 unclaimed-scaled k s d some = elim (int_max-cases (s -ℤ d) (pos 0)) [
   | inl above ↦
       let le = mul-leℤ k (pos 0) (s -ℤ d) (omega (arith, linear, some)) above.1 in
-      max_at_least_zero (k *ℤ s -ℤ k *ℤ d) (omega (arith, linear, le, mul-zeroℤ k, mul-subℤ k s d))
-      ∙ sym (ap (λ (z : ℤ). k *ℤ z) above.0 ∙ mul-subℤ k s d)
+      max_at_least_zero (k *ℤ s -ℤ k *ℤ d) (omega (products, le))
+      ∙ sym (ap (◌*ℤ◌ k) above.0 ∙ mul-subℤ k s d)
   | inr below ↦
       let le = mul-leℤ k (s -ℤ d) (pos 0) (omega (arith, linear, some)) below.1 in
-      max_at_most_zero (k *ℤ s -ℤ k *ℤ d) (omega (arith, linear, le, mul-zeroℤ k, mul-subℤ k s d))
-      ∙ sym (ap (λ (z : ℤ). k *ℤ z) below.0 ∙ mul-zeroℤ k)
+      max_at_most_zero (k *ℤ s -ℤ k *ℤ d) (omega (products, le))
+      ∙ sym (ap (◌*ℤ◌ k) below.0 ∙ mul-zeroℤ k)
 ]
   where
     max_at_least_zero : (z : ℤ) → pos 0 ≤ℤ z → int_max z (pos 0) ≡ z
@@ -43,10 +41,7 @@ unclaimed-scaled k s d some = elim (int_max-cases (s -ℤ d) (pos 0)) [
     max_at_most_zero z h = omega (arith, ints, clamps)
 
 garment-scaled : (k c d a b : ℤ) → pos 0 <ℤ k → IsGarment c d a b → IsGarment (k *ℤ c) (k *ℤ d) (k *ℤ a) (k *ℤ b)
-garment-scaled k c d a b some h =
-    part a d
-    ∙ ap (λ (z : ℤ). k *ℤ z) h
-    ∙ sym (part b c)
+garment-scaled k c d a b some h = omega (products, part a d, ap (◌*ℤ◌ k) h, part b c)
   where
     part : (y e : ℤ) → k *ℤ y -ℤ unclaimed (k *ℤ a +ℤ k *ℤ b) (k *ℤ e) ≡ k *ℤ (y -ℤ unclaimed (a +ℤ b) e)
     part y e =
@@ -69,15 +64,13 @@ module _ (n : ℕ) (claim f g : ℕ → ℤ)
         let other : i ≢ j = λ same. clash j same found.2 in
         by_lt_z (g i +ℤ g j) (f i +ℤ f j)
         (λ more.
-        let up =
-        (garment_up (claim i) (claim j) (g i) (g j) (f i) (f j) (right i j hi found.1 other)
+        let up = (garment_up (claim i) (claim j) (g i) (g j) (f i) (f j) (right i j hi found.1 other)
         (left i j hi found.1 other) (omega (arith, linear, more))).0 in
         omega (arith, linear, up, lt))
         (λ less.
-        let up =
-        (garment_up (claim i) (claim j) (f i) (f j) (g i) (g j) (left i j hi found.1 other)
+        let up = (garment_up (claim i) (claim j) (f i) (f j) (g i) (g j) (left i j hi found.1 other)
         (right i j hi found.1 other) less).1 in
-        let gt = found.2 in omega (arith, linear, up, gt))
+        omega (arith, linear, up, found.2))
     | inr all ↦
         let one = (one_of n i (λ k. g k -ℤ f k) (λ k h. let le = all k h in omega (arith, linear, le)) hi).1 in
         let add = sum_below-add n f (λ k. g k -ℤ f k) in
@@ -112,7 +105,7 @@ not_less estate more claims x y le h k i lt =
     (λ j l hj hl ne. garment-scaled x.den (claimed claims y j) (claimed claims y l) (share y j) (share y l)
     (above_zero x.den h.positive) (k.each_two j l hj hl ne))
     (λ j l hj hl ne. garment_over claims x y (share x) j l k.positive (h.each_two j l hj hl ne)) sums i lt less))
-    (λ ge. omega (arith, linear, ge, *ℤ_comm (share x i) y.den, *ℤ_comm (share y i) x.den))
+    (λ ge. omega (sorted_products, ge))
   where
     n : ℕ
     n = length claims
@@ -128,10 +121,9 @@ not_less estate more claims x y le h k i lt =
 
     sums : sum_below n g ≤ℤ sum_below n f
     sums =
-        let a =
-        sum_below-times n (share x) y.den ∙ ap (λ (z : ℤ). y.den *ℤ z) h.all
+        let a = sum_below-times n (share x) y.den ∙ ap (◌*ℤ◌ y.den) h.all
         ∙ mul_left_commℤ y.den x.den (pos estate) in
-        let b = sum_below-times n (share y) x.den ∙ ap (λ (z : ℤ). x.den *ℤ z) k.all in
+        let b = sum_below-times n (share y) x.den ∙ ap (◌*ℤ◌ x.den) k.all in
         let inner =
         mul-leℤ y.den (pos estate) (pos more) (omega (arith, linear, k.positive)) (omega (arith, linear, le)) in
         let outer =
@@ -154,8 +146,7 @@ pub no_other : (estate : ℕ) (claims : List ℕ) (x y : Allocation) → IsTalmu
 no_other estate claims x y h k i lt =
     let c = consistent-of estate claims x h in
     let a = not_less estate estate claims x y (omega arith) c k i lt in
-    let b = not_less estate estate claims y x (omega arith) k c i lt in
-    omega (arith, linear, a, b)
+    omega (arith, linear, a, not_less estate estate claims y x (omega arith) k c i lt)
 
 pub more_estate : (estate more : ℕ) (claims : List ℕ) (x y : Allocation) (i : ℕ) → estate ≤ more
     → IsTalmud estate claims x → IsTalmud more claims y → i < length claims
@@ -183,7 +174,7 @@ lost_alike estate missing claims x y i total h k lt =
     (λ le.
     by_lt_z (g i) (f i)
     (λ more. absurd (no_less n claim g f missing_in_two lost_in_two (omega (arith, linear, sums)) i lt more))
-    (λ ge. omega (arith, linear, le, ge, *ℤ_comm (share y i) x.den)))
+    (λ ge. omega (sorted_products, le, ge)))
   where
     n : ℕ
     n = length claims
@@ -214,21 +205,12 @@ lost_alike estate missing claims x y i total h k lt =
     lost_all : sum_below n lost ≡ x.den *ℤ pos missing
     lost_all =
         let claims_all = sum_below-times n (λ j. pos (get_or claims j 0)) x.den in
-        let scaled = ap (λ (z : ℤ). x.den *ℤ z) total in
-        omega (
-          arith,
-          linear,
-          sum_below-less n (claimed claims x) (share x),
-          claims_all,
-          scaled,
-          mul-addℤ x.den (pos estate) (pos missing),
-          h.all,
-        )
+        omega (products, sum_below-less n (claimed claims x) (share x), claims_all, ap (◌*ℤ◌ x.den) total, h.all)
 
     sums : sum_below n f ≡ sum_below n g
     sums =
         sum_below-times n lost y.den
-        ∙ ap (λ (z : ℤ). y.den *ℤ z) lost_all
+        ∙ ap (◌*ℤ◌ y.den) lost_all
         ∙ mul_left_commℤ y.den x.den (pos missing)
-        ∙ ap (λ (z : ℤ). x.den *ℤ z) (sym k.all)
+        ∙ ap (◌*ℤ◌ x.den) (sym k.all)
         ∙ sym (sum_below-times n (share y) x.den)

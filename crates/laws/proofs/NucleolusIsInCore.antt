@@ -1,11 +1,8 @@
 -- Where some allocation is in the core, the nucleolus is: a coalition that blocked it would have an excess above 0,
 -- and no excess at a core point is above 0.
-use Rattle.std.proofs.Common.{◌≡◌, ℕ, ◌-◌, ◌+◌, ◌^◌, ◌<◌, ◌≤◌, ℤ, pos, ◌*ℤ◌}
-use Rattle.std.proofs.Common.{◌<ℤ◌}
-use Rattle.std.proofs.Common.{◌≤ℤ◌, ap, inr, arith, map, length}
+use Rattle.std.proofs.Common.{◌≡◌, ℕ, ◌-◌, ◌+◌, ◌^◌, ◌<◌, ◌≤◌, ℤ, pos, ◌*ℤ◌, ◌<ℤ◌, ◌≤ℤ◌, ap, inr, arith, map}
 use Rattle.std.proofs.lemmas.Int.{by_lt_z}
-use lib.IntN.{*ℤ_comm}
-use Rattle.definitions.proofs.Ring.{linear, mul-leℤ, mul-le_cancelℤ, mul-zeroℤ, mul-positiveℤ}
+use Rattle.definitions.proofs.Ring.{linear, mul-leℤ, mul-le_cancelℤ, mul-positiveℤ}
 use Rattle.definitions.proofs.Families.{allocation_of, efficient_of}
 use Rattle.definitions.proofs.Masks.{singleton-within}
 use Rattle.definitions.proofs.Measured.{weight, measured-weight, weight-positive, measured-positive}
@@ -16,13 +13,13 @@ use Rattle.theorems.proofs.SortedLemmas.{ComesBefore-sorted}
 use Rattle.theorems.proofs.Soundness.{SameOrLow-range, SomeAbove-range}
 use Rattle.laws.proofs.Gaps.{gap, excess-gap}
 use Rattle.theorems.proofs.OneWay.{beats_one_way}
-use Rattle.definitions.specs.Coalitions.{has_player, singleton, grand_coalition, proper_coalitions, sum_over}
+use Rattle.definitions.specs.Coalitions.{has_player, grand_coalition, proper_coalitions, sum_over}
 use Rattle.definitions.specs.Measures.{IsMeasurable}
-use Rattle.definitions.specs.Games.{Game, Allocation, share, amount, excess, measured_excess, Beats, IsSame}
-use Rattle.definitions.specs.Games.{IsAllocation, IsEfficient, InFamily, IsNucleolus, Blocks, InCore}
+use Rattle.definitions.specs.Games.{Game, Allocation, amount, excess, measured_excess, Beats, IsSame, IsAllocation}
+use Rattle.definitions.specs.Games.{IsEfficient, InFamily, IsNucleolus, Blocks, InCore}
 use Rattle.definitions.specs.declared.Family.{Family}
-use Rattle.definitions.specs.declared.Family.TheVariants.{Imputations, Preimputations}
 use Rattle.definitions.specs.declared.Measure.{Measure}
+use Rattle.theorems.proofs.Products.{products, sorted_products}
 
 -- ---- what all get
 
@@ -33,13 +30,8 @@ excess_grand g x e = omega (arith, linear, e)
 pub same_excess : (g : Game) (x y : Allocation) (s : ℕ) → IsAllocation g x → IsAllocation g y → IsSame g x y
     → x.den *ℤ excess g y s ≡ y.den *ℤ excess g x s
 same_excess g x y s hx hy same =
-    let none =
-    sum_over_zero
-    (λ i lt.
-    let e = same i lt in
-    let a = *ℤ_comm (share x i) y.den in
-    let b = *ℤ_comm (share y i) x.den in omega (arith, linear, e, a, b)) in
-    omega (arith, linear, excess-gap g x y s hx hy, none)
+    omega
+    (arith, linear, excess-gap g x y s hx hy, sum_over_zero (λ i lt. let e = same i lt in omega (sorted_products, e)))
   where
     sum_over_zero : ((i : ℕ) → i < g.players → gap x y i ≡ pos 0) → sum_over g.players (gap x y) s ≡ pos 0
     sum_over_zero h =
@@ -53,46 +45,25 @@ core_low g z h s lt =
     by_lt_z (amount z s) (z.den *ℤ g.worth s) (λ blocks. absurd (h.2 s lt blocks)) (λ le. omega (arith, linear, le))
 
 pub core_family : (family : Family) (g : Game) (z : Allocation) → InCore g z → InFamily family g z
-core_family Preimputations g z h = (h.0, h.1)
-core_family Imputations g z h = (
-  h.0,
-  h.1,
-  λ i lt. omega (
-    arith,
-    linear,
-    core_low g z h (singleton i) (singleton-within g.players i lt),
-    sum_over-singleton (length z.shares) i (share z) (rw h.0.0 lt),
-  ),
-)
+core_family family g z h = grind (arith, linear, core_low, singleton-within, sum_over-singleton)
 
 -- nobody's excess is above 0 at any allocation
 empty_low : (g : Game) (z x : Allocation) → InCore g z → IsAllocation g x → 0 < 2 ^ g.players
     → excess g x 0 ≤ℤ pos 0
 empty_low g z x h hx some =
-    let here = core_low g z h 0 some in
-    let low : g.worth 0 ≤ℤ pos 0 =
-    mul-le_cancelℤ z.den (g.worth 0) (pos 0) (omega (arith, linear, h.0.1))
-    (omega (arith, linear, here, amount-empty z, mul-zeroℤ z.den)) in
-    omega (
-      arith,
-      linear,
-      mul-leℤ x.den (g.worth 0) (pos 0) (omega (arith, linear, hx.1)) low,
-      mul-zeroℤ x.den,
-      amount-empty x,
-    )
+    let low : g.worth 0 ≤ℤ pos 0 = mul-le_cancelℤ z.den (g.worth 0) (pos 0) (omega (arith, linear, h.0.1))
+    (omega (products, core_low g z h 0 some, amount-empty z)) in
+    omega (products, mul-leℤ x.den (g.worth 0) (pos 0) (omega (arith, linear, hx.1)) low, amount-empty x)
 
 measured_low : (measure : Measure) (g : Game) (z : Allocation) (q : ℤ) → IsMeasurable measure g.players → InCore g z
     → pos 1 ≤ℤ q → (s : ℕ) → 0 < s → s < 2 ^ g.players → (q *ℤ measured_excess measure g z s) ≤ℤ pos 0
 measured_low measure g z q m h one s some lt =
     let w = weight measure s in
     let e = excess g z s in
-    let a =
-    mul-leℤ w e (pos 0) (omega (arith, linear, weight-positive measure g.players s m some lt))
+    let a = mul-leℤ w e (pos 0) (omega (arith, linear, weight-positive measure g.players s m some lt))
     (core_low g z h s lt) in
-    let b : measured_excess measure g z s ≤ℤ pos 0 =
-    omega (arith, linear, a, measured-weight measure s e, mul-zeroℤ w) in
-    omega
-    (arith, linear, mul-leℤ q (measured_excess measure g z s) (pos 0) (omega (arith, linear, one)) b, mul-zeroℤ q)
+    let b : measured_excess measure g z s ≤ℤ pos 0 = omega (products, a, measured-weight measure s e) in
+    omega (products, mul-leℤ q (measured_excess measure g z s) (pos 0) (omega (arith, linear, one)) b)
 
 -- ---- the nucleolus
 
@@ -142,4 +113,4 @@ nucleolus_in_core family measure g x z m hx h = (allocation, efficient, unblocke
             let a =
             mul-leℤ x.den (excess g z s) (pos 0) (omega (arith, linear, allocation.1)) (core_low g z h s lt) in
             let b = mul-positiveℤ z.den (excess g x s) (omega (arith, linear, h.0.1)) up in
-            omega (arith, linear, a, b, mul-zeroℤ x.den, same_excess g x z s allocation h.0 same)
+            omega (products, a, b, same_excess g x z s allocation h.0 same)

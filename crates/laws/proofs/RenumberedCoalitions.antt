@@ -1,9 +1,7 @@
 -- Coalitions of renumbered players: which players they were, that they are as many, and their places in the list of
 -- the proper coalitions.
-use Rattle.std.proofs.Common.{◌≡◌, ℕ, zero, suc, ◌+◌, ◌-◌, ◌^◌, ◌<◌, ◌≤◌, Bool}
-use Rattle.std.proofs.Common.{true, false, cond}
-use Rattle.std.proofs.Common.{length, ℤ, pos, ◌+ℤ◌}
-use Rattle.std.proofs.Common.{refl, sym, ap, ◌∙◌, inl, inr, arith, if◌then◌else◌}
+use Rattle.std.proofs.Common.{◌≡◌, ℕ, zero, suc, ◌+◌, ◌-◌, ◌^◌, ◌<◌, ◌≤◌, Bool, cond, length, ℤ, pos, ◌+ℤ◌, refl, sym}
+use Rattle.std.proofs.Common.{ap, ◌∙◌, inl, inr, arith, if◌then◌else◌}
 use Rattle.std.proofs.Math.Nat.{pow-suc}
 use Rattle.definitions.proofs.Ring.{linear}
 use Rattle.definitions.proofs.Members.{has_player-empty, has_player-singleton, has_player-singleton_other}
@@ -12,8 +10,7 @@ use Rattle.definitions.proofs.Parts.{has_player-more_same, has_player-more_other
 use Rattle.definitions.proofs.Masks.{grand_coalition-within, singleton-within}
 use Rattle.definitions.proofs.Sizes.{size-at, length-more_yes, length-more_no}
 use Rattle.definitions.proofs.Cases.{less_or_last, below_or_above, same_or_other}
-use Rattle.definitions.specs.Coalitions.{has_player, singleton, grand_coalition, sum_over}
-use Rattle.definitions.specs.Coalitions.{members, size}
+use Rattle.definitions.specs.Coalitions.{has_player, singleton, grand_coalition, sum_over, members, size}
 use Rattle.laws.specs.Renumbering.{IsRenumbering, coalition_where, renumbered_coalition}
 use Rattle.laws.proofs.Gathered.{sum_below-renumbered}
 
@@ -25,8 +22,7 @@ coalition_where-within (suc n) test = next_within (test n) (coalition_where-with
   where
     next_within : (b : Bool) → coalition_where n test < 2 ^ n
         → cond b (coalition_where n test + 2 ^ n) (coalition_where n test) < 2 ^ suc n
-    next_within true lt = omega (arith, lt, pow-suc 2 n)
-    next_within false lt = omega (arith, lt, pow-suc 2 n)
+    next_within b lt = grind (arith, pow-suc)
 
 pub coalition_where-has : (n : ℕ) (test : ℕ → Bool) (i : ℕ) → i < n → has_player (coalition_where n test) i ≡ test i
 coalition_where-has zero test i lt = absurd (omega arith)
@@ -36,20 +32,7 @@ coalition_where-has (suc n) test i lt =
     next_has : (b : Bool) → test n ≡ b → (i < n → has_player (coalition_where n test) i ≡ test i)
         → coalition_where n test < 2 ^ n
         → has_player (cond b (coalition_where n test + 2 ^ n) (coalition_where n test)) i ≡ test i
-    next_has true e ih within =
-        let lacks = has_player-past n (coalition_where n test) n within (omega arith) in
-        elim (less_or_last i n lt) [
-          | inl less ↦
-              has_player-more_other (coalition_where n test) n i lacks (λ same. omega (arith, less, same)) ∙ ih less
-          | inr same ↦
-              ap (has_player (coalition_where n test + 2 ^ n)) same
-              ∙ has_player-more_same (coalition_where n test) n lacks ∙ sym e ∙ ap test (sym same)
-        ]
-    next_has false e ih within = elim (less_or_last i n lt) [
-      | inl less ↦ ih less
-      | inr same ↦
-          has_player-past n (coalition_where n test) i within (omega (arith, same)) ∙ sym e ∙ ap test (sym same)
-    ]
+    next_has b e ih within = grind (arith, has_player-more_other, has_player-more_same, has_player-past, less_or_last)
 
 -- coalitions of n players with the same players below n are the same
 pub same_below : (n s t : ℕ) → s < 2 ^ n → t < 2 ^ n → ((i : ℕ) → i < n → has_player s i ≡ has_player t i) → s ≡ t
@@ -105,8 +88,7 @@ module _ (n : ℕ) (to back : ℕ → ℕ) (r : IsRenumbering n to back) where
   was_some s within some = elim (same_or_other (was s) 0) [
     | inr other ↦ omega (arith, other)
     | inl none ↦ absurd
-        (let empty : s ≡ 0 =
-        same_below n s 0 within (omega arith) (λ i lt. sym (was_has_to s i lt)
+        (let empty : s ≡ 0 = same_below n s 0 within (omega arith) (λ i lt. sym (was_has_to s i lt)
         ∙ ap (λ t. has_player t (to i)) none ∙ has_player-empty (to i) ∙ sym (has_player-empty i)) in
         omega (arith, some, empty))
   ]
@@ -133,9 +115,8 @@ module _ (n : ℕ) (to back : ℕ → ℕ) (r : IsRenumbering n to back) where
   -- and there are as many members
   pub size-was : (s : ℕ) → n ≤ 64 → s < 2 ^ n → size s ≡ size (was s)
   size-was s few within =
-      let counted = sum_over-was (λ i. pos 1) s in
       let same : length (members n s) ≡ length (members n (was s)) =
-      omega (arith, linear, counted, counted_of n s, counted_of n (was s)) in
+      omega (arith, linear, sum_over-was (λ i. pos 1) s, counted_of n s, counted_of n (was s)) in
       size-at n s few within ∙ same ∙ sym (size-at n (was s) few (was_within s))
     where
       counted_of : (k s : ℕ) → pos (length (members k s)) ≡ sum_over k (λ i. pos 1) s
@@ -147,10 +128,7 @@ module _ (n : ℕ) (to back : ℕ → ℕ) (r : IsRenumbering n to back) where
 
           next_counted : (b : Bool) → has_player s k ≡ b → pos (length (members k s)) ≡ sum_over k (λ i. pos 1) s
               → pos (length (members (suc k) s)) ≡ sum_over k (λ i. pos 1) s +ℤ cond b (pos 1) (pos 0)
-          next_counted true e ih =
-              sym (ap (λ m. pos (length (members m s))) next) ∙ omega (arith, linear, ih, length-more_yes k s e)
-          next_counted false e ih =
-              sym (ap (λ m. pos (length (members m s))) next) ∙ omega (arith, linear, ih, length-more_no k s e)
+          next_counted b e ih = grind (arith, linear, length-more_no, length-more_yes, next)
 
 -- coalitions there and back
 pub was_back : (n : ℕ) (to back : ℕ → ℕ) → IsRenumbering n to back → (s : ℕ) → s < 2 ^ n
@@ -178,14 +156,11 @@ places n to back r =
         → renumbered_coalition n back (1 + t) - 1 < 2 ^ n - 2
     within n to back r t lt =
         let some = was_some n to back r (1 + t) (omega (arith, lt)) (omega arith) in
-        let less = was_not_all n to back r (1 + t) (omega (arith, lt)) in
-        omega (arith, some, less)
+        omega (arith, some, was_not_all n to back r (1 + t) (omega (arith, lt)))
 
     round : (n : ℕ) (to back : ℕ → ℕ) → IsRenumbering n to back → (t : ℕ) → t < 2 ^ n - 2
         → renumbered_coalition n to (1 + (renumbered_coalition n back (1 + t) - 1)) - 1 ≡ t
     round n to back r t lt =
-        let some = was_some n to back r (1 + t) (omega (arith, lt)) (omega arith) in
         let whole : 1 + (renumbered_coalition n back (1 + t) - 1) ≡ renumbered_coalition n back (1 + t) =
-        omega (arith, some) in
-        let again = ap (renumbered_coalition n to) whole ∙ was_back n to back r (1 + t) (omega (arith, lt)) in
-        omega (arith, again)
+        omega (arith, was_some n to back r (1 + t) (omega (arith, lt)) (omega arith)) in
+        omega (arith, ap (renumbered_coalition n to) whole ∙ was_back n to back r (1 + t) (omega (arith, lt)))

@@ -1,28 +1,24 @@
 -- The nucleolus of a game with its players renumbered has the renumbered shares: a coalition's excess is that of the
 -- coalition that its members were, so both games have the same excesses in another order.
-use Rattle.std.proofs.Common.{◌≡◌, ℕ, ◌+◌, ◌-◌, ◌/◌, ◌^◌, ◌<◌}
-use Rattle.std.proofs.Common.{List, length, ℤ, pos, ◌-ℤ◌, ◌*ℤ◌}
-use Rattle.std.proofs.Common.{refl, sym, ap, subst, ◌∙◌, inl, inr, arith}
+use Rattle.std.proofs.Common.{◌≡◌, ℕ, ◌+◌, ◌-◌, ◌^◌, ◌<◌, List, length, ℤ, pos, ◌-ℤ◌, ◌*ℤ◌, refl, sym, ap, subst, ◌∙◌}
+use Rattle.std.proofs.Common.{arith}
 use Rattle.std.proofs.lemmas.List.FromFn.{get_or-map-range_with_len, length-map-range_with_len}
 use Rattle.definitions.proofs.Ring.{linear}
 use Rattle.definitions.proofs.Masks.{grand_coalition-within, singleton-within}
 use Rattle.definitions.proofs.Families.{allocation_of}
 use Rattle.definitions.specs.Coalitions.{singleton, grand_coalition, sum_over}
-use Rattle.definitions.specs.Coalitions.{size}
 use Rattle.definitions.specs.Measures.{IsMeasurable}
-use Rattle.definitions.specs.Games.{Game, Allocation, share, amount, excess, measured_excess, excess_list}
-use Rattle.definitions.specs.Games.{IsEfficient, InFamily}
+use Rattle.definitions.specs.Games.{Game, Allocation, share, amount, excess, measured_excess, excess_list, IsEfficient}
+use Rattle.definitions.specs.Games.{InFamily}
 use Rattle.definitions.specs.Order.{sorted, ComesBefore}
 use Rattle.definitions.specs.declared.Family.{Family}
 use Rattle.definitions.specs.declared.Family.TheVariants.{Imputations, Preimputations}
 use Rattle.definitions.specs.declared.Measure.{Measure}
-use Rattle.definitions.specs.declared.Measure.TheVariants.{Plain, PerHead}
 use Rattle.definitions.proofs.SumsOver.{sum_over-same}
-use Rattle.laws.specs.Renumbering.{IsRenumbering, renumbered_coalition, renumbered_shares}
-use Rattle.laws.specs.Renumbering.{RenumberingChangesNothing}
+use Rattle.laws.specs.Renumbering.{IsRenumbering, renumbered_coalition, renumbered_shares, RenumberingChangesNothing}
 use Rattle.laws.proofs.Gathered.{sorted-renumbered}
-use Rattle.laws.proofs.RenumberedCoalitions.{reverse_of, was_grand, was_singleton, was_some, sum_over-was}
-use Rattle.laws.proofs.RenumberedCoalitions.{size-was, was_back, places}
+use Rattle.laws.proofs.RenumberedCoalitions.{reverse_of, was_grand, was_singleton, was_some, sum_over-was, size-was}
+use Rattle.laws.proofs.RenumberedCoalitions.{was_back, places}
 
 pub renumbered_share : (to : ℕ → ℕ) (x : Allocation) (i : ℕ) → i < length x.shares
     → share (renumbered_shares to x) i ≡ share x (to i)
@@ -64,18 +60,14 @@ module _ (n : ℕ) (to back : ℕ → ℕ) (r : IsRenumbering n to back) (v u : 
 
   y_measured : (measure : Measure) → IsMeasurable measure n → (s : ℕ) → s < 2 ^ n
       → measured_excess measure new y s ≡ measured_excess measure old x (image s)
-  y_measured Plain m s within = y_excess s within
-  y_measured PerHead (inl e) s within = absurd (cc)
-  y_measured PerHead (inr few) s within =
-      ap (λ k. pos (720720 / k) *ℤ excess new y s) (size-was n to back r s (omega (arith, few)) within)
-      ∙ ap (λ z. pos (720720 / size (image s)) *ℤ z) (y_excess s within)
+  y_measured measure m s within = grind (arith, size-was, y_excess)
 
   y_efficient : IsEfficient old x → IsEfficient new y
   y_efficient e =
       let all = grand_coalition n in
       y_amount all ∙ ap (amount x) (was_grand n to back r) ∙ e
       ∙ ap (λ t. x.den *ℤ v t) (sym (was_grand n to back r))
-      ∙ ap (λ z. x.den *ℤ z) (sym (worths all (grand_coalition-within n)))
+      ∙ ap (◌*ℤ◌ x.den) (sym (worths all (grand_coalition-within n)))
 
   y_member : (family : Family) → InFamily family old x → InFamily family new y
   y_member Imputations h = (
@@ -83,8 +75,7 @@ module _ (n : ℕ) (to back : ℕ → ℕ) (r : IsRenumbering n to back) (v u : 
     y_efficient h.1,
     λ i lt.
         let alone = worths (singleton i) (singleton-within n i lt) ∙ ap v (was_singleton n to back r i lt) in
-        let low = h.2 (to i) (r.to_within i lt) in
-        omega (arith, linear, low, y_share i lt, ap (λ z. x.den *ℤ z) alone),
+        omega (arith, linear, h.2 (to i) (r.to_within i lt), y_share i lt, ap (◌*ℤ◌ x.den) alone),
   )
   y_member Preimputations h = ((y_length, h.0.1), y_efficient h.1)
 
@@ -98,7 +89,7 @@ module _ (n : ℕ) (to back : ℕ → ℕ) (r : IsRenumbering n to back) (v u : 
       (λ t lt.
       let some = was_some n to back r (1 + t) (omega (arith, lt)) (omega arith) in
       let whole : image (1 + t) ≡ 1 + (image (1 + t) - 1) = omega (arith, some) in
-      ap (λ z. scale *ℤ z) (y_measured measure m (1 + t) (omega (arith, lt)))
+      ap (◌*ℤ◌ scale) (y_measured measure m (1 + t) (omega (arith, lt)))
       ∙ ap (λ s. scale *ℤ measured_excess measure old x s) whole)
 
 -- ---- the nucleolus

@@ -1,24 +1,22 @@
 -- Over their scales, two games of the same fractions: each excess in the one, times the other's scale, is that in the
 -- other, times the one's. So no comparison differs.
-use Rattle.std.proofs.Common.{◌≡◌, ℕ, zero, suc, ◌+◌, ◌-◌, ◌^◌, ◌<◌, ◌≤◌, List}
-use Rattle.std.proofs.Common.{◌∷◌, map, ℤ, pos}
-use Rattle.std.proofs.Common.{◌*ℤ◌, ◌≤ℤ◌, refl, sym, ap, ap₂, ◌∙◌, arith}
+use Rattle.std.proofs.Common.{◌≡◌, ℕ, zero, suc, ◌+◌, ◌-◌, ◌^◌, ◌<◌, ◌≤◌, List, ◌∷◌, map, ℤ, pos, ◌*ℤ◌, ◌≤ℤ◌, refl, sym}
+use Rattle.std.proofs.Common.{ap, ap₂, ◌∙◌, arith}
 use Rattle.std.proofs.lemmas.Int.{by_lt_z}
 use Rattle.std.specs.List.{range_with_len}
 use Rattle.definitions.proofs.Masks.{grand_coalition-within, singleton-within}
 use Rattle.definitions.proofs.Measured.{weight, measured-weight}
-use Rattle.definitions.proofs.Ring.{linear, mul_left_commℤ, mul-subℤ, mul-leℤ, mul-ltℤ, mul-le_cancelℤ, mul-cancelℤ}
+use Rattle.definitions.proofs.Ring.{linear, mul_left_commℤ, mul-leℤ, mul-ltℤ, mul-le_cancelℤ, mul-cancelℤ}
 use Rattle.theorems.proofs.Scaled.{above_zero}
 use Rattle.theorems.proofs.ScaledLists.{times, order_kept}
 use Rattle.definitions.specs.Coalitions.{singleton, grand_coalition}
 use Rattle.definitions.specs.Games.{Game, Allocation, share, amount}
-use Rattle.definitions.specs.Scales.{excess_over, IsEfficientOver, IsIndividuallyRationalOver}
-use Rattle.definitions.specs.Scales.{InFamilyOver, measured_excess_over, excess_list_over}
-use Rattle.definitions.specs.Scales.{BeatsOver, BlocksOver}
+use Rattle.definitions.specs.Scales.{excess_over, IsEfficientOver, IsIndividuallyRationalOver, InFamilyOver}
+use Rattle.definitions.specs.Scales.{measured_excess_over, excess_list_over, BeatsOver, BlocksOver}
 use Rattle.definitions.specs.declared.Family.{Family}
-use Rattle.definitions.specs.declared.Family.TheVariants.{Imputations, Preimputations}
 use Rattle.definitions.specs.declared.Measure.{Measure}
 use Rattle.laws.specs.CommonScales.{AreSameFractions, AreAnsweredAlike}
+use Rattle.theorems.proofs.Products.{sorted_products}
 
 -- lists of values over masks from a on
 range_times : (c d : ℤ) (f h : ℕ → ℤ) (a k : ℕ) → ((s : ℕ) → a ≤ s → s < a + k → c *ℤ f s ≡ d *ℤ h s)
@@ -39,37 +37,27 @@ module _ (k l : ℤ) (n : ℕ) (v w : ℕ → ℤ) (one_k : pos 1 ≤ℤ k) (one
 
   -- what both sides of a comparison with a worth become
   worths : (d : ℤ) (s : ℕ) → s < 2 ^ n → l *ℤ (d *ℤ v s) ≡ k *ℤ (d *ℤ w s)
-  worths d s lt = mul_left_commℤ l d (v s) ∙ ap (λ (z : ℤ). d *ℤ z) (same s lt) ∙ mul_left_commℤ d k (w s)
+  worths d s lt = mul_left_commℤ l d (v s) ∙ ap (◌*ℤ◌ d) (same s lt) ∙ mul_left_commℤ d k (w s)
 
   excesses : (x : Allocation) (s : ℕ) → s < 2 ^ n → l *ℤ excess_over k from x s ≡ k *ℤ excess_over l to x s
-  excesses x s lt =
-      omega (
-        arith,
-        linear,
-        worths x.den s lt,
-        mul-subℤ l (x.den *ℤ v s) (k *ℤ amount x s),
-        mul-subℤ k (x.den *ℤ w s) (l *ℤ amount x s),
-        mul_left_commℤ l k (amount x s),
-      )
+  excesses x s lt = omega (sorted_products, worths x.den s lt)
 
   measured_excesses : (measure : Measure) (x : Allocation) (s : ℕ) → s < 2 ^ n
       → l *ℤ measured_excess_over k measure from x s ≡ k *ℤ measured_excess_over l measure to x s
   measured_excesses measure x s lt =
       let u = weight measure s in
-      ap (λ (z : ℤ). l *ℤ z) (measured-weight measure s (excess_over k from x s))
+      ap (◌*ℤ◌ l) (measured-weight measure s (excess_over k from x s))
       ∙ mul_left_commℤ l u (excess_over k from x s)
-      ∙ ap (λ (z : ℤ). u *ℤ z) (excesses x s lt)
+      ∙ ap (◌*ℤ◌ u) (excesses x s lt)
       ∙ mul_left_commℤ u k (excess_over l to x s)
-      ∙ sym (ap (λ (z : ℤ). k *ℤ z) (measured-weight measure s (excess_over l to x s)))
+      ∙ sym (ap (◌*ℤ◌ k) (measured-weight measure s (excess_over l to x s)))
 
   lists : (measure : Measure) (x : Allocation) (c : ℤ)
       → times l (excess_list_over k measure from x c) ≡ times k (excess_list_over l measure to x c)
   lists measure x c =
       range_times l k (λ s. c *ℤ measured_excess_over k measure from x s)
       (λ s. c *ℤ measured_excess_over l measure to x s) 1 (2 ^ n - 2) (λ s low high.
-      mul_left_commℤ l c (measured_excess_over k measure from x s)
-      ∙ ap (λ (z : ℤ). c *ℤ z) (measured_excesses measure x s (omega arith))
-      ∙ mul_left_commℤ c k (measured_excess_over l measure to x s))
+      omega (sorted_products, ap (◌*ℤ◌ c) (measured_excesses measure x s (omega arith))))
 
   beats : (measure : Measure) (x y : Allocation) → BeatsOver k measure from x y → BeatsOver l measure to x y
   beats measure x y h =
@@ -82,18 +70,17 @@ module _ (k l : ℤ) (n : ℕ) (v w : ℕ → ℤ) (one_k : pos 1 ≤ℤ k) (one
   efficient x e =
       let all = grand_coalition n in
       mul-cancelℤ k (l *ℤ amount x all) (x.den *ℤ w all) (above_zero k one_k)
-      (mul_left_commℤ k l (amount x all) ∙ ap (λ (z : ℤ). l *ℤ z) e ∙ worths x.den all (grand_coalition-within n))
+      (mul_left_commℤ k l (amount x all) ∙ ap (◌*ℤ◌ l) e ∙ worths x.den all (grand_coalition-within n))
 
   rational : (x : Allocation) → IsIndividuallyRationalOver k from x → IsIndividuallyRationalOver l to x
   rational x r = λ i lt.
       let s = singleton i in
       let here = mul-leℤ l (x.den *ℤ v s) (k *ℤ share x i) (omega (arith, linear, one_l)) (r i lt) in
       mul-le_cancelℤ k (x.den *ℤ w s) (l *ℤ share x i) (above_zero k one_k)
-      (omega (arith, linear, here, worths x.den s (singleton-within n i lt), mul_left_commℤ l k (share x i)))
+      (omega (sorted_products, here, worths x.den s (singleton-within n i lt)))
 
   family : (f : Family) (x : Allocation) → InFamilyOver k f from x → InFamilyOver l f to x
-  family Imputations x h = (h.0, efficient x h.1, rational x h.2)
-  family Preimputations x h = (h.0, efficient x h.1)
+  family f x h = grind (arith, efficient, rational)
 
   -- what blocks in the one blocks in the other
   blocks : (x : Allocation) (s : ℕ) → s < 2 ^ n → BlocksOver k from x s → BlocksOver l to x s
@@ -101,7 +88,7 @@ module _ (k l : ℤ) (n : ℕ) (v w : ℕ → ℤ) (one_k : pos 1 ≤ℤ k) (one
       by_lt_z (l *ℤ amount x s) (x.den *ℤ w s) (λ less. less) (λ le.
       let there = mul-leℤ k (x.den *ℤ w s) (l *ℤ amount x s) (omega (arith, linear, one_k)) le in
       let here = mul-ltℤ l (k *ℤ amount x s) (x.den *ℤ v s) (above_zero l one_l) b in
-      absurd (omega (arith, linear, there, here, worths x.den s lt, mul_left_commℤ l k (amount x s))))
+      absurd (omega (sorted_products, there, here, worths x.den s lt)))
 
 -- and back
 sides_swapped : (k l : ℤ) (n : ℕ) (v w : ℕ → ℤ) → ((s : ℕ) → s < 2 ^ n → l *ℤ v s ≡ k *ℤ w s) → (s : ℕ) → s < 2 ^ n

@@ -1,13 +1,12 @@
 -- Who adds nothing gets nothing. And who adds its worth alone has that times the total of the one that is worth 1
 -- with it and 0 without it, where all others add nothing.
-use Rattle.std.proofs.Common.{◌≡◌, ◌≢◌, ℕ, zero, suc, ◌+◌, ◌^◌, ◌<◌, Bool, true}
-use Rattle.std.proofs.Common.{false, cond, ℤ, pos}
-use Rattle.std.proofs.Common.{◌+ℤ◌, ◌-ℤ◌, ◌*ℤ◌, refl, sym, ap, ◌∙◌, inl, inr, arith}
+use Rattle.std.proofs.Common.{◌≡◌, ◌≢◌, ℕ, zero, suc, ◌+◌, ◌^◌, ◌<◌, Bool, true, false, cond, ℤ, pos, ◌+ℤ◌, ◌-ℤ◌, ◌*ℤ◌}
+use Rattle.std.proofs.Common.{refl, sym, ap, ◌∙◌, inl, inr, arith}
 use lib.IntN.{*ℤ_comm}
 use Rattle.definitions.proofs.Cases.{less_or_last}
 use Rattle.definitions.proofs.Halves.{size_below}
-use Rattle.definitions.proofs.Members.{has_player-empty, has_player-grand_coalition}
-use Rattle.definitions.proofs.Members.{sum_below-same, sum_below-zero, sum_below-times}
+use Rattle.definitions.proofs.Members.{has_player-empty, has_player-grand_coalition, sum_below-same, sum_below-zero}
+use Rattle.definitions.proofs.Members.{sum_below-times}
 use Rattle.definitions.proofs.Parts.{has_player-more_same, has_player-more_other}
 use Rattle.definitions.proofs.Ring.{linear, mul-cancelℤ, mul_left_commℤ, mul-zeroℤ, mul-oneℤ}
 use Rattle.definitions.specs.Sums.{sum_below}
@@ -18,6 +17,7 @@ use Rattle.definitions.specs.Players.{IsDummy, AddsNothing}
 use Rattle.shapley.specs.Subsets.{orders_with, subset_term}
 use Rattle.laws.proofs.SharesAddToAll.{factorial-positive, sum-totals}
 use Rattle.shapley.proofs.Orders.{orders_are_subsets}
+use Rattle.theorems.proofs.Products.{products}
 
 -- ---- who adds nothing
 
@@ -29,10 +29,7 @@ null-total g i h nothing =
     (g.worth s) (nothing s lt))
   where
     null_term : (b : Bool) (k y z : ℤ) → (b ≡ false → y ≡ z) → cond b (pos 0) (k *ℤ (y -ℤ z)) ≡ pos 0
-    null_term true k y z e = refl
-    null_term false k y z e =
-        let none : y -ℤ z ≡ pos 0 = (let same = e refl in omega (arith, linear, same)) in
-        ap (λ d. k *ℤ d) none ∙ mul-zeroℤ k
+    null_term b k y z e = grind (arith, linear, mul-zeroℤ)
 
 -- a total of n! times c makes a share of c
 pub share-of : (g : Game) (x : Allocation) (i : ℕ) (c : ℤ) → IsShapley g x → i < g.players
@@ -40,7 +37,7 @@ pub share-of : (g : Game) (x : Allocation) (i : ℕ) (c : ℤ) → IsShapley g x
 share-of g x i c h lt e =
     let f = pos (factorial g.players) in
     mul-cancelℤ f (share x i) (x.den *ℤ c) (factorial-positive g.players)
-    (*ℤ_comm f (share x i) ∙ h.1 i lt ∙ ap (λ (z : ℤ). x.den *ℤ z) e ∙ mul_left_commℤ x.den f c)
+    (*ℤ_comm f (share x i) ∙ h.1 i lt ∙ ap (◌*ℤ◌ x.den) e ∙ mul_left_commℤ x.den f c)
 
 pub nothing_gets_nothing : (g : Game) (x : Allocation) (i : ℕ) → IsShapley g x → i < g.players → AddsNothing g i
     → share x i ≡ pos 0
@@ -54,8 +51,7 @@ sum_only : (n i : ℕ) (f : ℕ → ℤ) → i < n → ((j : ℕ) → j < n → 
 sum_only zero i f lt none = absurd (omega arith)
 sum_only (suc n) i f lt none = elim (less_or_last i n lt) [
   | inl less ↦ omega (
-    arith,
-    linear,
+    products,
     sum_only n i f less (λ j h ne. none j (omega arith) ne),
     none n (omega arith) (λ same. omega arith),
   )
@@ -73,7 +69,7 @@ only-total n i lt =
     (λ j h ne. null-total (only n i) j h
     (λ s within out. ap worth_if (has_player-more_other s j i out (λ e. ne (sym e))))))
     ∙ sum-totals (only n i)
-    ∙ ap (λ (z : ℤ). pos (factorial n) *ℤ z) grand_worth_one
+    ∙ ap (◌*ℤ◌ (pos (factorial n))) grand_worth_one
     ∙ mul-oneℤ (pos (factorial n))
   where
     worth_if : Bool → ℤ
@@ -92,7 +88,7 @@ dummy-total g i lt dummy =
     ∙ sum_below-same (2 ^ n) (subset_term g.worth n i) (λ s. w *ℤ subset_term (only n i).worth n i s)
     (λ s h. at s h)
     ∙ sum_below-times (2 ^ n) (subset_term (only n i).worth n i) w
-    ∙ ap (λ (z : ℤ). w *ℤ z) (sym (orders_are_subsets (only n i) i lt) ∙ only-total n i lt)
+    ∙ ap (◌*ℤ◌ w) (sym (orders_are_subsets (only n i) i lt) ∙ only-total n i lt)
     ∙ *ℤ_comm w (pos (factorial n))
   where
     at : (s : ℕ) → s < 2 ^ g.players
@@ -108,7 +104,7 @@ dummy-total g i lt dummy =
         dummy_term true c k y z w e f = sym (mul-zeroℤ w)
         dummy_term false c k y z w e f =
             let more : y -ℤ z ≡ w = (let same = f refl in omega (arith, linear, same)) in
-            rw (e refl) (ap (λ d. k *ℤ d) more ∙ *ℤ_comm k w ∙ ap (λ d. w *ℤ d) (sym (mul-oneℤ k)))
+            rw (e refl) (ap (◌*ℤ◌ k) more ∙ *ℤ_comm k w ∙ ap (◌*ℤ◌ w) (sym (mul-oneℤ k)))
 
 pub dummies_get_worth : (g : Game) (x : Allocation) (i : ℕ) → IsShapley g x → i < g.players → IsDummy g i
     → share x i ≡ x.den *ℤ g.worth (singleton i)

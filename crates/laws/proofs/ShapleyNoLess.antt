@@ -1,9 +1,7 @@
 -- The total of a player, by the coalitions without it and without another player: who adds no less has no less, and
 -- so players that a game doesn't tell apart have the same.
-use Rattle.std.proofs.Common.{◌≡◌, ◌≢◌, ℕ, ◌+◌, ◌^◌, ◌<◌, Bool, true, false, cond}
-use Rattle.std.proofs.Common.{ℤ, pos, ◌+ℤ◌, ◌-ℤ◌}
-use Rattle.std.proofs.Common.{◌*ℤ◌, ◌≤ℤ◌, refl, sym, ap, ◌∙◌, inl, inr, arith, if◌then◌else◌}
-use lib.IntN.{*ℤ_comm}
+use Rattle.std.proofs.Common.{◌≡◌, ◌≢◌, ℕ, ◌+◌, ◌^◌, ◌<◌, Bool, false, cond, ℤ, pos, ◌+ℤ◌, ◌-ℤ◌, ◌*ℤ◌, ◌≤ℤ◌, refl, sym}
+use Rattle.std.proofs.Common.{ap, ◌∙◌, inl, inr, arith, if◌then◌else◌}
 use Rattle.std.proofs.lemmas.Int.{ints}
 use Rattle.definitions.proofs.Cases.{same_or_other}
 use Rattle.definitions.proofs.Halves.{size_below, size_below-more, gained, held, sum_below-moved}
@@ -18,11 +16,11 @@ use Rattle.definitions.specs.Players.{AddsNoLess, AreInterchangeable}
 use Rattle.shapley.specs.Subsets.{orders_with, subset_term, subset_total}
 use Rattle.laws.proofs.SharesAddToAll.{factorial-positive}
 use Rattle.shapley.proofs.Orders.{orders_are_subsets}
+use Rattle.theorems.proofs.Products.{sorted_products}
 
 -- what player i adds to s and to s with j, at each s without j
 abbrev pair_term : (ℕ → ℤ) → ℕ → ℕ → ℕ → ℕ → ℤ
-pair_term v n i j s =
-    if has_player s j then pos 0 else subset_term v n i s +ℤ subset_term v n i (s + 2 ^ j)
+pair_term v n i j s = if has_player s j then pos 0 else subset_term v n i s +ℤ subset_term v n i (s + 2 ^ j)
 
 by_pairs : (v : ℕ → ℤ) (n i j : ℕ) → j < n → subset_total v n i ≡ sum_below (2 ^ n) (pair_term v n i j)
 by_pairs v n i j h =
@@ -32,18 +30,15 @@ by_pairs v n i j h =
     let a = sum_below-add (2 ^ n) out (held f j) in
     let moved = sum_below-moved n j f h in
     let b = sum_below-add (2 ^ n) out (gained f j) in
-    let join =
-    sum_below-same (2 ^ n) (λ s. out s +ℤ gained f j s) (pair_term v n i j)
+    let join = sum_below-same (2 ^ n) (λ s. out s +ℤ gained f j s) (pair_term v n i j)
     (λ s lt. together (has_player s j) (f s) (f (s + 2 ^ j))) in
     omega (arith, linear, split, a, moved, b, join)
   where
     apart : (b : Bool) (x : ℤ) → x ≡ cond b (pos 0) x +ℤ cond b x (pos 0)
-    apart true x = omega (arith, linear)
-    apart false x = omega (arith, linear)
+    apart b x = grind (arith, linear)
 
     together : (b : Bool) (x y : ℤ) → cond b (pos 0) x +ℤ cond b (pos 0) y ≡ cond b (pos 0) (x +ℤ y)
-    together true x y = refl
-    together false x y = refl
+    together b x y = grind arith
 
 module _ (g : Game) (i j : ℕ) (hi : i < g.players) (hj : j < g.players) (ne : i ≢ j) (adds : AddsNoLess g i j) where
   abbrev n : ℕ
@@ -75,11 +70,9 @@ module _ (g : Game) (i j : ℕ) (hi : i < g.players) (hj : j < g.players) (ne : 
           let sizes = size_below-more n i s hi b ∙ sym (size_below-more n j s hj c) in
           let first =
           times-le (size_below n s) (v (s + 2 ^ j) -ℤ v s) (v (s + 2 ^ i) -ℤ v s) (omega (arith, linear, le)) in
-          let same =
-          ap (λ k. times k *ℤ (v (s + 2 ^ i + 2 ^ j) -ℤ v (s + 2 ^ i))) sizes
+          let same = ap (λ k. times k *ℤ (v (s + 2 ^ i + 2 ^ j) -ℤ v (s + 2 ^ i))) sizes
           ∙ ap (λ k. times (size_below n (s + 2 ^ j)) *ℤ (v k -ℤ v (s + 2 ^ i))) turned in
-          let second =
-          times-le (size_below n (s + 2 ^ j)) (v (s + 2 ^ j + 2 ^ i) -ℤ v (s + 2 ^ i))
+          let second = times-le (size_below n (s + 2 ^ j)) (v (s + 2 ^ j + 2 ^ i) -ℤ v (s + 2 ^ i))
           (v (s + 2 ^ j + 2 ^ i) -ℤ v (s + 2 ^ j)) (omega (arith, linear, le)) in
           omega (arith, linear, first, same, second)
 
@@ -88,10 +81,7 @@ module _ (g : Game) (i j : ℕ) (hi : i < g.players) (hj : j < g.players) (ne : 
           → has_player s j ≡ c
           → cond b (pos 0) (cond c (pos 0) e +ℤ cond q (pos 0) f)
           ≤ℤ cond c (pos 0) (cond b (pos 0) a +ℤ cond p (pos 0) d)
-      terms_no_less true true p q a d e f h k le one two = omega (arith, linear)
-      terms_no_less true false p q a d e f h k le one two = rw (h refl) (omega (arith, linear))
-      terms_no_less false true p q a d e f h k le one two = rw (k refl) (omega (arith, linear))
-      terms_no_less false false p q a d e f h k le one two = rw (h refl, k refl) (le one two)
+      terms_no_less b c p q a d e f h k le one two = grind (arith, linear)
 
   apart : shapley_total g j ≤ℤ shapley_total g i
   apart =
@@ -120,12 +110,10 @@ pub adds_gets_no_less : (g : Game) (x : Allocation) (i j : ℕ) → IsShapley g 
     → AddsNoLess g i j → share x j ≤ℤ share x i
 adds_gets_no_less g x i j h hi hj adds =
     let f = pos (factorial g.players) in
-    let positive = h.0.1 in
-    let le =
-    mul-leℤ x.den (shapley_total g j) (shapley_total g i) (omega (arith, linear, positive))
+    let le = mul-leℤ x.den (shapley_total g j) (shapley_total g i) (omega (arith, linear, h.0.1))
     (totals-no_less g i j hi hj adds) in
     mul-le_cancelℤ f (share x j) (share x i) (factorial-positive g.players)
-    (omega (arith, linear, le, h.1 i hi, h.1 j hj, *ℤ_comm f (share x i), *ℤ_comm f (share x j)))
+    (omega (sorted_products, le, h.1 i hi, h.1 j hj))
 
 pub alike_get_alike : (g : Game) (x : Allocation) (i j : ℕ) → IsShapley g x → i < g.players → j < g.players
     → AreInterchangeable g i j → share x i ≡ share x j

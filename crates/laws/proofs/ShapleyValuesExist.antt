@@ -1,13 +1,12 @@
 -- The totals over n! are shares of the Shapley value.
-use Rattle.std.proofs.Common.{◌≡◌, ℕ, ◌<◌, ◌≤ℤ◌, map, ℤ, pos, ◌*ℤ◌, ap, ◌∙◌}
-use Rattle.std.proofs.Common.{arith}
+use Rattle.std.proofs.Common.{◌≡◌, ℕ, ◌<◌, ◌≤ℤ◌, map, ℤ, pos, ◌*ℤ◌, ap, arith}
 use Rattle.std.specs.List.{range_with_len}
 use Rattle.std.proofs.lemmas.List.FromFn.{get_or-map-range_with_len, length-map-range_with_len}
-use lib.IntN.{*ℤ_comm}
 use Rattle.definitions.proofs.Ring.{linear}
 use Rattle.definitions.specs.Games.{Game, Allocation, share}
 use Rattle.definitions.specs.Shapley.{shapley_total, factorial, IsShapley}
 use Rattle.shapley.proofs.Sizes.{factorial-some}
+use Rattle.theorems.proofs.Products.{sorted_products}
 
 -- the totals, over n!
 abbrev shapley_shares : Game → Allocation
@@ -28,6 +27,4 @@ shapley_exists g = (
 
     each : (i : ℕ) → i < g.players
         → share (shapley_shares g) i *ℤ pos (factorial g.players) ≡ pos (factorial g.players) *ℤ shapley_total g i
-    each i lt =
-        ap (λ (z : ℤ). z *ℤ pos (factorial g.players)) (share-total g i lt)
-        ∙ *ℤ_comm (shapley_total g i) (pos (factorial g.players))
+    each i lt = omega (sorted_products, ap (λ (z : ℤ). z *ℤ pos (factorial g.players)) (share-total g i lt))

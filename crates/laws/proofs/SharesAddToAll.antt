@@ -1,27 +1,26 @@
 -- In each order the players together add the worth of all. So their totals add to that, as often as there are
 -- orders.
-use Rattle.std.proofs.Common.{◌≡◌, ℕ, zero, suc, ◌+◌, ◌^◌, ◌<◌, Bool, true, false}
-use Rattle.std.proofs.Common.{cond, nat_eq, List, [], ◌∷◌}
-use Rattle.std.proofs.Common.{length, ℤ, pos, ◌+ℤ◌, ◌-ℤ◌, ◌*ℤ◌, ◌<ℤ◌, refl, sym, ap}
-use Rattle.std.proofs.Common.{◌∙◌, inl, inr, arith}
+use Rattle.std.proofs.Common.{◌≡◌, ℕ, zero, suc, ◌+◌, ◌^◌, ◌<◌, Bool, true, false, cond, nat_eq, List, [], ◌∷◌, length}
+use Rattle.std.proofs.Common.{ℤ, pos, ◌+ℤ◌, ◌-ℤ◌, ◌*ℤ◌, ◌<ℤ◌, refl, sym, ap, ◌∙◌, inl, inr, arith}
 use lib.IntN.{*ℤ_comm}
 use Rattle.std.specs.List.{AllByRecursion}
 use Rattle.std.proofs.Math.Nat.{pow-suc}
 use Rattle.definitions.proofs.Alls.{all_weaken, all_with}
 use Rattle.definitions.proofs.Cases.{less_or_last, nat_eq-same, nat_eq-other, from_nat_eq}
 use Rattle.definitions.proofs.Masks.{grand_coalition-within}
-use Rattle.definitions.proofs.Members.{sum_below-same, sum_below-zero, sum_below-add}
-use Rattle.definitions.proofs.Members.{sum_below-times, sum_over-grand_coalition}
-use Rattle.definitions.proofs.Ring.{linear, zero-mulℤ, mul-cancelℤ, mul_left_commℤ, suc-mulℤ}
+use Rattle.definitions.proofs.Members.{sum_below-same, sum_below-zero, sum_below-add, sum_below-times}
+use Rattle.definitions.proofs.Members.{sum_over-grand_coalition}
+use Rattle.definitions.proofs.Ring.{linear, mul-cancelℤ, mul_left_commℤ, suc-mulℤ}
 use Rattle.definitions.proofs.MarginalWorths.{marginal_worth-none}
 use Rattle.definitions.specs.Sums.{sum_below}
 use Rattle.definitions.specs.Coalitions.{grand_coalition, sum_over}
 use Rattle.definitions.specs.Games.{Game, Allocation, share, amount, IsEfficient}
-use Rattle.definitions.specs.Shapley.{AllDiffer, IsOrder, insertions, orders, marginal_worth}
-use Rattle.definitions.specs.Shapley.{total_over, shapley_total, factorial, IsShapley}
+use Rattle.definitions.specs.Shapley.{AllDiffer, IsOrder, insertions, orders, marginal_worth, total_over, shapley_total}
+use Rattle.definitions.specs.Shapley.{factorial, IsShapley}
 use Rattle.shapley.proofs.EachOnce.{are_orders, length-orders}
 use Rattle.shapley.proofs.Orders.{All-map, All-flat_map}
 use Rattle.shapley.proofs.Sizes.{factorial-some}
+use Rattle.theorems.proofs.Products.{products}
 
 -- ---- the mask of a list of players
 
@@ -58,8 +57,7 @@ sum_one : (n p : ℕ) (c : ℤ) → p < n → sum_below n (λ i. cond (nat_eq p 
 sum_one zero p c lt = absurd (omega arith)
 sum_one (suc n) p c lt = elim (less_or_last p n lt) [
   | inl less ↦ omega (
-    arith,
-    linear,
+    products,
     sum_one n p c less,
     ap (λ (b : Bool). cond b c (pos 0)) (nat_eq-other p n (λ same. omega arith)),
   )
@@ -92,11 +90,9 @@ sum_marginals v n front (p ∷ o) below once =
         → cond b (v (front + 2 ^ i) -ℤ v front) (marginal_worth v i (front + 2 ^ p) o)
         ≡ cond b (v (front + 2 ^ p) -ℤ v front) (pos 0) +ℤ marginal_worth v i (front + 2 ^ p) o
     parts i true e =
-        let none =
-        ap (λ (k : ℕ). marginal_worth v k (front + 2 ^ p) o) (sym (from_nat_eq p i e))
+        let none = ap (λ (k : ℕ). marginal_worth v k (front + 2 ^ p) o) (sym (from_nat_eq p i e))
         ∙ marginal_worth-none v p (front + 2 ^ p) o once.0 in
-        let same = ap (λ (k : ℕ). v (front + 2 ^ k)) (sym (from_nat_eq p i e)) in
-        omega (arith, linear, none, same)
+        omega (arith, linear, none, ap (λ (k : ℕ). v (front + 2 ^ k)) (sym (from_nat_eq p i e)))
     parts i false e = omega (arith, linear)
 
 -- ---- all orders
@@ -104,14 +100,12 @@ sum_marginals v n front (p ∷ o) below once =
 sum_totals : (v : ℕ → ℤ) (n : ℕ) (c : ℤ) (os : List (List ℕ))
     → AllByRecursion (λ o. sum_below n (λ i. marginal_worth v i 0 o) ≡ c) os
     → sum_below n (λ i. total_over v i os) ≡ pos (length os) *ℤ c
-sum_totals v n c [] h = omega (arith, linear, sum_below-zero n (λ i. pos 0) (λ i lt. refl), zero-mulℤ c)
+sum_totals v n c [] h = omega (products, sum_below-zero n (λ i. pos 0) (λ i lt. refl))
 sum_totals v n c (o ∷ os) h =
-    let here = h.0 in
     omega (
-      arith,
-      linear,
+      products,
       sum_below-add n (λ i. marginal_worth v i 0 o) (λ i. total_over v i os),
-      here,
+      h.0,
       sum_totals v n c os h.1,
       suc-mulℤ (length os) c,
     )
@@ -151,13 +145,11 @@ efficient g x nobody h =
     let f = pos (factorial n) in
     let v = g.worth (grand_coalition n) in
     let times = sym (sum_below-times n (share x) f) in
-    let each =
-    sum_below-same n (λ i. f *ℤ share x i) (λ i. x.den *ℤ shapley_total g i)
+    let each = sum_below-same n (λ i. f *ℤ share x i) (λ i. x.den *ℤ shapley_total g i)
     (λ i lt. *ℤ_comm f (share x i) ∙ h.1 i lt) in
     let den = sum_below-times n (shapley_total g) x.den in
-    let all =
-    ap (λ (z : ℤ). x.den *ℤ z)
-    (sum-totals g ∙ ap (λ (z : ℤ). f *ℤ (v -ℤ z)) nobody ∙ ap (λ (z : ℤ). f *ℤ z) (whole v)) in
+    let all = ap (◌*ℤ◌ x.den)
+    (sum-totals g ∙ ap (λ (z : ℤ). f *ℤ (v -ℤ z)) nobody ∙ ap (◌*ℤ◌ f) (whole v)) in
     let turn = mul_left_commℤ x.den f v in
     amount-all g x h.0.0
     ∙ mul-cancelℤ f (sum_below n (share x)) (x.den *ℤ v) (factorial-positive n) (times ∙ each ∙ den ∙ all ∙ turn)

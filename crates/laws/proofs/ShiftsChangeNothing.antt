@@ -1,25 +1,26 @@
 -- A game and the game moved by a number of each player agree: every excess stays as it is, and every allocation is
 -- a moved one.
-use Rattle.std.proofs.Common.{◌≡◌, ℕ, ◌<◌, List, length, map, get_or, ℤ, pos}
-use Rattle.std.proofs.Common.{◌+ℤ◌, ◌-ℤ◌, ◌*ℤ◌, sym, ap, subst, ◌∙◌, arith}
+use Rattle.std.proofs.Common.{◌≡◌, ℕ, ◌<◌, List, length, map, get_or, ℤ, pos, ◌+ℤ◌, ◌-ℤ◌, ◌*ℤ◌, sym, ap, subst, ◌∙◌}
+use Rattle.std.proofs.Common.{arith}
 use Rattle.std.specs.List.{range_with_len}
 use Rattle.std.proofs.lemmas.List.{same_lists, get_or_default}
 use Rattle.std.proofs.lemmas.List.FromFn.{get_or-map-range_with_len, length-map-range_with_len}
-use Rattle.definitions.proofs.Ring.{linear, ring_laws, mul-addℤ, add-mulℤ}
+use Rattle.definitions.proofs.Ring.{linear, ring_laws, mul-addℤ}
 use Rattle.definitions.proofs.Families.{allocation_of}
 use Rattle.definitions.proofs.Members.{sum_over-singleton}
 use Rattle.definitions.proofs.SumsOver.{sum_over-same, sum_over-add, sum_over-times}
 use Rattle.definitions.proofs.Alls.{map_same}
 use Rattle.definitions.specs.Coalitions.{singleton, grand_coalition, proper_coalitions, sum_over}
 use Rattle.definitions.specs.Measures.{measured}
-use Rattle.definitions.specs.Games.{Game, Allocation, share, amount, excess, measured_excess}
-use Rattle.definitions.specs.Games.{excess_list, IsAllocation, IsEfficient, IsIndividuallyRational}
-use Rattle.definitions.specs.Games.{InFamily, Beats, IsSame, IsNucleolus, Blocks, InCore}
+use Rattle.definitions.specs.Games.{Game, Allocation, share, amount, excess, measured_excess, excess_list, IsAllocation}
+use Rattle.definitions.specs.Games.{IsEfficient, IsIndividuallyRational, InFamily, Beats, IsSame, IsNucleolus, Blocks}
+use Rattle.definitions.specs.Games.{InCore}
 use Rattle.definitions.specs.Order.{sorted, ComesBefore}
 use Rattle.definitions.specs.declared.Family.{Family}
 use Rattle.definitions.specs.declared.Family.TheVariants.{Imputations, Preimputations}
 use Rattle.definitions.specs.declared.Measure.{Measure}
 use Rattle.laws.specs.StrategicEquivalence.{shifted_game, shifted, AreShiftedAlike}
+use Rattle.theorems.proofs.Products.{products}
 
 -- ---- shares and excesses
 
@@ -48,8 +49,7 @@ amount-shifted b g x s h =
 
 excess-shifted : (b : ℕ → ℤ) (g : Game) (x : Allocation) (s : ℕ) → IsAllocation g x
     → excess (shifted_game b g) (shifted b x) s ≡ excess g x s
-excess-shifted b g x s h =
-    omega (arith, linear, amount-shifted b g x s h, mul-addℤ x.den (g.worth s) (sum_over g.players b s))
+excess-shifted b g x s h = omega (products, amount-shifted b g x s h)
 
 -- ---- families
 
@@ -96,14 +96,7 @@ family_from b Preimputations g x a h = (a, efficient_from b g x a h.1)
 -- both products rise by one product of three
 both_rise : (b : ℕ → ℤ) (x y : Allocation) (i : ℕ)
     → more b x i *ℤ y.den -ℤ more b y i *ℤ x.den ≡ share x i *ℤ y.den -ℤ share y i *ℤ x.den
-both_rise b x y i =
-    omega (
-      arith,
-      linear,
-      add-mulℤ (share x i) (x.den *ℤ b i) y.den,
-      add-mulℤ (share y i) (y.den *ℤ b i) x.den,
-      crossed x.den y.den (b i),
-    )
+both_rise b x y i = omega (products, crossed x.den y.den (b i))
   where
     crossed : (p q z : ℤ) → (p *ℤ z) *ℤ q ≡ (q *ℤ z) *ℤ p
     crossed p q z = simp ring_laws

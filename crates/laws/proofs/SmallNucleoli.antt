@@ -1,19 +1,17 @@
 -- A certificate of the majority game, for both families and both measures; and that of three airlines.
-use Rattle.std.proofs.Common.{◌≡◌, ℕ, ◌<◌, Bool, false, not, ◌||◌, [], ◌∷◌, ℤ}
-use Rattle.std.proofs.Common.{pos}
-use Rattle.std.proofs.Common.{◌*ℤ◌, int_le, refl, sym, ◌∙◌, inl, inr, arith, rules}
+use Rattle.std.proofs.Common.{◌≡◌, ℕ, ◌<◌, Bool, false, not, ◌||◌, [], ◌∷◌, ℤ, pos, ◌*ℤ◌, int_le, refl, sym, ◌∙◌, inl}
+use Rattle.std.proofs.Common.{inr, arith, rules}
 use Rattle.std.proofs.lemmas.Bool.{false≢true}
 use Rattle.std.proofs.lemmas.Int.{ints}
 use Rattle.definitions.proofs.Cases.{from_not}
 use Rattle.definitions.proofs.Splits.{passes_below-at}
 use Rattle.theorems.proofs.Examples.{from_int_eq, from_either, balances, fair_nucleolus}
 use Rattle.theorems.proofs.Soundness.{IsNucleolus-from_certificate}
-use Rattle.definitions.specs.Coalitions.{singleton, splits, members}
+use Rattle.definitions.specs.Coalitions.{splits, members}
 use Rattle.definitions.specs.Measures.{measured_den}
-use Rattle.definitions.specs.Games.{Game, share, measured_excess, InFamily}
+use Rattle.definitions.specs.Games.{Game, measured_excess, InFamily}
 use Rattle.definitions.specs.Certificates.{Level, HasForm, LevelHolds, Certifies, is_free}
 use Rattle.definitions.specs.declared.Family.{Family}
-use Rattle.definitions.specs.declared.Family.TheVariants.{Imputations, Preimputations}
 use Rattle.definitions.specs.declared.Measure.{Measure}
 use Rattle.definitions.specs.declared.Measure.TheVariants.{Plain, PerHead}
 use Rattle.definitions.specs.declared.Mode.TheVariants.{Players}
@@ -69,15 +67,7 @@ none_free Plain i h = from_not _ (passes_below-at 3 (λ i. not (is_free 3 (level
 none_free PerHead i h = from_not _ (passes_below-at 3 (λ i. not (is_free 3 (level (pos 6) ∷ []) i)) refl i h)
 
 member : (family : Family) → InFamily family majority thirds
-member Imputations = (
-  (refl, search rules),
-  refl,
-  λ i h.
-      (let e =
-      passes_below-at 3 (λ i. int_le (thirds.den *ℤ majority.worth (singleton i)) (share thirds i)) refl i h in
-      omega (arith, ints, e)),
-)
-member Preimputations = ((refl, search rules), refl)
+member family = grind (arith, ints, passes_below-at)
 
 certified : (family : Family) (measure : Measure)
     → Certifies Players family measure majority thirds (level (den_of measure) ∷ [])

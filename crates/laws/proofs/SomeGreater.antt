@@ -1,6 +1,5 @@
 -- Of two lists of numbers, one has a greater number at some place, or nowhere.
-use Rattle.std.proofs.Common.{◌⊎◌, ℕ, zero, suc, ◌<◌, ℤ, ◌<ℤ◌, ◌≤ℤ◌, ap, inl}
-use Rattle.std.proofs.Common.{inr, arith}
+use Rattle.std.proofs.Common.{◌⊎◌, ℕ, zero, suc, ◌<◌, ℤ, ◌<ℤ◌, ◌≤ℤ◌, ap, inl, inr, arith}
 use Rattle.std.proofs.lemmas.Int.{by_lt_z}
 use Rattle.definitions.proofs.Cases.{less_or_last}
 use Rattle.definitions.proofs.Ring.{linear}

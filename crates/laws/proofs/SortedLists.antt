@@ -1,7 +1,6 @@
 -- The sorted list falls and holds the same numbers, and two such lists are one.
-use Rattle.std.proofs.Common.{◌≡◌, ℕ, suc, ◌+◌, ◌≤◌, Bool, true, false, cond, List}
-use Rattle.std.proofs.Common.{[], ◌∷◌, length, ℤ, ◌≤ℤ◌}
-use Rattle.std.proofs.Common.{int_lt, refl, sym, ap, ap₂, subst, ◌∙◌, arith}
+use Rattle.std.proofs.Common.{◌≡◌, ℕ, suc, ◌+◌, ◌≤◌, Bool, cond, List, [], ◌∷◌, length, ℤ, ◌≤ℤ◌, int_lt, refl, sym, ap}
+use Rattle.std.proofs.Common.{ap₂, subst, ◌∙◌, arith}
 use Rattle.std.proofs.lemmas.Int.{ints}
 use Rattle.std.specs.List.{AllByRecursion}
 use Rattle.std.specs.Ordering.{int_eq}
@@ -24,8 +23,7 @@ all_with_number m f (x ∷ xs) le h = next_all (all_with_number m f xs le h.1) (
   where
     next_all : AllByRecursion (λ y. y ≤ℤ m) (with_number f xs) → (b : Bool)
         → AllByRecursion (λ y. y ≤ℤ m) (cond b (f ∷ (x ∷ xs)) (x ∷ with_number f xs))
-    next_all ih true = (le, h)
-    next_all ih false = (h.0, ih)
+    next_all ih b = grind arith
 
 pub Falls-with_number : (f : ℤ) (xs : List ℤ) → Falls xs → Falls (with_number f xs)
 Falls-with_number f [] h = (tt, tt)
@@ -33,10 +31,7 @@ Falls-with_number f (x ∷ xs) h = next_falls (Falls-with_number f xs h.1) (int_
   where
     next_falls : Falls (with_number f xs) → (b : Bool) → int_lt x f ≡ b
         → Falls (cond b (f ∷ (x ∷ xs)) (x ∷ with_number f xs))
-    next_falls ih true e =
-        let le : x ≤ℤ f = omega (arith, ints, e) in
-        ((le, all_weaken (λ y. y ≤ℤ x) (λ y. y ≤ℤ f) xs (λ y k. omega (arith, linear, k, le)) h.0), h)
-    next_falls ih false e = (all_with_number x f xs (omega (arith, ints, e)) h.0, ih)
+    next_falls ih b e = grind (arith, ints, all_weaken, all_with_number)
 
 pub times_in-with_number : (z f : ℤ) (xs : List ℤ) → times_in z (with_number f xs) ≡ one_if z f + times_in z xs
 times_in-with_number z f [] = refl
@@ -44,8 +39,7 @@ times_in-with_number z f (x ∷ xs) = next_times (times_in-with_number z f xs) (
   where
     next_times : times_in z (with_number f xs) ≡ one_if z f + times_in z xs → (b : Bool)
         → times_in z (cond b (f ∷ (x ∷ xs)) (x ∷ with_number f xs)) ≡ one_if z f + (one_if z x + times_in z xs)
-    next_times ih true = refl
-    next_times ih false = omega (arith, ih)
+    next_times ih b = grind arith
 
 pub length-with_number : (f : ℤ) (xs : List ℤ) → length (with_number f xs) ≡ suc (length xs)
 length-with_number f [] = refl
@@ -53,8 +47,7 @@ length-with_number f (x ∷ xs) = next_length (length-with_number f xs) (int_lt 
   where
     next_length : length (with_number f xs) ≡ suc (length xs) → (b : Bool)
         → length (cond b (f ∷ (x ∷ xs)) (x ∷ with_number f xs)) ≡ suc (suc (length xs))
-    next_length ih true = refl
-    next_length ih false = ap suc ih
+    next_length ih b = grind arith
 
 -- ---- the sorted list
 
@@ -77,14 +70,11 @@ standing m z [] h some = absurd (omega arith)
 standing m z (x ∷ xs) h some = next_standing (standing m z xs h.1) (int_eq x z) refl
   where
     next_standing : (1 ≤ times_in z xs → z ≤ℤ m) → (b : Bool) → int_eq x z ≡ b → z ≤ℤ m
-    next_standing ih true e = (let le = h.0 in let same = from_int_eq x z e in omega (arith, linear, same, le))
-    next_standing ih false e =
-        ih (let none : one_if z x ≡ 0 = ap (λ (b : Bool). cond b 1 0) e in omega (arith, none, some))
+    next_standing ih b e = grind (arith, linear, from_int_eq)
 
 -- the first of a list that falls is no less than what stands in it
 first_greatest : (x z : ℤ) (xs : List ℤ) → Falls (x ∷ xs) → 1 ≤ times_in z (x ∷ xs) → z ≤ℤ x
-first_greatest x z xs h some =
-    standing x z (x ∷ xs) (omega (arith, linear), h.0) some
+first_greatest x z xs h some = standing x z (x ∷ xs) (omega (arith, linear), h.0) some
 
 -- two lists that fall and hold the same numbers, each as often, are one
 pub falling_same : (xs ys : List ℤ) → Falls xs → Falls ys → ((z : ℤ) → times_in z xs ≡ times_in z ys) → xs ≡ ys
@@ -92,9 +82,8 @@ falling_same [] [] f g h = refl
 falling_same [] (y ∷ ys) f g h = absurd (let e = h y in let one = one_if-same y in omega (arith, e, one))
 falling_same (x ∷ xs) [] f g h = absurd (let e = h x in let one = one_if-same x in omega (arith, e, one))
 falling_same (x ∷ xs) (y ∷ ys) f g h =
-    let e = h x in
     let d = h y in
-    let low = first_greatest y x ys g (let one = one_if-same x in omega (arith, e, one)) in
+    let low = first_greatest y x ys g (omega (arith, h x, one_if-same x)) in
     let high = first_greatest x y xs f (let one = one_if-same y in omega (arith, d, one)) in
     let same : x ≡ y = omega (arith, linear, low, high) in
     ap₂ (λ (z : ℤ) (zs : List ℤ). z ∷ zs) same

@@ -1,21 +1,17 @@
 -- Each estate of at most the claims has shares of the rule. A bound from 0 on gives all together from nothing to all
 -- claims, and rises by as many units as there are claims above it: so a fraction between two whole bounds gives what is
 -- asked for.
-use Rattle.std.proofs.Common.{◌≡◌, ◌⊎◌, ℕ, zero, suc, ◌<◌, ◌≤◌, Bool, true, false}
-use Rattle.std.proofs.Common.{cond, nat_le}
-use Rattle.std.proofs.Common.{List, length, get_or, map, min, ℤ, pos, ◌+ℤ◌, ◌-ℤ◌, ◌*ℤ◌}
-use Rattle.std.proofs.Common.{◌≤ℤ◌, ◌<ℤ◌}
-use Rattle.std.proofs.Common.{int_le, refl, sym, ap, ◌∙◌, inl, inr, arith}
+use Rattle.std.proofs.Common.{◌≡◌, ◌⊎◌, ℕ, zero, suc, ◌<◌, ◌≤◌, Bool, true, false, cond, nat_le, List, length, get_or}
+use Rattle.std.proofs.Common.{map, min, ℤ, pos, ◌+ℤ◌, ◌-ℤ◌, ◌*ℤ◌, ◌≤ℤ◌, ◌<ℤ◌, int_le, refl, sym, ap, ◌∙◌, inl, inr}
+use Rattle.std.proofs.Common.{arith}
 use Rattle.std.specs.Int.{int_min}
 use Rattle.std.specs.List.{range_with_len}
 use Rattle.std.proofs.lemmas.Bool.Decides.{nat_tests}
 use Rattle.std.proofs.lemmas.Int.{ints, clamps, by_lt_z}
 use Rattle.std.proofs.lemmas.List.FromFn.{get_or-map-range_with_len, length-map-range_with_len}
-use lib.IntN.{*ℤ_comm}
-use Rattle.definitions.proofs.Members.{sum_below-same, sum_below-add, sum_below-times}
-use Rattle.definitions.proofs.Members.{sum_below-zero, sum_over-grand_coalition}
-use Rattle.definitions.proofs.Ring.{linear, mul-addℤ, add-mulℤ, mul-subℤ, mul-leℤ}
-use Rattle.definitions.proofs.Ring.{mul-oneℤ, mul-zeroℤ, one-mulℤ}
+use Rattle.definitions.proofs.Members.{sum_below-same, sum_below-add, sum_below-times, sum_below-zero}
+use Rattle.definitions.proofs.Members.{sum_over-grand_coalition}
+use Rattle.definitions.proofs.Ring.{linear, add-mulℤ, mul-leℤ, one-mulℤ}
 use Rattle.definitions.proofs.Cases.{int_min-left, int_min-right}
 use Rattle.definitions.specs.Coalitions.{grand_coalition, sum_over}
 use Rattle.definitions.specs.Sums.{sum_below}
@@ -23,6 +19,7 @@ use Rattle.definitions.specs.Games.{Allocation, share}
 use Rattle.orders.proofs.ListSums.{number_of}
 use Rattle.talmud.specs.Rule.{cut, cut_sum, is_little, IsTalmud}
 use Rattle.talmud.proofs.Worths.{cut_claim, cut-low, cut-covers}
+use Rattle.theorems.proofs.Products.{products, sorted_products}
 
 -- ---- a bound for all
 
@@ -34,8 +31,7 @@ step_one : (l c : ℕ) → pos (min c (suc l)) ≡ pos (min c l) +ℤ above l c
 step_one l c = one_either (nat_le c l) refl
   where
     one_either : (b : Bool) → nat_le c l ≡ b → pos (min c (suc l)) ≡ pos (min c l) +ℤ cond b (pos 0) (pos 1)
-    one_either true e = (let le : c ≤ l = grind (arith, nat_tests, e) in omega (arith, ints, le))
-    one_either false e = (let lt : l < c = grind (arith, nat_tests, e) in omega (arith, ints, lt))
+    one_either b e = grind (arith, ints, nat_tests)
 
 -- what a claim gets of a bound between two whole ones, times how many are above
 between : (k r : ℤ) (l c : ℕ) → pos 0 ≤ℤ r → r <ℤ k
@@ -48,17 +44,15 @@ between k r l c low lt = between_either (nat_le c l) refl
         let le : c ≤ l = grind (arith, nat_tests, e) in
         let up = mul-leℤ k (pos c) (pos l) (omega (arith, linear, low, lt)) (omega (arith, ints, le)) in
         let all : min c l ≡ c = omega (arith, le) in
-        let same = ap (λ (z : ℕ). k *ℤ pos z) all in
         int_min-left (k *ℤ pos c) (k *ℤ pos l +ℤ r) (omega (arith, linear, up, low))
-        ∙ sym (omega (arith, linear, same, mul-zeroℤ r))
+        ∙ sym (omega (products, ap (λ (z : ℕ). k *ℤ pos z) all))
     between_either false e =
         let more : suc l ≤ c = grind (arith, nat_tests, e) in
         let up = mul-leℤ k (pos l +ℤ pos 1) (pos c) (omega (arith, linear, low, lt)) (omega (arith, ints, more)) in
         let all : min c l ≡ l = omega (arith, more) in
-        let same = ap (λ (z : ℕ). k *ℤ pos z) all in
         int_min-right (k *ℤ pos c) (k *ℤ pos l +ℤ r)
-        (omega (arith, linear, up, lt, mul-addℤ k (pos l) (pos 1), mul-oneℤ k))
-        ∙ sym (omega (arith, linear, same, mul-oneℤ r))
+        (omega (products, up, lt))
+        ∙ sym (omega (products, ap (λ (z : ℕ). k *ℤ pos z) all))
 
 -- a bound over a denominator by which all together get an amount
 record Fills (n : ℕ) (c : ℕ → ℕ) (amount : ℤ) : Type 0 where
@@ -88,27 +82,23 @@ module _ (n : ℕ) (c : ℕ → ℕ) (amount : ℤ) where
       let few : r <ℤ k = omega (arith, linear, high, given-more l) in
       let rest : pos 0 ≤ℤ r = omega (arith, linear, low) in
       let some : pos 1 ≤ℤ k = omega (arith, linear, few, rest) in
-      let down = mul-leℤ k (pos 0) (pos l) (omega (arith, linear, some)) (omega (arith, ints)) in
       record {
         den = k;
         bound = k *ℤ pos l +ℤ r;
         positive = some;
-        low = omega (arith, linear, down, rest, mul-zeroℤ k);
+        low = omega (products, mul-leℤ k (pos 0) (pos l) (omega (arith, linear, some)) (omega (arith, ints)), rest);
         sums =
-            let each =
-            sum_below-same n (λ i. int_min (k *ℤ pos (c i)) (k *ℤ pos l +ℤ r))
+            let each = sum_below-same n (λ i. int_min (k *ℤ pos (c i)) (k *ℤ pos l +ℤ r))
             (λ i. k *ℤ pos (min (c i) l) +ℤ r *ℤ above l (c i)) (λ i lt. between k r l (c i) rest few) in
             let split = sum_below-add n (λ i. k *ℤ pos (min (c i) l)) (λ i. r *ℤ above l (c i)) in
             let first = sum_below-times n (λ i. pos (min (c i) l)) k in
-            let second = sum_below-times n (λ i. above l (c i)) r in
-            omega (arith, linear, each, split, first, second, *ℤ_comm r k, mul-subℤ k amount (given l));
+            omega (sorted_products, each, split, first, sum_below-times n (λ i. above l (c i)) r);
       }
 
   search : (l : ℕ) → pos 0 ≤ℤ amount → (given l ≤ℤ amount) ⊎ Fills n c amount
   search zero low =
       inl
-      (let none = sum_below-zero n (λ i. pos (min (c i) 0)) (λ i lt. nothing (c i)) in
-      omega (arith, linear, none, low))
+      (omega (arith, linear, sum_below-zero n (λ i. pos (min (c i) 0)) (λ i lt. nothing (c i)), low))
     where
       nothing : (d : ℕ) → pos (min d 0) ≡ pos 0
       nothing d = omega (arith, ints)
@@ -130,10 +120,9 @@ module _ (n : ℕ) (c : ℕ → ℕ) (amount : ℤ) where
           positive = omega (arith, linear);
           low = omega (arith, ints);
           sums =
-              let each =
-              sum_below-same n (λ i. int_min (pos 1 *ℤ pos (c i)) (pos top)) (λ i. pos (c i))
+              let each = sum_below-same n (λ i. int_min (pos 1 *ℤ pos (c i)) (pos top)) (λ i. pos (c i))
               (λ i lt. once (c i) (below i lt)) in
-              omega (arith, linear, each, le, enough, all, one-mulℤ amount);
+              omega (products, each, le, enough, all);
         }
   ]
     where
@@ -149,8 +138,7 @@ module _ (n : ℕ) (c : ℕ → ℕ) (amount : ℤ) where
 
 -- twice what the parts add to: the estate, where it is little, and otherwise what is missing
 abbrev divided : ℕ → List ℕ → ℤ
-divided estate claims =
-    cond (is_little estate claims) (pos estate) (cut_sum estate claims -ℤ pos estate)
+divided estate claims = cond (is_little estate claims) (pos estate) (cut_sum estate claims -ℤ pos estate)
 
 module _ (estate : ℕ) (claims : List ℕ)
     (f : Fills (length claims) (cut estate claims) (divided estate claims +ℤ divided estate claims)) where
@@ -175,34 +163,16 @@ module _ (estate : ℕ) (claims : List ℕ)
   total : (b : Bool) → is_little estate claims ≡ b
       → sum_below n (λ i. cond b (half i) (den *ℤ pos (cut estate claims i) -ℤ half i)) ≡ den *ℤ pos estate
   total true e =
-      let sums = f.sums in
       let here = ap (λ (b : Bool). cond b (pos estate) (cut_sum estate claims -ℤ pos estate)) e in
-      let amount = ap (λ (z : ℤ). f.den *ℤ (z +ℤ z)) here in
-      omega
-      (arith, linear, sums, amount, mul-addℤ f.den (pos estate) (pos estate), add-mulℤ f.den f.den (pos estate))
+      omega (products, f.sums, ap (λ (z : ℤ). f.den *ℤ (z +ℤ z)) here)
   total false e =
-      let sums = f.sums in
       let s = cut_sum estate claims in
       let here = ap (λ (b : Bool). cond b (pos estate) (s -ℤ pos estate)) e in
       let amount = ap (λ (z : ℤ). f.den *ℤ (z +ℤ z)) here in
-      let each =
-      sum_below-same n (λ i. den *ℤ pos (cut estate claims i))
+      let each = sum_below-same n (λ i. den *ℤ pos (cut estate claims i))
       (λ i. (den *ℤ pos (cut estate claims i) -ℤ half i) +ℤ half i) (λ i lt. omega (arith, linear)) in
       let split = sum_below-add n (λ i. den *ℤ pos (cut estate claims i) -ℤ half i) half in
-      let all = sum_below-times n (cut_claim estate claims) den in
-      omega (
-        arith,
-        linear,
-        sums,
-        amount,
-        each,
-        split,
-        all,
-        mul-addℤ f.den (s -ℤ pos estate) (s -ℤ pos estate),
-        add-mulℤ f.den f.den s,
-        add-mulℤ f.den f.den (pos estate),
-        mul-subℤ f.den s (pos estate),
-      )
+      omega (products, f.sums, amount, each, split, sum_below-times n (cut_claim estate claims) den)
 
   -- the part of each
   each_part : (b : Bool) (i : ℕ) (y : ℤ) → y ≡ cond b (half i) (den *ℤ pos (cut estate claims i) -ℤ half i)
@@ -216,7 +186,7 @@ module _ (estate : ℕ) (claims : List ℕ)
   made : IsTalmud estate claims rule_shares
   made = record {
     players = length-map-range_with_len gets 0 n;
-    positive = (let one = f.positive in omega (arith, linear, one));
+    positive = omega (arith, linear, f.positive);
     all = sum_below-same n (share rule_shares) gets share-at ∙ total (is_little estate claims) refl;
     parts = (
       f.bound,
@@ -233,13 +203,11 @@ module _ (estate : ℕ) (claims : List ℕ)
 -- the amount is from nothing to the cut claims
 amount_low : (estate : ℕ) (s : ℤ) (b : Bool) → pos estate ≤ℤ s
     → pos 0 ≤ℤ (cond b (pos estate) (s -ℤ pos estate) +ℤ cond b (pos estate) (s -ℤ pos estate))
-amount_low estate s true h = omega (arith, ints)
-amount_low estate s false h = omega (arith, linear, h)
+amount_low estate s b h = grind (arith, ints)
 
 amount_high : (estate : ℕ) (s : ℤ) (b : Bool) → int_le (pos estate +ℤ pos estate) s ≡ b
     → (cond b (pos estate) (s -ℤ pos estate) +ℤ cond b (pos estate) (s -ℤ pos estate)) ≤ℤ s
-amount_high estate s true e = omega (arith, linear, e)
-amount_high estate s false e = omega (arith, linear, e)
+amount_high estate s b e = grind (arith, linear)
 
 pub talmud_exists : (estate : ℕ) (claims : List ℕ)
     → pos estate ≤ℤ sum_below (length claims) (λ i. pos (get_or claims i 0))
@@ -248,8 +216,7 @@ talmud_exists estate claims enough =
     let n = length claims in
     let s = cut_sum estate claims in
     let covers = covered (cut-covers estate claims n (grand_coalition n)).2 in
-    let f =
-    fills n (cut estate claims) (divided estate claims +ℤ divided estate claims) estate
+    let f = fills n (cut estate claims) (divided estate claims +ℤ divided estate claims) estate
     (λ i lt. (let low = cut-low estate claims i in omega (arith, ints, low)))
     (amount_low estate s (is_little estate claims) covers)
     (amount_high estate s (is_little estate claims) refl) in
@@ -262,14 +229,4 @@ talmud_exists estate claims enough =
         ≡ sum_over (length claims) (number_of claims) all)
         ⊎ (pos estate ≤ℤ sum_over (length claims) (cut_claim estate claims) all)
         → pos estate ≤ℤ cut_sum estate claims
-    covered (inl same) =
-        omega (
-          arith,
-          linear,
-          same,
-          enough,
-          sum_over-grand_coalition (length claims) (cut_claim estate claims),
-          sum_over-grand_coalition (length claims) (number_of claims),
-        )
-    covered (inr more) =
-        omega (arith, linear, more, sum_over-grand_coalition (length claims) (cut_claim estate claims))
+    covered h = grind (arith, linear, cut_claim, number_of, sum_over-grand_coalition)

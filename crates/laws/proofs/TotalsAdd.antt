@@ -1,6 +1,6 @@
 -- What a player adds in the sum of two games is the sum of what it adds in both, in each order and so over all.
-use Rattle.std.proofs.Common.{◌≡◌, ℕ, ◌+◌, ◌^◌, Bool, true, false, cond, nat_eq, List}
-use Rattle.std.proofs.Common.{[], ◌∷◌, ℤ, ◌+ℤ◌, ◌-ℤ◌, ap, ◌∙◌, arith}
+use Rattle.std.proofs.Common.{◌≡◌, ℕ, ◌+◌, ◌^◌, Bool, true, false, cond, nat_eq, List, [], ◌∷◌, ℤ, ◌+ℤ◌, ◌-ℤ◌, ap, ◌∙◌}
+use Rattle.std.proofs.Common.{arith}
 use Rattle.definitions.proofs.Ring.{linear}
 use Rattle.definitions.specs.Games.{Game}
 use Rattle.definitions.specs.Shapley.{marginal_worth, total_over, orders, shapley_total}

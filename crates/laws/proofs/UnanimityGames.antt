@@ -1,10 +1,7 @@
 -- Games in which a coalition is worth something just where it holds all of a given one: no lesser mask is worth
 -- anything.
-use Rattle.std.proofs.Common.{◌≡◌, ℕ, zero, suc, ◌+◌, ◌-◌, ◌^◌, ◌<◌, ◌≤◌, Bool}
-use Rattle.std.proofs.Common.{true, false, cond}
-use Rattle.std.proofs.Common.{◌&&◌, not, ℤ, pos, ◌-ℤ◌, ◌≤ℤ◌, refl, sym, ap, inl, inr}
-use Rattle.std.proofs.Common.{arith}
-use Rattle.std.proofs.lemmas.Bool.{false≢true}
+use Rattle.std.proofs.Common.{◌≡◌, ℕ, zero, suc, ◌+◌, ◌-◌, ◌^◌, ◌<◌, ◌≤◌, Bool, true, false, cond, ◌&&◌, not, ℤ, pos}
+use Rattle.std.proofs.Common.{◌-ℤ◌, ◌≤ℤ◌, refl, ap, inl, inr, arith}
 use Rattle.std.proofs.lemmas.Int.{ints}
 use Rattle.std.proofs.Math.Nat.{pow-suc}
 use Rattle.definitions.proofs.Cases.{below_or_above, less_or_last, same_or_other, true_or_false}
@@ -27,8 +24,7 @@ pub misses-self : (n k : ℕ) → misses n k k ≡ false
 misses-self n k = some_below-none n (λ i. has_player k i && not (has_player k i)) (λ i lt. both (has_player k i))
   where
     both : (b : Bool) → (b && not b) ≡ false
-    both true = refl
-    both false = refl
+    both b = grind arith
 
 pub misses-member : (n k s j : ℕ) → j < n → has_player k j ≡ true → has_player s j ≡ false → misses n k s ≡ true
 misses-member n k s j lt has out =
@@ -64,17 +60,14 @@ value (suc n) s lt = elim (below_or_above s (2 ^ n)) [
     upper : (n r : ℕ) → r < 2 ^ n → sum_over n (λ i. pos (2 ^ i)) r ≡ pos r
         → sum_over (suc n) (λ i. pos (2 ^ i)) (2 ^ n + r) ≡ pos (2 ^ n + r)
     upper n r h ih =
-        let low =
-        sum_below-same n (λ i. cond (has_player (2 ^ n + r) i) (pos (2 ^ i)) (pos 0))
+        let low = sum_below-same n (λ i. cond (has_player (2 ^ n + r) i) (pos (2 ^ i)) (pos 0))
         (λ i. cond (has_player r i) (pos (2 ^ i)) (pos 0))
         (λ i k. ap (λ (b : Bool). cond b (pos (2 ^ i)) (pos 0)) (has_player-lower n r i k)) in
-        let top = ap (λ (b : Bool). cond b (pos (2 ^ n)) (pos 0)) (has_player-upper n r h) in
-        omega (arith, linear, low, top, ih)
+        omega (arith, linear, low, ap (λ (b : Bool). cond b (pos (2 ^ n)) (pos 0)) (has_player-upper n r h), ih)
 
 no_less : (n k s : ℕ) → k < 2 ^ n → s < 2 ^ n → misses n k s ≡ false → k ≤ s
 no_less n k s hk hs none =
-    let le =
-    sum_below-le n (λ i. cond (has_player k i) (pos (2 ^ i)) (pos 0))
+    let le = sum_below-le n (λ i. cond (has_player k i) (pos (2 ^ i)) (pos 0))
     (λ i. cond (has_player s i) (pos (2 ^ i)) (pos 0))
     (λ i lt. at (has_player k i) (has_player s i) (pos (2 ^ i)) (omega (arith, ints))
     (some_below-false n (λ j. has_player k j && not (has_player s j)) none i lt)) in
@@ -82,10 +75,7 @@ no_less n k s hk hs none =
     omega (arith, ints, less)
   where
     at : (b c : Bool) (z : ℤ) → pos 0 ≤ℤ z → (b && not c) ≡ false → cond b z (pos 0) ≤ℤ cond c z (pos 0)
-    at true true z h e = omega (arith, linear)
-    at true false z h e = absurd (false≢true (sym e))
-    at false true z h e = h
-    at false false z h e = omega (arith, linear)
+    at b c z h e = grind (arith, linear)
 
 pub misses-less : (n k s : ℕ) → k < 2 ^ n → s < k → misses n k s ≡ true
 misses-less n k s h lt = elim (true_or_false (misses n k s)) [
@@ -98,8 +88,7 @@ pub below_next : (n k : ℕ) (v : ℕ → ℤ) → ((s : ℕ) → s < k → v s 
     → v s -ℤ carried n k (v k) s ≡ pos 0
 below_next n k v none small s h = elim (less_or_last s k h) [
   | inl less ↦
-      let out = ap (λ (b : Bool). cond b (pos 0) (v k)) (misses-less n k s small less) in
-      omega (arith, linear, none s less, out)
+      omega (arith, linear, none s less, ap (λ (b : Bool). cond b (pos 0) (v k)) (misses-less n k s small less))
   | inr same ↦
       let inside = ap (λ (b : Bool). cond b (pos 0) (v k)) (misses-self n k) in
       omega (arith, linear, inside, ap v same, ap (carried n k (v k)) same)

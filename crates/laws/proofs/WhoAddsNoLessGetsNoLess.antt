@@ -1,9 +1,7 @@
 -- Whoever adds no less than another to every coalition without both gets no less: else the nucleolus, with the two
 -- shares made equal, would be beaten.
-use Rattle.std.proofs.Common.{◌≡◌, ◌≢◌, ℕ, ◌+◌, ◌^◌, ◌<◌, ◌≤◌, true, false, not}
-use Rattle.std.proofs.Common.{length, ℤ, pos, ◌+ℤ◌}
-use Rattle.std.proofs.Common.{◌-ℤ◌, ◌*ℤ◌, ◌≤ℤ◌, refl, sym, ap, ◌∙◌, ◌/◌, inl, inr}
-use Rattle.std.proofs.Common.{arith}
+use Rattle.std.proofs.Common.{◌≡◌, ◌≢◌, ℕ, ◌+◌, ◌^◌, ◌<◌, true, false, not, length, ℤ, pos, ◌+ℤ◌, ◌-ℤ◌, ◌*ℤ◌, ◌≤ℤ◌}
+use Rattle.std.proofs.Common.{refl, sym, ap, ◌∙◌, inl, inr, arith}
 use Rattle.std.proofs.lemmas.Int.{by_lt_z}
 use Rattle.definitions.proofs.Cases.{same_or_other, from_not}
 use Rattle.definitions.proofs.Families.{allocation_of, individual_of}
@@ -14,33 +12,26 @@ use Rattle.definitions.proofs.Members.{has_player-empty}
 use Rattle.definitions.proofs.Parts.{has_player-more_same, has_player-more_other, more-lt, sum_over-more}
 use Rattle.definitions.proofs.Ring.{linear, mul-leℤ}
 use Rattle.definitions.proofs.Sizes.{size-at}
-use Rattle.theorems.proofs.Moves.{moved, excess-raised, IsMeasuredSurplus, CanGive}
-use Rattle.theorems.proofs.Moves.{measured-less, parted, joined, proper_of, no_gain}
+use Rattle.theorems.proofs.Moves.{moved, excess-raised, IsMeasuredSurplus, CanGive, measured-less, parted, joined}
+use Rattle.theorems.proofs.Moves.{proper_of, no_gain}
 use Rattle.theorems.proofs.Transfers.{measured_surplus_of}
 use Rattle.laws.proofs.Withouts.{without}
 use Rattle.definitions.specs.Coalitions.{has_player}
 use Rattle.definitions.specs.Measures.{IsMeasurable}
-use Rattle.definitions.specs.Games.{Game, Allocation, share, amount, excess}
-use Rattle.definitions.specs.Games.{measured_excess, IsAllocation, IsNucleolus}
+use Rattle.definitions.specs.Games.{Game, Allocation, share, amount, excess, measured_excess, IsAllocation, IsNucleolus}
 use Rattle.definitions.specs.Prekernel.{holds_without}
 use Rattle.definitions.specs.declared.Family.{Family}
 use Rattle.definitions.specs.declared.Family.TheVariants.{Imputations}
 use Rattle.definitions.specs.declared.Measure.{Measure}
-use Rattle.definitions.specs.declared.Measure.TheVariants.{Plain, PerHead}
 use Rattle.definitions.specs.Players.{AddsNoLess}
+use Rattle.theorems.proofs.Products.{products}
 
 -- ---- the coalition with one player in the place of the other
 
 -- as many members, so the same weight
 same_weight : (measure : Measure) (n r i j : ℕ) → IsMeasurable measure n → r < 2 ^ n → i < n → j < n
     → has_player r i ≡ false → has_player r j ≡ false → weight measure (r + 2 ^ i) ≡ weight measure (r + 2 ^ j)
-same_weight Plain n r i j m within hi hj a b = refl
-same_weight PerHead n r i j (inl e) within hi hj a b = absurd (cc)
-same_weight PerHead n r i j (inr few) within hi hj a b =
-    let all : n ≤ 64 = omega arith in
-    ap (λ (k : ℕ). pos (720720 / k))
-    (size-at n (r + 2 ^ i) all (more-lt n r i within hi a) ∙ size_below-more n i r hi a
-    ∙ sym (size_below-more n j r hj b) ∙ sym (size-at n (r + 2 ^ j) all (more-lt n r j within hj b)))
+same_weight measure n r i j m within hi hj a b = grind (arith, more-lt, size-at, size_below-more)
 
 amount-more : (g : Game) (x : Allocation) (r i : ℕ) → IsAllocation g x → i < g.players → has_player r i ≡ false
     → amount x (r + 2 ^ i) ≡ amount x r +ℤ share x i
@@ -51,8 +42,7 @@ excess-other : (g : Game) (x : Allocation) (r i j : ℕ) → AddsNoLess g i j �
     → i < g.players → j < g.players → has_player r i ≡ false → has_player r j ≡ false
     → (excess g x (r + 2 ^ j) +ℤ (share x j -ℤ share x i)) ≤ℤ excess g x (r + 2 ^ i)
 excess-other g x r i j adds h within hi hj a b =
-    let worth =
-    mul-leℤ x.den (g.worth (r + 2 ^ j)) (g.worth (r + 2 ^ i)) (omega (arith, linear, h.1))
+    let worth = mul-leℤ x.den (g.worth (r + 2 ^ j)) (g.worth (r + 2 ^ i)) (omega (arith, linear, h.1))
     (adds r within a b) in
     omega (arith, linear, worth, amount-more g x r i h hi a, amount-more g x r j h hj b)
 
@@ -75,8 +65,7 @@ no_more_by family measure g x i j c can h hi hj ne adds gap one =
         let v = adds 0 (omega (arith, singleton-within g.players i hi)) (has_player-empty i) (has_player-empty j) in
         let a : 0 + 2 ^ i ≡ 2 ^ i = omega arith in
         let b : 0 + 2 ^ j ≡ 2 ^ j = omega arith in
-        let alone =
-        mul-leℤ x.den (g.worth (2 ^ j)) (g.worth (2 ^ i)) (omega (arith, linear, hx.1))
+        let alone = mul-leℤ x.den (g.worth (2 ^ j)) (g.worth (2 ^ i)) (omega (arith, linear, hx.1))
         (omega (arith, linear, v, ap g.worth a, ap g.worth b)) in
         omega (arith, linear, r i hi, r j hj, alone, gap)
 
@@ -99,21 +88,16 @@ no_more_by family measure g x i j c can h hi hj ne adds gap one =
         let u = excess g (moved c x i j) s in
         let other = excess-other g x r i j adds hx part.1 hi hj lacks_i part.2 in
         let raised = excess-raised c g x i j s hx hi hj holds in
-        let here = ap (excess g x) part.3 in
-        let at_most : u ≤ℤ (e +ℤ e -ℤ c) = omega (arith, linear, raised, other, here, gap) in
+        let at_most : u ≤ℤ (e +ℤ e -ℤ c) = omega (arith, linear, raised, other, ap (excess g x) part.3, gap) in
         let w = weight measure t in
         let weighs : weight measure s ≡ w =
         ap (weight measure) part.3 ∙ same_weight measure n r j i can part.1 hj hi part.2 lacks_i in
         let some = (proper_of n i j t hj t_within t_holds).0 in
         let up = weight-positive measure n t can (omega (arith, some)) t_within in
-        let first = mul-leℤ w u (e +ℤ e -ℤ c) (omega (arith, linear, up)) at_most in
-        let second =
-        measured-less measure n t e c m can (omega (arith, some)) t_within one (most.1 t (t_within, t_holds)) in
         omega (
-          arith,
-          linear,
-          first,
-          second,
+          products,
+          mul-leℤ w u (e +ℤ e -ℤ c) (omega (arith, linear, up)) at_most,
+          measured-less measure n t e c m can (omega (arith, some)) t_within one (most.1 t (t_within, t_holds)),
           measured-weight measure s u,
           ap (λ (z : ℤ). z *ℤ u) weighs,
           measured-weight measure t (e +ℤ e -ℤ c),

@@ -1,10 +1,9 @@
 -- Who claims more of an estate loses no less: beside minus the claims, the one with the lesser claim adds no less.
-use Rattle.std.proofs.Common.{◌≡◌, false, ◌+ℤ◌, ℕ, ◌+◌, ◌-◌, ◌^◌, ◌<◌, ◌≤◌, List}
-use Rattle.std.proofs.Common.{length, ℤ, pos}
-use Rattle.std.proofs.Common.{◌-ℤ◌, ◌*ℤ◌, neg_ℤ, ◌≤ℤ◌, inl, inr, arith, slice_index}
+use Rattle.std.proofs.Common.{◌≡◌, false, ◌+ℤ◌, ℕ, ◌+◌, ◌-◌, ◌^◌, ◌<◌, ◌≤◌, List, length, ℤ, pos, ◌-ℤ◌, ◌*ℤ◌, neg_ℤ}
+use Rattle.std.proofs.Common.{◌≤ℤ◌, inl, inr, arith, slice_index}
 use Rattle.std.specs.Int.{int_max}
 use Rattle.definitions.proofs.Cases.{int_max-cases}
-use Rattle.definitions.proofs.Ring.{linear, mul-negℤ}
+use Rattle.definitions.proofs.Ring.{linear}
 use Rattle.laws.proofs.BesideTheirOwn.{AddsNoLessWith, gets_no_less_with}
 use Rattle.definitions.proofs.Members.{sum_over-complement}
 use Rattle.definitions.proofs.Parts.{more-lt, sum_over-more}
@@ -14,6 +13,7 @@ use Rattle.definitions.specs.Measures.{IsMeasurable}
 use Rattle.definitions.specs.Games.{Allocation, share, IsNucleolus}
 use Rattle.definitions.specs.declared.Family.{Family}
 use Rattle.definitions.specs.declared.Measure.{Measure}
+use Rattle.theorems.proofs.Products.{products}
 
 -- what the others than a coalition and one player claim
 others_claim : (n : ℕ) (a : ℕ → ℤ) (s i j : ℕ) → s < 2 ^ n → i < n → j < n → has_player s i ≡ false
@@ -21,8 +21,7 @@ others_claim : (n : ℕ) (a : ℕ → ℤ) (s i j : ℕ) → s < 2 ^ n → i < n
     → sum_over n a (grand_coalition n - (s + 2 ^ i)) +ℤ a i ≡ sum_over n a (grand_coalition n - (s + 2 ^ j)) +ℤ a j
 others_claim n a s i j within hi hj p q =
     omega (
-      arith,
-      linear,
+      products,
       sum_over-complement n (s + 2 ^ i) a (more-lt n s i within hi p),
       sum_over-complement n (s + 2 ^ j) a (more-lt n s j within hj q),
       sum_over-more n s i a hi p,
@@ -45,8 +44,7 @@ adds_no_less estate claims i j hi hj le s within b a =
     let n = length claims in
     let claim : ℕ → ℤ = λ k. pos (slice_index claims k) in
     let less : pos (slice_index claims j) ≤ℤ pos (slice_index claims i) = omega (arith, linear, le) in
-    let order =
-    left_order (pos estate -ℤ sum_over n claim (grand_coalition n - (s + 2 ^ i)))
+    let order = left_order (pos estate -ℤ sum_over n claim (grand_coalition n - (s + 2 ^ i)))
     (pos estate -ℤ sum_over n claim (grand_coalition n - (s + 2 ^ j))) (claim i) (claim j)
     (omega (arith, linear, others_claim n claim s i j within hi hj a b)) less in
     omega (arith, linear, order)
@@ -58,13 +56,6 @@ pub claims_more_loses_no_less : (family : Family) (measure : Measure) (estate : 
     → (x.den *ℤ pos (slice_index claims j) -ℤ share x j) ≤ℤ (x.den *ℤ pos (slice_index claims i) -ℤ share x i)
 claims_more_loses_no_less family measure estate claims x i j can h hi hj le =
     let b : ℕ → ℤ = λ k. neg_ℤ (pos (slice_index claims k)) in
-    let less =
-    gets_no_less_with b family measure (bankruptcy_game estate claims) x j i can h hj hi
+    let less = gets_no_less_with b family measure (bankruptcy_game estate claims) x j i can h hj hi
     (adds_no_less estate claims i j hi hj le) in
-    omega (
-      arith,
-      linear,
-      less,
-      mul-negℤ x.den (pos (slice_index claims i)),
-      mul-negℤ x.den (pos (slice_index claims j)),
-    )
+    omega (products, less)

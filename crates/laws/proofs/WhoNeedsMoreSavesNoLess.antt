@@ -1,7 +1,6 @@
 -- Who needs more of a runway saves no less: beside the costs alone, the one who needs more adds no less.
-use Rattle.std.proofs.Common.{◌≡◌, ℕ, ◌+◌, ◌-◌, ◌^◌, ◌<◌, ◌≤◌, true, false, List}
-use Rattle.std.proofs.Common.{length, ℤ, pos, ◌+ℤ◌}
-use Rattle.std.proofs.Common.{◌*ℤ◌, ◌≤ℤ◌, sym, ap, ◌∙◌, inl, inr, arith, slice_index}
+use Rattle.std.proofs.Common.{◌≡◌, ℕ, ◌+◌, ◌-◌, ◌^◌, ◌<◌, ◌≤◌, true, false, List, length, ℤ, pos, ◌+ℤ◌, ◌*ℤ◌, ◌≤ℤ◌, sym}
+use Rattle.std.proofs.Common.{ap, ◌∙◌, inl, inr, arith, slice_index}
 use Rattle.std.proofs.lemmas.Bool.{false≢true}
 use Rattle.std.proofs.lemmas.Int.{ints}
 use Rattle.definitions.proofs.Cases.{same_or_other}
@@ -37,8 +36,7 @@ rises_no_more n cost s i j hi a b le =
 adds_no_less : (costs : List ℕ) (i j : ℕ) → i < length costs → slice_index costs i ≤ slice_index costs j
     → AddsNoLessWith (λ k. pos (slice_index costs k)) (airport_game costs) j i
 adds_no_less costs i j hi le s within b a =
-    let h = rises_no_more (length costs) (slice_index costs) s i j hi a b le in
-    omega (arith, ints, h)
+    omega (arith, ints, rises_no_more (length costs) (slice_index costs) s i j hi a b le)
 
 pub needs_more_saves_no_less : (family : Family) (measure : Measure) (costs : List ℕ) (x : Allocation) (i j : ℕ)
     → IsMeasurable measure (length costs) → IsNucleolus family measure (airport_game costs) x → i < length costs

@@ -1,8 +1,7 @@
 -- Where some allocation is in the core, the prenucleolus is an imputation, and so the nucleolus. And the nucleolus
 -- beats each preimputation that gives somebody less than alone, since there an excess is above 0 and at a core point
 -- none is.
-use Rattle.std.proofs.Common.{◌≡◌, ◌↔◌, ℕ, ◌^◌, ◌<◌, ◌≤◌, pos, ◌*ℤ◌, ◌<ℤ◌, ap}
-use Rattle.std.proofs.Common.{◌∙◌, inl, inr, arith}
+use Rattle.std.proofs.Common.{◌≡◌, ◌↔◌, ℕ, ◌^◌, ◌<◌, ◌≤◌, pos, ◌*ℤ◌, ◌<ℤ◌, ap, ◌∙◌, inl, inr, arith}
 use Rattle.std.proofs.Math.Pow.{pow-lt}
 use Rattle.definitions.proofs.Masks.{grand_coalition-within}
 use Rattle.definitions.proofs.Members.{sum_over-singleton}
@@ -11,8 +10,8 @@ use Rattle.laws.proofs.NucleolusIsInCore.{core_family, core_beats, excess_grand,
 use Rattle.laws.proofs.SomeGreater.{some_greater}
 use Rattle.definitions.specs.Coalitions.{singleton, grand_coalition, sum_over}
 use Rattle.definitions.specs.Measures.{IsMeasurable}
-use Rattle.definitions.specs.Games.{Game, Allocation, share, amount, excess, Beats}
-use Rattle.definitions.specs.Games.{IsSame, InFamily, IsNucleolus, InCore}
+use Rattle.definitions.specs.Games.{Game, Allocation, share, amount, excess, Beats, IsSame, InFamily, IsNucleolus}
+use Rattle.definitions.specs.Games.{InCore}
 use Rattle.definitions.specs.declared.Family.TheVariants.{Imputations, Preimputations}
 use Rattle.definitions.specs.declared.Measure.{Measure}
 

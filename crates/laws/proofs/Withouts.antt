@@ -1,6 +1,5 @@
 -- A coalition with a player as one without.
-use Rattle.std.proofs.Common.{◌≡◌, ℕ, ◌+◌, ◌-◌, ◌^◌, ◌<◌, true, false, not, ap}
-use Rattle.std.proofs.Common.{◌∙◌, arith}
+use Rattle.std.proofs.Common.{◌≡◌, ℕ, ◌+◌, ◌-◌, ◌^◌, ◌<◌, true, false, not, ap, ◌∙◌, arith}
 use Rattle.definitions.proofs.Members.{has_player-complement}
 use Rattle.definitions.proofs.Parts.{has_player-more_same, more-lt}
 use Rattle.definitions.specs.Coalitions.{has_player, grand_coalition}

@@ -1,6 +1,5 @@
 -- Which of two links costs less doesn't change where both are taken times one number.
-use Rattle.std.proofs.Common.{◌≡◌, ◌⊎◌, ℕ, ◌+◌, ◌-◌, ◌*◌, ◌<◌, ◌≤◌, Bool}
-use Rattle.std.proofs.Common.{List, [], ◌∷◌, ℤ, pos, neg_ℤ, ◌*ℤ◌, ap, ◌∙◌}
+use Rattle.std.proofs.Common.{◌≡◌, ◌⊎◌, ℕ, ◌+◌, ◌-◌, ◌*◌, ◌<◌, ◌≤◌, Bool, List, [], ◌∷◌, ℤ, pos, neg_ℤ, ◌*ℤ◌, ap, ◌∙◌}
 use Rattle.std.proofs.Common.{inl, inr, arith}
 use Rattle.std.proofs.lemmas.Int.{ints}
 use Rattle.std.proofs.Math.Nat.{le_refl, mul-le-mul}
@@ -16,14 +15,12 @@ use Rattle.monotonicity.specs.BirdShares.{BirdTimes}
 
 less_times : (k a b : ℕ) → 1 ≤ k → a < b → k * a < k * b
 less_times k a b one lt =
-    let le = mul-le-mul (le_refl k) lt in
     let next : k * (a + 1) ≡ k * a + k = omega arith in
-    omega (arith, one, le, next)
+    omega (arith, one, mul-le-mul (le_refl k) lt, next)
 
 module _ (k : ℕ) (matrix : Matrix) (one : 1 ≤ k) where
   later_to : (p r : ℕ × ℕ) → IsNoLater matrix p r → IsNoLater (matrix_times k matrix) p r
-  later_to p r (inl lt) = inl (less_times k (entry matrix p.0 p.1) (entry matrix r.0 r.1) one lt)
-  later_to p r (inr h) = inr (ap (λ (c : ℕ). k * c) h.0, h.1)
+  later_to p r h = grind (arith, less_times)
 
   later_from : (p r : ℕ × ℕ) → IsNoLater (matrix_times k matrix) p r → IsNoLater matrix p r
   later_from p r h = elim (less_same_or_greater (entry matrix p.0 p.1) (entry matrix r.0 r.1)) [
@@ -34,12 +31,10 @@ module _ (k : ℕ) (matrix : Matrix) (one : 1 ≤ k) where
     where
       ties : IsNoLater (matrix_times k matrix) p r → k * entry matrix p.0 p.1 ≡ k * entry matrix r.0 r.1
           → (p.0 < r.0) ⊎ ((p.0 ≡ r.0) × (p.1 ≤ r.1))
-      ties (inl lt) e = absurd (omega (arith, lt, e))
-      ties (inr t) e = t.1
+      ties h e = grind arith
 
       never : IsNoLater (matrix_times k matrix) p r → k * entry matrix r.0 r.1 < k * entry matrix p.0 p.1 → ⊥
-      never (inl lt) more = omega (arith, lt, more)
-      never (inr t) more = omega (arith, t.0, more)
+      never h more = grind arith
 
   plan_to : (connected waiting : ℕ → Bool) (plan : List (ℕ × ℕ)) → IsBirdFrom matrix connected waiting plan
       → IsBirdFrom (matrix_times k matrix) connected waiting plan
@@ -68,7 +63,7 @@ module _ (k : ℕ) (matrix : Matrix) (one : 1 ≤ k) where
   paid x (p ∷ plan) h =
       let c = entry matrix p.0 p.1 in
       let product : pos k *ℤ pos c ≡ pos (k * c) = omega (arith, ints) in (
-        share_times (pos k) x (p.1 - 1) ∙ ap (λ (z : ℤ). pos k *ℤ z) h.0 ∙ mul-negℤ (pos k) (pos c)
+        share_times (pos k) x (p.1 - 1) ∙ ap (◌*ℤ◌ (pos k)) h.0 ∙ mul-negℤ (pos k) (pos c)
             ∙ ap neg_ℤ product,
         paid x plan h.1,
       )

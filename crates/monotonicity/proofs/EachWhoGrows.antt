@@ -1,6 +1,7 @@
 -- A member of the coalition that grows adds no less than before to each coalition, and each other player no more.
 use Rattle.std.proofs.Common.{◌≡◌, ◌≢◌, ℕ, ◌+◌, ◌^◌, ◌<◌, true, false, ℤ, pos}
-use Rattle.std.proofs.Common.{◌+ℤ◌, ◌≤ℤ◌, refl, sym, ap, subst, ◌∙◌, inl, inr, arith}
+use Rattle.std.proofs.Common.{◌+ℤ◌, ◌≤ℤ◌, refl, sym, ap, subst, ◌∙◌}
+use Rattle.std.proofs.Common.{inl, inr, arith}
 use Rattle.std.proofs.lemmas.Bool.{false≢true}
 use Rattle.definitions.proofs.Cases.{same_or_other}
 use Rattle.definitions.proofs.Parts.{has_player-more_same, more-lt}
@@ -11,6 +12,7 @@ use Rattle.monotonicity.specs.Additions.{AddsNoLessThen}
 use Rattle.monotonicity.specs.Growth.{EachWhoGrowsGetsNoLess}
 use Rattle.monotonicity.proofs.WhoAddsMoreGetsNoLess.{adds_more_gets_no_less}
 use Rattle.monotonicity.proofs.Worths.{game}
+use Rattle.theorems.proofs.Products.{products}
 
 module _ (n : ℕ) (v w : ℕ → ℤ) (d : ℤ) (t : ℕ) (up : pos 0 ≤ℤ d) (more : w t ≡ v t +ℤ d)
     (others : (s : ℕ) → s < 2 ^ n → s ≢ t → w s ≡ v s) where
@@ -28,8 +30,7 @@ module _ (n : ℕ) (v w : ℕ → ℤ) (d : ℤ) (t : ℕ) (up : pos 0 ≤ℤ d)
   member_adds i hi inside = record {
     players = refl;
     adds = λ s lt out. omega (
-      arith,
-      linear,
+      products,
       others s lt (differ s i out inside),
       no_less (s + 2 ^ i) (more-lt n s i lt hi out),
     );
@@ -39,12 +40,10 @@ module _ (n : ℕ) (v w : ℕ → ℤ) (d : ℤ) (t : ℕ) (up : pos 0 ≤ℤ d)
   other_adds i hi outside = record {
     players = refl;
     adds = λ s lt out. omega (
-      arith,
-      linear,
+      products,
       no_less s lt,
       others (s + 2 ^ i) (more-lt n s i lt hi out)
-          (λ e. false≢true
-          (sym outside ∙ ap (λ (r : ℕ). has_player r i) (sym e) ∙ has_player-more_same s i out)),
+          (λ e. false≢true (sym outside ∙ ap (λ (r : ℕ). has_player r i) (sym e) ∙ has_player-more_same s i out)),
     );
   }
 

@@ -1,7 +1,6 @@
 -- Lists of numbers with one number taken off each: their order, and which comes first.
-use Rattle.std.proofs.Common.{◌≡◌, ℕ, zero, suc, ◌+◌, ◌<◌, ◌≤◌, Bool, true, false}
-use Rattle.std.proofs.Common.{cond, List, [], ◌∷◌, map, ℤ, ◌-ℤ◌, int_lt, refl, sym}
-use Rattle.std.proofs.Common.{ap, ap₂, subst, ◌∙◌, inl, inr, arith}
+use Rattle.std.proofs.Common.{◌≡◌, ℕ, zero, suc, ◌+◌, ◌<◌, ◌≤◌, Bool, true, false, cond, List, [], ◌∷◌, map, ℤ, ◌-ℤ◌}
+use Rattle.std.proofs.Common.{int_lt, refl, sym, ap, ap₂, subst, ◌∙◌, inl, inr, arith}
 use Rattle.std.specs.List.{range_with_len}
 use Rattle.std.proofs.lemmas.List.{length-map}
 use Rattle.definitions.proofs.Ring.{linear}
@@ -36,8 +35,7 @@ with_number-lessened c f (x ∷ xs) =
 
 sorted-lessened : (c : ℤ) (xs : List ℤ) → sorted (lessened c xs) ≡ lessened c (sorted xs)
 sorted-lessened c [] = refl
-sorted-lessened c (x ∷ xs) =
-    ap (with_number (x -ℤ c)) (sorted-lessened c xs) ∙ with_number-lessened c x (sorted xs)
+sorted-lessened c (x ∷ xs) = ap (with_number (x -ℤ c)) (sorted-lessened c xs) ∙ with_number-lessened c x (sorted xs)
 
 lesser-lessened : (c : ℤ) (xs ys : List ℤ) → IsLesser xs ys → IsLesser (lessened c xs) (lessened c ys)
 lesser-lessened c [] ys h = absurd h

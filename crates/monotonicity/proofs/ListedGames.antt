@@ -5,24 +5,27 @@
 --   with_all n ps a      the game of n players of a list, in which all are worth a
 --   AreFirst m ps        the coalitions of a list aren't empty, and hold some of the first m players, but not all
 --   listed_share xs i    the shares of the first players, and nothing for the others
-use Rattle.std.proofs.Common.{◌≡◌, ◌≢◌, ◌⊎◌, ℕ, zero, suc, ◌+◌, ◌-◌, ◌^◌, ◌<◌}
-use Rattle.std.proofs.Common.{◌≤◌, nat_eq, length, if◌then◌else◌, Bool, List, [], ◌∷◌, ◌++◌, ℤ}
-use Rattle.std.proofs.Common.{pos, ◌*ℤ◌, ◌≤ℤ◌, slice_index_or, refl, sym, ap, subst, ◌∙◌, inl}
+use Rattle.std.proofs.Common.{◌≡◌, ◌≢◌, ◌⊎◌, ℕ, zero, suc, ◌+◌, ◌-◌, ◌^◌, ◌<◌, ◌≤◌}
+use Rattle.std.proofs.Common.{nat_eq, length, if◌then◌else◌, Bool}
+use Rattle.std.proofs.Common.{List, [], ◌∷◌, ◌++◌, ℤ, pos, ◌*ℤ◌, ◌≤ℤ◌}
+use Rattle.std.proofs.Common.{slice_index_or, refl, sym, ap, subst, ◌∙◌, inl}
 use Rattle.std.proofs.Common.{inr, arith, rules}
 use Rattle.std.proofs.lemmas.Int.{by_lt_z}
 use Rattle.std.specs.List.{AllByRecursion}
 use Rattle.definitions.proofs.Cases.{same_or_other, same_or_less, nat_eq-other, nat_eq-same}
 use Rattle.definitions.proofs.Masks.{grand_coalition-within, singleton-within, masks-double}
-use Rattle.definitions.proofs.Members.{sum_below-split, sum_below-zero, sum_over-nonnegative}
-use Rattle.definitions.proofs.Members.{sum_over-grand_coalition, sum_over-complement}
+use Rattle.definitions.proofs.Members.{sum_below-split, sum_below-zero}
+use Rattle.definitions.proofs.Members.{sum_over-nonnegative, sum_over-grand_coalition}
+use Rattle.definitions.proofs.Members.{sum_over-complement}
 use Rattle.definitions.proofs.Parts.{part, has_player-past}
-use Rattle.definitions.proofs.Ring.{linear, one-mulℤ, mul-zeroℤ}
+use Rattle.definitions.proofs.Ring.{linear}
 use Rattle.definitions.proofs.SumsOver.{amount-at}
 use Rattle.definitions.specs.Sums.{sum_below}
 use Rattle.definitions.specs.Coalitions.{grand_coalition, sum_over}
 use Rattle.definitions.specs.Games.{Game, Allocation, share, amount, InCore}
 use Rattle.duality.proofs.BondarevaShapley.{point, amount_point, listed_length}
 use Rattle.laws.specs.FairRules.{IsGameOf}
+use Rattle.theorems.proofs.Products.{products}
 
 -- ---- the worths
 
@@ -37,8 +40,7 @@ listed-skip p ps s ne = ap (λ (b : Bool). if b then p.1 else listed ps s) (nat_
 pub listed-front : (ps qs rs : List (ℕ × ℤ)) (s : ℕ) → listed qs s ≡ listed rs s
     → listed (ps ++ qs) s ≡ listed (ps ++ rs) s
 listed-front [] qs rs s same = same
-listed-front (p ∷ ps) qs rs s same =
-    ap (λ (z : ℤ). if nat_eq p.0 s then p.1 else z) (listed-front ps qs rs s same)
+listed-front (p ∷ ps) qs rs s same = ap (λ (z : ℤ). if nat_eq p.0 s then p.1 else z) (listed-front ps qs rs s same)
 
 -- where each listed coalition has at most f, and f is nowhere below 0, each coalition has
 listed-low : (f : ℕ → ℤ) (ps : List (ℕ × ℤ)) → ((s : ℕ) → pos 0 ≤ℤ f s) → AllByRecursion (λ p. p.1 ≤ℤ f p.0) ps
@@ -46,8 +48,7 @@ listed-low : (f : ℕ → ℤ) (ps : List (ℕ × ℤ)) → ((s : ℕ) → pos 0
 listed-low f [] some h s = some s
 listed-low f (p ∷ ps) some h s = elim (same_or_other p.0 s) [
   | inl same ↦ omega (
-    arith,
-    linear,
+    products,
     h.0,
     ap f same,
     ap (λ (b : Bool). if b then p.1 else listed ps s) (ap (λ (k : ℕ). nat_eq k s) same ∙ nat_eq-same s),
@@ -98,24 +99,16 @@ module _ (m n : ℕ) (some : 1 ≤ m) (many : m ≤ n) where
           (subst (λ (k : ℕ). grand_coalition m ≤ grand_coalition k - grand_coalition m) next
           (let double = masks-double m in omega (arith, double)))
       | inr up ↦ inr
-          (let high = singleton-within n (m + 1) up in
-          let double = masks-double m in omega (arith, high, double))
+          (omega (arith, singleton-within n (m + 1) up, masks-double m))
     ]
   ]
 
   sum_over-first : (a : ℕ → ℤ) (s : ℕ) → s < 2 ^ m → sum_over n a s ≡ sum_over m a s
   sum_over-first a s lt =
       let whole : m + (n - m) ≡ n = omega (arith, many) in
-      let none : sum_below (n - m) (λ k. part a s (m + k)) ≡ pos 0 =
-      sum_below-zero (n - m) (λ k. part a s (m + k))
+      let none : sum_below (n - m) (λ k. part a s (m + k)) ≡ pos 0 = sum_below-zero (n - m) (λ k. part a s (m + k))
       (λ k h. ap (λ (b : Bool). if b then a (m + k) else pos 0) (has_player-past m s (m + k) lt (omega arith))) in
-      omega (
-        arith,
-        linear,
-        ap (λ (k : ℕ). sum_below k (part a s)) whole,
-        sum_below-split m (n - m) (part a s),
-        none,
-      )
+      omega (products, ap (λ (k : ℕ). sum_below k (part a s)) whole, sum_below-split m (n - m) (part a s), none)
 
   module _ (ps : List (ℕ × ℤ)) (a : ℤ) (first : AreFirst m ps) where
     pub with_all-all : (with_all n ps a).worth (grand_coalition n) ≡ a
@@ -135,17 +128,9 @@ module _ (m n : ℕ) (some : 1 ≤ m) (many : m ≤ n) where
     pub reaches : (x : Allocation) (s : ℕ) → InCore (with_all n ps a) x → s < 2 ^ m
         → (x.den *ℤ (with_all n ps a).worth s) ≤ℤ sum_over m (share x) s
     reaches x s h lt =
-        let high = all-high in
-        let within = grand_coalition-within n in
         by_lt_z (amount x s) (x.den *ℤ (with_all n ps a).worth s)
-        (λ blocks. absurd (h.2 s (omega (arith, high, within, lt)) blocks))
-        (λ le. omega (
-          arith,
-          linear,
-          le,
-          amount-at (with_all n ps a) x s h.0,
-          sum_over-first (share x) s lt,
-        ))
+        (λ blocks. absurd (h.2 s (omega (arith, all-high, grand_coalition-within n, lt)) blocks))
+        (λ le. omega (products, le, amount-at (with_all n ps a) x s h.0, sum_over-first (share x) s lt))
 
     others-nothing : (with_all n ps a).worth (grand_coalition n - grand_coalition m) ≡ pos 0
     others-nothing = elim past [
@@ -160,25 +145,22 @@ module _ (m n : ℕ) (some : 1 ≤ m) (many : m ≤ n) where
     pub first_at_most : (x : Allocation) → InCore (with_all n ps a) x
         → sum_over m (share x) (grand_coalition m) ≤ℤ (x.den *ℤ a)
     first_at_most x h =
-        let high = all-high in
         let g = with_all n ps a in
         let all = grand_coalition n in
         let within = grand_coalition-within n in
         let within_m = grand_coalition-within m in
         let rest = all - grand_coalition m in
-        let left : pos 0 ≤ℤ amount x rest =
-        by_lt_z (amount x rest) (x.den *ℤ g.worth rest)
+        let left : pos 0 ≤ℤ amount x rest = by_lt_z (amount x rest) (x.den *ℤ g.worth rest)
         (λ blocks. absurd (h.2 rest (omega (arith, within)) blocks))
-        (λ le. omega (arith, linear, le, ap (λ (z : ℤ). x.den *ℤ z) others-nothing, mul-zeroℤ x.den)) in
+        (λ le. omega (products, le, ap (◌*ℤ◌ x.den) others-nothing)) in
         omega (
-          arith,
-          linear,
+          products,
           left,
           amount-at g x rest h.0,
           amount-at g x all h.0,
           h.1,
-          ap (λ (z : ℤ). x.den *ℤ z) with_all-all,
-          sum_over-complement n (grand_coalition m) (share x) (omega (arith, high, within)),
+          ap (◌*ℤ◌ x.den) with_all-all,
+          sum_over-complement n (grand_coalition m) (share x) (omega (arith, all-high, within)),
           sum_over-grand_coalition n (share x),
           sum_over-first (share x) (grand_coalition m) within_m,
         )
@@ -205,23 +187,15 @@ with_nothing n xs = point n (listed_share xs) (pos 1)
 -- enough
 pub with_all-core : (m n : ℕ) (ps : List (ℕ × ℤ)) (a : ℤ) (xs : List ℤ) → 1 ≤ m → m ≤ n → AreFirst m ps
     → length xs ≡ m → AllByRecursion (λ c. pos 0 ≤ℤ c) xs → sum_below m (listed_share xs) ≡ a
-    → AllByRecursion (λ p. p.1 ≤ℤ sum_over m (listed_share xs) p.0) ps → InCore (with_all n ps a) (with_nothing n xs)
+    → AllByRecursion (λ p. p.1 ≤ℤ sum_over m (listed_share xs) p.0) ps
+    → InCore (with_all n ps a) (with_nothing n xs)
 with_all-core m n ps a xs some many first long positive sum enough = (
   (listed_length n f, search rules),
-  omega (
-    arith,
-    linear,
-    amount_point n f (pos 1) all,
-    all_get,
-    with_all-all m n some many ps a first,
-    one-mulℤ ((with_all n ps a).worth all),
-  ),
+  omega (products, amount_point n f (pos 1) all, all_get, with_all-all m n some many ps a first),
   λ s lt blocks. omega (
-    arith,
-    linear,
+    products,
     blocks,
     amount_point n f (pos 1) s,
-    one-mulℤ ((with_all n ps a).worth s),
     listed-low (sum_over n f) (ps ++ (grand_coalition n, a) ∷ [])
         (λ t. sum_over-nonnegative n t f (λ i h. share_some xs positive i)) (each ps first enough) s,
   ),
@@ -239,8 +213,7 @@ with_all-core m n ps a xs some many first long positive sum enough = (
         let none : sum_below (n - m) (λ k. f (m + k)) ≡ pos 0 =
         sum_below-zero (n - m) (λ k. f (m + k)) (λ k h. share_past xs (m + k) (omega (arith, long))) in
         omega (
-          arith,
-          linear,
+          products,
           sum_over-grand_coalition n f,
           ap (λ (k : ℕ). sum_below k f) whole,
           sum_below-split m (n - m) f,

@@ -1,8 +1,7 @@
 -- A rule that is efficient, symmetric and strongly monotonic gives the Shapley value (Young 1985): by the number of
 -- terms of the game. Whom a term lacks gets what it gets without that term; those that all terms hold are alike.
-use Rattle.std.proofs.Common.{◌≡◌, ℕ, zero, suc, ◌+◌, ◌^◌, ◌<◌, ◌≤◌, true, false}
-use Rattle.std.proofs.Common.{List, length, ℤ, pos, ◌-ℤ◌, ◌*ℤ◌, ◌<ℤ◌, refl, sym, ap}
-use Rattle.std.proofs.Common.{subst, ◌∙◌, inl, inr, arith}
+use Rattle.std.proofs.Common.{◌≡◌, ℕ, zero, suc, ◌+◌, ◌^◌, ◌<◌, ◌≤◌, true, false, List, length, ℤ, pos, ◌-ℤ◌, ◌*ℤ◌}
+use Rattle.std.proofs.Common.{◌<ℤ◌, refl, sym, ap, subst, ◌∙◌, inl, inr, arith}
 use lib.IntN.{*ℤ_comm}
 use Rattle.std.specs.List.{AllByRecursion}
 use Rattle.definitions.proofs.Cases.{same_or_other}
@@ -19,8 +18,8 @@ use Rattle.laws.proofs.SharesAddToAll.{amount-all, efficient, sum-totals}
 use Rattle.laws.proofs.ShapleyNoLess.{totals-alike, alike_get_alike}
 use Rattle.monotonicity.specs.Additions.{IsMonotonicRule, MonotonicRulesAreShapley}
 use Rattle.laws.proofs.LevelledSums.{IsLevelled, all_same}
-use Rattle.monotonicity.proofs.Terms.{IsTerm, value, value-nobody, held, held-all, each_holds, held-fewer}
-use Rattle.monotonicity.proofs.Terms.{held-adds, both_held-alike, terms_of}
+use Rattle.monotonicity.proofs.Terms.{IsTerm, value, value-nobody, held, held-all, each_holds, held-fewer, held-adds}
+use Rattle.monotonicity.proofs.Terms.{both_held-alike, terms_of}
 use Rattle.monotonicity.proofs.WhoAddsMoreGetsNoLess.{totals-no_less, adds_more_gets_no_less}
 use Rattle.monotonicity.proofs.Worths.{game}
 
@@ -31,7 +30,7 @@ carried_over f a b p q t some same total =
     let middle : f *ℤ (b *ℤ p) ≡ p *ℤ (b *ℤ f) = simp ring_laws in
     let right : p *ℤ (q *ℤ t) ≡ q *ℤ (p *ℤ t) = simp ring_laws in
     mul-cancelℤ q (a *ℤ f) (p *ℤ t) some
-    (left ∙ ap (λ (z : ℤ). f *ℤ z) same ∙ middle ∙ ap (λ (z : ℤ). p *ℤ z) total ∙ right)
+    (left ∙ ap (◌*ℤ◌ f) same ∙ middle ∙ ap (◌*ℤ◌ p) total ∙ right)
 
 module _ (n : ℕ) (rule : Game → Allocation) (fair : IsMonotonicRule n rule) where
   abbrev f : ℤ
@@ -43,8 +42,7 @@ module _ (n : ℕ) (rule : Game → Allocation) (fair : IsMonotonicRule n rule) 
 
   -- player i adds the same in both games
   abbrev AddsTheSame : (ℕ → ℤ) → (ℕ → ℤ) → ℕ → Type 0
-  AddsTheSame v w i =
-      (s : ℕ) → s < 2 ^ n → has_player s i ≡ false → v (s + 2 ^ i) -ℤ v s ≡ w (s + 2 ^ i) -ℤ w s
+  AddsTheSame v w i = (s : ℕ) → s < 2 ^ n → has_player s i ≡ false → v (s + 2 ^ i) -ℤ v s ≡ w (s + 2 ^ i) -ℤ w s
 
   gives-same : (v w : ℕ → ℤ) (i : ℕ) → v 0 ≡ pos 0 → w 0 ≡ pos 0 → i < n → AddsTheSame v w i → GivesTo w i
       → GivesTo v i
@@ -58,10 +56,9 @@ module _ (n : ℕ) (rule : Game → Allocation) (fair : IsMonotonicRule n rule) 
       let less = totals-no_less n i v w lt (λ s small out. omega (arith, linear, same s small out)) in
       let more = totals-no_less n i w v lt (λ s small out. omega (arith, linear, same s small out)) in
       let totals : shapley_total h i ≡ shapley_total g i = omega (arith, linear, less, more) in
-      let some = (fair.shares h (refl, nobody_w)).1 in
       carried_over f (share (rule g) i) (share (rule h) i) (rule g).den (rule h).den (shapley_total g i)
-      (omega (arith, linear, some)) (omega (arith, linear, one, two))
-      (gives ∙ ap (λ (z : ℤ). (rule h).den *ℤ z) totals)
+      (omega (arith, linear, (fair.shares h (refl, nobody_w)).1)) (omega (arith, linear, one, two))
+      (gives ∙ ap (◌*ℤ◌ ((rule h).den)) totals)
 
   value-alike : (ps : List (ℕ × ℤ)) (i j : ℕ) → i < n → j < n → each_holds ps i ≡ true → each_holds ps j ≡ true
       → AreInterchangeable (game n (value n ps)) i j
@@ -95,20 +92,20 @@ module _ (n : ℕ) (rule : Game → Allocation) (fair : IsMonotonicRule n rule) 
       outside j h out = *ℤ_comm f (share x j) ∙ others j h out
 
       left : IsLevelled n (each_holds ps) a
-      left j l hj hl ej el = ap (λ (z : ℤ). f *ℤ z) (fair.alike g j l ok hj hl (value-alike ps j l hj hl ej el))
+      left j l hj hl ej el = ap (◌*ℤ◌ f) (fair.alike g j l ok hj hl (value-alike ps j l hj hl ej el))
 
       right : IsLevelled n (each_holds ps) b
-      right j l hj hl ej el = ap (λ (z : ℤ). x.den *ℤ z) (totals-alike g j l hj hl (value-alike ps j l hj hl ej el))
+      right j l hj hl ej el = ap (◌*ℤ◌ x.den) (totals-alike g j l hj hl (value-alike ps j l hj hl ej el))
 
       sums : sum_below n a ≡ sum_below n b
       sums =
           let w = value n ps (grand_coalition n) in
-          let nobody : w -ℤ value n ps 0 ≡ w = (let e = ok.1 in omega (arith, linear, e)) in
+          let nobody : w -ℤ value n ps 0 ≡ w = omega (arith, linear, ok.1) in
           sum_below-times n (share x) f
-          ∙ ap (λ (z : ℤ). f *ℤ z) (sym (amount-all g x (fair.shares g ok).0) ∙ fair.efficient g ok)
+          ∙ ap (◌*ℤ◌ f) (sym (amount-all g x (fair.shares g ok).0) ∙ fair.efficient g ok)
           ∙ mul_left_commℤ f x.den w
           ∙ ap (λ (z : ℤ). x.den *ℤ (f *ℤ z)) (sym nobody)
-          ∙ ap (λ (z : ℤ). x.den *ℤ z) (sym (sum-totals g))
+          ∙ ap (◌*ℤ◌ x.den) (sym (sum-totals g))
           ∙ sym (sum_below-times n (shapley_total g) x.den)
 
   -- by the number of terms
@@ -139,8 +136,7 @@ module _ (n : ℕ) (rule : Game → Allocation) (fair : IsMonotonicRule n rule) 
 -- ---- both ways
 
 only : (n : ℕ) (rule : Game → Allocation) → IsMonotonicRule n rule → (g : Game) → IsGameOf n g → IsShapley g (rule g)
-only n rule fair g ok =
-    gives g.players rule (subst (λ (m : ℕ). IsMonotonicRule m rule) (sym ok.0) fair) g.worth ok.1
+only n rule fair g ok = gives g.players rule (subst (λ (m : ℕ). IsMonotonicRule m rule) (sym ok.0) fair) g.worth ok.1
 
 shapley_is_monotonic : (n : ℕ) (rule : Game → Allocation) → ((g : Game) → IsGameOf n g → IsShapley g (rule g))
     → IsMonotonicRule n rule

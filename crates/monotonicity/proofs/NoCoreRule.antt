@@ -1,17 +1,16 @@
 -- Games of four players or more. 1 and 2 each are worth 1 with 3 and with 4, and all are worth 2. Where 1, 2 and 3 come
 -- to be worth 2, the only core point gives player 3 nothing, and where 1, 3 and 4 do, player 1 nothing. So by a
 -- monotonic rule both would get nothing before, but they are worth 1 together (Housman and Clark 1998).
-use Rattle.std.proofs.Common.{◌≡◌, ℕ, ◌<◌, ◌≤◌, List, [], ◌∷◌, ◌++◌, ℤ, pos}
-use Rattle.std.proofs.Common.{◌+ℤ◌, ◌*ℤ◌, ◌≤ℤ◌, refl, sym, arith, rules}
+use Rattle.std.proofs.Common.{◌≡◌, ℕ, ◌<◌, ◌≤◌, List, [], ◌∷◌, ◌++◌, ℤ, pos, ◌+ℤ◌, ◌*ℤ◌, ◌≤ℤ◌, refl, sym, arith, rules}
 use Rattle.std.proofs.lemmas.Int.{ints}
-use lib.IntN.{*ℤ_comm}
-use Rattle.definitions.proofs.Ring.{linear, mul-leℤ, mul-le_cancelℤ, mul-zeroℤ, mul-oneℤ}
+use Rattle.definitions.proofs.Ring.{linear, mul-leℤ, mul-le_cancelℤ}
 use Rattle.definitions.specs.Coalitions.{grand_coalition, sum_over}
 use Rattle.definitions.specs.Games.{Game, Allocation, share, InCore}
 use Rattle.monotonicity.specs.Growth.{GroupGrows}
 use Rattle.monotonicity.specs.CoreRules.{PicksCorePoints, IsCoalitionMonotonic, NoCoreRuleIsMonotonic}
 use Rattle.monotonicity.proofs.ListedGames.{with_all, AreFirst, listed-skip, listed-front, with_all-game, listed}
 use Rattle.monotonicity.proofs.ListedGames.{all-high, reaches, first_at_most, with_nothing, with_all-core}
+use Rattle.theorems.proofs.Products.{products, sorted_products}
 
 -- ---- the games
 
@@ -44,16 +43,7 @@ twice p = omega (arith, ints)
 no_more : (a p b q : ℤ) → pos 1 ≤ℤ p → pos 1 ≤ℤ q → b ≤ℤ pos 0 → (a *ℤ q) ≤ℤ (b *ℤ p) → a ≤ℤ pos 0
 no_more a p b q hp hq low le =
     mul-le_cancelℤ q a (pos 0) (omega (arith, linear, hq))
-    (omega (
-      arith,
-      linear,
-      le,
-      mul-leℤ p b (pos 0) (omega (arith, linear, hp)) low,
-      mul-zeroℤ p,
-      mul-zeroℤ q,
-      *ℤ_comm a q,
-      *ℤ_comm b p,
-    ))
+    (omega (sorted_products, le, mul-leℤ p b (pos 0) (omega (arith, linear, hp)) low))
 
 module _ (n : ℕ) (many : 4 ≤ n) where
   three_grow : (t : ℕ) → (before n).worth t ≡ pos 0 → (after n t).worth t ≡ pos 2
@@ -68,8 +58,7 @@ module _ (n : ℕ) (many : 4 ≤ n) where
 
   none_worth : (t : ℕ) → t < 15 → listed ((grand_coalition n, pos 2) ∷ []) t ≡ pos 0
   none_worth t lt =
-      let high = all-high 4 n (omega arith) many in
-      listed-skip (grand_coalition n, pos 2) [] t (λ e. omega (arith, high, lt, e))
+      listed-skip (grand_coalition n, pos 2) [] t (λ e. omega (arith, all-high 4 n (omega arith) many, lt, e))
 
   -- ---- their core points
 
@@ -93,13 +82,11 @@ module _ (n : ℕ) (many : 4 ≤ n) where
       let at : (s : ℕ) → s < 16 → (x.den *ℤ (after n 7).worth s) ≤ℤ sum_over 4 (share x) s =
       λ s lt. reaches 4 n (omega arith) many (with_three 7) (pos 2) (search rules) x s h lt in
       omega (
-        arith,
-        linear,
+        products,
         at 7 (omega arith),
         at 9 (omega arith),
         at 10 (omega arith),
         first_at_most 4 n (omega arith) many (with_three 7) (pos 2) (search rules) x h,
-        mul-oneℤ x.den,
         twice x.den,
       )
 
@@ -109,21 +96,17 @@ module _ (n : ℕ) (many : 4 ≤ n) where
       let at : (s : ℕ) → s < 16 → (x.den *ℤ (after n 13).worth s) ≤ℤ sum_over 4 (share x) s =
       λ s lt. reaches 4 n (omega arith) many (with_three 13) (pos 2) (search rules) x s h lt in
       omega (
-        arith,
-        linear,
+        products,
         at 13 (omega arith),
         at 6 (omega arith),
         at 10 (omega arith),
         first_at_most 4 n (omega arith) many (with_three 13) (pos 2) (search rules) x h,
-        mul-oneℤ x.den,
         twice x.den,
       )
 
   -- together they get 1 at least
   pair_gets_one : (x : Allocation) → InCore (before n) x → x.den ≤ℤ (share x 0 +ℤ share x 2)
-  pair_gets_one x h =
-      let at = reaches 4 n (omega arith) many pairs (pos 2) pairs_first x 5 h (omega arith) in
-      omega (arith, linear, at, mul-oneℤ x.den)
+  pair_gets_one x h = omega (products, reaches 4 n (omega arith) many pairs (pos 2) pairs_first x 5 h (omega arith))
 
   none_fits : (rule : Game → Allocation) → PicksCorePoints n rule → IsCoalitionMonotonic n rule → ⊥
   none_fits rule picks monotonic =
@@ -132,11 +115,9 @@ module _ (n : ℕ) (many : 4 ≤ n) where
       let z = rule (after n 13) in
       let game = with_all-game 4 n (omega arith) many pairs (pos 2) pairs_first in
       let hx = picks (before n) (with_nothing n left_pair) game before_core in
-      let hy =
-      picks (after n 7) (with_nothing n left_pair)
+      let hy = picks (after n 7) (with_nothing n left_pair)
       (with_all-game 4 n (omega arith) many (with_three 7) (pos 2) (search rules)) first_core in
-      let hz =
-      picks (after n 13) (with_nothing n right_pair)
+      let hz = picks (after n 13) (with_nothing n right_pair)
       (with_all-game 4 n (omega arith) many (with_three 13) (pos 2) (search rules)) second_core in
       let high = all-high 4 n (omega arith) many in
       let third =

@@ -2,10 +2,9 @@
 -- first, it doesn't come last where both numbers are raised alike (Zhou 1991).
 --
 --   others f a k t   the values of f at k numbers from a on, but at t
-use Rattle.std.proofs.Common.{◌≡◌, ◌≢◌, ℕ, zero, suc, ◌+◌, ◌<◌, ◌≤◌, Bool, true}
-use Rattle.std.proofs.Common.{false, cond, nat_eq, if◌then◌else◌, List, [], ◌∷◌, map, ℤ, pos}
-use Rattle.std.proofs.Common.{◌+ℤ◌, ◌<ℤ◌, ◌≤ℤ◌, int_lt, refl, sym, ap, ap₂, subst, ◌∙◌}
-use Rattle.std.proofs.Common.{inl, inr, arith}
+use Rattle.std.proofs.Common.{◌≡◌, ◌≢◌, ℕ, zero, suc, ◌+◌, ◌<◌, ◌≤◌, Bool, true, false, cond, nat_eq, if◌then◌else◌}
+use Rattle.std.proofs.Common.{List, [], ◌∷◌, map, ℤ, pos, ◌+ℤ◌, ◌<ℤ◌, ◌≤ℤ◌, int_lt, refl, sym, ap, ap₂, subst, ◌∙◌}
+use Rattle.std.proofs.Common.{arith}
 use Rattle.std.specs.List.{range_with_len}
 use Rattle.std.proofs.lemmas.Int.{by_lt_z}
 use Rattle.definitions.proofs.Cases.{from_nat_eq, from_not_nat_eq}
@@ -13,23 +12,20 @@ use Rattle.definitions.proofs.Ring.{linear}
 use Rattle.definitions.specs.Order.{with_number, sorted, IsLesser}
 use Rattle.laws.proofs.Gathered.{with_number-commutes}
 use Rattle.theorems.proofs.OneWay.{IsLesser-asymmetric}
+use Rattle.theorems.proofs.Products.{products}
 
 -- ---- the order of the two lists
 
 heads : (x y : ℤ) (xs ys : List ℤ) → IsLesser (x ∷ xs) (y ∷ ys) → x ≤ℤ y
-heads x y xs ys (inl lt) = omega (arith, linear, lt)
-heads x y xs ys (inr e) = omega (arith, linear, e.0)
+heads x y xs ys h = grind (arith, linear)
 
 tails : (x y : ℤ) (xs ys : List ℤ) → IsLesser (x ∷ xs) (y ∷ ys) → y ≤ℤ x → IsLesser xs ys
-tails x y xs ys (inl lt) le = absurd (omega (arith, linear, lt, le))
-tails x y xs ys (inr e) le = e.1
+tails x y xs ys h le = grind (arith, linear)
 
 -- nothing comes behind the lesser number alone
 not_alone : (a b d : ℤ) (q : ℤ) (qs : List ℤ) → a <ℤ b → (t : Bool) → int_lt q (b +ℤ d) ≡ t
     → IsLesser (cond t ((b +ℤ d) ∷ (q ∷ qs)) (q ∷ with_number (b +ℤ d) qs)) ((a +ℤ d) ∷ []) → ⊥
-not_alone a b d q qs lt true e h = omega (arith, linear, lt, heads (b +ℤ d) (a +ℤ d) (q ∷ qs) [] h)
-not_alone a b d q qs lt false e h =
-    omega (arith, linear, lt, e, heads q (a +ℤ d) (with_number (b +ℤ d) qs) [] h)
+not_alone a b d q qs lt t e h = grind (arith, linear, heads)
 
 never_both : (a b d : ℤ) (ps qs : List ℤ) → a <ℤ b → pos 0 <ℤ d
     → IsLesser (with_number a ps) (with_number b qs)
@@ -41,16 +37,7 @@ never_both a b d (p ∷ ps) [] lt up h k = by_tests (int_lt p a) (int_lt p (a +�
     by_tests : (s t : Bool) → int_lt p a ≡ s → int_lt p (a +ℤ d) ≡ t
         → IsLesser (cond s (a ∷ (p ∷ ps)) (p ∷ with_number a ps)) (b ∷ [])
         → IsLesser ((b +ℤ d) ∷ []) (cond t ((a +ℤ d) ∷ (p ∷ ps)) (p ∷ with_number (a +ℤ d) ps)) → ⊥
-    by_tests s true e f h k = omega (arith, linear, lt, heads (b +ℤ d) (a +ℤ d) [] (p ∷ ps) k)
-    by_tests true false e f h k = omega (arith, linear, up, e, f)
-    by_tests false false e f h k =
-        omega (
-          arith,
-          linear,
-          up,
-          heads (b +ℤ d) p [] (with_number (a +ℤ d) ps) k,
-          heads p b (with_number a ps) [] h,
-        )
+    by_tests s t e f h k = grind (arith, linear, heads)
 never_both a b d (p ∷ ps) (q ∷ qs) lt up h k =
     by_tests (int_lt p a) (int_lt q b) (int_lt q (b +ℤ d)) (int_lt p (a +ℤ d)) refl refl refl refl h k
     (never_both a b d ps qs lt up)
@@ -61,23 +48,16 @@ never_both a b d (p ∷ ps) (q ∷ qs) lt up h k =
         (cond r ((a +ℤ d) ∷ (p ∷ ps)) (p ∷ with_number (a +ℤ d) ps))
         → (IsLesser (with_number a ps) (with_number b qs)
         → IsLesser (with_number (b +ℤ d) qs) (with_number (a +ℤ d) ps) → ⊥) → ⊥
-    by_tests s t true true e f g i h k rest =
-        omega (arith, linear, lt, heads (b +ℤ d) (a +ℤ d) (q ∷ qs) (p ∷ ps) k)
+    by_tests s t true true e f g i h k rest = omega (arith, linear, lt, heads (b +ℤ d) (a +ℤ d) (q ∷ qs) (p ∷ ps) k)
     by_tests s t false true e f g i h k rest =
         omega (arith, linear, lt, g, heads q (a +ℤ d) (with_number (b +ℤ d) qs) (p ∷ ps) k)
     by_tests true t u false e f g i h k rest = omega (arith, linear, up, e, i)
     by_tests false true true false e f g i h k rest =
-        omega (
-          arith,
-          linear,
-          up,
-          heads (b +ℤ d) p (q ∷ qs) (with_number (a +ℤ d) ps) k,
-          heads p b (with_number a ps) (q ∷ qs) h,
-        )
+        omega
+        (products, up, heads (b +ℤ d) p (q ∷ qs) (with_number (a +ℤ d) ps) k, heads p b (with_number a ps) (q ∷ qs) h)
     by_tests false false true false e f g i h k rest =
         omega (
-          arith,
-          linear,
+          products,
           g,
           heads (b +ℤ d) p (q ∷ qs) (with_number (a +ℤ d) ps) k,
           heads p q (with_number a ps) (with_number b qs) h,
@@ -125,9 +105,8 @@ others-same f h a (suc k) t each =
         → cond b (map f (range_with_len (a + 1) k)) (f a ∷ others f (a + 1) k t)
         ≡ cond b (map h (range_with_len (a + 1) k)) (h a ∷ others h (a + 1) k t)
     by_test true e ih =
-        let here = from_nat_eq a t e in
         range_same f h (a + 1) k
-        (λ s low high. each s (omega arith) (omega arith) (λ same. omega (arith, here, same, low)))
+        (λ s low high. each s (omega arith) (omega arith) (λ same. omega (arith, from_nat_eq a t e, same, low)))
     by_test false e ih =
         ap₂ (λ (z : ℤ) (zs : List ℤ). z ∷ zs)
         (each a (omega arith) (omega arith) (λ same. from_not_nat_eq a t e (sym same))) ih

@@ -1,8 +1,7 @@
 -- Where all together are worth d more, an equal part of it for each of n players takes d/n off each excess per head. So
 -- the order of all lists of excesses stays as it was (Young, Okada and Hashimoto 1982).
-use Rattle.std.proofs.Common.{◌≡◌, ◌≢◌, ℕ, zero, suc, ◌-◌, ◌/◌, ◌^◌, ◌<◌, ◌≤◌}
-use Rattle.std.proofs.Common.{true, List, length, map, ℤ, pos, ◌+ℤ◌, ◌-ℤ◌, ◌*ℤ◌, ◌≤ℤ◌}
-use Rattle.std.proofs.Common.{neg_ℤ, sym, ap, subst, ◌∙◌, inl, inr, arith}
+use Rattle.std.proofs.Common.{◌≡◌, ◌≢◌, ℕ, zero, suc, ◌-◌, ◌/◌, ◌^◌, ◌<◌, ◌≤◌, true, List, length, map, ℤ, pos, ◌+ℤ◌}
+use Rattle.std.proofs.Common.{◌-ℤ◌, ◌*ℤ◌, ◌≤ℤ◌, neg_ℤ, sym, ap, subst, ◌∙◌, inl, inr, arith}
 use Rattle.std.specs.List.{range_with_len}
 use Rattle.std.proofs.lemmas.List.FromFn.{get_or-map-range_with_len, length-map-range_with_len}
 use lib.IntN.{*ℤ_comm}
@@ -10,13 +9,12 @@ use Rattle.definitions.proofs.Cases.{true_or_false}
 use Rattle.definitions.proofs.Halves.{size_below, size_below-zero, size_below-yes, size_below-no}
 use Rattle.definitions.proofs.Measured.{measured_den-weight}
 use Rattle.definitions.proofs.Members.{has_player-grand_coalition}
-use Rattle.definitions.proofs.Ring.{ring_laws, linear, mul-addℤ, mul-subℤ, mul_assocℤ, mul_left_commℤ}
-use Rattle.definitions.proofs.Ring.{mul-positiveℤ, suc-mulℤ, zero-mulℤ}
+use Rattle.definitions.proofs.Ring.{ring_laws, linear, mul_left_commℤ, mul-positiveℤ, suc-mulℤ, zero-mulℤ}
 use Rattle.definitions.proofs.Sizes.{size-at}
 use Rattle.definitions.proofs.SumsOver.{sum_over-same, sum_over-add, sum_over-times}
 use Rattle.definitions.specs.Coalitions.{has_player, grand_coalition, sum_over, size}
-use Rattle.definitions.specs.Games.{Allocation, share, amount, excess, measured_excess, excess_list}
-use Rattle.definitions.specs.Games.{IsEfficient, InFamily, Beats, IsSame, IsNucleolus}
+use Rattle.definitions.specs.Games.{Allocation, share, amount, excess, measured_excess, excess_list, IsEfficient}
+use Rattle.definitions.specs.Games.{InFamily, Beats, IsSame, IsNucleolus}
 use Rattle.definitions.specs.Order.{sorted, ComesBefore}
 use Rattle.definitions.specs.declared.Family.TheVariants.{Preimputations}
 use Rattle.definitions.specs.declared.Measure.TheVariants.{PerHead}
@@ -25,6 +23,7 @@ use Rattle.laws.proofs.WithACoreBothAreOne.{both_are_one}
 use Rattle.monotonicity.proofs.LessenedLists.{lessened, order-lessened, values-lessened}
 use Rattle.monotonicity.specs.Growth.{PerHeadEachGetsAnEqualPart, WithCoresTheNucleolusDoes}
 use Rattle.monotonicity.proofs.Worths.{game}
+use Rattle.theorems.proofs.Products.{products, sorted_products}
 
 -- ---- one number for each member
 
@@ -34,8 +33,7 @@ sum_over-constant (suc n) c s =
     let ih = sum_over-constant n c s in
     elim (true_or_false (has_player s n)) [
       | inl inside ↦ rw inside (omega (
-        arith,
-        linear,
+        products,
         ih,
         ap (λ (k : ℕ). pos k *ℤ c) (size_below-yes n s inside),
         suc-mulℤ (size_below n s) c,
@@ -46,8 +44,7 @@ sum_over-constant (suc n) c s =
 
 size-every : (n s : ℕ) → ((i : ℕ) → i < n → has_player s i ≡ true) → size_below n s ≡ n
 size-every zero s h = size_below-zero s
-size-every (suc n) s h =
-    size_below-yes n s (h n (omega arith)) ∙ ap suc (size-every n s (λ i lt. h i (omega arith)))
+size-every (suc n) s h = size_below-yes n s (h n (omega arith)) ∙ ap suc (size-every n s (λ i lt. h i (omega arith)))
 
 size-all : (n : ℕ) → size_below n (grand_coalition n) ≡ n
 size-all n = size-every n (grand_coalition n) (has_player-grand_coalition n)
@@ -81,14 +78,7 @@ excess-raised : (n : ℕ) (v w : ℕ → ℤ) (d : ℤ) (x : Allocation) (s : �
     → excess (game n w) (raised n d x) s
     ≡ pos n *ℤ excess (game n v) x s -ℤ pos (size_below n s) *ℤ (x.den *ℤ d)
 excess-raised n v w d x s long same =
-    omega (
-      arith,
-      linear,
-      amount-raised n d x s long,
-      ap (λ (z : ℤ). (pos n *ℤ x.den) *ℤ z) same,
-      mul_assocℤ (pos n) x.den (v s),
-      mul-subℤ (pos n) (x.den *ℤ v s) (amount x s),
-    )
+    omega (sorted_products, amount-raised n d x s long, ap (◌*ℤ◌ ((pos n *ℤ x.den))) same)
 
 -- per head, each coalition loses the same
 measured-raised : (n : ℕ) (v w : ℕ → ℤ) (d : ℤ) (x : Allocation) (s : ℕ) → n ≤ 16 → 0 < s → s < 2 ^ n
@@ -96,7 +86,7 @@ measured-raised : (n : ℕ) (v w : ℕ → ℤ) (d : ℤ) (x : Allocation) (s : 
     → measured_excess PerHead (game n w) (raised n d x) s
     ≡ pos n *ℤ measured_excess PerHead (game n v) x s -ℤ pos 720720 *ℤ (x.den *ℤ d)
 measured-raised n v w d x s few some within long same =
-    ap (λ (z : ℤ). k *ℤ z) (excess-raised n v w d x s long same)
+    ap (◌*ℤ◌ k) (excess-raised n v w d x s long same)
     ∙ weighed k (pos n) (excess (game n v) x s) (pos (size_below n s) *ℤ c) (pos 720720 *ℤ c) whole
   where
     k : ℤ
@@ -108,11 +98,11 @@ measured-raised n v w d x s few some within long same =
     whole : k *ℤ (pos (size_below n s) *ℤ c) ≡ pos 720720 *ℤ c
     whole =
         ap (λ (m : ℕ). k *ℤ (pos m *ℤ c)) (sym (size-at n s (omega arith) within))
-        ∙ ap (λ (z : ℤ). k *ℤ z) (*ℤ_comm (pos (size s)) c)
+        ∙ ap (◌*ℤ◌ k) (*ℤ_comm (pos (size s)) c)
         ∙ sym (measured_den-weight PerHead n s c (inr few) some within)
 
     weighed : (k m e z t : ℤ) → k *ℤ z ≡ t → k *ℤ (m *ℤ e -ℤ z) ≡ m *ℤ (k *ℤ e) -ℤ t
-    weighed k m e z t h = omega (arith, linear, h, mul-subℤ k (m *ℤ e) z, mul_left_commℤ k m e)
+    weighed k m e z t h = omega (sorted_products, h)
 
 -- ---- preimputations
 
@@ -130,15 +120,11 @@ family-raised n v w d x some whole h = ((length-raised n d x, positive), efficie
     efficient =
         let all = grand_coalition n in
         omega (
-          arith,
-          linear,
+          sorted_products,
           amount-raised n d x all h.0.0,
           ap (λ (k : ℕ). pos k *ℤ (x.den *ℤ d)) (size-all n),
-          ap (λ (z : ℤ). pos n *ℤ z) h.1,
-          ap (λ (z : ℤ). (pos n *ℤ x.den) *ℤ z) whole,
-          mul-addℤ (pos n *ℤ x.den) (v all) d,
-          mul_assocℤ (pos n) x.den (v all),
-          mul_assocℤ (pos n) x.den d,
+          ap (◌*ℤ◌ (pos n)) h.1,
+          ap (◌*ℤ◌ ((pos n *ℤ x.den))) whole,
         )
 
 -- what gives y back, where d is taken off
@@ -161,13 +147,13 @@ same-raised n v w d x z same i lt =
 entry-raised : (c n p q d m k : ℤ) → k ≡ n *ℤ m -ℤ c *ℤ (p *ℤ d) → q *ℤ k ≡ (n *ℤ q) *ℤ m -ℤ c *ℤ (d *ℤ (p *ℤ q))
 entry-raised c n p q d m k h =
     let e : q *ℤ (n *ℤ m -ℤ c *ℤ (p *ℤ d)) ≡ (n *ℤ q) *ℤ m -ℤ c *ℤ (d *ℤ (p *ℤ q)) = simp ring_laws in
-    ap (λ (z : ℤ). q *ℤ z) h ∙ e
+    ap (◌*ℤ◌ q) h ∙ e
 
 entry-back : (c n p q d m k : ℤ) → k ≡ n *ℤ m -ℤ c *ℤ (q *ℤ neg_ℤ d)
     → (n *ℤ p) *ℤ m ≡ p *ℤ k -ℤ c *ℤ (d *ℤ (p *ℤ q))
 entry-back c n p q d m k h =
     let e : p *ℤ (n *ℤ m -ℤ c *ℤ (q *ℤ neg_ℤ d)) ≡ (n *ℤ p) *ℤ m +ℤ c *ℤ (d *ℤ (p *ℤ q)) = simp ring_laws in
-    omega (arith, linear, e, ap (λ (z : ℤ). p *ℤ z) h)
+    omega (arith, linear, e, ap (◌*ℤ◌ p) h)
 
 module _ (n : ℕ) (v w : ℕ → ℤ) (d : ℤ) (few : n ≤ 16) (some : 1 ≤ n)
     (whole : w (grand_coalition n) ≡ v (grand_coalition n) +ℤ d)
@@ -227,17 +213,14 @@ module _ (n : ℕ) (v w : ℕ → ℤ) (d : ℤ) (few : n ≤ 16) (some : 1 ≤ 
 
 equal_part : (n a b p q d : ℤ) → (n *ℤ a +ℤ p *ℤ d) *ℤ q ≡ b *ℤ (n *ℤ p) → n *ℤ (b *ℤ p -ℤ a *ℤ q) ≡ d *ℤ (p *ℤ q)
 equal_part n a b p q d h =
-    let left : (n *ℤ a +ℤ p *ℤ d) *ℤ q ≡ n *ℤ (a *ℤ q) +ℤ d *ℤ (p *ℤ q) = simp ring_laws in
     let right : b *ℤ (n *ℤ p) ≡ n *ℤ (b *ℤ p) = mul_left_commℤ b n p in
-    omega (arith, linear, h, left, right, mul-subℤ n (b *ℤ p) (a *ℤ q))
+    omega (sorted_products, h, right)
 
 pub per_head_parts : PerHeadEachGetsAnEqualPart
 per_head_parts d g h x y i few grows hx hy lt =
     let n = g.players in
-    let r =
-    nucleolus-raised n g.worth h.worth d few (omega (arith, lt)) grows.more grows.others x hx in
-    let hy_n =
-    subst (λ (m : ℕ). IsNucleolus Preimputations PerHead (game m h.worth) y) grows.players hy in
+    let r = nucleolus-raised n g.worth h.worth d few (omega (arith, lt)) grows.more grows.others x hx in
+    let hy_n = subst (λ (m : ℕ). IsNucleolus Preimputations PerHead (game m h.worth) y) grows.players hy in
     let same = nucleolus_unique Preimputations PerHead (game n h.worth) (raised n d x) y r hy_n i lt in
     equal_part (pos n) (share x i) (share y i) x.den y.den d
     (ap (λ (u : ℤ). u *ℤ y.den) (sym (share-raised n d x i lt)) ∙ same)

@@ -1,8 +1,7 @@
 -- The game of what all together are worth more, and nobody else, has only alike players. So in the sum with it each of
 -- n players has an n-th of d more.
-use Rattle.std.proofs.Common.{◌≡◌, ◌≢◌, ℕ, zero, suc, ◌+◌, ◌^◌}
-use Rattle.std.proofs.Common.{◌<◌, false, ℤ, pos, ◌+ℤ◌, ◌-ℤ◌, ◌*ℤ◌}
-use Rattle.std.proofs.Common.{◌<ℤ◌, refl, sym, ap, subst, ◌∙◌, inl, inr, arith}
+use Rattle.std.proofs.Common.{◌≡◌, ◌≢◌, ℕ, zero, suc, ◌+◌, ◌^◌, ◌<◌, false, ℤ, pos, ◌+ℤ◌, ◌-ℤ◌, ◌*ℤ◌, ◌<ℤ◌, refl, sym}
+use Rattle.std.proofs.Common.{ap, subst, ◌∙◌, inl, inr, arith}
 use Rattle.std.proofs.lemmas.Bool.{false≢true}
 use Rattle.std.proofs.Math.Pow.{pow_pos}
 use Rattle.definitions.proofs.Cases.{same_or_other}
@@ -35,8 +34,7 @@ module _ (n : ℕ) (v w : ℕ → ℤ) (d : ℤ) (whole : w (grand_coalition n) 
 
   -- who lacks a player isn't all
   not_all : (s j : ℕ) → j < n → has_player s j ≡ false → s ≢ grand_coalition n
-  not_all s j lt out e =
-      false≢true (sym out ∙ ap (λ (t : ℕ). has_player t j) e ∙ has_player-grand_coalition n j lt)
+  not_all s j lt out e = false≢true (sym out ∙ ap (λ (t : ℕ). has_player t j) e ∙ has_player-grand_coalition n j lt)
 
   gain-alike : (i j : ℕ) → i < n → j < n → AreInterchangeable gain i j
   gain-alike i j hi hj s lt out_i out_j = elim (same_or_other i j) [
@@ -56,7 +54,7 @@ module _ (n : ℕ) (v w : ℕ → ℤ) (d : ℤ) (whole : w (grand_coalition n) 
       ∙ sum_below-same n (λ k. shapley_total gain i) (shapley_total gain)
       (λ k hk. totals-alike gain i k lt hk (gain-alike i k lt hk))
       ∙ sum-totals gain
-      ∙ ap (λ (z : ℤ). pos (factorial n) *ℤ z) all_gain
+      ∙ ap (◌*ℤ◌ (pos (factorial n))) all_gain
     where
       all_gain : gain.worth (grand_coalition n) -ℤ gain.worth 0 ≡ d
       all_gain =
@@ -80,7 +78,7 @@ equal_part f n a b p q d t u some ha hb ht =
     (turn
     ∙ ap (λ (z : ℤ). n *ℤ (p *ℤ z -ℤ q *ℤ (a *ℤ f))) hb
     ∙ ap (λ (z : ℤ). n *ℤ (p *ℤ (q *ℤ (u +ℤ t)) -ℤ q *ℤ z)) ha
-    ∙ ap (λ (z : ℤ). n *ℤ z) rest
+    ∙ ap (◌*ℤ◌ n) rest
     ∙ sym (mul_assocℤ n t (p *ℤ q))
     ∙ ap (λ (z : ℤ). z *ℤ (p *ℤ q)) ht
     ∙ mul_assocℤ f d (p *ℤ q))
@@ -99,5 +97,5 @@ shapley_parts d g h x y i grows hx hy lt =
     let hy_n = subst (λ (m : ℕ). IsShapley (game m h.worth) y) grows.players hy in
     let more = total-more n g.worth h.worth d grows.more grows.others i in
     equal_part (pos (factorial n)) (pos n) (share x i) (share y i) x.den y.den d _ _ (factorial-positive n)
-    (hx.1 i lt) (hy_n.1 i lt ∙ ap (λ (z : ℤ). y.den *ℤ z) more)
+    (hx.1 i lt) (hy_n.1 i lt ∙ ap (◌*ℤ◌ y.den) more)
     (gain-total n g.worth h.worth d grows.more grows.others i lt)

@@ -27,9 +27,7 @@ around i hi = record {
 }
   where
     no_less : (s : ℕ) → s < 16 → three.worth s ≤ℤ four.worth s
-    no_less s lt =
-        let e = passes_below-at 16 (λ s. int_le (three.worth s) (four.worth s)) refl s lt in
-        omega (arith, ints, e)
+    no_less s lt = omega (arith, ints, passes_below-at 16 (λ s. int_le (three.worth s) (four.worth s)) refl s lt)
 
 equal_parts : (i : ℕ) → i < 4 → GetsEqualPart (pos 1) 4 before quarters i
 equal_parts i lt =
@@ -41,13 +39,12 @@ equal_parts i lt =
 no_loss : (g : Game) (i : ℕ) → ¬ LosesInTheCore g g i
 no_loss g i loses =
     let point = loses.2 in
-    let less = loses.4 point.0 point.0 point.1 point.1 in
-    omega (arith, linear, less)
+    omega (arith, linear, loses.4 point.0 point.0 point.1 point.1)
 
 pub contracts_compared : ContractsCompared
 contracts_compared = (
-  (grows, λ h. (let e = h.more in omega (arith, ints, e))),
-  (grows, λ h. (let e = h.more in omega (arith, ints, e))),
+  (grows, λ h. (omega (arith, ints, h.more))),
+  (grows, λ h. (omega (arith, ints, h.more))),
   (around, λ h. (let le = h.around 15 (omega arith) refl in omega (arith, ints, le))),
   (
     λ i lt. adds three four i (around i lt) lt,

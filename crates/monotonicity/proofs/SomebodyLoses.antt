@@ -1,20 +1,19 @@
 -- Two games of five players or more with one core point each. In the second, two coalitions are worth more, both with
 -- player 4, who gets 6 in place of 7 (Young 1985).
-use Rattle.std.proofs.Common.{◌≡◌, ◌≢◌, ℕ, ◌<◌, ◌≤◌, List, [], ◌∷◌, ◌++◌}
-use Rattle.std.proofs.Common.{ℤ, pos, ◌+ℤ◌, ◌*ℤ◌, ◌<ℤ◌, ◌≤ℤ◌, refl, sym, ap, ◌∙◌}
-use Rattle.std.proofs.Common.{inl, inr, arith, rules}
+use Rattle.std.proofs.Common.{◌≡◌, ◌≢◌, ℕ, ◌<◌, ◌≤◌, List, [], ◌∷◌, ◌++◌, ℤ, pos, ◌+ℤ◌, ◌*ℤ◌, ◌<ℤ◌, ◌≤ℤ◌, refl, sym, ap}
+use Rattle.std.proofs.Common.{◌∙◌, inl, inr, arith, rules}
 use Rattle.std.proofs.lemmas.Bool.{false≢true}
 use Rattle.std.proofs.lemmas.Int.{by_lt_z, ints}
-use lib.IntN.{*ℤ_comm}
 use Rattle.definitions.proofs.Cases.{same_or_other}
 use Rattle.definitions.proofs.Members.{has_player-grand_coalition}
-use Rattle.definitions.proofs.Ring.{linear, mul-leℤ, mul-le_cancelℤ, mul_left_commℤ}
+use Rattle.definitions.proofs.Ring.{linear, mul-leℤ, mul-le_cancelℤ}
 use Rattle.definitions.specs.Coalitions.{has_player, grand_coalition, sum_over}
 use Rattle.definitions.specs.Games.{Game, Allocation, share, InCore}
 use Rattle.monotonicity.specs.CoreRules.{GrowsAround, SomebodyLosesInTheCore}
 use Rattle.monotonicity.proofs.ListedGames.{with_all, AreFirst, listed-skip, listed-front, with_all-others}
-use Rattle.monotonicity.proofs.ListedGames.{with_all-all, with_all-game, with_all-core, reaches}
-use Rattle.monotonicity.proofs.ListedGames.{first_at_most, with_nothing}
+use Rattle.monotonicity.proofs.ListedGames.{with_all-all, with_all-game, with_all-core, reaches, first_at_most}
+use Rattle.monotonicity.proofs.ListedGames.{with_nothing}
+use Rattle.theorems.proofs.Products.{products, sorted_products}
 
 -- ---- products
 
@@ -105,8 +104,7 @@ module _ (n : ℕ) (many : 5 ≤ n) where
       let at : (s : ℕ) → s < 32 → (x.den *ℤ (smaller n).worth s) ≤ℤ sum_over 5 (share x) s =
       λ s lt. reaches 5 n (omega arith) many (five (pos 9)) (pos 11) (five_first (pos 9)) x s h lt in
       omega (
-        arith,
-        linear,
+        products,
         at 7 (omega arith),
         at 13 (omega arith),
         at 20 (omega arith),
@@ -126,8 +124,7 @@ module _ (n : ℕ) (many : 5 ≤ n) where
       let at : (s : ℕ) → s < 32 → (y.den *ℤ (greater n).worth s) ≤ℤ sum_over 5 (share y) s =
       λ s lt. reaches 5 n (omega arith) many (five (pos 12)) (pos 12) (five_first (pos 12)) y s h lt in
       omega (
-        arith,
-        linear,
+        products,
         at 7 (omega arith),
         at 13 (omega arith),
         at 20 (omega arith),
@@ -146,16 +143,11 @@ module _ (n : ℕ) (many : 5 ≤ n) where
       by_lt_z (share y 3 *ℤ x.den) (share x 3 *ℤ y.den)
       (λ less. less)
       (λ le. absurd
-      (let low =
-      mul-le_cancelℤ x.den (y.den *ℤ pos 7) (share y 3) (omega (arith, linear, hx.0.1))
+      (let low = mul-le_cancelℤ x.den (y.den *ℤ pos 7) (share y 3) (omega (arith, linear, hx.0.1))
       (omega (
-        arith,
-        linear,
+        sorted_products,
         le,
         mul-leℤ y.den (x.den *ℤ pos 7) (share x 3) (omega (arith, linear, hy.0.1)) (seven_before x hx),
-        *ℤ_comm (share x 3) y.den,
-        *ℤ_comm (share y 3) x.den,
-        mul_left_commℤ y.den x.den (pos 7),
       )) in
       omega (arith, linear, low, six_after y hy, seven_times y.den, hy.0.1)))
 

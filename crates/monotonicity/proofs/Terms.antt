@@ -5,9 +5,8 @@
 --   value n ps s    the numbers of the terms whose coalition lies in s, added
 --   held i ps       the terms whose coalition holds player i
 --   each_holds      all terms' coalitions hold player i
-use Rattle.std.proofs.Common.{◌≡◌, ◌≢◌, ℕ, zero, suc, ◌+◌, ◌-◌, ◌^◌, ◌<◌, ◌≤◌}
-use Rattle.std.proofs.Common.{Bool, true, false, cond, ◌&&◌, List, [], ◌∷◌, length, ℤ}
-use Rattle.std.proofs.Common.{pos, ◌+ℤ◌, ◌-ℤ◌, refl, sym, ap, ◌∙◌, arith}
+use Rattle.std.proofs.Common.{◌≡◌, ◌≢◌, ℕ, zero, suc, ◌+◌, ◌-◌, ◌^◌, ◌<◌, ◌≤◌, Bool, true, false, cond, ◌&&◌, List, []}
+use Rattle.std.proofs.Common.{◌∷◌, length, ℤ, pos, ◌+ℤ◌, ◌-ℤ◌, refl, sym, ap, ◌∙◌, arith}
 use Rattle.std.specs.List.{AllByRecursion}
 use Rattle.std.proofs.lemmas.Bool.{false≢true}
 use Rattle.definitions.proofs.Cases.{and_parts}
@@ -41,8 +40,7 @@ held-all P i [] h = tt
 held-all P i (p ∷ ps) h = by_test (has_player p.0 i) (held-all P i ps h.1)
   where
     by_test : (b : Bool) → AllByRecursion P (held i ps) → AllByRecursion P (cond b (p ∷ held i ps) (held i ps))
-    by_test true rest = (h.0, rest)
-    by_test false rest = rest
+    by_test b rest = grind arith
 
 abbrev pub each_holds : List (ℕ × ℤ) → ℕ → Bool
 each_holds [] i = true
@@ -54,8 +52,7 @@ held-most i (p ∷ ps) = by_test (has_player p.0 i) (held-most i ps)
   where
     by_test : (b : Bool) → length (held i ps) ≤ length ps
         → length (cond b (p ∷ held i ps) (held i ps)) ≤ suc (length ps)
-    by_test true most = omega (arith, most)
-    by_test false most = omega (arith, most)
+    by_test b most = grind arith
 
 -- some term's coalition lacks player i
 pub held-fewer : (i : ℕ) (ps : List (ℕ × ℤ)) → each_holds ps i ≡ false → length (held i ps) < length ps
@@ -65,8 +62,7 @@ held-fewer i (p ∷ ps) e = by_test (has_player p.0 i) e (held-fewer i ps)
     by_test : (b : Bool) → (b && each_holds ps i) ≡ false
         → (each_holds ps i ≡ false → length (held i ps) < length ps)
         → length (cond b (p ∷ held i ps) (held i ps)) < suc (length ps)
-    by_test true f fewer = let less = fewer f in omega (arith, less)
-    by_test false f fewer = let most = held-most i ps in omega (arith, most)
+    by_test b f fewer = grind (arith, held-most)
 
 -- player i adds in all terms what it adds in its own
 pub held-adds : (n i : ℕ) (ps : List (ℕ × ℤ)) (s : ℕ) → has_player s i ≡ false
@@ -80,8 +76,7 @@ held-adds n i (p ∷ ps) s out = by_test (has_player p.0 i) refl (held-adds n i 
         ≡ (carried n p.0 p.1 (s + 2 ^ i) +ℤ value n ps (s + 2 ^ i)) -ℤ (carried n p.0 p.1 s +ℤ value n ps s)
     by_test true e ih = omega (arith, linear, ih)
     by_test false e ih =
-        let same = ap (λ (b : Bool). cond b (pos 0) p.1) (misses-outside n p.0 s i e out) in
-        omega (arith, linear, ih, same)
+        omega (arith, linear, ih, ap (λ (b : Bool). cond b (pos 0) p.1) (misses-outside n p.0 s i e out))
 
 -- two players that all terms' coalitions hold are alike
 pub both_held-alike : (n i j : ℕ) (ps : List (ℕ × ℤ)) (s : ℕ) → i < n → j < n → i ≢ j → each_holds ps i ≡ true
@@ -100,15 +95,13 @@ both_held-alike n i j (p ∷ ps) s hi hj ne ei ej si sj =
 
 -- terms that add to these worths
 abbrev pub HasTerms : ℕ → (ℕ → ℤ) → Type 0
-HasTerms n v =
-    (ps : List (ℕ × ℤ)) × AllByRecursion (IsTerm n) ps × ((s : ℕ) → s < 2 ^ n → v s ≡ value n ps s)
+HasTerms n v = (ps : List (ℕ × ℤ)) × AllByRecursion (IsTerm n) ps × ((s : ℕ) → s < 2 ^ n → v s ≡ value n ps s)
 
 terms_from : (n d k : ℕ) → k + d ≡ 2 ^ n → 1 ≤ k → (v : ℕ → ℤ) → ((s : ℕ) → s < k → v s ≡ pos 0) → HasTerms n v
 terms_from n zero k e some v none = ([], tt, λ s lt. none s (omega (arith, e, lt)))
 terms_from n (suc d) k e some v none =
     let small : k < 2 ^ n = omega (arith, e) in
-    let r =
-    terms_from n d (suc k) (omega (arith, e)) (omega arith) (λ s. v s -ℤ carried n k (v k) s)
+    let r = terms_from n d (suc k) (omega (arith, e)) (omega arith) (λ s. v s -ℤ carried n k (v k) s)
     (below_next n k v none small) in (
       (k, v k) ∷ r.0,
       ((some, small), r.1),

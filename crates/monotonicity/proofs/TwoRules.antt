@@ -1,6 +1,5 @@
 -- The Shapley value and the prenucleolus as rules, beside the impossibility of both properties.
-use Rattle.std.proofs.Common.{◌≡◌, ◌⊎◌, ℕ, ◌<◌, ◌≤◌, true, [], ℤ}
-use Rattle.std.proofs.Common.{pos, refl, sym, ap, ◌∙◌, inl, inr, arith}
+use Rattle.std.proofs.Common.{◌≡◌, ◌⊎◌, ℕ, ◌<◌, ◌≤◌, true, [], ℤ, pos, refl, sym, ap, ◌∙◌, inl, inr, arith}
 use Rattle.std.proofs.lemmas.Bool.{false≢true}
 use Rattle.std.proofs.Math.Pow.{pow_pos}
 use Rattle.definitions.proofs.Cases.{below_or_above}

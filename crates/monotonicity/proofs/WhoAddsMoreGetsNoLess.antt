@@ -1,11 +1,11 @@
 -- A player's total is a sum over the coalitions without it of what it adds there, each as often as the coalition stands
 -- in front. So who adds no less has no less (Young 1985).
-use Rattle.std.proofs.Common.{◌≡◌, ℕ, ◌+◌, ◌^◌, ◌<◌, Bool, true, false, cond, ℤ}
-use Rattle.std.proofs.Common.{pos, ◌-ℤ◌, ◌*ℤ◌, ◌<ℤ◌, ◌≤ℤ◌, refl, ap, subst, arith}
+use Rattle.std.proofs.Common.{◌≡◌, ℕ, ◌+◌, ◌^◌, ◌<◌, Bool, true, false, cond, ℤ, pos, ◌-ℤ◌, ◌*ℤ◌, ◌<ℤ◌, ◌≤ℤ◌, refl, ap}
+use Rattle.std.proofs.Common.{subst, arith}
 use Rattle.std.proofs.lemmas.Int.{ints}
 use Rattle.definitions.proofs.Halves.{size_below}
 use Rattle.definitions.proofs.Parts.{sum_below-le}
-use Rattle.definitions.proofs.Ring.{ring_laws, linear, mul-leℤ, mul-le_cancelℤ, mul-positiveℤ}
+use Rattle.definitions.proofs.Ring.{linear, mul-leℤ, mul-le_cancelℤ, mul-positiveℤ}
 use Rattle.definitions.specs.Coalitions.{has_player}
 use Rattle.definitions.specs.Games.{share}
 use Rattle.definitions.specs.Shapley.{shapley_total, factorial, IsShapley}
@@ -14,13 +14,13 @@ use Rattle.shapley.proofs.Orders.{orders_are_subsets}
 use Rattle.laws.proofs.SharesAddToAll.{factorial-positive}
 use Rattle.monotonicity.specs.Additions.{WhoAddsMoreGetsNoLess}
 use Rattle.monotonicity.proofs.Worths.{game}
+use Rattle.theorems.proofs.Products.{sorted_products}
 
 pub totals-no_less : (n i : ℕ) (v w : ℕ → ℤ) → i < n
     → ((s : ℕ) → s < 2 ^ n → has_player s i ≡ false → (v (s + 2 ^ i) -ℤ v s) ≤ℤ (w (s + 2 ^ i) -ℤ w s))
     → shapley_total (game n v) i ≤ℤ shapley_total (game n w) i
 totals-no_less n i v w lt adds =
-    let le =
-    sum_below-le (2 ^ n) (subset_term v n i) (subset_term w n i) (λ s h. at s h (has_player s i) refl) in
+    let le = sum_below-le (2 ^ n) (subset_term v n i) (subset_term w n i) (λ s h. at s h (has_player s i) refl) in
     omega (arith, linear, le, orders_are_subsets (game n v) i lt, orders_are_subsets (game n w) i lt)
   where
     at : (s : ℕ) → s < 2 ^ n → (b : Bool) → has_player s i ≡ b
@@ -35,24 +35,9 @@ totals-no_less n i v w lt adds =
 pub shares-no_less : (f a b p q u t : ℤ) → pos 0 <ℤ f → pos 0 <ℤ p → pos 0 <ℤ q → a *ℤ f ≡ p *ℤ u → b *ℤ f ≡ q *ℤ t
     → u ≤ℤ t → (a *ℤ q) ≤ℤ (b *ℤ p)
 shares-no_less f a b p q u t some hp hq ha hb le =
-    let left : f *ℤ (a *ℤ q) ≡ q *ℤ (a *ℤ f) = simp ring_laws in
-    let right : f *ℤ (b *ℤ p) ≡ p *ℤ (b *ℤ f) = simp ring_laws in
-    let one : q *ℤ (p *ℤ u) ≡ (p *ℤ q) *ℤ u = simp ring_laws in
-    let two : p *ℤ (q *ℤ t) ≡ (p *ℤ q) *ℤ t = simp ring_laws in
-    let both = mul-positiveℤ p q hp hq in
-    let more = mul-leℤ (p *ℤ q) u t (omega (arith, linear, both)) le in
+    let more = mul-leℤ (p *ℤ q) u t (omega (arith, linear, mul-positiveℤ p q hp hq)) le in
     mul-le_cancelℤ f (a *ℤ q) (b *ℤ p) some
-    (omega (
-      arith,
-      linear,
-      left,
-      right,
-      one,
-      two,
-      more,
-      ap (λ (z : ℤ). q *ℤ z) ha,
-      ap (λ (z : ℤ). p *ℤ z) hb,
-    ))
+    (omega (sorted_products, more, ap (◌*ℤ◌ q) ha, ap (◌*ℤ◌ p) hb))
 
 pub adds_more_gets_no_less : WhoAddsMoreGetsNoLess
 adds_more_gets_no_less g h x y i adds hx hy lt =

@@ -1,7 +1,6 @@
 -- Two convex games of four players, and the certificates of their nucleoli.
-use Rattle.std.proofs.Common.{◌≡◌, ℕ, ◌<◌, Bool, true, false, ◌||◌, not, nat_eq, []}
-use Rattle.std.proofs.Common.{◌∷◌, ℤ, pos, negsuc, ◌*ℤ◌, ◌≤ℤ◌, int_le, refl, sym, ◌∙◌}
-use Rattle.std.proofs.Common.{inl, arith, rules}
+use Rattle.std.proofs.Common.{◌≡◌, ℕ, ◌<◌, Bool, true, false, ◌||◌, not, nat_eq, [], ◌∷◌, ℤ, pos, negsuc, ◌*ℤ◌, ◌≤ℤ◌}
+use Rattle.std.proofs.Common.{int_le, refl, sym, ◌∙◌, inl, arith, rules}
 use Rattle.std.proofs.lemmas.Bool.{false≢true}
 use Rattle.std.proofs.lemmas.Int.{ints}
 use Rattle.std.specs.Ordering.{int_eq}
@@ -38,8 +37,7 @@ grows = record {
 
 -- the players are outside and differ, so they add no less together
 adds_up : Game → ℕ → ℕ → ℕ → Bool
-adds_up g s i j =
-    has_player s i || (has_player s j || (nat_eq i j || int_le (apart g s i j) (together g s i j)))
+adds_up g s i j = has_player s i || (has_player s j || (nat_eq i j || int_le (apart g s i j) (together g s i j)))
 
 from_test : (a b c : Bool) (u v : ℤ) → (a || (b || (c || int_le u v))) ≡ true → a ≡ false → b ≡ false → c ≡ false
     → u ≤ℤ v
@@ -145,9 +143,7 @@ one_free i h free =
     (passes_below-at 4 (λ i. nat_eq i 0 || not (is_free 4 (first_level ∷ (second_level ∷ [])) i)) refl i h) free refl
   where
     is_first : (b c : Bool) → (b || not c) ≡ true → c ≡ true → nat_eq i 0 ≡ b → i ≡ 0
-    is_first true c h e k = from_nat_eq i 0 k
-    is_first false true h e k = absurd (false≢true h)
-    is_first false false h e k = absurd (false≢true e)
+    is_first b c h e k = grind (arith, from_nat_eq)
 
 none_free : (i : ℕ) → i < 4 → is_free 4 (only_level ∷ []) i ≡ false
 none_free i h = from_not _ (passes_below-at 4 (λ i. not (is_free 4 (only_level ∷ []) i)) refl i h)
@@ -157,8 +153,7 @@ before_member Imputations = (
   (refl, search rules),
   refl,
   λ i h.
-      (let e =
-      passes_below-at 4 (λ i. int_le (before.den *ℤ three.worth (singleton i)) (share before i)) refl i h in
+      (let e = passes_below-at 4 (λ i. int_le (before.den *ℤ three.worth (singleton i)) (share before i)) refl i h in
       omega (arith, ints, e)),
 )
 before_member Preimputations = ((refl, search rules), refl)
@@ -168,8 +163,7 @@ after_member Imputations = (
   (refl, search rules),
   refl,
   λ i h.
-      (let e =
-      passes_below-at 4 (λ i. int_le (after.den *ℤ four.worth (singleton i)) (share after i)) refl i h in
+      (let e = passes_below-at 4 (λ i. int_le (after.den *ℤ four.worth (singleton i)) (share after i)) refl i h in
       omega (arith, ints, e)),
 )
 after_member Preimputations = ((refl, search rules), refl)
@@ -263,5 +257,4 @@ after_nucleolus family =
     (after_certified family)
 
 pub who_gets_less_of_more : WhoGetsLessOfMore
-who_gets_less_of_more =
-    (grows, three_convex, four_convex, before_nucleolus, after_nucleolus, search rules)
+who_gets_less_of_more = (grows, three_convex, four_convex, before_nucleolus, after_nucleolus, search rules)

@@ -1,9 +1,8 @@
 -- Where coalition t alone is worth more, only its excess rises, at all shares by the same. If its members got less at
 -- the new nucleolus than at the old one, its excess there would be the greater, so the old one would still come first
 -- (Zhou 1991).
-use Rattle.std.proofs.Common.{◌≡◌, ◌≢◌, ℕ, ◌-◌, ◌^◌, ◌<◌, List}
-use Rattle.std.proofs.Common.{ℤ, pos, ◌+ℤ◌, ◌-ℤ◌, ◌*ℤ◌, ◌<ℤ◌}
-use Rattle.std.proofs.Common.{◌≤ℤ◌, sym, ap, subst, ◌∙◌, inl, inr, arith}
+use Rattle.std.proofs.Common.{◌≡◌, ◌≢◌, ℕ, ◌-◌, ◌^◌, ◌<◌, List, ℤ, pos, ◌+ℤ◌, ◌-ℤ◌, ◌*ℤ◌, ◌<ℤ◌, ◌≤ℤ◌, sym, ap, subst}
+use Rattle.std.proofs.Common.{◌∙◌, inl, inr, arith}
 use Rattle.std.proofs.lemmas.Int.{by_lt_z}
 use lib.IntN.{*ℤ_comm}
 use Rattle.definitions.proofs.Cases.{same_or_other}
@@ -11,13 +10,13 @@ use Rattle.definitions.proofs.Families.{allocation_of, efficient_of}
 use Rattle.definitions.proofs.Masks.{singleton-within, grand_coalition-within, proper_or_all}
 use Rattle.definitions.proofs.Measured.{weight, measured-weight, weight-positive}
 use Rattle.definitions.proofs.Members.{sum_over-singleton}
-use Rattle.definitions.proofs.Ring.{ring_laws, linear, mul-leℤ, mul-ltℤ, mul-le_cancelℤ, mul_left_commℤ}
-use Rattle.definitions.proofs.Ring.{mul-nonnegativeℤ, mul-positiveℤ, zero-mulℤ}
+use Rattle.definitions.proofs.Ring.{ring_laws, linear, mul-leℤ, mul-ltℤ, mul-le_cancelℤ, mul-nonnegativeℤ}
+use Rattle.definitions.proofs.Ring.{mul-positiveℤ}
 use Rattle.definitions.proofs.SumsOver.{sum_over-same, sum_over-times, amount-at, amount-empty}
 use Rattle.definitions.specs.Coalitions.{singleton, grand_coalition}
 use Rattle.definitions.specs.Measures.{measured, IsMeasurable}
-use Rattle.definitions.specs.Games.{Allocation, share, amount, excess, measured_excess, excess_list}
-use Rattle.definitions.specs.Games.{IsAllocation, InFamily, Beats, IsSame, IsNucleolus}
+use Rattle.definitions.specs.Games.{Allocation, share, amount, excess, measured_excess, excess_list, IsAllocation}
+use Rattle.definitions.specs.Games.{InFamily, Beats, IsSame, IsNucleolus}
 use Rattle.definitions.specs.Order.{with_number, sorted, IsLesser}
 use Rattle.definitions.specs.declared.Family.{Family}
 use Rattle.definitions.specs.declared.Family.TheVariants.{Imputations, Preimputations}
@@ -25,6 +24,7 @@ use Rattle.definitions.specs.declared.Measure.{Measure}
 use Rattle.monotonicity.specs.Growth.{WhoGrowGetNoLess}
 use Rattle.monotonicity.proofs.OneNumberMore.{others, others-same, picked, not_last}
 use Rattle.monotonicity.proofs.Worths.{game}
+use Rattle.theorems.proofs.Products.{products, sorted_products}
 
 -- ---- identities
 
@@ -48,12 +48,12 @@ same_amount : (n : ℕ) (v : ℕ → ℤ) (x y : Allocation) (s : ℕ) → IsAll
     → IsSame (game n v) x y → amount x s *ℤ y.den ≡ amount y s *ℤ x.den
 same_amount n v x y s hx hy same =
     *ℤ_comm (amount x s) y.den
-    ∙ ap (λ (z : ℤ). y.den *ℤ z) (amount-at (game n v) x s hx)
+    ∙ ap (◌*ℤ◌ y.den) (amount-at (game n v) x s hx)
     ∙ sym (sum_over-times n (share x) y.den s)
     ∙ sum_over-same n (λ i. y.den *ℤ share x i) (λ i. x.den *ℤ share y i) s
     (λ i lt. *ℤ_comm y.den (share x i) ∙ same i lt ∙ *ℤ_comm (share y i) x.den)
     ∙ sum_over-times n (share y) x.den s
-    ∙ ap (λ (z : ℤ). x.den *ℤ z) (sym (amount-at (game n v) y s hy))
+    ∙ ap (◌*ℤ◌ x.den) (sym (amount-at (game n v) y s hy))
     ∙ *ℤ_comm x.den (amount y s)
 
 module _ (measure : Measure) (n : ℕ) (v w : ℕ → ℤ) (d : ℤ) (t : ℕ) (can : IsMeasurable measure n)
@@ -75,7 +75,7 @@ module _ (measure : Measure) (n : ℕ) (v w : ℕ → ℤ) (d : ℤ) (t : ℕ) (
       ap (λ (z : ℤ). y.den *ℤ measured measure s (x.den *ℤ z -ℤ amount x s)) (sym (other s lt ne))
 
   entry-at : (u : ℕ → ℤ) (x y : Allocation) → entry u x y t ≡ y.den *ℤ (k *ℤ (x.den *ℤ u t -ℤ amount x t))
-  entry-at u x y = ap (λ (z : ℤ). y.den *ℤ z) (measured-weight measure t (excess (game n u) x t))
+  entry-at u x y = ap (◌*ℤ◌ y.den) (measured-weight measure t (excess (game n u) x t))
 
   entry-raised : (x y : Allocation) → entry w x y t ≡ entry v x y t +ℤ raise x y
   entry-raised x y =
@@ -128,8 +128,7 @@ module _ (measure : Measure) (n : ℕ) (v w : ℕ → ℤ) (d : ℤ) (t : ℕ) (
 
       nonnegative : pos 0 ≤ℤ raise x y
       nonnegative =
-          let dens =
-          mul-positiveℤ x.den y.den (omega (arith, linear, hx.1)) (omega (arith, linear, hy.1)) in
+          let dens = mul-positiveℤ x.den y.den (omega (arith, linear, hx.1)) (omega (arith, linear, hy.1)) in
           let part = mul-nonnegativeℤ d (x.den *ℤ y.den) up (omega (arith, linear, dens)) in
           mul-nonnegativeℤ k (d *ℤ (x.den *ℤ y.den)) (omega (arith, linear, weighs)) part
 
@@ -142,14 +141,13 @@ module _ (n : ℕ) (v w : ℕ → ℤ) (d : ℤ) (t : ℕ) (up : pos 0 ≤ℤ d)
 
   -- who is in the family where t is worth more is in it where it is worth less
   family-back : (family : Family) (y : Allocation) → InFamily family (game n w) y → InFamily family (game n v) y
-  family-back Preimputations y h = (h.0, h.1 ∙ ap (λ (z : ℤ). y.den *ℤ z) grand_same)
+  family-back Preimputations y h = (h.0, h.1 ∙ ap (◌*ℤ◌ y.den) grand_same)
   family-back Imputations y h = (
     h.0,
-    h.1 ∙ ap (λ (z : ℤ). y.den *ℤ z) grand_same,
+    h.1 ∙ ap (◌*ℤ◌ y.den) grand_same,
     λ i lt.
-        let one = h.0.1 in
         let le =
-        mul-leℤ y.den (v (singleton i)) (w (singleton i)) (omega (arith, linear, one)) (worth_no_less (singleton i)
+        mul-leℤ y.den (v (singleton i)) (w (singleton i)) (omega (arith, linear, h.0.1)) (worth_no_less (singleton i)
         (singleton-within n i lt)) in
         omega (arith, linear, le, h.2 i lt),
   )
@@ -163,45 +161,25 @@ module _ (n : ℕ) (v w : ℕ → ℤ) (d : ℤ) (t : ℕ) (up : pos 0 ≤ℤ d)
   -- and the other way round, where somebody in it gives the members of t less
   family-to : (family : Family) (x y : Allocation) → InFamily family (game n v) x → InFamily family (game n w) y
       → (amount y t *ℤ x.den) <ℤ (amount x t *ℤ y.den) → InFamily family (game n w) x
-  family-to Preimputations x y h k lt = (h.0, h.1 ∙ ap (λ (z : ℤ). x.den *ℤ z) (sym grand_same))
+  family-to Preimputations x y h k lt = (h.0, h.1 ∙ ap (◌*ℤ◌ x.den) (sym grand_same))
   family-to Imputations x y h k lt = (
     h.0,
-    h.1 ∙ ap (λ (z : ℤ). x.den *ℤ z) (sym grand_same),
+    h.1 ∙ ap (◌*ℤ◌ x.den) (sym grand_same),
     λ i lt_i. elim (same_or_other (singleton i) t) [
       | inl same ↦ itself i lt_i same
-      | inr ne ↦ omega (
-        arith,
-        linear,
-        h.2 i lt_i,
-        ap (λ (z : ℤ). x.den *ℤ z) (other (singleton i) (singleton-within n i lt_i) ne),
-      )
+      | inr ne ↦ omega (products, h.2 i lt_i, ap (◌*ℤ◌ x.den) (other (singleton i) (singleton-within n i lt_i) ne))
     ],
   )
     where
       itself : (i : ℕ) → i < n → singleton i ≡ t → (x.den *ℤ w (singleton i)) ≤ℤ share x i
       itself i lt_i same =
-          let a =
-          ap (amount x) (sym same) ∙ amount-at (game n v) x (singleton i) h.0
+          let a = ap (amount x) (sym same) ∙ amount-at (game n v) x (singleton i) h.0
           ∙ sum_over-singleton n i (share x) lt_i in
-          let b =
-          ap (amount y) (sym same) ∙ amount-at (game n w) y (singleton i) k.0
+          let b = ap (amount y) (sym same) ∙ amount-at (game n w) y (singleton i) k.0
           ∙ sum_over-singleton n i (share y) lt_i in
-          let p = h.0.1 in
-          let q = k.0.1 in
-          let le =
-          mul-leℤ x.den (y.den *ℤ w (singleton i)) (share y i) (omega (arith, linear, p)) (k.2 i lt_i) in
-          mul-le_cancelℤ y.den (x.den *ℤ w (singleton i)) (share x i) (omega (arith, linear, q))
-          (omega (
-            arith,
-            linear,
-            le,
-            lt,
-            ap (λ (z : ℤ). z *ℤ y.den) a,
-            ap (λ (z : ℤ). z *ℤ x.den) b,
-            *ℤ_comm (share x i) y.den,
-            *ℤ_comm (share y i) x.den,
-            mul_left_commℤ x.den y.den (w (singleton i)),
-          ))
+          let le = mul-leℤ x.den (y.den *ℤ w (singleton i)) (share y i) (omega (arith, linear, h.0.1)) (k.2 i lt_i) in
+          mul-le_cancelℤ y.den (x.den *ℤ w (singleton i)) (share x i) (omega (arith, linear, k.0.1))
+          (omega (sorted_products, le, lt, ap (λ (z : ℤ). z *ℤ y.den) a, ap (λ (z : ℤ). z *ℤ x.den) b))
 
 -- ---- the nucleolus
 
@@ -226,10 +204,7 @@ proper family measure n v w d t x y can up some less more other hx hy lt =
 
 -- nobody gets nothing, and all together get what they are worth
 whole_no_less : (p q u z : ℤ) → pos 0 ≤ℤ p → pos 0 ≤ℤ q → pos 0 ≤ℤ z → ((p *ℤ u) *ℤ q) ≤ℤ ((q *ℤ (u +ℤ z)) *ℤ p)
-whole_no_less p q u z hp hq hz =
-    let e : (q *ℤ (u +ℤ z)) *ℤ p ≡ (p *ℤ u) *ℤ q +ℤ (p *ℤ q) *ℤ z = simp ring_laws in
-    let part = mul-nonnegativeℤ (p *ℤ q) z (mul-nonnegativeℤ p q hp hq) hz in
-    omega (arith, linear, e, part)
+whole_no_less p q u z hp hq hz = omega (sorted_products, mul-nonnegativeℤ (p *ℤ q) z (mul-nonnegativeℤ p q hp hq) hz)
 
 pub who_grow_get_no_less : WhoGrowGetNoLess
 who_grow_get_no_less family measure d t g h x y can up within grows hx hy =
@@ -244,13 +219,10 @@ who_grow_get_no_less family measure d t g h x y can up within grows hx hy =
     never : (amount y t *ℤ x.den) <ℤ (amount x t *ℤ y.den) → ⊥
     never lt = elim (same_or_other t 0) [
       | inl none ↦ omega (
-        arith,
-        linear,
+        products,
         lt,
         ap (λ (z : ℤ). z *ℤ x.den) (ap (amount y) none ∙ amount-empty y),
         ap (λ (z : ℤ). z *ℤ y.den) (ap (amount x) none ∙ amount-empty x),
-        zero-mulℤ x.den,
-        zero-mulℤ y.den,
       )
       | inr some ↦ elim (proper_or_all g.players t within) [
         | inl less ↦
@@ -261,12 +233,10 @@ who_grow_get_no_less family measure d t g h x y can up within grows hx hy =
             let ay = allocation_of family h y hy.0 in
             let got_x =
             ap (amount x) all ∙ efficient_of family g x hx.0 ∙ ap (λ (s : ℕ). x.den *ℤ g.worth s) (sym all) in
-            let got_y =
-            ap (amount y) all ∙ efficient_of family (game g.players h.worth) y hy_n.0
-            ∙ ap (λ (s : ℕ). y.den *ℤ h.worth s) (sym all) ∙ ap (λ (z : ℤ). y.den *ℤ z) grows.more in
+            let got_y = ap (amount y) all ∙ efficient_of family (game g.players h.worth) y hy_n.0
+            ∙ ap (λ (s : ℕ). y.den *ℤ h.worth s) (sym all) ∙ ap (◌*ℤ◌ y.den) grows.more in
             omega (
-              arith,
-              linear,
+              products,
               lt,
               ap (λ (z : ℤ). z *ℤ y.den) got_x,
               ap (λ (z : ℤ). z *ℤ x.den) got_y,

@@ -1,15 +1,14 @@
 -- Where numbers are the shares in fractions of a certificate, they are the nucleolus among shares in numbers.
-use Rattle.std.proofs.Common.{sym, ◌∙◌, ◌≡◌, ◌≤ℤ◌, ◌⊎◌, ℕ, ◌+◌, ◌-◌, ◌^◌, ◌<◌}
-use Rattle.std.proofs.Common.{◌≤◌, Bool, true, false, cond}
-use Rattle.std.proofs.Common.{List, [], ℤ, pos, ◌*ℤ◌, ◌<ℤ◌, inl, inr, arith, if◌then◌else◌}
+use Rattle.std.proofs.Common.{sym, ◌∙◌, ◌≡◌, ◌≤ℤ◌, ◌⊎◌, ℕ, ◌+◌, ◌-◌, ◌^◌, ◌<◌, ◌≤◌, Bool, true, false, cond, List, []}
+use Rattle.std.proofs.Common.{ℤ, pos, ◌*ℤ◌, ◌<ℤ◌, inl, inr, arith, if◌then◌else◌}
 use Rattle.std.proofs.lemmas.Int.{by_lt_z}
 use Rattle.definitions.proofs.Ring.{linear}
 use Rattle.definitions.proofs.Families.{allocation_of}
 use Rattle.definitions.proofs.Measured.{weight}
 use Rattle.definitions.specs.Coalitions.{has_player, singleton, grand_coalition}
 use Rattle.definitions.specs.Measures.{IsMeasurable}
-use Rattle.definitions.specs.Games.{Game, Allocation, share, amount, excess, InCore, IsAllocation}
-use Rattle.definitions.specs.Games.{IsEfficient, IsIndividuallyRational, InFamily}
+use Rattle.definitions.specs.Games.{Game, Allocation, share, amount, excess, InCore, IsAllocation, IsEfficient}
+use Rattle.definitions.specs.Games.{IsIndividuallyRational, InFamily}
 use Rattle.definitions.specs.Prekernel.{InPrekernel}
 use Rattle.definitions.specs.Certificates.{Level, Certifies}
 use Rattle.definitions.specs.declared.Family.{Family}
@@ -22,19 +21,18 @@ use Rattle.real_shares.specs.Shares.{number_of, amount_of, excess_of, measured_o
 use Rattle.real_shares.specs.Shares.{IsIndividuallyRationalOver, IsNucleolusAmong, IsWrittenAs, InCoreOver}
 use Rattle.real_shares.specs.Shares.{InPrekernelOver, excess_list_of}
 use Rattle.real_shares.proofs.Orders.{equal-same}
-use Rattle.real_shares.proofs.Multiples.{chain, back, plus-equal, times-at_most, times-zero, times-same}
-use Rattle.real_shares.proofs.Multiples.{times-cancel, times-equal, from_low, from_difference, difference-zero}
+use Rattle.real_shares.proofs.Multiples.{chain, back, plus-equal, times-at_most, times-zero, times-same, times-cancel}
+use Rattle.real_shares.proofs.Multiples.{from_low, from_difference, difference-zero, through}
 use Rattle.real_shares.proofs.Cones.{Zero, zero-none, zero-sum, zero-times}
 use Rattle.real_shares.proofs.Combined.{IsLow, combined-player, cone, to_zero, from_zero}
 use Rattle.real_shares.proofs.Settled.{over, Settled-none}
 use Rattle.real_shares.proofs.Differences.{gap, excess-differs, over-times, units}
-use Rattle.real_shares.proofs.Soundness.{LevelsFit, Rises, at_fractions, at_numbers, before-from}
-use Rattle.real_shares.proofs.Soundness.{levels_sound}
+use Rattle.real_shares.proofs.Soundness.{LevelsFit, Rises, at_fractions, at_numbers, before-from, levels_sound}
 
 module _ {C : Type 0} (N : Numbers C) (L : IsOrderedGroup N) (g : Game) (x : Allocation) (y : List C)
     (hx : IsAllocation g x) (written : IsWrittenAs N g x y) where
   above_zero : pos 0 <ℤ x.den
-  above_zero = let h = hx.1 in omega (arith, linear, h)
+  above_zero = omega (arith, linear, hx.1)
 
   -- no player differs
   player-zero : (i : ℕ) → i < g.players → Zero (IsLow N g.players (number_of N y)) (gap x i)
@@ -64,8 +62,7 @@ module _ {C : Type 0} (N : Numbers C) (L : IsOrderedGroup N) (g : Game) (x : All
       let n = g.players in
       let v = number_of N y in
       let part : ℕ → ℤ = λ k. weight measure s *ℤ over n (gap x) s k in
-      let none =
-      from_zero N L n v part
+      let none = from_zero N L n v part
       (zero-times (cone N L n v) (weight measure s) (over n (gap x) s) (coalition-zero s)) in
       chain N L (excess-differs N L g x y hx written.0 measure s)
       (chain N L (plus-equal N L (equal-same N L (at_fractions N measure g x s)) none)
@@ -75,11 +72,9 @@ module _ {C : Type 0} (N : Numbers C) (L : IsOrderedGroup N) (g : Game) (x : All
   efficient_as_written e =
       let n = g.players in
       let s = grand_coalition n in
-      let none =
-      chain N L (back N L (over-times N L g x y hx written.0 s e))
+      let none = chain N L (back N L (over-times N L g x y hx written.0 s e))
       (from_zero N L n (number_of N y) (over n (gap x) s) (coalition-zero s)) in
-      let same =
-      times-same N L x.den (excess_of N g y s) N.zero above_zero
+      let same = times-same N L x.den (excess_of N g y s) N.zero above_zero
       (chain N L none (back N L (times-zero N L x.den))) in
       back N L (from_difference N L (times N (g.worth s) N.unit) (amount_of N y s) same)
 
@@ -88,11 +83,8 @@ module _ {C : Type 0} (N : Numbers C) (L : IsOrderedGroup N) (g : Game) (x : All
       let w = g.worth (singleton i) in
       let a = times N w N.unit in
       let b = number_of N y i in
-      times-cancel N L x.den a b above_zero
-      (L.transitive (times N x.den a) (times N (x.den *ℤ w) N.unit) (times N x.den b)
-      (units N L g x y hx written.0 x.den w).1
-      (L.transitive (times N (x.den *ℤ w) N.unit) (times N (share x i) N.unit) (times N x.den b)
-      (times-at_most N L (x.den *ℤ w) (share x i) (h i lt)) (written.1 i lt).0))
+      times-cancel N L x.den a b above_zero (through N L (units N L g x y hx written.0 x.den w).1
+      (through N L (times-at_most N L (x.den *ℤ w) (share x i) (h i lt)) (written.1 i lt).0))
 
   pub member_as_written : (family : Family) → InFamily family g x → InFamilyOver N family g y
   member_as_written Imputations h = (written.0, efficient_as_written h.1, individual_as_written h.2)
@@ -106,14 +98,11 @@ module _ {C : Type 0} (N : Numbers C) (L : IsOrderedGroup N) (g : Game) (x : All
     λ s h.
         let a = times N (g.worth s) N.unit in
         let b = amount_of N y s in
-        let most =
-        times-at_most N L (excess g x s) (pos 0)
+        let most = times-at_most N L (excess g x s) (pos 0)
         (by_lt_z (amount x s) (x.den *ℤ g.worth s) (λ lt. absurd (core.2 s h lt))
         (λ le. omega (arith, linear, le))) in
         let low = times-cancel N L x.den (excess_of N g y s) N.zero above_zero
-        (L.transitive (times N x.den (excess_of N g y s)) (times N (excess g x s) N.unit) (times N x.den N.zero)
-        (measured_as_written Plain s).0
-        (L.transitive (times N (excess g x s) N.unit) N.zero (times N x.den N.zero) most (times-zero N L x.den).1))
+        (through N L (measured_as_written Plain s).0 (through N L most (times-zero N L x.den).1))
         in
         from_low N L a b low,
   )
@@ -124,9 +113,8 @@ module _ {C : Type 0} (N : Numbers C) (L : IsOrderedGroup N) (g : Game) (x : All
       let a = times N x.den (excess_of N g y s) in
       let b = times N x.den (excess_of N g y t) in
       times-cancel N L x.den (excess_of N g y s) (excess_of N g y t) above_zero
-      (L.transitive a (times N (excess g x s) N.unit) b (measured_as_written Plain s).0
-      (L.transitive (times N (excess g x s) N.unit) (times N (excess g x t) N.unit) b
-      (times-at_most N L (excess g x s) (excess g x t) le) (measured_as_written Plain t).1))
+      (through N L (measured_as_written Plain s).0
+      (through N L (times-at_most N L (excess g x s) (excess g x t) le) (measured_as_written Plain t).1))
 
   -- what is in the prekernel in fractions is there in numbers
   pub prekernel_as_written : InPrekernel g x → InPrekernelOver N g y
@@ -142,7 +130,7 @@ module _ {C : Type 0} (N : Numbers C) (L : IsOrderedGroup N) (g : Game) (x : All
           (
             (s, first.1.0, first.1.1, equal-same N L (excess_of N g y s)),
             λ k within holds. excess_order k s
-                (let u = most k (within, holds) in let e = first.2 in omega (arith, linear, u, e)),
+                (let u = most k (within, holds) in omega (arith, linear, u, first.2)),
           ),
           (
             (
@@ -152,7 +140,7 @@ module _ {C : Type 0} (N : Numbers C) (L : IsOrderedGroup N) (g : Game) (x : All
               (excess_order s t (omega (arith, linear, same)), excess_order t s (omega (arith, linear, same))),
             ),
             λ k within holds. excess_order k s
-                (let u = most_too k (within, holds) in let e = first.2 in omega (arith, linear, u, e)),
+                (let u = most_too k (within, holds) in omega (arith, linear, u, first.2)),
           ),
         ),
   )
@@ -163,29 +151,23 @@ module _ {C : Type 0} (N : Numbers C) (L : IsOrderedGroup N) (g : Game) (x : All
   before_as_written measure z r =
       let f : ℕ → C = λ s. measured_of N measure s (excess_of N g y s) in
       let h : ℕ → C = λ s. measured_of N measure s (excess_of N g z s) in
-      let is : (s : ℕ) → Equal N (times N x.den (f s)) (at_fractions N measure g x s) =
-      measured_as_written measure in
+      let is : (s : ℕ) → Equal N (times N x.den (f s)) (at_fractions N measure g x s) = measured_as_written measure in
       let each : (s : ℕ) → 1 ≤ s → s < 1 + (2 ^ g.players - 2) → Equal N (f s) (h s) ⊎ AtMost N (f s) (f r.c) =
       λ s lo hi. elim (r.each s lo hi) [
         | inl same ↦ inl (times-same N L x.den (f s) (h s) above_zero (chain N L (is s) same))
-        | inr low ↦ inr (times-cancel N L x.den (f s) (f r.c) above_zero
-            (L.transitive (times N x.den (f s)) (at_fractions N measure g x s) (times N x.den (f r.c)) (is s).0
-            (L.transitive (at_fractions N measure g x s) (at_fractions N measure g x r.c) (times N x.den (f r.c))
-            low (is r.c).1)))
+        | inr low ↦ inr (times-cancel N L x.den (f s) (f r.c) above_zero (through N L (is s).0
+            (through N L low (is r.c).1)))
       ] in
-      before-from N L g.players f h r.c r.some r.proper each (λ le. r.above
-      (L.transitive (at_numbers N measure g x z r.c) (times N x.den (f r.c)) (at_fractions N measure g x r.c)
-      (keeps le) (is r.c).0))
+      before-from N L g.players f h r.c r.some r.proper each (λ le. r.above (through N L (keeps le) (is r.c).0))
     where
       keeps : AtMost N (measured_of N measure r.c (excess_of N g z r.c))
           (measured_of N measure r.c (excess_of N g y r.c))
           → AtMost N (times N x.den (measured_of N measure r.c (excess_of N g z r.c)))
           (times N x.den (measured_of N measure r.c (excess_of N g y r.c)))
       keeps le =
-          let h = hx.1 in
           Rattle.real_shares.proofs.Multiples.times-keeps N L x.den
           (measured_of N measure r.c (excess_of N g z r.c)) (measured_of N measure r.c (excess_of N g y r.c))
-          (omega (arith, linear, h)) le
+          (omega (arith, linear, hx.1)) le
 
 pub among-from_levels : {C : Type 0} (N : Numbers C) → IsOrderedGroup N
     → (mode : Mode) (family : Family) (measure : Measure) (g : Game) (x : Allocation) (levels : List Level)

@@ -1,19 +1,18 @@
 -- Integer combinations of the unit and of the shares of players, by their columns: entry 0 is how often the unit is
 -- taken, and entry 1 + i how often the share of player i.
 use Rattle.std.proofs.Common.{◌≡◌, ℕ, zero, suc, ◌<◌, Bool, true, false, cond, ℤ}
-use Rattle.std.proofs.Common.{pos, negsuc, ◌+ℤ◌, ◌-ℤ◌}
-use Rattle.std.proofs.Common.{◌*ℤ◌, sym, ap, inl, inr, arith, nat_eq, if◌then◌else◌}
+use Rattle.std.proofs.Common.{pos, negsuc, ◌+ℤ◌, ◌-ℤ◌, ◌*ℤ◌, sym}
+use Rattle.std.proofs.Common.{ap, inl, inr, arith, nat_eq, if◌then◌else◌}
 use Rattle.definitions.proofs.Ring.{zero-mulℤ, suc-mulℤ, negsuc-mulℤ}
 use Rattle.definitions.proofs.Cases.{less_or_last, nat_eq-less, nat_eq-other, nat_eq-equal}
-use Rattle.std.proofs.lemmas.Bool.{false≢true}
 use Rattle.definitions.specs.Coalitions.{has_player}
-use Rattle.real_shares.specs.Numbers.{Numbers, IsOrderedGroup, AtMost, Equal, multiple, times, total_below}
-use Rattle.real_shares.specs.Numbers.{total_over}
+use Rattle.real_shares.specs.Numbers.{Numbers, IsOrderedGroup, AtMost, Equal, multiple}
+use Rattle.real_shares.specs.Numbers.{times, total_below, total_over}
 use Rattle.real_shares.proofs.Orders.{decided, at_most-same, from_less, equal-same}
-use Rattle.real_shares.proofs.Multiples.{chain, back, equal_path, plus-at_most, plus-equal, neutral_left}
-use Rattle.real_shares.proofs.Multiples.{exchanged, is_minus, minus-at_most, minus-equal, minus-zero}
-use Rattle.real_shares.proofs.Multiples.{times-add, times-minus, times-one, total_below-equal}
-use Rattle.real_shares.proofs.Multiples.{total_below-plus, total_below-minus, total_below-zero, add-minus}
+use Rattle.real_shares.proofs.Multiples.{chain, back, equal_path, plus-at_most, plus-equal, neutral_left, exchanged}
+use Rattle.real_shares.proofs.Multiples.{is_minus, minus-at_most, minus-equal, minus-zero, times-add, times-minus}
+use Rattle.real_shares.proofs.Multiples.{times-one, total_below-equal, total_below-plus, total_below-minus}
+use Rattle.real_shares.proofs.Multiples.{total_below-zero, add-minus, through}
 use Rattle.real_shares.proofs.Cones.{IsCone, Zero}
 
 -- the combination of a column
@@ -101,15 +100,13 @@ module _ {C : Type 0} (N : Numbers C) (L : IsOrderedGroup N) (n : ℕ) (y : ℕ 
   cone = record {
     none = combined-none.0;
     plus = λ f h low_f low_h.
-        L.transitive (combined N n y (λ k. f k +ℤ h k)) (N.plus (combined N n y f) (combined N n y h)) N.zero
-        (combined-plus f h).0
-        (L.transitive (N.plus (combined N n y f) (combined N n y h)) (N.plus N.zero N.zero) N.zero
-        (plus-at_most N L (combined N n y f) N.zero (combined N n y h) N.zero low_f low_h) (L.neutral N.zero).0);
+        through N L (combined-plus f h).0
+        (through N L (plus-at_most N L (combined N n y f) N.zero (combined N n y h) N.zero low_f low_h)
+        (L.neutral N.zero).0);
     decided = λ f. decided (N.at_most (combined N n y f) N.zero);
     other = λ f up.
-        L.transitive (combined N n y (λ k. pos 0 -ℤ f k)) (N.minus (combined N n y f)) N.zero (combined-minus f).0
-        (L.transitive (N.minus (combined N n y f)) (N.minus N.zero) N.zero
-        (minus-at_most N L N.zero (combined N n y f) (from_less N L N.zero (combined N n y f) up))
+        through N L (combined-minus f).0
+        (through N L (minus-at_most N L N.zero (combined N n y f) (from_less N L N.zero (combined N n y f) up))
         (minus-zero N L).0);
   }
 
@@ -118,14 +115,11 @@ module _ {C : Type 0} (N : Numbers C) (L : IsOrderedGroup N) (n : ℕ) (y : ℕ 
 
   pub from_zero : (f : ℕ → ℤ) → Zero (IsLow N n y) f → Equal N (combined N n y f) N.zero
   from_zero f h =
-      let down =
-      L.transitive (N.minus (combined N n y f)) (combined N n y (λ k. pos 0 -ℤ f k)) N.zero (combined-minus f).1
-      h.1 in
+      let down = through N L (combined-minus f).1 h.1 in
       let a = combined N n y f in
       -- a + -a is zero, and -a is at most zero
-      let up = L.transitive N.zero (N.plus a (N.minus a)) a (L.inverse a).1
-      (L.transitive (N.plus a (N.minus a)) (N.plus a N.zero) a
-      (plus-at_most N L a a (N.minus a) N.zero (at_most-same N L a) down) (L.neutral a).0) in
+      let up = through N L (L.inverse a).1
+      (through N L (plus-at_most N L a a (N.minus a) N.zero (at_most-same N L a) down) (L.neutral a).0) in
       (h.0, up)
 
   -- ---- single combinations
@@ -157,12 +151,10 @@ module _ {C : Type 0} (N : Numbers C) (L : IsOrderedGroup N) (n : ℕ) (y : ℕ 
       (λ i lt. rw (nat_eq-less i k (omega arith)) (equal-same N L N.zero))
 
   if_no : (b : Bool) (z : ℤ) (a : C) → b ≡ false → Equal N (times N (cond b z (pos 0)) a) N.zero
-  if_no true z a e = absurd (false≢true (sym e))
-  if_no false z a e = equal-same N L N.zero
+  if_no b z a e = grind (arith, equal-same)
 
   if_yes : (b : Bool) (z : ℤ) (a : C) → b ≡ true → Equal N (times N (cond b z (pos 0)) a) (times N z a)
-  if_yes true z a e = equal-same N L (times N z a)
-  if_yes false z a e = absurd (false≢true e)
+  if_yes b z a e = grind (arith, equal-same)
 
   total-one : (m k : ℕ) (z : ℤ) → k < m
       → Equal N (total_below N m (λ i. times N (if nat_eq i k then z else pos 0) (y i))) (times N z (y k))

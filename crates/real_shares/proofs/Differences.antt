@@ -1,26 +1,22 @@
 -- The difference between shares in fractions and shares in numbers, as columns, and what it does to excesses.
-use Rattle.std.proofs.Common.{◌≡◌, ℕ, zero, suc, ◌<◌, ◌≤◌, Bool, true, false, cond}
-use Rattle.std.proofs.Common.{List, length, ℤ, pos, ◌+ℤ◌}
-use Rattle.std.proofs.Common.{◌-ℤ◌, ◌*ℤ◌, refl, sym, ap, ◌∙◌, inl, inr, arith, nat_eq}
-use Rattle.std.proofs.Common.{if◌then◌else◌}
+use Rattle.std.proofs.Common.{◌≡◌, ℕ, zero, suc, ◌<◌, ◌≤◌, Bool, true, false, cond, List, length, ℤ, pos, ◌+ℤ◌, ◌-ℤ◌}
+use Rattle.std.proofs.Common.{◌*ℤ◌, refl, sym, ap, ◌∙◌, inl, inr, arith, nat_eq, if◌then◌else◌}
 use Rattle.definitions.proofs.Ring.{linear, mul-subℤ, mul-zeroℤ, mul-oneℤ, mul_left_commℤ}
 use Rattle.definitions.proofs.Cases.{less_or_last, nat_eq-same, nat_eq-other}
 use Rattle.definitions.proofs.Measured.{weight, measured-weight}
 use Rattle.definitions.proofs.Members.{zero_either}
 use Rattle.definitions.proofs.SumsOver.{amount-at}
 use Rattle.definitions.specs.Coalitions.{has_player, singleton, grand_coalition, sum_over}
-use Rattle.definitions.specs.Games.{Game, Allocation, share, amount, excess}
-use Rattle.definitions.specs.Games.{measured_excess, IsAllocation, IsEfficient}
+use Rattle.definitions.specs.Games.{Game, Allocation, share, amount, excess, measured_excess, IsAllocation, IsEfficient}
 use Rattle.definitions.specs.declared.Measure.{Measure}
 use Rattle.definitions.specs.declared.Measure.TheVariants.{Plain, PerHead}
 use Rattle.real_shares.specs.Numbers.{Numbers, IsOrderedGroup, AtMost, Equal, times, total_over}
 use Rattle.real_shares.specs.Shares.{number_of, amount_of, excess_of, measured_of, IsEfficientOver}
 use Rattle.real_shares.proofs.Orders.{equal-same}
-use Rattle.real_shares.proofs.Multiples.{chain, back, equal_path, plus-equal, times-equal, times-zero}
-use Rattle.real_shares.proofs.Multiples.{times-one, times-keeps, difference-low, difference-zero}
-use Rattle.real_shares.proofs.Combined.{combined, IsLow, of_unit, of_members, of_player}
-use Rattle.real_shares.proofs.Combined.{combined-same, combined-plus, combined-times, combined-unit}
-use Rattle.real_shares.proofs.Combined.{combined-members, combined-player, to_zero}
+use Rattle.real_shares.proofs.Multiples.{chain, back, equal_path, plus-equal, times-equal, times-zero, times-one}
+use Rattle.real_shares.proofs.Multiples.{times-keeps, difference-low, difference-zero, through}
+use Rattle.real_shares.proofs.Combined.{combined, IsLow, of_unit, of_members, of_player, combined-same, combined-plus}
+use Rattle.real_shares.proofs.Combined.{combined-times, combined-unit, combined-members, combined-player, to_zero}
 use Rattle.real_shares.proofs.Cones.{Zero}
 use Rattle.real_shares.proofs.Settled.{over}
 
@@ -99,14 +95,12 @@ module _ {C : Type 0} (N : Numbers C) (L : IsOrderedGroup N) (g : Game) (x : All
       let q = x.den in
       let e = measured_excess measure g x s in
       let m : ℕ → ℤ = of_members (g.worth s) s in
-      let ours =
-      chain N L
+      let ours = chain N L
       (times-equal N L q
       (chain N L (measured-times measure s (excess_of N g y s))
       (chain N L (times-equal N L w (excess-combined N L g y len s)) (combined-times N L n v w m))))
       (combined-times N L n v q (λ k. w *ℤ m k)) in
-      let theirs =
-      chain N L
+      let theirs = chain N L
       (plus-equal N L (back N L (combined-unit N L n v e))
       (equal-same N L (combined N n v (λ k. w *ℤ over n (gap x) s k))))
       (back N L (combined-plus N L n v (of_unit e) (λ k. w *ℤ over n (gap x) s k))) in
@@ -125,7 +119,7 @@ module _ {C : Type 0} (N : Numbers C) (L : IsOrderedGroup N) (g : Game) (x : All
             measured-weight measure s (excess g x s),
             mul-subℤ (weight measure s) (x.den *ℤ g.worth s) (amount x s),
             mul_left_commℤ x.den (weight measure s) (g.worth s),
-            ap (λ z. weight measure s *ℤ z) (amount-at g x s hx),
+            ap (◌*ℤ◌ (weight measure s)) (amount-at g x s hx),
           )
 
       each : (b : Bool)
@@ -136,7 +130,7 @@ module _ {C : Type 0} (N : Numbers C) (L : IsOrderedGroup N) (g : Game) (x : All
             arith,
             linear,
             mul_left_commℤ x.den (weight measure s) (cond b (pos 0 -ℤ pos 1) (pos 0)),
-            ap (λ z. weight measure s *ℤ z) (once b x.den),
+            ap (◌*ℤ◌ (weight measure s)) (once b x.den),
           )
 
       rest : (j : ℕ) → j < g.players
@@ -186,14 +180,9 @@ module _ {C : Type 0} (N : Numbers C) (L : IsOrderedGroup N) (g : Game) (x : All
       let n = g.players in
       let v = number_of N y in
       let w = g.worth (singleton i) in
-      let alone =
-      chain N L
-      (equal_path N L (times N (share x i) N.unit) (times N (x.den *ℤ w) N.unit)
+      let alone = chain N L (equal_path N L (times N (share x i) N.unit) (times N (x.den *ℤ w) N.unit)
       (ap (λ z. times N z N.unit) tight)) (units x.den w) in
       let most =
-      L.transitive (times N (share x i) N.unit) (times N x.den (times N w N.unit)) (times N x.den (v i)) alone.0
-      (times-keeps N L x.den (times N w N.unit) (v i) (omega (arith, linear, hx.1)) least) in
-      L.transitive (combined N n v (gap x i)) (N.plus (times N (share x i) N.unit) (N.minus (times N x.den (v i))))
-      N.zero
-      (combined-player N L n v (share x i) x.den i h).0
+      through N L alone.0 (times-keeps N L x.den (times N w N.unit) (v i) (omega (arith, linear, hx.1)) least) in
+      through N L (combined-player N L n v (share x i) x.den i h).0
       (difference-low N L (times N (share x i) N.unit) (times N x.den (v i)) most)

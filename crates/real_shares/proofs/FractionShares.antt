@@ -1,12 +1,9 @@
 -- Fractions over a common denominator, by their numerators, are a linearly ordered abelian group, and the nucleolus
 -- over these groups is that of Games.antt.
-use Rattle.std.proofs.Common.{◌≡◌, ◌⊎◌, ◌↔◌, ℕ, zero, suc, ◌/◌, Bool, true, false}
-use Rattle.std.proofs.Common.{cond, List, [], ◌∷◌, length}
-use Rattle.std.proofs.Common.{ℤ, pos, negsuc, ◌+ℤ◌, ◌-ℤ◌, ◌*ℤ◌, ◌≤ℤ◌, ◌<ℤ◌, int_lt, int_le}
-use Rattle.std.proofs.Common.{refl, sym, ap}
-use Rattle.std.proofs.Common.{subst, ◌∙◌, inl, inr, arith, IsTrue, if◌then◌else◌}
+use Rattle.std.proofs.Common.{◌≡◌, ◌⊎◌, ◌↔◌, ℕ, zero, suc, ◌/◌, Bool, false, cond, List, [], ◌∷◌, length, ℤ, pos, ◌+ℤ◌}
+use Rattle.std.proofs.Common.{◌-ℤ◌, ◌*ℤ◌, ◌≤ℤ◌, ◌<ℤ◌, int_lt, int_le, refl, sym, ap, subst, ◌∙◌, inl, inr, arith}
+use Rattle.std.proofs.Common.{IsTrue, if◌then◌else◌}
 use Rattle.std.proofs.lemmas.Int.{ints, by_lt_z}
-use Rattle.std.proofs.lemmas.Bool.{false≢true}
 use lib.IntN.{*ℤ_comm}
 use Rattle.definitions.proofs.Ring.{linear, zero-mulℤ, suc-mulℤ, negsuc-mulℤ}
 use Rattle.definitions.proofs.Cases.{true_or_false}
@@ -70,8 +67,7 @@ module _ (q : ℤ) where
   multiple-is (suc k) a = ap (λ z. z +ℤ a) (multiple-is k a) ∙ sym (suc-mulℤ k a)
 
   times-is : (z a : ℤ) → times N z a ≡ z *ℤ a
-  times-is (pos k) a = multiple-is k a
-  times-is (negsuc k) a = ap (λ z. pos 0 -ℤ z) (multiple-is (suc k) a) ∙ sym (negsuc-mulℤ k a)
+  times-is z a = grind (arith, multiple-is, negsuc-mulℤ)
 
   total_below-is : (n : ℕ) (f : ℕ → ℤ) → total_below N n f ≡ sum_below n f
   total_below-is zero f = refl
@@ -81,15 +77,14 @@ module _ (q : ℤ) where
   amount-is ys s = total_below-is (length ys) (λ i. if has_player s i then number_of N ys i else pos 0)
 
   excess-is : (g : Game) (ys : List ℤ) (s : ℕ) → excess_of N g ys s ≡ excess g (record { shares = ys; den = q }) s
-  excess-is g ys s =
-      omega (arith, linear, times-is (g.worth s) q, amount-is ys s, *ℤ_comm (g.worth s) q)
+  excess-is g ys s = omega (arith, linear, times-is (g.worth s) q, amount-is ys s, *ℤ_comm (g.worth s) q)
 
   measured-is : (measure : Measure) (g : Game) (ys : List ℤ) (s : ℕ)
       → measured_of N measure s (excess_of N g ys s) ≡ measured_excess measure g (record { shares = ys; den = q }) s
   measured-is Plain g ys s = excess-is g ys s
   measured-is PerHead g ys s =
       times-is (pos (720720 / size s)) (excess_of N g ys s)
-      ∙ ap (λ z. pos (720720 / size s) *ℤ z) (excess-is g ys s)
+      ∙ ap (◌*ℤ◌ (pos (720720 / size s))) (excess-is g ys s)
 
   -- ---- lists
 
@@ -106,7 +101,7 @@ module _ (q : ℤ) where
       map_same (λ s. times N r (measured_of N measure s (excess_of N g ys s)))
       (λ s. r *ℤ measured_excess measure g (record { shares = ys; den = q }) s) (proper_coalitions g.players)
       (λ s. times-is r (measured_of N measure s (excess_of N g ys s))
-      ∙ ap (λ z. r *ℤ z) (measured-is measure g ys s))
+      ∙ ap (◌*ℤ◌ r) (measured-is measure g ys s))
 
   placed-is : (a : ℤ) (l : List ℤ) → placed N a l ≡ with_number a l
   placed-is a [] = refl
@@ -121,12 +116,7 @@ module _ (q : ℤ) where
 
       choice : (t u : Bool) → (IsTrue t × (u ≡ false)) ⊎ ((t ≡ false) × IsTrue u) → {p k : List ℤ} → p ≡ k
           → cond t (b ∷ p) (a ∷ (b ∷ l)) ≡ cond u (a ∷ (b ∷ l)) (b ∷ k)
-      choice true false h e = ap (λ k. b ∷ k) e
-      choice false true h e = refl
-      choice true true (inl h) e = absurd (false≢true (sym h.1))
-      choice true true (inr h) e = absurd (false≢true (sym h.0))
-      choice false false (inl h) e = absurd (false≢true h.0)
-      choice false false (inr h) e = absurd (false≢true h.1)
+      choice t u h e = grind arith
 
   pub sorted-is : (l : List ℤ) → sorted_by N l ≡ sorted l
   sorted-is [] = refl
@@ -165,8 +155,7 @@ module _ (q : ℤ) where
       let y : Allocation = record { shares = ys; den = q } in
       let a = sorted-is (fraction_list N measure g x) ∙ ap sorted (fraction_list-is measure g x) in
       let b = sorted-is (number_list N measure g ys x.den) ∙ ap sorted (number_list-is measure g ys x.den) in
-      let before =
-      subst (λ l. ComesBefore l (sorted_by N (number_list N measure g ys x.den))) (sym a)
+      let before = subst (λ l. ComesBefore l (sorted_by N (number_list N measure g ys x.den))) (sym a)
       (subst (λ l. ComesBefore (sorted (excess_list measure g x q)) l) (sym b) h) in (
         before.0,
         from_lesser (sorted_by N (fraction_list N measure g x)) (sorted_by N (number_list N measure g ys x.den))
@@ -197,9 +186,8 @@ module _ (q : ℤ) where
   from_individual : (g : Game) (ys : List ℤ) → IsIndividuallyRational g (record { shares = ys; den = q })
       → IsIndividuallyRationalOver N g ys
   from_individual g ys h i lt =
-      let u = h i lt in
       from_le (times N (g.worth (singleton i)) q) (number_of N ys i)
-      (omega (arith, linear, u, times-is (g.worth (singleton i)) q, *ℤ_comm (g.worth (singleton i)) q))
+      (omega (arith, linear, h i lt, times-is (g.worth (singleton i)) q, *ℤ_comm (g.worth (singleton i)) q))
 
   to_family : (family : Family) (g : Game) (ys : List ℤ) → pos 1 ≤ℤ q → InFamilyOver N family g ys
       → InFamily family g (record { shares = ys; den = q })

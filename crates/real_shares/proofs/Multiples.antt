@@ -1,7 +1,6 @@
 -- Sums, negatives and integer multiples in a linearly ordered abelian group.
-use Rattle.std.proofs.Common.{◌≡◌, ℕ, zero, suc, ◌+◌, ◌<◌, ℤ, pos, negsuc, ◌+ℤ◌}
-use Rattle.std.proofs.Common.{◌-ℤ◌}
-use Rattle.std.proofs.Common.{◌≤ℤ◌, ◌<ℤ◌, refl, ap, subst, inl, inr, arith}
+use Rattle.std.proofs.Common.{◌≡◌, ℕ, zero, suc, ◌+◌, ◌<◌, ℤ, pos, negsuc, ◌+ℤ◌, ◌-ℤ◌, ◌≤ℤ◌, ◌<ℤ◌, refl, ap, subst, inl}
+use Rattle.std.proofs.Common.{inr, arith}
 use Rattle.definitions.proofs.Ring.{linear}
 use Rattle.real_shares.specs.Numbers.{Numbers, IsOrderedGroup, AtMost, Equal, multiple, times, total_below}
 use Rattle.real_shares.proofs.Orders.{at_most-same, from_less, equal-same, equal-sym, equal-trans}
@@ -14,6 +13,10 @@ module _ {C : Type 0} (N : Numbers C) (L : IsOrderedGroup N) where
   pub chain : {a b c : C} → Equal N a b → Equal N b c → Equal N a c
   chain {a} {b} {c} h k = equal-trans N L a b c h k
 
+  -- and orders
+  pub through : {a b c : C} → AtMost N a b → AtMost N b c → AtMost N a c
+  through {a} {b} {c} h k = L.transitive a b c h k
+
   pub back : {a b : C} → Equal N a b → Equal N b a
   back {a} {b} h = equal-sym N L a b h
 
@@ -22,9 +25,7 @@ module _ {C : Type 0} (N : Numbers C) (L : IsOrderedGroup N) where
 
   pub plus-at_most : (a b c d : C) → AtMost N a b → AtMost N c d → AtMost N (N.plus a c) (N.plus b d)
   plus-at_most a b c d h k =
-      L.transitive (N.plus a c) (N.plus b c) (N.plus b d) (L.shifts a b c h)
-      (L.transitive (N.plus b c) (N.plus c b) (N.plus b d) (L.commutes b c).0
-      (L.transitive (N.plus c b) (N.plus d b) (N.plus b d) (L.shifts c d b k) (L.commutes d b).0))
+      through (L.shifts a b c h) (through (L.commutes b c).0 (through (L.shifts c d b k) (L.commutes d b).0))
 
   pub plus-equal : {a b c d : C} → Equal N a b → Equal N c d → Equal N (N.plus a c) (N.plus b d)
   plus-equal {a} {b} {c} {d} h k = (plus-at_most a b c d h.0 k.0, plus-at_most b a d c h.1 k.1)
@@ -62,9 +63,7 @@ module _ {C : Type 0} (N : Numbers C) (L : IsOrderedGroup N) where
       let low = chain (right a (L.commutes (N.minus b) (N.minus a))) (undone a (N.minus b)) in
       let high = undone b (N.minus a) in
       let between = L.shifts a b (N.plus (N.minus b) (N.minus a)) h in
-      L.transitive (N.minus b) (N.plus a (N.plus (N.minus b) (N.minus a))) (N.minus a) low.1
-      (L.transitive (N.plus a (N.plus (N.minus b) (N.minus a))) (N.plus b (N.plus (N.minus b) (N.minus a)))
-      (N.minus a) between high.0)
+      through low.1 (through between high.0)
 
   pub minus-equal : {a b : C} → Equal N a b → Equal N (N.minus a) (N.minus b)
   minus-equal {a} {b} h = (minus-at_most b a h.1, minus-at_most a b h.0)
@@ -129,17 +128,15 @@ module _ {C : Type 0} (N : Numbers C) (L : IsOrderedGroup N) where
   multiple-positive : (k : ℕ) → AtMost N N.zero (multiple N k N.unit)
   multiple-positive zero = at_most-same N L N.zero
   multiple-positive (suc k) =
-      L.transitive N.zero (N.plus N.zero N.zero) (N.plus (multiple N k N.unit) N.unit) (L.neutral N.zero).1
-      (plus-at_most N.zero (multiple N k N.unit) N.zero N.unit (multiple-positive k)
+      through (L.neutral N.zero).1 (plus-at_most N.zero (multiple N k N.unit) N.zero N.unit (multiple-positive k)
       (from_less N L N.zero N.unit L.positive))
 
   pub times-at_most : (u v : ℤ) → u ≤ℤ v → AtMost N (times N u N.unit) (times N v N.unit)
   times-at_most u v h =
       let (k, e) = gap (v -ℤ u) (omega (arith, linear)) in
       let a = times N u N.unit in
-      L.transitive a (N.plus a N.zero) (times N v N.unit) (L.neutral a).1
-      (L.transitive (N.plus a N.zero) (N.plus a (multiple N k N.unit)) (times N v N.unit)
-      (plus-at_most a a N.zero (multiple N k N.unit) (at_most-same N L a) (multiple-positive k))
+      through (L.neutral a).1
+      (through (plus-at_most a a N.zero (multiple N k N.unit) (at_most-same N L a) (multiple-positive k))
       (subst (λ w. AtMost N (N.plus a (multiple N k N.unit)) (times N w N.unit)) (adds u v k e)
       (times-add u (pos k) N.unit).1))
     where
@@ -180,8 +177,7 @@ module _ {C : Type 0} (N : Numbers C) (L : IsOrderedGroup N) where
       natural (suc k) = plus-at_most (multiple N k a) (multiple N k b) a b (natural k) le
 
       by_sign : (z : ℤ) → pos 0 ≤ℤ z → AtMost N (times N z a) (times N z b)
-      by_sign (pos k) h = natural k
-      by_sign (negsuc k) h = absurd (omega (arith, linear))
+      by_sign z h = grind (arith, linear, natural)
 
   -- ---- differences
 
@@ -192,20 +188,16 @@ module _ {C : Type 0} (N : Numbers C) (L : IsOrderedGroup N) where
       (chain (back (L.associates a (N.minus b) b)) (chain (left b h) (neutral_left b))))
 
   pub difference-low : (a b : C) → AtMost N a b → AtMost N (N.plus a (N.minus b)) N.zero
-  difference-low a b h =
-      L.transitive (N.plus a (N.minus b)) (N.plus b (N.minus b)) N.zero (L.shifts a b (N.minus b) h) (L.inverse b).0
+  difference-low a b h = through (L.shifts a b (N.minus b) h) (L.inverse b).0
 
   pub difference-zero : (a b : C) → Equal N a b → Equal N (N.plus b (N.minus a)) N.zero
   difference-zero a b h = chain (right b (minus-equal h)) (L.inverse b)
 
   pub from_low : (a b : C) → AtMost N (N.plus a (N.minus b)) N.zero → AtMost N a b
   from_low a b h =
-      let back_again : Equal N (N.plus (N.plus a (N.minus b)) b) a =
-      chain (L.associates a (N.minus b) b)
+      let back_again : Equal N (N.plus (N.plus a (N.minus b)) b) a = chain (L.associates a (N.minus b) b)
       (chain (right a (chain (L.commutes (N.minus b) b) (L.inverse b))) (L.neutral a)) in
-      L.transitive a (N.plus (N.plus a (N.minus b)) b) b back_again.1
-      (L.transitive (N.plus (N.plus a (N.minus b)) b) (N.plus N.zero b) b
-      (L.shifts (N.plus a (N.minus b)) N.zero b h) (neutral_left b).0)
+      through back_again.1 (through (L.shifts (N.plus a (N.minus b)) N.zero b h) (neutral_left b).0)
 
   back_from : (a p : C) → Equal N (N.plus (N.plus a p) (N.minus a)) p
   back_from a p =
@@ -214,9 +206,7 @@ module _ {C : Type 0} (N : Numbers C) (L : IsOrderedGroup N) where
 
   plus-cancel : (c a b : C) → AtMost N (N.plus c a) (N.plus c b) → AtMost N a b
   plus-cancel c a b h =
-      L.transitive a (N.plus (N.plus c a) (N.minus c)) b (back_from c a).1
-      (L.transitive (N.plus (N.plus c a) (N.minus c)) (N.plus (N.plus c b) (N.minus c)) b
-      (L.shifts (N.plus c a) (N.plus c b) (N.minus c) h) (back_from c b).0)
+      through (back_from c a).1 (through (L.shifts (N.plus c a) (N.plus c b) (N.minus c) h) (back_from c b).0)
 
   pub times-cancel : (z : ℤ) (a b : C) → pos 0 <ℤ z → AtMost N (times N z a) (times N z b) → AtMost N a b
   times-cancel z a b up h = by_sign z up h
@@ -224,8 +214,7 @@ module _ {C : Type 0} (N : Numbers C) (L : IsOrderedGroup N) where
       natural : (m : ℕ) → AtMost N b a → AtMost N (N.plus (multiple N m a) a) (N.plus (multiple N m b) b)
           → AtMost N a b
       natural m le h =
-          plus-cancel (multiple N m a) a b
-          (L.transitive (N.plus (multiple N m a) a) (N.plus (multiple N m b) b) (N.plus (multiple N m a) b) h
+          plus-cancel (multiple N m a) a b (through h
           (L.shifts (multiple N m b) (multiple N m a) b (times-keeps (pos m) b a (omega (arith, linear)) le)))
 
       by_sign : (z : ℤ) → pos 0 <ℤ z → AtMost N (times N z a) (times N z b) → AtMost N a b
@@ -239,12 +228,9 @@ module _ {C : Type 0} (N : Numbers C) (L : IsOrderedGroup N) where
   -- what a sum adds isn't above zero where the sum isn't above the first part
   pub added-low : (a p : C) → AtMost N (N.plus a p) a → AtMost N p N.zero
   added-low a p h =
-      let gone : Equal N (N.plus (N.plus a p) (N.minus a)) p =
-      chain (left (N.minus a) (L.commutes a p))
+      let gone : Equal N (N.plus (N.plus a p) (N.minus a)) p = chain (left (N.minus a) (L.commutes a p))
       (chain (L.associates p a (N.minus a)) (chain (right p (L.inverse a)) (L.neutral p))) in
-      L.transitive p (N.plus (N.plus a p) (N.minus a)) N.zero gone.1
-      (L.transitive (N.plus (N.plus a p) (N.minus a)) (N.plus a (N.minus a)) N.zero
-      (L.shifts (N.plus a p) a (N.minus a) h) (L.inverse a).0)
+      through gone.1 (through (L.shifts (N.plus a p) a (N.minus a) h) (L.inverse a).0)
 
   -- ---- sums
 

@@ -4,8 +4,7 @@ use Rattle.definitions.specs.Games.{Game, Allocation, share}
 use Rattle.definitions.specs.declared.Family.{Family}
 use Rattle.definitions.specs.declared.Measure.{Measure}
 use Rattle.real_shares.specs.Numbers.{Numbers, IsOrderedGroup, IsLesserBy, Equal, times}
-use Rattle.real_shares.specs.Shares.{HaveSameShares, IsNucleolusAmong, number_of}
-use Rattle.real_shares.specs.Shares.{InFamilyOver, BeatsOver, IsSameOver}
+use Rattle.real_shares.specs.Shares.{HaveSameShares, IsNucleolusAmong, number_of, InFamilyOver, BeatsOver, IsSameOver}
 use Rattle.real_shares.specs.Shares.{IsNucleolusOver}
 use Rattle.real_shares.proofs.Orders.{decided}
 

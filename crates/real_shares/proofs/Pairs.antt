@@ -1,8 +1,7 @@
 -- Pairs of integers, by the first and then by the second, are a linearly ordered abelian group whose unit has
 -- multiples below one pair only.
-use Rattle.std.proofs.Common.{◌≡◌, ◌⊎◌, ℕ, zero, suc, ◌&&◌, nat_eq, if◌then◌else◌, ℤ, pos}
-use Rattle.std.proofs.Common.{◌+ℤ◌, ◌-ℤ◌}
-use Rattle.std.proofs.Common.{◌≤ℤ◌, ◌<ℤ◌, int_lt, int_le, refl, inl, inr, arith, IsTrue}
+use Rattle.std.proofs.Common.{◌≡◌, ◌⊎◌, ℕ, zero, suc, ◌&&◌, nat_eq, if◌then◌else◌, ℤ, pos, ◌+ℤ◌, ◌-ℤ◌, ◌≤ℤ◌, ◌<ℤ◌}
+use Rattle.std.proofs.Common.{int_lt, int_le, refl, inl, inr, arith, IsTrue}
 use Rattle.std.proofs.lemmas.Int.{ints, by_lt_z}
 use Rattle.definitions.proofs.Ring.{linear}
 use Rattle.definitions.proofs.Cases.{true_or_false, or_cases, or_left, or_right, and_both, and_parts}
@@ -42,13 +41,11 @@ below-trans : (f g h : ℕ → ℤ) → Below f g → Below g h → Below f h
 below-trans f g h (inl a) (inl b) = inl (omega (arith, linear))
 below-trans f g h (inl a) (inr b) = let u = b.0 in inl (omega (arith, linear, u))
 below-trans f g h (inr a) (inl b) = let u = a.0 in inl (omega (arith, linear, u))
-below-trans f g h (inr a) (inr b) =
-    let u = a.0 in
-    let v = b.0 in let s = a.1 in let t = b.1 in inr (omega (arith, linear, u, v), omega (arith, linear, s, t))
+below-trans f g h (inr a) (inr b) = inr (omega (arith, linear, a.0, b.0), omega (arith, linear, a.1, b.1))
 
 below-shift : (f g h : ℕ → ℤ) → Below f g → Below (λ k. f k +ℤ h k) (λ k. g k +ℤ h k)
 below-shift f g h (inl a) = inl (omega (arith, linear))
-below-shift f g h (inr a) = let u = a.0 in let v = a.1 in inr (omega (arith, linear, u), omega (arith, linear, v))
+below-shift f g h (inr a) = inr (omega (arith, linear, a.0), omega (arith, linear, a.1))
 
 equal_from_parts : (f h : ℕ → ℤ) → f 0 ≡ h 0 → f 1 ≡ h 1 → Equal pairs f h
 equal_from_parts f h d e = (
@@ -69,7 +66,7 @@ pairs_ordered = record {
   inverse = λ f. equal_from_parts (λ k. f k +ℤ (pos 0 -ℤ f k)) (λ k. pos 0) (omega (arith, linear))
       (omega (arith, linear));
   positive = λ h. elim (to_below pairs.unit pairs.zero h)
-      [ inl a ↦ omega (arith, linear, a) | inr a ↦ let u = a.1 in omega (arith, linear, u) ];
+      [ inl a ↦ omega (arith, linear, a) | inr a ↦ omega (arith, linear, a.1) ];
 }
 
 -- no multiple of the unit reaches (1, 0)
@@ -80,5 +77,5 @@ first-zero (suc k) = omega (arith, linear, first-zero k)
 pub infinite : (k : ℕ) → Less pairs (times pairs (pos k) pairs.unit) (λ i. if nat_eq i 0 then pos 1 else pos 0)
 infinite k h = elim (to_below (λ i. if nat_eq i 0 then pos 1 else pos 0) (multiple pairs k pairs.unit) h) [
   | inl a ↦ omega (arith, linear, a, first-zero k)
-  | inr a ↦ let u = a.0 in omega (arith, linear, u, first-zero k)
+  | inr a ↦ omega (arith, linear, a.0, first-zero k)
 ]

@@ -1,9 +1,7 @@
 -- Each fraction is a real number: n times it, rounded, is additive but for an error of 1. So shares in fractions
 -- can be written as real numbers.
-use Rattle.std.proofs.Common.{◌≡◌, ℕ, zero, suc, ◌+◌, ◌*◌, ◌/◌, ◌<◌, ◌≤◌, List}
-use Rattle.std.proofs.Common.{[], ◌∷◌, length, ℤ, pos, negsuc}
-use Rattle.std.proofs.Common.{◌+ℤ◌, ◌-ℤ◌, ◌*ℤ◌, ◌≤ℤ◌, slice_index_or, refl, sym, ap, subst, ◌∙◌}
-use Rattle.std.proofs.Common.{arith}
+use Rattle.std.proofs.Common.{◌≡◌, ℕ, zero, suc, ◌+◌, ◌*◌, ◌/◌, ◌<◌, ◌≤◌, List, [], ◌∷◌, length, ℤ, pos, negsuc, ◌+ℤ◌}
+use Rattle.std.proofs.Common.{◌-ℤ◌, ◌*ℤ◌, ◌≤ℤ◌, slice_index_or, refl, sym, ap, subst, ◌∙◌, arith}
 use Rattle.std.proofs.Math.Nat.{lt-div-mul-add, div-mul-le_self, div-lt_iff_lt-mul, le-div_iff_mul-le, add-mul}
 use lib.IntN.{*ℤ_comm}
 use Rattle.definitions.proofs.Ring.{linear, zero-mulℤ, mul-subℤ, mul-zeroℤ, suc-mulℤ}
@@ -21,8 +19,7 @@ rounds_above a b q h =
 rounds_below : (a b q : ℕ) → 0 < q → a / q + b / q ≤ (a + b) / q
 rounds_below a b q h =
     let u = div-mul-le_self a q in
-    let v = div-mul-le_self b q in
-    (le-div_iff_mul-le {k = q} {x = a / q + b / q} {y = a + b} h).1 (omega (arith, u, v))
+    (le-div_iff_mul-le {k = q} {x = a / q + b / q} {y = a + b} h).1 (omega (arith, u, div-mul-le_self b q))
 
 some : (r : ℕ) → 0 < suc r
 some r = omega arith
@@ -33,11 +30,9 @@ quotient u r = record {
   near = λ n. pos (n * u / suc r);
   error = 1;
   above = λ m n.
-      let h = rounds_above (m * u) (n * u) (suc r) (some r) in
-      let e = ap (λ (k : ℕ). k / suc r) (add-mul m n u) in omega (arith, linear, h, e);
+      omega (arith, linear, rounds_above (m * u) (n * u) (suc r) (some r), ap (λ (k : ℕ). k / suc r) (add-mul m n u));
   below = λ m n.
-      let h = rounds_below (m * u) (n * u) (suc r) (some r) in
-      let e = ap (λ (k : ℕ). k / suc r) (add-mul m n u) in omega (arith, linear, h, e);
+      omega (arith, linear, rounds_below (m * u) (n * u) (suc r) (some r), ap (λ (k : ℕ). k / suc r) (add-mul m n u));
 }
 
 module _ (N : Numbers Real) (R : AreReals N) where
@@ -56,7 +51,7 @@ module _ (N : Numbers Real) (R : AreReals N) where
   written (negsuc u) r = N.minus (quotient (suc u) r)
 
   units-near : (u n : ℕ) → (multiple N u N.unit).near n ≡ pos (n * u)
-  units-near u n = multiple-near u N.unit n ∙ ap (λ z. pos u *ℤ z) (R.unit n) ∙ *ℤ_comm (pos u) (pos n)
+  units-near u n = multiple-near u N.unit n ∙ ap (◌*ℤ◌ (pos u)) (R.unit n) ∙ *ℤ_comm (pos u) (pos n)
 
   quotient-near : (u r n : ℕ) → (multiple N (suc r) (quotient u r)).near n ≡ pos (n * u / suc r * suc r)
   quotient-near u r n = multiple-near (suc r) (quotient u r) n ∙ *ℤ_comm (pos (suc r)) (pos (n * u / suc r))
@@ -65,7 +60,7 @@ module _ (N : Numbers Real) (R : AreReals N) where
       → (multiple N (suc r) (N.minus (quotient u r))).near n ≡ pos 0 -ℤ pos (n * u / suc r * suc r)
   minus-near u r n =
       multiple-near (suc r) (N.minus (quotient u r)) n
-      ∙ ap (λ z. pos (suc r) *ℤ z) (R.minus (quotient u r) n)
+      ∙ ap (◌*ℤ◌ (pos (suc r))) (R.minus (quotient u r) n)
       ∙ mul-subℤ (pos (suc r)) (pos 0) (pos (n * u / suc r))
       ∙ ap (λ z. z -ℤ pos (suc r) *ℤ pos (n * u / suc r)) (mul-zeroℤ (pos (suc r)))
       ∙ ap (λ z. pos 0 -ℤ z) (*ℤ_comm (pos (suc r)) (pos (n * u / suc r)))
@@ -74,24 +69,18 @@ module _ (N : Numbers Real) (R : AreReals N) where
   written-times (pos u) r =
       equal-near (multiple N u N.unit) (multiple N (suc r) (quotient u r)) (suc r)
       (λ n.
-      let p = units-near u n in
-      let s = quotient-near u r n in
-      let h = lt-div-mul-add {a = n * u} {b = suc r} (some r) in omega (arith, linear, p, s, h))
+      omega (arith, linear, units-near u n, quotient-near u r n, lt-div-mul-add {a = n * u} {b = suc r} (some r)))
       (λ n.
-      let p = units-near u n in
-      let s = quotient-near u r n in let h = div-mul-le_self (n * u) (suc r) in omega (arith, linear, p, s, h))
+      omega (arith, linear, units-near u n, quotient-near u r n, div-mul-le_self (n * u) (suc r)))
   written-times (negsuc u) r =
       equal-near (N.minus (multiple N (suc u) N.unit)) (multiple N (suc r) (N.minus (quotient (suc u) r))) (suc r)
       (λ n.
       let p = R.minus (multiple N (suc u) N.unit) n in
-      let t = units-near (suc u) n in
-      let s = minus-near (suc u) r n in
-      let h = div-mul-le_self (n * suc u) (suc r) in omega (arith, linear, p, t, s, h))
+      omega (arith, linear, p, units-near (suc u) n, minus-near (suc u) r n, div-mul-le_self (n * suc u) (suc r)))
       (λ n.
       let p = R.minus (multiple N (suc u) N.unit) n in
       let t = units-near (suc u) n in
-      let s = minus-near (suc u) r n in
-      let h = lt-div-mul-add {a = n * suc u} {b = suc r} (some r) in omega (arith, linear, p, t, s, h))
+      omega (arith, linear, p, t, minus-near (suc u) r n, lt-div-mul-add {a = n * suc u} {b = suc r} (some r)))
 
   abbrev all_written : List ℤ → ℕ → List Real
   all_written [] r = []

@@ -1,12 +1,10 @@
 -- The real numbers are a linearly ordered abelian group: what is additive but for a bounded error, and once above
 -- the bound, is never far below zero.
-use Rattle.std.proofs.Common.{◌≡◌, ◌⊎◌, ℕ, zero, suc, ◌+◌, ◌*◌, ℤ, pos, ◌+ℤ◌}
-use Rattle.std.proofs.Common.{◌-ℤ◌, ◌*ℤ◌, ◌≤ℤ◌}
-use Rattle.std.proofs.Common.{◌<ℤ◌, refl, sym, ap, subst, inl, inr, arith}
+use Rattle.std.proofs.Common.{◌≡◌, ◌⊎◌, ℕ, zero, suc, ◌+◌, ◌*◌, ℤ, pos, ◌+ℤ◌, ◌-ℤ◌, ◌*ℤ◌, ◌≤ℤ◌, ◌<ℤ◌, refl, sym, ap}
+use Rattle.std.proofs.Common.{subst, inl, inr, arith}
 use Rattle.std.proofs.lemmas.Int.{by_lt_z}
 use Rattle.std.proofs.Math.Nat.{mul_comm}
-use Rattle.definitions.proofs.Ring.{linear, mul-addℤ, mul-oneℤ, mul-zeroℤ}
-use Rattle.definitions.proofs.Ring.{one-mulℤ, mul-leℤ, mul-le_cancelℤ, suc-mulℤ}
+use Rattle.definitions.proofs.Ring.{linear, mul-addℤ, mul-oneℤ, mul-zeroℤ, one-mulℤ, mul-leℤ, mul-le_cancelℤ, suc-mulℤ}
 use Rattle.real_shares.specs.Numbers.{Numbers, IsOrderedGroup, Equal}
 use Rattle.real_shares.specs.Reals.{Real, IsAtMost, AreReals}
 use Rattle.real_shares.proofs.Orders.{decided}
@@ -68,8 +66,6 @@ never_low c d s (suc m) (suc n) up =
             let q = pos (suc n) in
             let turned : d (suc m * suc n) ≡ d (suc n * suc m) = ap d (mul_comm (suc m) (suc n)) in
             -- q times d m is at least q times c and q more
-            let most = mul-leℤ q (pos c +ℤ pos 1) (d (suc m)) (omega (arith, linear)) (omega (arith, linear)) in
-            let parts = mul-addℤ q (pos c) (pos 1) in
             mul-le_cancelℤ p (pos 0) (d (suc n) +ℤ pos c) (omega (arith, linear))
             (omega (
               arith,
@@ -77,8 +73,8 @@ never_low c d s (suc m) (suc n) up =
               first,
               second,
               turned,
-              most,
-              parts,
+              mul-leℤ q (pos c +ℤ pos 1) (d (suc m)) (omega (arith, linear)) (omega (arith, linear)),
+              mul-addℤ q (pos c) (pos 1),
               mul-oneℤ q,
               mul-addℤ p (d (suc n)) (pos c),
               mul-zeroℤ p,
@@ -101,8 +97,7 @@ other_order a b h = (
       (h (
         b.error + a.error,
         λ k.
-            let low =
-            never_low (b.error + a.error) (λ n. a.near n -ℤ b.near n) (difference_steady b a) n k
+            let low = never_low (b.error + a.error) (λ n. a.near n -ℤ b.near n) (difference_steady b a) n k
             (omega (arith, linear, up)) in
             omega (arith, linear, low),
       )))
@@ -157,8 +152,7 @@ are_ordered N R = record {
       (λ n. omega (arith, linear, R.plus a (N.minus a) n, R.minus a n, R.zero n));
   positive = λ h.
       let (k, i) = R.at_most N.unit N.zero h in
-      let u = i (suc k) in
-      omega (arith, linear, u, R.unit (suc k), R.zero (suc k));
+      omega (arith, linear, i (suc k), R.unit (suc k), R.zero (suc k));
 }
   where
     equal : (a b : Real) → ((n : ℕ) → a.near n ≡ b.near n) → Equal N a b

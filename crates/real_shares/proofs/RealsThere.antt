@@ -1,6 +1,5 @@
 -- Real numbers have sums and negatives, and a test of their order where it is decided.
-use Rattle.std.proofs.Common.{◌⊎◌, ◌+◌, Bool, true, false, pos, ◌+ℤ◌, ◌-ℤ◌, refl, inl}
-use Rattle.std.proofs.Common.{inr, arith, IsTrue}
+use Rattle.std.proofs.Common.{◌⊎◌, ◌+◌, Bool, true, false, pos, ◌+ℤ◌, ◌-ℤ◌, refl, inl, inr, arith, IsTrue}
 use Rattle.std.proofs.lemmas.Bool.{false≢true}
 use Rattle.definitions.proofs.Ring.{linear}
 use Rattle.real_shares.specs.Numbers.{Numbers}
@@ -40,8 +39,7 @@ from_left (inl a) h = a
 from_left (inr b) h = absurd (false≢true h)
 
 to_left : {A : Type 0} → (d : A ⊎ (¬ A)) → A → IsTrue (is_left d)
-to_left (inl a) h = refl
-to_left (inr b) h = absurd (b h)
+to_left d h = grind arith
 
 reals_from : ((a b : Real) → IsAtMost a b ⊎ (¬ IsAtMost a b)) → (N : Numbers Real) × AreReals N
 reals_from decides = (
@@ -57,8 +55,7 @@ reals_from decides = (
 )
 
 decided_order : (a b : Real) → (¬ IsAtMost a b) ⊎ (¬ (¬ IsAtMost a b)) → IsAtMost a b ⊎ (¬ IsAtMost a b)
-decided_order a b (inl h) = inr h
-decided_order a b (inr h) = inl (stable a b h)
+decided_order a b h = grind (arith, stable)
 
 pub reals_there : ((a b : Real) → (¬ IsAtMost a b) ⊎ (¬ (¬ IsAtMost a b))) → (N : Numbers Real) × AreReals N
 reals_there middle = reals_from (λ a b. decided_order a b (middle a b))

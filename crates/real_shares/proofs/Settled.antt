@@ -1,32 +1,29 @@
 -- What the levels of a certificate settle of a difference between two members of a family: a column D i per player,
 -- and a coalition's column is the sum over its members.
-use Rattle.std.proofs.Common.{◌≡◌, ◌⊎◌, ℕ, zero, suc, ◌-◌, ◌<◌, ◌≤◌, Bool, true}
-use Rattle.std.proofs.Common.{false, not, cond, ◌&&◌}
-use Rattle.std.proofs.Common.{◌||◌, List, [], ◌∷◌, ◌++◌, ℤ, pos, ◌+ℤ◌, ◌-ℤ◌, ◌*ℤ◌}
-use Rattle.std.proofs.Common.{refl, sym, ap, ◌∙◌, inl}
-use Rattle.std.proofs.Common.{inr, arith, nat_eq, int_le, if◌then◌else◌, IsTrue}
+use Rattle.std.proofs.Common.{◌≡◌, ◌⊎◌, ℕ, zero, suc, ◌-◌, ◌<◌, ◌≤◌, Bool, true, false, not, cond, ◌&&◌, ◌||◌, List, []}
+use Rattle.std.proofs.Common.{◌∷◌, ◌++◌, ℤ, pos, ◌+ℤ◌, ◌-ℤ◌, ◌*ℤ◌, refl, sym, ap, ◌∙◌, inl, inr, arith, nat_eq, int_le}
+use Rattle.std.proofs.Common.{if◌then◌else◌, IsTrue}
 use Rattle.std.specs.List.{list_any, AllByRecursion}
 use Rattle.std.proofs.lemmas.Bool.{false≢true}
 use Rattle.std.proofs.lemmas.Bool.Decides.{nat_tests}
 use Rattle.definitions.proofs.Ring.{linear, add-mulℤ, zero-mulℤ}
-use Rattle.definitions.proofs.Members.{has_player-singleton, has_player-complement, sum_below-same}
-use Rattle.definitions.proofs.Members.{sum_below-zero, sum_below-add, sum_below-times, sum_over-grand_coalition}
-use Rattle.definitions.proofs.Members.{sum_over-singleton, sum_over-complement, weighted_sum-sum_over}
-use Rattle.definitions.proofs.Members.{scaled_either}
-use Rattle.definitions.proofs.Cases.{less_or_last, nat_eq-same, or_cases, not_true, nat_eq-less}
-use Rattle.definitions.proofs.Cases.{and_either, from_nat_eq, and_left}
+use Rattle.definitions.proofs.Members.{has_player-singleton, has_player-complement, sum_below-same, sum_below-zero}
+use Rattle.definitions.proofs.Members.{sum_below-add, sum_below-times, sum_over-grand_coalition, sum_over-singleton}
+use Rattle.definitions.proofs.Members.{sum_over-complement, weighted_sum-sum_over, scaled_either}
+use Rattle.definitions.proofs.Cases.{less_or_last, nat_eq-same, or_cases, not_true, nat_eq-less, and_either}
+use Rattle.definitions.proofs.Cases.{from_nat_eq, and_left}
 use Rattle.definitions.proofs.Splits.{some_below-false}
 use Rattle.definitions.proofs.Masks.{singleton-within}
 use Rattle.definitions.proofs.Levels.{free_or_fixed}
 use Rattle.definitions.specs.Sums.{sum_below, weighted_sum}
-use Rattle.definitions.specs.Coalitions.{has_player, singleton, grand_coalition, sum_over}
-use Rattle.definitions.specs.Coalitions.{weight_at, some_below, splits}
-use Rattle.definitions.specs.Certificates.{Level, is_listed, has_bound, is_fixed, is_free, number_at}
-use Rattle.definitions.specs.Certificates.{IsFixedVector, InSpan, IsOutside, IsAllFixed}
+use Rattle.definitions.specs.Coalitions.{has_player, singleton, grand_coalition, sum_over, weight_at, some_below}
+use Rattle.definitions.specs.Coalitions.{splits}
+use Rattle.definitions.specs.Certificates.{Level, is_listed, has_bound, is_fixed, is_free, number_at, IsFixedVector}
+use Rattle.definitions.specs.Certificates.{InSpan, IsOutside, IsAllFixed}
 use Rattle.definitions.specs.declared.Mode.{Mode}
 use Rattle.definitions.specs.declared.Mode.TheVariants.{Players, Span}
-use Rattle.real_shares.proofs.Cones.{IsCone, Zero, zero-none, zero-same, zero-plus, zero-minus}
-use Rattle.real_shares.proofs.Cones.{zero-divided, zero-sum, weighted-zero_terms}
+use Rattle.real_shares.proofs.Cones.{IsCone, Zero, zero-none, zero-same, zero-plus, zero-minus, zero-divided, zero-sum}
+use Rattle.real_shares.proofs.Cones.{weighted-zero_terms}
 
 -- ---- the weights of players
 
@@ -54,8 +51,7 @@ weighted_sum-number_at n d (p ∷ ps) h =
     let ih = weighted_sum-number_at n d ps h.1 in
     let one = sum_below-one n p.0 p.1 d h.0 in
     let both = sum_below-add n (λ i. (if nat_eq p.0 i then p.1 else pos 0) *ℤ d i) (λ i. number_at ps i *ℤ d i) in
-    let same =
-    sum_below-same n (λ i. number_at (p ∷ ps) i *ℤ d i)
+    let same = sum_below-same n (λ i. number_at (p ∷ ps) i *ℤ d i)
     (λ i. (if nat_eq p.0 i then p.1 else pos 0) *ℤ d i +ℤ number_at ps i *ℤ d i)
     (λ i k. add-mulℤ (if nat_eq p.0 i then p.1 else pos 0) (number_at ps i) (d i)) in
     omega (arith, linear, ih, one, both, same)
@@ -76,12 +72,11 @@ level-sum n d l within balanced =
     let third = weighted_sum-number_at n d l.bounds within in
     let two = sum_below-add n a b in
     let three = sum_below-add n (λ i. a i +ℤ b i) c in
-    let joined =
-    sum_below-same n (λ i. a i +ℤ b i +ℤ c i) (λ i. l.total *ℤ d i)
+    let joined = sum_below-same n (λ i. a i +ℤ b i +ℤ c i) (λ i. l.total *ℤ d i)
     (λ i k. joins (weight_at l.coalitions i) (weight_at l.earlier i) (number_at l.bounds i) l.total (d i)
     (balanced i k)) in
     let times = sum_below-times n d l.total in
-    let all = ap (λ z. l.total *ℤ z) (sum_over-grand_coalition n d) in
+    let all = ap (◌*ℤ◌ l.total) (sum_over-grand_coalition n d) in
     omega (arith, linear, first, second, third, two, three, joined, times, all)
   where
     joins : (u v w t z : ℤ) → u +ℤ v +ℤ w ≡ t → u *ℤ z +ℤ v *ℤ z +ℤ w *ℤ z ≡ t *ℤ z
@@ -105,8 +100,7 @@ list_any-append p (x ∷ xs) ys =
     elim_or (p x) (list_any p (xs ++ ys)) (list_any p xs) (list_any p ys) (list_any-append p xs ys)
   where
     elim_or : (a b c e : Bool) → b ≡ (c || e) → (a || b) ≡ ((a || c) || e)
-    elim_or true b c e h = refl
-    elim_or false b c e h = h
+    elim_or a b c e h = grind arith
 
 module _ {Low : (ℕ → ℤ) → Type 0} (K : IsCone Low) where
   pub Settled-none : (n : ℕ) (D : ℕ → ℕ → ℤ) → Settled Low n D []
@@ -236,8 +230,7 @@ module _ {Low : (ℕ → ℤ) → Type 0} (K : IsCone Low) where
       parts k =
           let a : ℕ → ℤ = λ i. (if has_player s i then D i k else pos 0) -ℤ D i k in
           let b : ℕ → ℤ = λ i. D i k in
-          let same =
-          sum_below-same n (λ i. a i +ℤ b i) (λ i. if has_player s i then D i k else pos 0)
+          let same = sum_below-same n (λ i. a i +ℤ b i) (λ i. if has_player s i then D i k else pos 0)
           (λ i h. omega (arith, linear)) in
           omega (arith, linear, same, sum_below-add n a b, sum_over-grand_coalition n b)
 
@@ -271,8 +264,7 @@ module _ {Low : (ℕ → ℤ) → Type 0} (K : IsCone Low) where
       exchanged k =
           let d : ℕ → ℤ = λ i. D i k in
           let exchange = weighted_sum-sum_over n d ps in
-          let each =
-          sum_below-same n (λ i. weight_at ps i *ℤ d i) (λ i. m *ℤ (if has_player s i then d i else pos 0))
+          let each = sum_below-same n (λ i. weight_at ps i *ℤ d i) (λ i. m *ℤ (if has_player s i then d i else pos 0))
           (λ i h. ap (λ w. w *ℤ d i) (sums i h) ∙ scaled_either (has_player s i) m (d i)) in
           let times = sum_below-times n (λ i. if has_player s i then d i else pos 0) m in
           sym (exchange ∙ each ∙ times)
@@ -302,8 +294,7 @@ module _ {Low : (ℕ → ℤ) → Type 0} (K : IsCone Low) where
     | inl free ↦
         let same : (j : ℕ) → j < n → (i ≡ j) ⊎ Zero Low (D j) = λ j k. elim (free_or_fixed n front j)
         [ inl a ↦ inl (one i j h k free a) | inr a ↦ inr (fixed_zero n D front settled all j k a) ] in
-        let others =
-        zero-sum K n (λ j k. if has_player (grand_coalition n - singleton i) j then D j k else pos 0)
+        let others = zero-sum K n (λ j k. if has_player (grand_coalition n - singleton i) j then D j k else pos 0)
         (λ j k. others_zero j k (same j k)) in
         zero-minus K (over n D (grand_coalition n)) (over n D (grand_coalition n - singleton i)) (D i) rest_is all
         others
@@ -325,8 +316,7 @@ module _ {Low : (ℕ → ℤ) → Type 0} (K : IsCone Low) where
       either false j u = zero-none K
 
       lacks : (b : Bool) (j : ℕ) → b ≡ false → Zero Low (λ k. cond b (D j k) (pos 0))
-      lacks true j e = absurd (false≢true (sym e))
-      lacks false j e = zero-none K
+      lacks b j e = grind (arith, zero-none)
 
       others_zero : (j : ℕ) → j < n → (i ≡ j) ⊎ Zero Low (D j)
           → Zero Low (λ k. if has_player (grand_coalition n - singleton i) j then D j k else pos 0)

@@ -1,12 +1,12 @@
 -- Two lists of one length over a linear order. Where the numbers at each place are equal, or the first is at most
 -- e, and at some place only the second is above e, the sorted first list comes before the sorted second.
-use Rattle.std.proofs.Common.{◌≡◌, ◌⊎◌, ℕ, suc, ◌+◌, ◌<◌, ◌≤◌, Bool, true, false}
-use Rattle.std.proofs.Common.{cond, List, []}
-use Rattle.std.proofs.Common.{◌∷◌, length, refl, sym, ap, ◌∙◌, inl, inr, arith, IsTrue}
+use Rattle.std.proofs.Common.{◌≡◌, ◌⊎◌, ℕ, suc, ◌+◌, ◌<◌, ◌≤◌, Bool, true, false, cond, List, [], ◌∷◌, length, refl}
+use Rattle.std.proofs.Common.{sym, ap, ◌∙◌, inl, inr, arith, IsTrue}
 use Rattle.std.proofs.lemmas.Bool.{false≢true}
 use Rattle.real_shares.specs.Numbers.{Numbers, IsOrderedGroup, AtMost, Less, Equal, placed, sorted_by, IsLesserBy}
 use Rattle.real_shares.specs.Numbers.{ComesBeforeBy}
 use Rattle.real_shares.proofs.Orders.{at_most_or_less, at_most-same, from_less}
+use Rattle.real_shares.proofs.Multiples.{through}
 
 abbrev none_if : Bool → ℕ
 none_if true = 0
@@ -44,12 +44,10 @@ SomeAbove N e (a ∷ l) [] = ⊥
 SomeAbove N e (a ∷ l) (b ∷ k) = (AtMost N a e × Less N e b) ⊎ SomeAbove N e l k
 
 cond_yes : (b : Bool) → IsTrue b → none_if b ≡ 0
-cond_yes true h = refl
-cond_yes false h = absurd (false≢true h)
+cond_yes b h = grind arith
 
 cond_no : (b : Bool) → (¬ IsTrue b) → none_if b ≡ 1
-cond_no true h = absurd (h refl)
-cond_no false h = refl
+cond_no b h = grind arith
 
 module _ {C : Type 0} (N : Numbers C) (L : IsOrderedGroup N) where
   one-low : (e a : C) → AtMost N a e → one_if_above N e a ≡ 0
@@ -61,7 +59,7 @@ module _ {C : Type 0} (N : Numbers C) (L : IsOrderedGroup N) where
   -- a number that is at most another isn't above more
   one-mono : (e a b : C) → AtMost N a b → one_if_above N e a ≤ one_if_above N e b
   one-mono e a b h = elim (at_most_or_less N L b e) [
-    | inl low ↦ let u = one-low e a (L.transitive a b e h low) in omega (arith, u)
+    | inl low ↦ let u = one-low e a (through N L h low) in omega (arith, u)
     | inr high ↦ elim (at_most_or_less N L a e) [
       | inl low ↦ let u = one-low e a low in omega (arith, u)
       | inr up ↦ let u = one-high e a up in let v = one-high e b high in omega (arith, u, v)
@@ -92,17 +90,15 @@ module _ {C : Type 0} (N : Numbers C) (L : IsOrderedGroup N) where
   Falls-sorted (a ∷ l) = Falls-placed a (sorted_by N l) (Falls-sorted l)
 
   Falls-from : (m : C) (l : List C) → FallsFrom N m l → Falls N l
-  Falls-from m [] h = tt
-  Falls-from m (a ∷ l) h = h.1
+  Falls-from m l h = grind arith
 
   count-placed : (e a : C) (l : List C) → count_above N e (placed N a l) ≡ one_if_above N e a + count_above N e l
   count-placed e a [] = refl
   count-placed e a (b ∷ l) =
-      let ih = count-placed e a l in
       let step : (t : Bool)
       → count_above N e (cond t (b ∷ placed N a l) (a ∷ (b ∷ l)))
       ≡ one_if_above N e a + (one_if_above N e b + count_above N e l) = elim [
-        | true ↦ omega (arith, ih)
+        | true ↦ omega (arith, count-placed e a l)
         | false ↦ refl
       ] in
       step (N.at_most a b)
@@ -129,10 +125,8 @@ module _ {C : Type 0} (N : Numbers C) (L : IsOrderedGroup N) where
   count-low : (e m : C) (l : List C) → AtMost N m e → FallsFrom N m l → count_above N e l ≡ 0
   count-low e m [] le h = refl
   count-low e m (a ∷ l) le h =
-      let low = L.transitive a m e h.0 le in
-      let ih = count-low e a l low h.1 in
-      let one = one-low e a low in
-      omega (arith, ih, one)
+      let low = through N L h.0 le in
+      omega (arith, count-low e a l low h.1, one-low e a low)
 
   -- of two lists that fall, the first is lesser where it never has more numbers above what is e or more, and has
   -- fewer above e
@@ -163,15 +157,11 @@ module _ {C : Type 0} (N : Numbers C) (L : IsOrderedGroup N) where
       too_many : AtMost N b a → Less N b a → ⊥
       too_many le above = elim (at_most_or_less N L b e) [
         | inl low ↦
-            let none = count-low e b k low g in
-            let one = one-low e b low in
-            omega (arith, lt, none, one)
+            omega (arith, lt, count-low e b k low g, one-low e b low)
         | inr high ↦
             let u = most b (from_less N L e b high) in
-            let none = count-low b b k (at_most-same N L b) g in
-            let one = one-low b b (at_most-same N L b) in
-            let up = one-high b a above in
-            omega (arith, u, none, one, up)
+            omega
+            (arith, u, count-low b b k (at_most-same N L b) g, one-low b b (at_most-same N L b), one-high b a above)
       ]
 
   counts-most : (e t : C) (l k : List C) → AtMost N e t → SameOrLow N e l k → count_above N t l ≤ count_above N t k
@@ -182,7 +172,7 @@ module _ {C : Type 0} (N : Numbers C) (L : IsOrderedGroup N) where
       let ih = counts-most e t l k le h.1 in
       elim h.0 [
         | inl same ↦ let u = one-mono t a b same.0 in omega (arith, ih, u)
-        | inr low ↦ let u = one-low t a (L.transitive a e t low le) in omega (arith, ih, u)
+        | inr low ↦ let u = one-low t a (through N L low le) in omega (arith, ih, u)
       ]
 
   counts-less : (e : C) (l k : List C) → SameOrLow N e l k → SomeAbove N e l k
@@ -192,10 +182,7 @@ module _ {C : Type 0} (N : Numbers C) (L : IsOrderedGroup N) where
   counts-less e (a ∷ l) (b ∷ k) h s =
       elim s [
         | inl here ↦
-            let ih = counts-most e e l k (at_most-same N L e) h.1 in
-            let u = one-low e a here.0 in
-            let v = one-high e b here.1 in
-            omega (arith, ih, u, v)
+            omega (arith, counts-most e e l k (at_most-same N L e) h.1, one-low e a here.0, one-high e b here.1)
         | inr there ↦
             let ih = counts-less e l k h.1 there in
             elim h.0 [

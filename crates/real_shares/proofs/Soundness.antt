@@ -1,8 +1,6 @@
 -- A certificate that meets its conditions certifies the nucleolus over every linearly ordered abelian group.
-use Rattle.std.proofs.Common.{◌≡◌, ◌⊎◌, ℕ, zero, suc, ◌+◌, ◌-◌, ◌^◌, ◌<◌, ◌≤◌}
-use Rattle.std.proofs.Common.{List, [], ◌∷◌, ◌++◌, length, map, ℤ}
-use Rattle.std.proofs.Common.{pos, ◌+ℤ◌, ◌-ℤ◌, ◌*ℤ◌, ◌≤ℤ◌, ◌<ℤ◌, IsTrue, refl, sym, subst}
-use Rattle.std.proofs.Common.{inl, inr, arith}
+use Rattle.std.proofs.Common.{◌≡◌, ◌⊎◌, ℕ, zero, suc, ◌+◌, ◌-◌, ◌^◌, ◌<◌, ◌≤◌, List, [], ◌∷◌, ◌++◌, length, map, ℤ, pos}
+use Rattle.std.proofs.Common.{◌+ℤ◌, ◌-ℤ◌, ◌*ℤ◌, ◌≤ℤ◌, ◌<ℤ◌, IsTrue, refl, sym, subst, inl, inr, arith}
 use Rattle.std.specs.List.{AllByRecursion, range_with_len}
 use Rattle.std.proofs.lemmas.Int.{by_lt_z}
 use lib.IntN.{*ℤ_comm}
@@ -15,8 +13,8 @@ use Rattle.definitions.specs.Sums.{weighted_sum}
 use Rattle.definitions.specs.Coalitions.{grand_coalition, proper_coalitions}
 use Rattle.definitions.specs.Measures.{measured_den, IsMeasurable}
 use Rattle.definitions.specs.Games.{Game, Allocation, share, measured_excess, InFamily}
-use Rattle.definitions.specs.Certificates.{Level, is_listed, LevelsForm, HasForm, LevelHolds, LevelsHold}
-use Rattle.definitions.specs.Certificates.{HasExcess, IsOutside, IsTight, BoundWeighs, Certifies}
+use Rattle.definitions.specs.Certificates.{Level, is_listed, LevelsForm, HasForm, LevelHolds, LevelsHold, HasExcess}
+use Rattle.definitions.specs.Certificates.{IsOutside, IsTight, BoundWeighs, Certifies}
 use Rattle.definitions.specs.declared.Family.{Family}
 use Rattle.definitions.specs.declared.Family.TheVariants.{Imputations, Preimputations}
 use Rattle.definitions.specs.declared.Measure.{Measure}
@@ -26,13 +24,13 @@ use Rattle.real_shares.specs.Shares.{number_of, excess_of, measured_of, InFamily
 use Rattle.real_shares.specs.Shares.{IsIndividuallyRationalOver, IsSameOver, IsNucleolusOver}
 use Rattle.real_shares.specs.Claims.{IsNucleolusOverGroups}
 use Rattle.real_shares.proofs.Orders.{at_most-same}
-use Rattle.real_shares.proofs.Multiples.{chain, back, plus-equal, from_difference, added-low, times-at_most}
+use Rattle.real_shares.proofs.Multiples.{chain, back, plus-equal, from_difference, added-low, times-at_most, through}
 use Rattle.real_shares.proofs.Sorted.{SameOrLow, SomeAbove, ComesBefore-sorted}
-use Rattle.real_shares.proofs.Cones.{Zero, Weighs, low-plus, zero-minus, zero-times, low-divided}
-use Rattle.real_shares.proofs.Cones.{weighted-low, weighted-all_zero, weighted-zero_terms, some_rises}
+use Rattle.real_shares.proofs.Cones.{Zero, Weighs, low-plus, zero-minus, zero-times, low-divided, weighted-low}
+use Rattle.real_shares.proofs.Cones.{weighted-all_zero, weighted-zero_terms, some_rises}
 use Rattle.real_shares.proofs.Combined.{combined, IsLow, cone, from_zero, combined-player}
-use Rattle.real_shares.proofs.Settled.{over, level-sum, Settled, Settled-none, Settled-more}
-use Rattle.real_shares.proofs.Settled.{earlier_zero, inside_zero, all_fixed_zero}
+use Rattle.real_shares.proofs.Settled.{over, level-sum, Settled, Settled-none, Settled-more, earlier_zero, inside_zero}
+use Rattle.real_shares.proofs.Settled.{all_fixed_zero}
 use Rattle.real_shares.proofs.Differences.{gap, excess-differs, all-zero, bound-low}
 
 -- ---- lists over the masks
@@ -181,29 +179,23 @@ module _ {C : Type 0} (N : Numbers C) (L : IsOrderedGroup N) (family : Family) (
       → measured_excess measure g x c <ℤ measured_excess measure g x s → ¬ IsOutside mode n front s =
       λ s lo hi above outside.
       let most = holds.outside s (omega arith) outside in
-      let less =
-      at_most (measured_excess measure g x s) (measured_excess measure g x c) l.excess_den
+      let less = at_most (measured_excess measure g x s) (measured_excess measure g x c) l.excess_den
       (l.excess_num *ℤ measured_den measure x.den) form.fraction most here in
       omega (arith, linear, above, less) in
       let each : (s : ℕ) → 1 ≤ s → s < 1 + (2 ^ n - 2) → Equal N (f s) (h s) ⊎ AtMost N (f s) e = λ s lo hi.
-      by_lt_z (measured_excess measure g x c) (measured_excess measure g x s)
-      (λ above.
+      by_lt_z (measured_excess measure g x c) (measured_excess measure g x s) (λ above.
       let nothing =
       inside_zero (cone N L n (number_of N y)) mode n (gap x) front settled all s (omega arith) (omega arith)
       (inside s lo hi above) in
-      let none =
-      from_zero N L n (number_of N y) (part s)
+      let none = from_zero N L n (number_of N y) (part s)
       (zero-times (cone N L n (number_of N y)) (weight measure s) (over n (gap x) s) nothing) in
-      inl
-      (back N L
-      (chain N L (excess-differs N L g x y ax len measure s)
+      inl (back N L (chain N L (excess-differs N L g x y ax len measure s)
       (chain N L (plus-equal N L (at_most-same N L (f s), at_most-same N L (f s)) none) (L.neutral (f s))))))
       (λ le. inr (times-at_most N L (measured_excess measure g x s) (measured_excess measure g x c) le)) in
       let above : Less N e (h c) = λ less.
       let sum = N.plus (f c) (combined N n (number_of N y) (part c)) in
-      let sum_low = L.transitive sum (h c) (f c) (excess-differs N L g x y ax len measure c).1 less in
-      up
-      (low-divided (cone N L n (number_of N y)) (weight measure c) (over n (gap x) c)
+      let sum_low = through N L (excess-differs N L g x y ax len measure c).1 less in
+      up (low-divided (cone N L n (number_of N y)) (weight measure c) (over n (gap x) c)
       (weight-positive measure n c m low (omega arith))
       (added-low N L (f c) (combined N n (number_of N y) (part c)) sum_low)) in
       record { c = c; some = omega arith; proper = omega arith; each = each; above = above }
@@ -230,11 +222,9 @@ module _ {C : Type 0} (N : Numbers C) (L : IsOrderedGroup N) (family : Family) (
             let b : ℕ → ℤ = λ k. weighted_sum (λ s. over n D s k) l.earlier in
             let c : ℕ → ℤ = λ k. weighted_sum (λ i. D i k) l.bounds in
             let total : ℕ → ℤ = λ k. l.total *ℤ over n D (grand_coalition n) k in
-            let earlier =
-            weighted-zero_terms K (over n D) l.earlier
+            let earlier = weighted-zero_terms K (over n D) l.earlier
             (earlier_zero K n D front settled l.earlier form.listed) in
-            let rest =
-            zero-minus K total b (λ k. total k -ℤ b k) (λ k. refl)
+            let rest = zero-minus K total b (λ k. total k -ℤ b k) (λ k. refl)
             (zero-times K l.total (over n D (grand_coalition n)) all) earlier in
             let sums : (k : ℕ) → a k +ℤ b k +ℤ c k ≡ total k =
             λ k. level-sum n (λ i. D i k) l form.players holds.balanced in

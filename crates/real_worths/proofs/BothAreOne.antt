@@ -1,7 +1,7 @@
 -- A core point gives nobody less than its worth alone. So where there is one, the nucleolus and the prenucleolus lie
 -- in the core; and who gives somebody less comes behind a core point.
-use Rattle.std.proofs.Common.{◌≡◌, ◌⊎◌, ℕ, zero, suc, ◌<◌, Bool, true, false, cond, List, length}
-use Rattle.std.proofs.Common.{sym, ap, ◌∙◌, inl, inr, arith}
+use Rattle.std.proofs.Common.{◌≡◌, ◌⊎◌, ℕ, zero, suc, ◌<◌, Bool, true, false, cond, List, length, sym, ap, ◌∙◌, inl}
+use Rattle.std.proofs.Common.{inr, arith}
 use Rattle.definitions.proofs.Cases.{less_or_last}
 use Rattle.definitions.proofs.Masks.{singleton-within}
 use Rattle.definitions.proofs.Members.{has_player-singleton, has_player-singleton_other}
@@ -11,7 +11,7 @@ use Rattle.definitions.specs.declared.Family.TheVariants.{Imputations, Preimputa
 use Rattle.real_shares.specs.Numbers.{Numbers, IsOrderedGroup, AtMost, Equal, total_below}
 use Rattle.real_shares.specs.Shares.{number_of, amount_of}
 use Rattle.real_shares.proofs.Orders.{decided}
-use Rattle.real_shares.proofs.Multiples.{chain, equal_path, plus-equal, neutral_left, total_below-zero}
+use Rattle.real_shares.proofs.Multiples.{chain, equal_path, plus-equal, neutral_left, total_below-zero, through}
 use Rattle.real_worths.specs.Games.{NumberGame, InFamilyIn, IsNucleolusIn, InCoreIn}
 use Rattle.real_worths.proofs.CoreFirst.{amount_at, core_first, nucleolus_in_core, only_proper}
 
@@ -52,9 +52,7 @@ module _ {C : Type 0} (N : Numbers C) (L : IsOrderedGroup N) (g : NumberGame C) 
   core_imputation z core = (
     core.0,
     core.1,
-    λ i lt. L.transitive (g.worth (singleton i)) (amount_of N z (singleton i)) (number_of N z i)
-        (core.2 (singleton i) (singleton-within g.players i lt))
-        (amount_alone z i core.0 lt).0,
+    λ i lt. through N L (core.2 (singleton i) (singleton-within g.players i lt)) (amount_alone z i core.0 lt).0,
   )
 
   core_family : (family : Family) (z : List C) → InCoreIn N g z → InFamilyIn N family g z
@@ -95,10 +93,8 @@ module _ {C : Type 0} (N : Numbers C) (L : IsOrderedGroup N) (g : NumberGame C) 
             | inl rational ↦ is.1 w (member.0, member.1, rational) differs
             | inr some ↦
                 let i = some.0 in
-                let blocked : (¬ AtMost N (g.worth (singleton i)) (amount_of N w (singleton i))) =
-                λ le. some.2
-                (L.transitive (g.worth (singleton i)) (amount_of N w (singleton i)) (number_of N w i) le
-                (amount_alone w i member.0 some.1).0) in
+                let blocked : (¬ AtMost N (g.worth (singleton i)) (amount_of N w (singleton i))) = λ le. some.2
+                (through N L le (amount_alone w i member.0 some.1).0) in
                 let p =
                 only_proper N L g w y (singleton i) here member.1 (singleton-within g.players i some.1) blocked in
                 core_first N L g w y (singleton i) here p.0 p.1 blocked

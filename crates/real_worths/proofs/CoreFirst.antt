@@ -1,17 +1,15 @@
 -- Two nucleoli would each come before the other; and a core point has no excess above zero, so its excesses come
 -- before those of shares that a coalition blocks.
-use Rattle.std.proofs.Common.{◌≡◌, ℕ, ◌+◌, ◌-◌, ◌^◌, ◌<◌, ◌≤◌, Bool, true, false, cond, List, length}
-use Rattle.std.proofs.Common.{map, ap, inl, inr, arith}
+use Rattle.std.proofs.Common.{◌≡◌, ℕ, ◌+◌, ◌-◌, ◌^◌, ◌<◌, ◌≤◌, Bool, cond, List, length, map, ap, inl, inr, arith}
 use Rattle.definitions.proofs.Members.{has_player-empty}
 use Rattle.definitions.specs.Coalitions.{has_player, grand_coalition, proper_coalitions}
 use Rattle.definitions.specs.declared.Family.{Family}
 use Rattle.definitions.specs.declared.Family.TheVariants.{Imputations, Preimputations}
-use Rattle.real_shares.specs.Numbers.{Numbers, IsOrderedGroup, AtMost, Equal, sorted_by, ComesBeforeBy}
-use Rattle.real_shares.specs.Numbers.{total_over}
+use Rattle.real_shares.specs.Numbers.{Numbers, IsOrderedGroup, AtMost, Equal, sorted_by, ComesBeforeBy, total_over}
 use Rattle.real_shares.specs.Shares.{number_of, amount_of}
 use Rattle.real_shares.proofs.Orders.{decided, equal-same}
 use Rattle.real_shares.proofs.Multiples.{chain, back, equal_path, difference-low, from_low, total_below-equal}
-use Rattle.real_shares.proofs.Multiples.{total_below-zero}
+use Rattle.real_shares.proofs.Multiples.{total_below-zero, through}
 use Rattle.real_shares.proofs.Sorted.{ComesBefore-sorted}
 use Rattle.real_shares.proofs.Soundness.{SameOrLow-range, SomeAbove-range}
 use Rattle.real_shares.proofs.OneNucleolus.{not_both_over}
@@ -46,8 +44,7 @@ module _ {C : Type 0} (N : Numbers C) (L : IsOrderedGroup N) (g : NumberGame C) 
     where
       either : (i : ℕ) → i < g.players → (b : Bool)
           → Equal N (cond b (number_of N y i) N.zero) (cond b (number_of N z i) N.zero)
-      either i lt true = same i lt
-      either i lt false = equal-same N L N.zero
+      either i lt b = grind (arith, equal-same)
 
   pub nobody_gets : (y : List C) → Equal N (amount_of N y 0) N.zero
   nobody_gets y =
@@ -97,10 +94,8 @@ module _ {C : Type 0} (N : Numbers C) (L : IsOrderedGroup N) (g : NumberGame C) 
   pub only_proper : (y z : List C) (s : ℕ) → InCoreIn N g z → IsEfficientIn N g y → s < 2 ^ g.players
       → (¬ AtMost N (g.worth s) (amount_of N y s)) → (1 ≤ s) × (s < 1 + (2 ^ g.players - 2))
   only_proper y z s core efficient lt blocked =
-      let not_empty : s ≡ 0 → ⊥ =
-      λ e. blocked (rw e
-      (L.transitive (g.worth 0) (amount_of N z 0) (amount_of N y 0) (core.2 0 (omega (arith, lt)))
-      (L.transitive (amount_of N z 0) N.zero (amount_of N y 0) (nobody_gets z).0 (nobody_gets y).1))) in
+      let not_empty : s ≡ 0 → ⊥ = λ e. blocked (rw e (through N L (core.2 0 (omega (arith, lt)))
+      (through N L (nobody_gets z).0 (nobody_gets y).1))) in
       let not_all : s ≡ grand_coalition g.players → ⊥ = λ e. blocked (rw e efficient.1) in
       (omega (arith, not_empty), omega (arith, not_empty, not_all, lt))
 
@@ -113,11 +108,8 @@ module _ {C : Type 0} (N : Numbers C) (L : IsOrderedGroup N) (g : NumberGame C) 
       | inl low ↦ low
       | inr blocked ↦ absurd
           (let p = only_proper y z s core (efficient_in family y is.0) lt blocked in
-          not_both (excess_list_in N g y) (excess_list_in N g z)
-          (is.1 z member
-          (λ same. blocked
-          (L.transitive (g.worth s) (amount_of N z s) (amount_of N y s) (core.2 s lt)
-          (same_amounts y z s (length_in family y is.0) core.0 same).1)))
+          not_both (excess_list_in N g y) (excess_list_in N g z) (is.1 z member (λ same. blocked
+          (through N L (core.2 s lt) (same_amounts y z s (length_in family y is.0) core.0 same).1)))
           (core_first y z s core p.0 p.1 blocked))
     ],
   )

@@ -1,12 +1,10 @@
 -- With a dummy a coalition's excess is less by what the dummy gets beside its worth alone. Where that is above zero,
 -- half of it moved from the dummy to a member of the coalition of the greatest excess without it improves; where it is
 -- below zero, the sides change.
-use Rattle.std.proofs.Common.{◌≡◌, ◌≢◌, ℕ, ◌+◌, ◌-◌, ◌^◌, ◌<◌, ◌≤◌, Bool, true}
-use Rattle.std.proofs.Common.{false, not, ◌&&◌, nat_eq, List, length}
+use Rattle.std.proofs.Common.{◌≡◌, ◌≢◌, ℕ, ◌+◌, ◌-◌, ◌^◌, ◌<◌, ◌≤◌, Bool, true, false, not, ◌&&◌, nat_eq, List, length}
 use Rattle.std.proofs.Common.{sym, ap, ◌∙◌, inl, inr, arith}
 use Rattle.std.proofs.lemmas.Bool.{false≢true}
-use Rattle.definitions.proofs.Cases.{same_or_other, from_not, and_parts, and_both, nat_eq-other}
-use Rattle.definitions.proofs.Cases.{from_not_nat_eq}
+use Rattle.definitions.proofs.Cases.{same_or_other, from_not, and_parts, and_both, nat_eq-other, from_not_nat_eq}
 use Rattle.definitions.proofs.Masks.{grand_coalition-within, singleton-within}
 use Rattle.definitions.proofs.Members.{has_player-empty, has_player-singleton, has_player-grand_coalition}
 use Rattle.definitions.proofs.Parts.{has_player-more_same, more-lt}
@@ -19,12 +17,12 @@ use Rattle.real_shares.specs.Numbers.{Numbers, IsOrderedGroup, AtMost, Less, Equ
 use Rattle.real_shares.specs.Shares.{number_of, amount_of}
 use Rattle.real_shares.proofs.Orders.{decided, from_less}
 use Rattle.real_shares.proofs.Multiples.{chain, back, equal_path, plus-equal, left, right, minus-equal, minus-plus}
-use Rattle.real_shares.proofs.Multiples.{exchanged, difference-zero, neutral_left, plus-at_most}
+use Rattle.real_shares.proofs.Multiples.{exchanged, difference-zero, neutral_left, plus-at_most, through}
 use Rattle.real_worths.specs.Games.{NumberGame, excess_in, IsNucleolusIn, CanHalve, IsDummyIn}
 use Rattle.real_worths.proofs.CoreFirst.{length_in, efficient_in, nobody_gets}
 use Rattle.real_worths.proofs.Moves.{no_gain}
-use Rattle.real_worths.proofs.Joined.{half_positive, both_halves, take_over, no_less_with, greatest_among}
-use Rattle.real_worths.proofs.Joined.{amount_more, rational_of, half_low}
+use Rattle.real_worths.proofs.Joined.{half_positive, both_halves, take_over, no_less_with, greatest_among, amount_more}
+use Rattle.real_worths.proofs.Joined.{rational_of, half_low}
 
 module _ {C : Type 0} (N : Numbers C) (L : IsOrderedGroup N) where
   -- (b - a) + (a - b) is zero
@@ -85,8 +83,7 @@ module _ {C : Type 0} (N : Numbers C) (L : IsOrderedGroup N) (halve : CanHalve N
 
   -- all but the dummy
   others : (r : ℕ) × (r < 2 ^ n) × (has_player r i ≡ false) × (grand_coalition n ≡ r + 2 ^ i)
-  others =
-      without n (grand_coalition n) i (grand_coalition-within n) hi (has_player-grand_coalition n i hi)
+  others = without n (grand_coalition n) i (grand_coalition-within n) hi (has_player-grand_coalition n i hi)
 
   others_excess : Equal N (e others.0) (N.plus u (N.minus a))
   others_excess =
@@ -111,15 +108,13 @@ module _ {C : Type 0} (N : Numbers C) (L : IsOrderedGroup N) (halve : CanHalve N
 
   no_less_twice : (h d : C) → AtMost N N.zero h → Equal N (N.plus h h) d → AtMost N N.zero d
   no_less_twice h d low same =
-      L.transitive N.zero (N.plus N.zero N.zero) d (L.neutral N.zero).1
-      (L.transitive (N.plus N.zero N.zero) (N.plus h h) d (plus-at_most N L N.zero h N.zero h low low) same.0)
+      through N L (L.neutral N.zero).1 (through N L (plus-at_most N L N.zero h N.zero h low low) same.0)
 
   not_last : (c k : ℕ) → c < 2 ^ n → k < n → has_player c k ≡ false → c < 1 + (2 ^ n - 2)
   not_last c k within lt out =
       let other : c ≢ grand_coalition n =
       λ same. false≢true (sym out ∙ ap (λ (s : ℕ). has_player s k) same ∙ has_player-grand_coalition n k lt) in
-      let all = grand_coalition-within n in
-      omega (arith, within, other, all)
+      omega (arith, within, other, grand_coalition-within n)
 
   -- ---- it doesn't get more
 
@@ -140,14 +135,11 @@ module _ {C : Type 0} (N : Numbers C) (L : IsOrderedGroup N) (halve : CanHalve N
     without_it s = not (has_player s i) && not (nat_eq s 0)
 
     passes : (s : ℕ) → has_player s i ≡ false → s ≢ 0 → without_it s ≡ true
-    passes s out ne =
-        and_both (not (has_player s i)) (not (nat_eq s 0)) (ap not out) (ap not (nat_eq-other s 0 ne))
+    passes s out ne = and_both (not (has_player s i)) (not (nat_eq s 0)) (ap not out) (ap not (nat_eq-other s 0 ne))
 
     others_some : others.0 ≢ 0
     others_some none =
-        some
-        (half_low N L h
-        (L.transitive (N.plus h h) (e others.0) N.zero (chain N L halves (back N L others_excess)).0
+        some (half_low N L h (through N L (chain N L halves (back N L others_excess)).0
         (chain N L (equal_path N L (e others.0) (e 0) (ap e none)) nobody_excess).0))
 
     never : (c : ℕ) → c < 2 ^ n → without_it c ≡ true
@@ -180,18 +172,14 @@ module _ {C : Type 0} (N : Numbers C) (L : IsOrderedGroup N) (halve : CanHalve N
 
         give : family ≡ Imputations → AtMost N a (N.plus u (N.minus h))
         give f =
-            take_over N L a u h
-            (L.transitive (N.plus a h) (N.plus (N.plus a h) h) u (no_less_with N L (N.plus a h) h low)
-            (both_halves N L a u h halves).0)
+            take_over N L a u h (through N L (no_less_with N L (N.plus a h) h low) (both_halves N L a u h halves).0)
 
         at_most : (r : ℕ) → r < 2 ^ n → has_player r i ≡ false → AtMost N (e r) (e c)
         at_most r lt lacks = elim (same_or_other r 0) [
           | inr some_r ↦ most r lt (passes r lacks some_r)
           | inl none ↦
-              L.transitive (e r) N.zero (e c)
-              (chain N L (equal_path N L (e r) (e 0) (ap e none)) nobody_excess).0
-              (L.transitive N.zero (N.plus u (N.minus a)) (e c) (no_less_twice h (N.plus u (N.minus a)) low halves)
-              (L.transitive (N.plus u (N.minus a)) (e others.0) (e c) others_excess.1
+              through N L (chain N L (equal_path N L (e r) (e 0) (ap e none)) nobody_excess).0
+              (through N L (no_less_twice h (N.plus u (N.minus a)) low halves) (through N L others_excess.1
               (most others.0 others.1 (passes others.0 others.2 others_some))))
         ]
 
@@ -205,8 +193,7 @@ module _ {C : Type 0} (N : Numbers C) (L : IsOrderedGroup N) (halve : CanHalve N
             (chain N L (equal_path N L (e s) (e (r + 2 ^ i)) (ap e part.3)) (with_it r part.1 part.2)))
             (chain N L (L.associates (e r) (N.plus a (N.minus u)) (N.plus u (N.minus a)))
             (chain N L (right N L (e r) (opposite N L u a)) (L.neutral (e r))))) in
-            take_over N L (N.plus (e s) h) (e c) h
-            (L.transitive (N.plus (N.plus (e s) h) h) (e r) (e c) whole.0 (at_most r part.1 part.2))
+            take_over N L (N.plus (e s) h) (e c) h (through N L whole.0 (at_most r part.1 part.2))
 
     not_more : ⊥
     not_more = elim (greatest_among N L without_it e (2 ^ n)) [
@@ -239,9 +226,7 @@ module _ {C : Type 0} (N : Numbers C) (L : IsOrderedGroup N) (halve : CanHalve N
 
     alone_some : singleton i ≢ grand_coalition n
     alone_some same =
-        above
-        (half_low N L k
-        (L.transitive (N.plus k k) (e (singleton i)) N.zero (chain N L halved (back N L alone_excess)).0
+        above (half_low N L k (through N L (chain N L halved (back N L alone_excess)).0
         (chain N L (equal_path N L (e (singleton i)) (e (grand_coalition n)) (ap e same)) all_excess).0))
 
     neither : (c : ℕ) → c < 2 ^ n → holds_it c ≡ true
@@ -282,11 +267,8 @@ module _ {C : Type 0} (N : Numbers C) (L : IsOrderedGroup N) (halve : CanHalve N
         at_most t lt has = elim (same_or_other t (grand_coalition n)) [
           | inr some_t ↦ most t lt (holds t has some_t)
           | inl all ↦
-              L.transitive (e t) N.zero (e c)
-              (chain N L (equal_path N L (e t) (e (grand_coalition n)) (ap e all)) all_excess).0
-              (L.transitive N.zero (N.plus a (N.minus u)) (e c)
-              (no_less_twice k (N.plus a (N.minus u)) not_low halved)
-              (L.transitive (N.plus a (N.minus u)) (e (singleton i)) (e c) alone_excess.1
+              through N L (chain N L (equal_path N L (e t) (e (grand_coalition n)) (ap e all)) all_excess).0
+              (through N L (no_less_twice k (N.plus a (N.minus u)) not_low halved) (through N L alone_excess.1
               (most (singleton i) (singleton-within n i hi)
               (holds (singleton i) (has_player-singleton i) alone_some))))
         ]
@@ -294,10 +276,8 @@ module _ {C : Type 0} (N : Numbers C) (L : IsOrderedGroup N) (halve : CanHalve N
         rising : (s : ℕ) → s < 2 ^ n → has_player s i ≡ false
             → AtMost N (N.plus (e s) k) (N.plus (e c) (N.minus k))
         rising s lt out =
-            let whole =
-            chain N L (twice_more (e s) k (N.plus a (N.minus u)) halved) (back N L (with_it s lt out)) in
-            take_over N L (N.plus (e s) k) (e c) k
-            (L.transitive (N.plus (N.plus (e s) k) k) (e (s + 2 ^ i)) (e c) whole.0
+            let whole = chain N L (twice_more (e s) k (N.plus a (N.minus u)) halved) (back N L (with_it s lt out)) in
+            take_over N L (N.plus (e s) k) (e c) k (through N L whole.0
             (at_most (s + 2 ^ i) (more-lt n s i lt hi out) (has_player-more_same s i out)))
 
     not_less : ⊥

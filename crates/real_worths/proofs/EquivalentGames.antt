@@ -1,8 +1,7 @@
 -- A change of the unit, and numbers of each player added, put each excess into the new unit: so the order of all lists
 -- of excesses stays.
-use Rattle.std.proofs.Common.{◌≡◌, ℕ, zero, suc, ◌+◌, ◌-◌, ◌^◌, ◌<◌, Bool, true}
-use Rattle.std.proofs.Common.{false, cond, List, [], ◌∷◌, length, map}
-use Rattle.std.proofs.Common.{IsTrue, refl, sym, ap, ◌∙◌, inl, inr, arith}
+use Rattle.std.proofs.Common.{◌≡◌, ℕ, zero, suc, ◌+◌, ◌-◌, ◌^◌, ◌<◌, Bool, true, false, cond, List, [], ◌∷◌, length}
+use Rattle.std.proofs.Common.{map, IsTrue, refl, sym, ap, ◌∙◌, inl, inr, arith}
 use Rattle.std.specs.List.{range_with_len}
 use Rattle.std.proofs.lemmas.Bool.{false≢true}
 use Rattle.std.proofs.lemmas.List.FromFn.{get_or-map-range_with_len, length-map-range_with_len}
@@ -12,21 +11,16 @@ use Rattle.definitions.specs.declared.Family.TheVariants.{Imputations, Preimputa
 use Rattle.real_shares.specs.Numbers.{Numbers, IsOrderedGroup, AtMost, Equal, total_below, total_over, placed}
 use Rattle.real_shares.specs.Numbers.{sorted_by, IsLesserBy, ComesBeforeBy}
 use Rattle.real_shares.specs.Shares.{number_of, amount_of}
-use Rattle.real_shares.proofs.Multiples.{chain, back as turn, equal_path, left, right}
-use Rattle.real_shares.proofs.Multiples.{is_minus, minus-equal, minus-plus, exchanged}
-use Rattle.real_shares.proofs.Multiples.{total_below-equal, total_below-plus}
-use Rattle.real_worths.specs.Games.{NumberGame, excess_in, IsEfficientIn, InFamilyIn, excess_list_in}
-use Rattle.real_worths.specs.Games.{IsNucleolusIn}
+use Rattle.real_shares.proofs.Multiples.{chain, back as turn, equal_path, left, right, is_minus, minus-equal}
+use Rattle.real_shares.proofs.Multiples.{minus-plus, exchanged, total_below-equal, total_below-plus, through}
+use Rattle.real_worths.specs.Games.{NumberGame, excess_in, IsEfficientIn, InFamilyIn, excess_list_in, IsNucleolusIn}
 use Rattle.real_worths.specs.RealWorths.{IsUnitChange, changed_game, changed_shares}
 use Rattle.real_worths.proofs.CoreFirst.{amount_at, length_in}
 use Rattle.real_worths.proofs.BothAreOne.{alone_gets}
 use Rattle.real_worths.proofs.Joined.{forth, off}
 
 same_bool : (p q : Bool) → (IsTrue p → IsTrue q) → (IsTrue q → IsTrue p) → p ≡ q
-same_bool true true f h = refl
-same_bool true false f h = absurd (false≢true (f refl))
-same_bool false true f h = absurd (false≢true (h refl))
-same_bool false false f h = refl
+same_bool p q f h = grind arith
 
 module _ {C : Type 0} (N : Numbers C) (L : IsOrderedGroup N) (to back : C → C) (change : IsUnitChange N to back)
   where
@@ -38,8 +32,7 @@ module _ {C : Type 0} (N : Numbers C) (L : IsOrderedGroup N) (to back : C → C)
     -- what is in order in the new unit was so before
     pub from_to : (a b : C) → AtMost N (to a) (to b) → AtMost N a b
     from_to a b le =
-        L.transitive a (back (to a)) b (change.again a).1
-        (L.transitive (back (to a)) (back (to b)) b (change.keeps_back (to a) (to b) le) (change.again b).0)
+        through N L (change.again a).1 (through N L (change.keeps_back (to a) (to b) le) (change.again b).0)
 
     to_zero : Equal N (to N.zero) N.zero
     to_zero =
@@ -56,8 +49,7 @@ module _ {C : Type 0} (N : Numbers C) (L : IsOrderedGroup N) (to back : C → C)
 
     to_total : (f : ℕ → C) (n : ℕ) → Equal N (to (total_below N n f)) (total_below N n (λ i. to (f i)))
     to_total f zero = to_zero
-    to_total f (suc n) =
-        chain N L (change.adds (total_below N n f) (f n)) (left N L (to (f n)) (to_total f n))
+    to_total f (suc n) = chain N L (change.adds (total_below N n f) (f n)) (left N L (to (f n)) (to_total f n))
 
     -- ---- lists
 
@@ -68,12 +60,10 @@ module _ {C : Type 0} (N : Numbers C) (L : IsOrderedGroup N) (to back : C → C)
     AllTo (a ∷ l) (b ∷ k) = Equal N b (to a) × AllTo l k
 
     order_to : (a b c d : C) → Equal N c (to a) → Equal N d (to b) → AtMost N a b → AtMost N c d
-    order_to a b c d e f le =
-        L.transitive c (to a) d e.0 (L.transitive (to a) (to b) d (change.keeps a b le) f.1)
+    order_to a b c d e f le = through N L e.0 (through N L (change.keeps a b le) f.1)
 
     order_from : (a b c d : C) → Equal N c (to a) → Equal N d (to b) → AtMost N c d → AtMost N a b
-    order_from a b c d e f le =
-        from_to a b (L.transitive (to a) c (to b) e.1 (L.transitive c d (to b) le f.0))
+    order_from a b c d e f le = from_to a b (through N L e.1 (through N L le f.0))
 
     placed_to : (a c : C) (l k : List C) → Equal N c (to a) → AllTo l k → AllTo (placed N a l) (placed N c k)
     placed_to a c [] [] e h = (e, tt)
@@ -209,13 +199,9 @@ module _ {C : Type 0} (N : Numbers C) (L : IsOrderedGroup N) (to back : C → C)
           same.new_long,
           efficient_to h.1,
           λ i lt.
-              L.transitive (new.worth (singleton i)) (N.plus (to (g.worth (singleton i))) (b i)) (number_of N z i)
-              (alone i lt).0
-              (L.transitive (N.plus (to (g.worth (singleton i))) (b i)) (N.plus (to (number_of N y i)) (b i))
-              (number_of N z i)
-              (L.shifts (to (g.worth (singleton i))) (to (number_of N y i)) (b i)
-              (change.keeps (g.worth (singleton i)) (number_of N y i) (h.2 i lt)))
-              (same.each i lt).1),
+              through N L (alone i lt).0
+              (through N L (L.shifts (to (g.worth (singleton i))) (to (number_of N y i)) (b i)
+              (change.keeps (g.worth (singleton i)) (number_of N y i) (h.2 i lt))) (same.each i lt).1),
         )
 
         member_from : (family : Family) → InFamilyIn N family new z → InFamilyIn N family g y
@@ -225,12 +211,8 @@ module _ {C : Type 0} (N : Numbers C) (L : IsOrderedGroup N) (to back : C → C)
           efficient_from h.1,
           λ i lt.
               from_to (g.worth (singleton i)) (number_of N y i)
-              (off N L (to (g.worth (singleton i))) (to (number_of N y i)) (b i)
-              (L.transitive (N.plus (to (g.worth (singleton i))) (b i)) (new.worth (singleton i))
-              (N.plus (to (number_of N y i)) (b i)) (alone i lt).1
-              (L.transitive (new.worth (singleton i)) (number_of N z i) (N.plus (to (number_of N y i)) (b i))
-              (h.2 i lt)
-              (same.each i lt).0))),
+              (off N L (to (g.worth (singleton i))) (to (number_of N y i)) (b i) (through N L (alone i lt).1
+              (through N L (h.2 i lt) (same.each i lt).0))),
         )
 
       -- ---- shares there and back

@@ -1,8 +1,6 @@
 -- Two who share a real number; doubling; and the integer 1, which isn't twice an integer.
-use Rattle.std.proofs.Common.{◌≡◌, ℕ, zero, suc, ◌+◌, ◌^◌, ◌<◌, ◌≤◌, List, [], ◌∷◌}
-use Rattle.std.proofs.Common.{length, ℤ, pos, ◌+ℤ◌, ◌*ℤ◌, ◌≤ℤ◌, int_le, true}
-use Rattle.std.proofs.Common.{Bool, false, cond, nat_eq, ◌||◌}
-use Rattle.std.proofs.Common.{refl, sym, ap, inl, inr, arith}
+use Rattle.std.proofs.Common.{◌≡◌, ℕ, zero, suc, ◌+◌, ◌^◌, ◌<◌, ◌≤◌, List, [], ◌∷◌, length, ℤ, pos, ◌+ℤ◌, ◌*ℤ◌, ◌≤ℤ◌}
+use Rattle.std.proofs.Common.{int_le, true, Bool, false, cond, nat_eq, ◌||◌, refl, sym, ap, inl, inr, arith}
 use Rattle.std.proofs.lemmas.Bool.{false≢true}
 use Rattle.std.proofs.lemmas.Int.{ints}
 use Rattle.definitions.proofs.Ring.{linear}
@@ -13,14 +11,14 @@ use Rattle.real_shares.specs.Numbers.{Numbers, IsOrderedGroup, AtMost, Less, Equ
 use Rattle.real_shares.specs.Reals.{Real}
 use Rattle.real_shares.specs.Shares.{number_of, amount_of}
 use Rattle.real_shares.proofs.Orders.{decided, equal-same, from_less, at_most-same}
-use Rattle.real_shares.proofs.Multiples.{chain, back as turn, equal_path, left, neutral_left}
-use Rattle.real_shares.proofs.Multiples.{minus-at_most, minus-equal, plus-at_most, exchanged}
+use Rattle.real_shares.proofs.Multiples.{chain, back as turn, equal_path, left, neutral_left, minus-at_most}
+use Rattle.real_shares.proofs.Multiples.{minus-equal, plus-at_most, exchanged, through}
 use Rattle.real_shares.proofs.RealNumbers.{are_ordered}
 use Rattle.real_shares.proofs.Soundness.{before-from}
 use Rattle.real_worths.specs.Games.{NumberGame, excess_in, excess_list_in, HaveSameIn, IsNucleolusIn, InCoreIn}
 use Rattle.real_worths.specs.Games.{AreInterchangeableIn, IsDummyIn, CanHalve}
-use Rattle.real_worths.specs.Examples.{two, second, TwoShare, DoublingIsAChange, IntegersCantHalve}
-use Rattle.real_worths.specs.Examples.{SomeAddNoLess, SinglesBalance}
+use Rattle.real_worths.specs.Examples.{two, second, TwoShare, DoublingIsAChange, IntegersCantHalve, SomeAddNoLess}
+use Rattle.real_worths.specs.Examples.{SinglesBalance}
 use Rattle.real_worths.proofs.CoreFirst.{amount_at}
 use Rattle.real_worths.proofs.Moves.{minus_minus}
 use Rattle.real_worths.proofs.WhoAddsNoLess.{adds_gets_no_less}
@@ -65,9 +63,7 @@ doubling N R = (
       | inr more ↦ elim (L.linear a b) [
         | inl here ↦ here
         | inr less ↦
-            let up =
-            L.transitive (N.plus a a) (N.plus b b) (N.plus b a) le
-            (plus-at_most N L b b b a (at_most-same N L b) less) in
+            let up = through N L le (plus-at_most N L b b b a (at_most-same N L b) less) in
             absurd (more (off N L a b a up))
       ]
     ]
@@ -89,11 +85,7 @@ module _ {C : Type 0} (N : Numbers C) (L : IsOrderedGroup N) (c h : C) (half : E
   y = h ∷ (h ∷ [])
 
   above : Less N N.zero h
-  above le =
-      some
-      (L.transitive c (N.plus h h) N.zero half.1
-      (L.transitive (N.plus h h) (N.plus N.zero N.zero) N.zero (plus-at_most N L h N.zero h N.zero le le)
-      (L.neutral N.zero).0))
+  above le = some (through N L half.1 (through N L (plus-at_most N L h N.zero h N.zero le le) (L.neutral N.zero).0))
 
   interchangeable : AreInterchangeableIn N g 0 1
   interchangeable zero lt a b = equal-same N L N.zero
@@ -105,7 +97,7 @@ module _ {C : Type 0} (N : Numbers C) (L : IsOrderedGroup N) (c h : C) (half : E
   no_dummy : ¬ IsDummyIn N g 0
   no_dummy dummy =
       let e = dummy 2 (omega arith) refl in
-      some (L.transitive c (N.plus N.zero N.zero) N.zero e.0 (L.neutral N.zero).0)
+      some (through N L e.0 (L.neutral N.zero).0)
 
   -- what the one, the other, and both get of two numbers
   first_gets : (a b : C) → Equal N (N.plus (N.plus N.zero a) N.zero) a
@@ -124,11 +116,9 @@ module _ {C : Type 0} (N : Numbers C) (L : IsOrderedGroup N) (c h : C) (half : E
   core_point = (refl, chain N L (both_get h h) half, unblocked)
     where
       unblocked : (s : ℕ) → s < 2 ^ 2 → AtMost N (g.worth s) (amount_of N y s)
-      unblocked zero lt =
-          (chain N L (L.neutral (N.plus N.zero N.zero)) (L.neutral N.zero)).1
-      unblocked (suc zero) lt =
-          L.transitive N.zero h (amount_of N y 1) low (first_gets h h).1
-      unblocked (suc (suc zero)) lt = L.transitive N.zero h (amount_of N y 2) low (second_gets h).1
+      unblocked zero lt = (chain N L (L.neutral (N.plus N.zero N.zero)) (L.neutral N.zero)).1
+      unblocked (suc zero) lt = through N L low (first_gets h h).1
+      unblocked (suc (suc zero)) lt = through N L low (second_gets h).1
       unblocked (suc (suc (suc zero))) lt = (turn N L (chain N L (both_get h h) half)).0
       unblocked (suc (suc (suc (suc s)))) lt = absurd (omega arith)
 
@@ -158,10 +148,7 @@ module _ {C : Type 0} (N : Numbers C) (L : IsOrderedGroup N) (c h : C) (half : E
         (alone s one past (amount_of N y s) h half_gets).0))))
       where
         worthless : (t : ℕ) → 1 ≤ t → t < 3 → g.worth t ≡ N.zero
-        worthless zero first last = absurd (omega arith)
-        worthless (suc zero) first last = refl
-        worthless (suc (suc zero)) first last = refl
-        worthless (suc (suc (suc t))) first last = absurd (omega arith)
+        worthless t first last = grind arith
 
         alone : (t : ℕ) → 1 ≤ t → t < 3 → (a b : C) → Equal N a b
             → Equal N (N.plus (g.worth t) (N.minus a)) (N.minus b)
@@ -182,9 +169,8 @@ module _ {C : Type 0} (N : Numbers C) (L : IsOrderedGroup N) (c h : C) (half : E
 
         from_minus : (a b : C) → AtMost N (N.minus b) (N.minus a) → AtMost N a b
         from_minus a b le =
-            L.transitive a (N.minus (N.minus a)) b (minus_minus N L a).1
-            (L.transitive (N.minus (N.minus a)) (N.minus (N.minus b)) b
-            (minus-at_most N L (N.minus b) (N.minus a) le) (minus_minus N L b).0)
+            through N L (minus_minus N L a).1
+            (through N L (minus-at_most N L (N.minus b) (N.minus a) le) (minus_minus N L b).0)
 
     comes_first : ComesBeforeBy N (sorted_by N (excess_list_in N g y)) (sorted_by N (excess_list_in N g z))
     comes_first = elim (decided (N.at_most h (v 0))) [
@@ -203,16 +189,12 @@ module _ {C : Type 0} (N : Numbers C) (L : IsOrderedGroup N) (c h : C) (half : E
         same first second zero lt = (
           first,
           off N L (v 0) h h
-              (L.transitive (N.plus (v 0) h) (N.plus (v 0) (v 1)) (N.plus h h)
-              (plus-at_most N L (v 0) (v 0) h (v 1) (at_most-same N L (v 0)) second) shared.0),
+              (through N L (plus-at_most N L (v 0) (v 0) h (v 1) (at_most-same N L (v 0)) second) shared.0),
         )
         same first second (suc zero) lt = (
           second,
-          off N L (v 1) h h
-              (L.transitive (N.plus (v 1) h) (N.plus (v 1) (v 0)) (N.plus h h)
-              (plus-at_most N L (v 1) (v 1) h (v 0) (at_most-same N L (v 1)) first)
-              (L.transitive (N.plus (v 1) (v 0)) (N.plus (v 0) (v 1)) (N.plus h h) (L.commutes (v 1) (v 0)).0
-              shared.0)),
+          off N L (v 1) h h (through N L (plus-at_most N L (v 1) (v 1) h (v 0) (at_most-same N L (v 1)) first)
+              (through N L (L.commutes (v 1) (v 0)).0 shared.0)),
         )
         same first second (suc (suc i)) lt = absurd (omega arith)
 

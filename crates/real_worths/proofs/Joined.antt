@@ -1,6 +1,6 @@
 -- A player more in a coalition, halves of differences, and a coalition of the greatest excess among some.
-use Rattle.std.proofs.Common.{◌≡◌, ◌⊎◌, ℕ, zero, suc, ◌+◌, ◌^◌, ◌<◌, Bool, true, false, cond, List, length}
-use Rattle.std.proofs.Common.{refl, sym, ap, ◌∙◌, inl, inr, arith}
+use Rattle.std.proofs.Common.{◌≡◌, ◌⊎◌, ℕ, zero, suc, ◌+◌, ◌^◌, ◌<◌, Bool, true, false, cond, List, length, refl, sym}
+use Rattle.std.proofs.Common.{ap, ◌∙◌, inl, inr, arith}
 use Rattle.std.proofs.lemmas.Bool.{false≢true}
 use Rattle.definitions.proofs.Cases.{same_or_other, less_or_last, true_or_false}
 use Rattle.definitions.proofs.Members.{has_player-singleton, has_player-singleton_other}
@@ -12,7 +12,7 @@ use Rattle.real_shares.specs.Numbers.{Numbers, IsOrderedGroup, AtMost, Less, Equ
 use Rattle.real_shares.specs.Shares.{number_of, amount_of}
 use Rattle.real_shares.proofs.Orders.{decided, at_most-same, from_less}
 use Rattle.real_shares.proofs.Multiples.{chain, back, equal_path, plus-equal, left, right, neutral_left, from_low}
-use Rattle.real_shares.proofs.Multiples.{plus-at_most, total_below-equal, total_below-plus}
+use Rattle.real_shares.proofs.Multiples.{plus-at_most, total_below-equal, total_below-plus, through}
 use Rattle.real_worths.specs.Games.{NumberGame, IsIndividuallyRationalIn, InFamilyIn}
 use Rattle.real_worths.proofs.CoreFirst.{amount_at}
 use Rattle.real_worths.proofs.BothAreOne.{alone_gets}
@@ -23,10 +23,7 @@ module _ {C : Type 0} (N : Numbers C) (L : IsOrderedGroup N) where
   -- h is above zero where b is above a
   pub half_positive : (a b h : C) → Equal N (N.plus h h) (N.plus b (N.minus a)) → (¬ AtMost N b a) → Less N N.zero h
   half_positive a b h e up le =
-      up
-      (from_low N L b a
-      (L.transitive (N.plus b (N.minus a)) (N.plus h h) N.zero e.1
-      (L.transitive (N.plus h h) (N.plus N.zero N.zero) N.zero (plus-at_most N L h N.zero h N.zero le le)
+      up (from_low N L b a (through N L e.1 (through N L (plus-at_most N L h N.zero h N.zero le le)
       (L.neutral N.zero).0)))
 
   -- a + (b - a) is b
@@ -38,35 +35,29 @@ module _ {C : Type 0} (N : Numbers C) (L : IsOrderedGroup N) where
 
   -- a and h twice are b
   pub both_halves : (a b h : C) → Equal N (N.plus h h) (N.plus b (N.minus a)) → Equal N (N.plus (N.plus a h) h) b
-  both_halves a b h e =
-      chain N L (L.associates a h h) (chain N L (right N L a e) (forth a b))
+  both_halves a b h e = chain N L (L.associates a h h) (chain N L (right N L a e) (forth a b))
 
   -- where a + d is at most b, a is at most b - d
   pub take_over : (a b d : C) → AtMost N (N.plus a d) b → AtMost N a (N.plus b (N.minus d))
   take_over a b d le =
-      L.transitive a (N.plus (N.plus a d) (N.minus d)) (N.plus b (N.minus d))
-      (chain N L (L.associates a d (N.minus d)) (chain N L (right N L a (L.inverse d)) (L.neutral a))).1
+      through N L (chain N L (L.associates a d (N.minus d)) (chain N L (right N L a (L.inverse d)) (L.neutral a))).1
       (L.shifts (N.plus a d) b (N.minus d) le)
 
   pub no_less_with : (a h : C) → AtMost N N.zero h → AtMost N a (N.plus a h)
-  no_less_with a h low =
-      L.transitive a (N.plus a N.zero) (N.plus a h) (L.neutral a).1
-      (plus-at_most N L a a N.zero h (at_most-same N L a) low)
+  no_less_with a h low = through N L (L.neutral a).1 (plus-at_most N L a a N.zero h (at_most-same N L a) low)
 
   -- what is added to both doesn't count
   pub off : (p q t : C) → AtMost N (N.plus p t) (N.plus q t) → AtMost N p q
   off p q t le =
       let undo = λ (c : C). chain N L (L.associates c t (N.minus t))
       (chain N L (right N L c (L.inverse t)) (L.neutral c)) in
-      L.transitive p (N.plus (N.plus p t) (N.minus t)) q (undo p).1
-      (L.transitive (N.plus (N.plus p t) (N.minus t)) (N.plus (N.plus q t) (N.minus t)) q
-      (L.shifts (N.plus p t) (N.plus q t) (N.minus t) le) (undo q).0)
+      through N L (undo p).1 (through N L (L.shifts (N.plus p t) (N.plus q t) (N.minus t) le) (undo q).0)
 
   -- where h twice isn't above zero, h isn't
   pub half_low : (h : C) → AtMost N (N.plus h h) N.zero → AtMost N h N.zero
   half_low h le = elim (L.linear h N.zero) [
     | inl low ↦ low
-    | inr up ↦ L.transitive h (N.plus h h) N.zero (no_less_with h h up) le
+    | inr up ↦ through N L (no_less_with h h up) le
   ]
 
   -- ---- a player more
@@ -153,7 +144,7 @@ module _ {C : Type 0} (N : Numbers C) (L : IsOrderedGroup N) where
           λ s lt here. elim (less_or_last s b lt) [
             | inl less ↦ found.3 s less here
             | inr last ↦
-                L.transitive (f s) (f b) (f found.0) (equal_path N L (f s) (f b) (ap f last)).0 le
+                through N L (equal_path N L (f s) (f b) (ap f last)).0 le
           ],
         )
         | inr above ↦ inr (
@@ -162,7 +153,7 @@ module _ {C : Type 0} (N : Numbers C) (L : IsOrderedGroup N) where
           passes,
           λ s lt here. elim (less_or_last s b lt) [
             | inl less ↦
-                L.transitive (f s) (f found.0) (f b) (found.3 s less here) (from_less N L (f found.0) (f b) above)
+                through N L (found.3 s less here) (from_less N L (f found.0) (f b) above)
             | inr last ↦ (equal_path N L (f s) (f b) (ap f last)).0
           ],
         )

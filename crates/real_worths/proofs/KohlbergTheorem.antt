@@ -1,6 +1,6 @@
 -- Kohlberg's theorem, both ways: the weights of all coalitions of a level, added, balance it.
-use Rattle.std.proofs.Common.{◌≡◌, ℕ, zero, suc, ◌-◌, ◌^◌, ◌<◌, ◌≤◌, Bool, true, false, cond, List}
-use Rattle.std.proofs.Common.{ℤ, pos, ◌+ℤ◌, ◌*ℤ◌, ◌≤ℤ◌, refl, sym, ap, subst, ◌∙◌, inl, inr, arith}
+use Rattle.std.proofs.Common.{◌≡◌, ℕ, zero, suc, ◌-◌, ◌^◌, ◌<◌, ◌≤◌, Bool, true, false, cond, List, ℤ, pos, ◌+ℤ◌, ◌*ℤ◌}
+use Rattle.std.proofs.Common.{◌≤ℤ◌, refl, sym, ap, subst, ◌∙◌, inl, inr, arith}
 use Rattle.std.proofs.lemmas.Bool.{false≢true}
 use Rattle.definitions.proofs.Ring.{linear, add-mulℤ, zero-mulℤ}
 use Rattle.definitions.proofs.Cases.{true_or_false, less_or_last}
@@ -91,12 +91,10 @@ module _ {C : Type 0} (N : Numbers C) (L : IsOrderedGroup N) (halve : CanHalve N
           none = λ s h. (let a = p.none s h in let b = x.none s h in omega (arith, linear, a, b));
           here = λ d lt h. elim (less_or_last d m lt) [
             | inl less ↦
-                (let a = p.here d less h in
-                let b = x.low (suc d) (omega (arith, lt, le)) in omega (arith, linear, a, b))
+                (omega (arith, linear, p.here d less h, x.low (suc d) (omega (arith, lt, le))))
             | inr last ↦
                 (let a = p.low (suc d) (omega (arith, lt, le)) in
-                let b = x.here in
-                omega (arith, linear, a, b, ap (λ k. x.weights (suc k)) last))
+                omega (arith, linear, a, x.here, ap (λ k. x.weights (suc k)) last))
           ];
           balance = λ i lt.
               sum_below-same (2 ^ n) (λ s. (p.weights s +ℤ x.weights s) *ℤ cond (has_player s i) (pos 1) (pos 0))
@@ -132,5 +130,4 @@ kohlberg N g y R member =
     )
   where
     players : (n t : ℕ) → 0 < t → t < grand_coalition n → 1 ≤ n
-    players zero t first last = absurd (omega (arith, first, last))
-    players (suc n) t first last = omega arith
+    players n t first last = grind arith

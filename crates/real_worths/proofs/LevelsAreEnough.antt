@@ -1,30 +1,30 @@
--- Beside other shares, take the greatest excess among the coalitions whose members get other amounts together. If none
+-- Beside other shares, take the greatest excess among the coalitions whose members get other amounts together. If
+-- none
 -- that has it gets less, the weights of its level would add above zero what all get more, which is nothing. So one
 -- gets less, and the other shares come behind.
-use Rattle.std.proofs.Common.{◌≡◌, ◌⊎◌, ℕ, zero, suc, ◌^◌, ◌<◌, Bool, true, false, cond, ◌&&◌, not, nat_eq}
-use Rattle.std.proofs.Common.{List, ℤ, pos, negsuc, ◌-ℤ◌, ◌*ℤ◌, ◌≤ℤ◌, refl, sym, ap, ◌∙◌, inl, inr, arith}
+use Rattle.std.proofs.Common.{◌≡◌, ◌⊎◌, ℕ, zero, suc, ◌^◌, ◌<◌, Bool, true, false, cond, ◌&&◌, not, nat_eq, List, ℤ}
+use Rattle.std.proofs.Common.{pos, negsuc, ◌-ℤ◌, ◌*ℤ◌, ◌≤ℤ◌, refl, sym, ap, ◌∙◌, inl, inr, arith}
 use Rattle.std.proofs.lemmas.Bool.{false≢true}
 use Rattle.definitions.proofs.Ring.{linear, mul-zeroℤ, mul-subℤ, mul-oneℤ}
 use Rattle.std.proofs.Math.Pow.{pow_pos}
-use Rattle.definitions.proofs.Cases.{same_or_other}
-use Rattle.definitions.proofs.Cases.{true_or_false, and_parts, and_both, from_not}
-use Rattle.definitions.proofs.Cases.{nat_eq-other, from_not_nat_eq, less_or_last}
+use Rattle.definitions.proofs.Cases.{same_or_other, true_or_false, and_parts, and_both, from_not, nat_eq-other}
+use Rattle.definitions.proofs.Cases.{from_not_nat_eq, less_or_last}
 use Rattle.definitions.proofs.Masks.{grand_coalition-within, singleton-within}
 use Rattle.definitions.proofs.Members.{has_player-grand_coalition}
 use Rattle.definitions.specs.Sums.{sum_below}
 use Rattle.definitions.specs.Coalitions.{has_player, singleton, grand_coalition}
 use Rattle.definitions.specs.declared.Family.TheVariants.{Preimputations}
-use Rattle.real_shares.specs.Numbers.{Numbers, IsOrderedGroup, AtMost, Equal, times, total_below, total_over}
-use Rattle.real_shares.specs.Numbers.{sorted_by, ComesBeforeBy}
+use Rattle.real_shares.specs.Numbers.{Numbers, IsOrderedGroup, AtMost, Equal, times}
+use Rattle.real_shares.specs.Numbers.{total_below, total_over, sorted_by}
+use Rattle.real_shares.specs.Numbers.{ComesBeforeBy}
 use Rattle.real_shares.specs.Shares.{number_of, amount_of}
 use Rattle.real_shares.proofs.Orders.{at_most-same, equal-same}
 use Rattle.real_shares.proofs.Multiples.{chain, back, equal_path, plus-equal, right, neutral_left, times-equal}
 use Rattle.real_shares.proofs.Multiples.{plus-at_most, times-zero, times-keeps, minus-equal, minus-zero}
 use Rattle.real_shares.proofs.Multiples.{total_below-plus, total_below-minus, total_below-equal, difference-zero}
-use Rattle.real_shares.proofs.Multiples.{from_difference, added-low, minus-at_most}
-use Rattle.real_shares.proofs.Combined.{combined, of_members, combined-same}
-use Rattle.real_shares.proofs.Combined.{combined-plus, combined-none, combined-times}
-use Rattle.real_shares.proofs.Combined.{combined-members}
+use Rattle.real_shares.proofs.Multiples.{from_difference, added-low, minus-at_most, through}
+use Rattle.real_shares.proofs.Combined.{combined, of_members, combined-same, combined-plus, combined-none}
+use Rattle.real_shares.proofs.Combined.{combined-times, combined-members}
 use Rattle.real_shares.proofs.Soundness.{before-from}
 use Rattle.real_worths.specs.Games.{NumberGame, excess_in, excess_list_in, InFamilyIn, HaveSameIn}
 use Rattle.real_worths.specs.KohlbergTheorem.{IsBalancedTest, is_level}
@@ -32,6 +32,7 @@ use Rattle.real_worths.proofs.CoreFirst.{amount_at}
 use Rattle.real_worths.proofs.BothAreOne.{alone_gets}
 use Rattle.real_worths.proofs.Joined.{greatest_among, forth}
 use Rattle.real_worths.proofs.Moves.{less_more}
+use Rattle.theorems.proofs.Products.{products}
 
 -- ---- proper coalitions
 
@@ -47,10 +48,9 @@ to_proper n s some less =
 pub from_proper : (n s : ℕ) → s < 2 ^ n → is_proper n s ≡ true → (0 < s) × (s < grand_coalition n)
 from_proper n s within h =
     let both = and_parts (not (nat_eq s 0)) (not (nat_eq s (grand_coalition n))) h in
-    let ne = from_not_nat_eq s 0 (from_not (nat_eq s 0) both.0) in
     let other = from_not_nat_eq s (grand_coalition n) (from_not (nat_eq s (grand_coalition n)) both.1) in
     let all = grand_coalition-within n in
-    (omega (arith, ne), omega (arith, within, other, all))
+    (omega (arith, from_not_nat_eq s 0 (from_not (nat_eq s 0) both.0)), omega (arith, within, other, all))
 
 -- ---- weighted sums
 
@@ -59,17 +59,15 @@ module _ {C : Type 0} (N : Numbers C) (L : IsOrderedGroup N) where
   times_less : (k : ℤ) (a : C) → pos 1 ≤ℤ k → AtMost N a N.zero → AtMost N (times N k a) a
   times_less (pos zero) a one low = absurd (omega (arith, linear))
   times_less (pos (suc k)) a one low =
-      L.transitive (times N (pos (suc k)) a) (N.plus N.zero a) a
-      (L.shifts (times N (pos k) a) N.zero a
-      (L.transitive (times N (pos k) a) (times N (pos k) N.zero) N.zero
-      (times-keeps N L (pos k) a N.zero (omega (arith, linear)) low) (times-zero N L (pos k)).0))
+      through N L (L.shifts (times N (pos k) a) N.zero a
+      (through N L (times-keeps N L (pos k) a N.zero (omega (arith, linear)) low) (times-zero N L (pos k)).0))
       (neutral_left N L a).0
   times_less (negsuc k) a one low = absurd (omega (arith, linear))
 
   -- no weight, or a term that isn't above zero
   term_low : (k : ℤ) (a : C) → (k ≡ pos 0) ⊎ ((pos 1 ≤ℤ k) × AtMost N a N.zero) → AtMost N (times N k a) N.zero
   term_low k a (inl none) = (equal_path N L (times N k a) N.zero (ap (λ z. times N z a) none)).0
-  term_low k a (inr (one, low)) = L.transitive (times N k a) a N.zero (times_less k a one low) low
+  term_low k a (inr (one, low)) = through N L (times_less k a one low) low
 
   -- no term is above zero
   sum_low : (w : ℕ → ℤ) (f : ℕ → C) (m : ℕ)
@@ -77,11 +75,9 @@ module _ {C : Type 0} (N : Numbers C) (L : IsOrderedGroup N) where
       → AtMost N (total_below N m (λ s. times N (w s) (f s))) N.zero
   sum_low w f zero each = at_most-same N L N.zero
   sum_low w f (suc m) each =
-      L.transitive (N.plus (total_below N m (λ s. times N (w s) (f s))) (times N (w m) (f m)))
-      (N.plus N.zero N.zero)
-      N.zero
-      (plus-at_most N L (total_below N m (λ s. times N (w s) (f s))) N.zero (times N (w m) (f m)) N.zero
-      (sum_low w f m (λ s lt. each s (omega arith))) (term_low (w m) (f m) (each m (omega arith)))) (L.neutral N.zero).0
+      through N L (plus-at_most N L (total_below N m (λ s. times N (w s) (f s))) N.zero (times N (w m) (f m)) N.zero
+      (sum_low w f m (λ s lt. each s (omega arith))) (term_low (w m) (f m) (each m (omega arith))))
+      (L.neutral N.zero).0
 
   -- and one is below zero
   sum_less : (w : ℕ → ℤ) (f : ℕ → C) (m c : ℕ)
@@ -90,17 +86,14 @@ module _ {C : Type 0} (N : Numbers C) (L : IsOrderedGroup N) where
   sum_less w f zero c each lt one low = absurd (omega arith)
   sum_less w f (suc m) c each lt one low = elim (less_or_last c m lt) [
     | inl less ↦
-        L.transitive (N.plus (total_below N m (λ s. times N (w s) (f s))) (times N (w m) (f m)))
-        (N.plus (f c) N.zero) (f c)
+        through N L
         (plus-at_most N L (total_below N m (λ s. times N (w s) (f s))) (f c) (times N (w m) (f m)) N.zero
         (sum_less w f m c (λ s h. each s (omega arith)) less one low) (term_low (w m) (f m) (each m (omega arith))))
         (L.neutral (f c)).0
     | inr last ↦
-        L.transitive (N.plus (total_below N m (λ s. times N (w s) (f s))) (times N (w m) (f m)))
-        (N.plus N.zero (f c)) (f c)
+        through N L
         (plus-at_most N L (total_below N m (λ s. times N (w s) (f s))) N.zero (times N (w m) (f m)) (f c)
-        (sum_low w f m (λ s h. each s (omega arith)))
-        (rw (sym last) (times_less (w c) (f c) one low)))
+        (sum_low w f m (λ s h. each s (omega arith))) (rw (sym last) (times_less (w c) (f c) one low)))
         (neutral_left N L (f c)).0
   ]
 
@@ -121,7 +114,7 @@ module _ {C : Type 0} (N : Numbers C) (L : IsOrderedGroup N) where
 
     unit_none : (m : ℕ) → sum_below m (λ s. b.weights s *ℤ pos 0) ≡ pos 0
     unit_none zero = refl
-    unit_none (suc m) = omega (arith, linear, unit_none m, mul-zeroℤ (b.weights m))
+    unit_none (suc m) = omega (products, unit_none m)
 
     negated : (i m : ℕ)
         → sum_below m (λ s. b.weights s *ℤ cond (has_player s i) (pos 0 -ℤ pos 1) (pos 0))
@@ -132,7 +125,7 @@ module _ {C : Type 0} (N : Numbers C) (L : IsOrderedGroup N) where
         term : (c : Bool) (z : ℤ)
             → z *ℤ cond c (pos 0 -ℤ pos 1) (pos 0) ≡ pos 0 -ℤ z *ℤ cond c (pos 1) (pos 0)
         term true z = omega (arith, linear, mul-subℤ z (pos 0) (pos 1), mul-zeroℤ z, mul-oneℤ z)
-        term false z = omega (arith, linear, mul-zeroℤ z)
+        term false z = omega products
 
     pub balanced_sum : Equal N (total_over N n v (grand_coalition n)) N.zero
         → Equal N (total_below N (2 ^ n) (λ s. times N (b.weights s) (N.minus (total_over N n v s)))) N.zero
@@ -273,15 +266,12 @@ module _ {C : Type 0} (N : Numbers C) (L : IsOrderedGroup N) (g : NumberGame C) 
           (turned_back (d c) up, each c within level_here)
         where
           turned : (a : C) → AtMost N N.zero a → AtMost N (N.minus a) N.zero
-          turned a le =
-              L.transitive (N.minus a) (N.minus N.zero) N.zero (minus-at_most N L N.zero a le) (minus-zero N L).0
+          turned a le = through N L (minus-at_most N L N.zero a le) (minus-zero N L).0
 
           turned_back : (a : C) → AtMost N N.zero (N.minus a) → AtMost N a N.zero
           turned_back a le =
-              L.transitive a (N.plus a (N.minus a)) N.zero
-              (L.transitive a (N.plus a N.zero) (N.plus a (N.minus a)) (L.neutral a).1
-              (plus-at_most N L a a N.zero (N.minus a) (at_most-same N L a) le))
-              (L.inverse a).0
+              through N L (through N L (L.neutral a).1
+              (plus-at_most N L a a N.zero (N.minus a) (at_most-same N L a) le)) (L.inverse a).0
 
   -- the level of c, which moves, has a coalition that gets less
   abbrev loses : ℕ → ℕ → Bool
@@ -315,8 +305,7 @@ module _ {C : Type 0} (N : Numbers C) (L : IsOrderedGroup N) (g : NumberGame C) 
               let first =
               and_parts (not (nat_eq t 0)) (not (nat_eq t (grand_coalition n)) && N.at_most (e c) (e t)) parts.0 in
               let second = and_parts (not (nat_eq t (grand_coalition n))) (N.at_most (e c) (e t)) first.1 in
-              let range =
-              from_proper n t found.1
+              let range = from_proper n t found.1
               (and_both (not (nat_eq t 0)) (not (nat_eq t (grand_coalition n))) first.0 second.0) in
               before-from N L n e (excess_in N g z) t (omega (arith, range.0)) (omega (arith, range.0, range.1))
               (λ s one past. elim (true_or_false (is_none s)) [
@@ -337,8 +326,7 @@ module _ {C : Type 0} (N : Numbers C) (L : IsOrderedGroup N) (g : NumberGame C) 
       -- what doesn't rise gets no less
       gains : (t : ℕ) → AtMost N (excess_in N g z t) (e t) → AtMost N N.zero (d t)
       gains t le =
-          let low = added-low N L (e t) (N.minus (d t))
-          (L.transitive (N.plus (e t) (N.minus (d t))) (excess_in N g z t) (e t) (excess_is t).1 le) in
-          L.transitive N.zero (N.plus (d t) (N.minus (d t))) (d t) (L.inverse (d t)).1
-          (L.transitive (N.plus (d t) (N.minus (d t))) (N.plus (d t) N.zero) (d t)
-          (plus-at_most N L (d t) (d t) (N.minus (d t)) N.zero (at_most-same N L (d t)) low) (L.neutral (d t)).0)
+          let low = added-low N L (e t) (N.minus (d t)) (through N L (excess_is t).1 le) in
+          through N L (L.inverse (d t)).1
+          (through N L (plus-at_most N L (d t) (d t) (N.minus (d t)) N.zero (at_most-same N L (d t)) low)
+          (L.neutral (d t)).0)

@@ -1,8 +1,7 @@
 -- At the prenucleolus each collection of coalitions of at least some excess is balanced: else a transfer gives one of
 -- them more and takes from none, by Farkas's lemma, and a small enough part of it comes first.
-use Rattle.std.proofs.Common.{◌≡◌, ◌⊎◌, ℕ, suc, ◌+◌, ◌-◌, ◌^◌, ◌<◌, ◌≤◌, Bool, true, ◌&&◌, not, nat_eq}
-use Rattle.std.proofs.Common.{List, map, ℤ, pos, ◌+ℤ◌, ◌-ℤ◌, ◌<ℤ◌, ◌≤ℤ◌, int_le}
-use Rattle.std.proofs.Common.{sym, ap, ◌∙◌, inl, inr, arith}
+use Rattle.std.proofs.Common.{◌≡◌, ◌⊎◌, ℕ, suc, ◌+◌, ◌-◌, ◌^◌, ◌<◌, ◌≤◌, Bool, true, ◌&&◌, not, nat_eq, List, map, ℤ}
+use Rattle.std.proofs.Common.{pos, ◌+ℤ◌, ◌-ℤ◌, ◌<ℤ◌, ◌≤ℤ◌, int_le, sym, ap, ◌∙◌, inl, inr, arith}
 use Rattle.std.proofs.lemmas.Bool.{false≢true}
 use Rattle.std.proofs.lemmas.Int.{ints, by_lt_z}
 use Rattle.definitions.proofs.Ring.{linear}
@@ -15,8 +14,7 @@ use Rattle.real_shares.specs.Numbers.{Numbers, IsOrderedGroup, AtMost, Less, Equ
 use Rattle.real_shares.specs.Shares.{amount_of}
 use Rattle.real_shares.proofs.Orders.{at_most-same, from_less}
 use Rattle.real_shares.proofs.Multiples.{chain, back, equal_path, left, right, times-add, times-one, minus-at_most}
-use Rattle.real_shares.proofs.Multiples.{minus-equal, minus-zero, plus-at_most, from_low}
-use Rattle.real_shares.proofs.Multiples.{times-minus}
+use Rattle.real_shares.proofs.Multiples.{minus-equal, minus-zero, plus-at_most, from_low, times-minus, through}
 use Rattle.real_shares.proofs.Sorted.{ComesBefore-sorted}
 use Rattle.real_shares.proofs.Soundness.{SameOrLow-range, SomeAbove-range}
 use Rattle.real_worths.specs.Games.{NumberGame, excess_in, excess_list_in, HaveSameIn, IsNucleolusIn, CanHalve}
@@ -101,11 +99,9 @@ module _ {C : Type 0} (N : Numbers C) (L : IsOrderedGroup N) (halve : CanHalve N
     -- who gets one step at least is at least so much lower
     one_step : (s : ℕ) → pos 1 ≤ℤ W s → AtMost N (excess_in N g z s) (N.plus (e s) (N.minus d))
     one_step s one =
-        L.transitive (excess_in N g z s) (N.plus (e s) (N.minus (times N (W s) d))) (N.plus (e s) (N.minus d))
-        (after s).0
+        through N L (after s).0
         (plus-at_most N L (e s) (e s) (N.minus (times N (W s) d)) (N.minus d) (at_most-same N L (e s))
-        (minus-at_most N L d (times N (W s) d)
-        (L.transitive d (times N (pos 1) d) (times N (W s) d) (times-one N L d).1
+        (minus-at_most N L d (times N (W s) d) (through N L (times-one N L d).1
         (times_more N L (pos 1) (W s) d low one))))
 
     same_excess : (s : ℕ) → W s ≡ pos 0 → Equal N (excess_in N g z s) (e s)
@@ -119,19 +115,11 @@ module _ {C : Type 0} (N : Numbers C) (L : IsOrderedGroup N) (halve : CanHalve N
     -- who had less than t stays below t by a step
     still_under : (s : ℕ) → s < 2 ^ n → under s ≡ true → AtMost N (excess_in N g z s) (N.plus (e t) (N.minus d))
     still_under s lt h =
-        L.transitive (excess_in N g z s) (N.plus (e s) (N.minus (times N (W s) d))) (N.plus (e t) (N.minus d))
-        (after s).0
-        (take_over N L (N.plus (e s) (N.minus (times N (W s) d))) (e t) d
-        (L.transitive (N.plus (N.plus (e s) (N.minus (times N (W s) d))) d)
-        (N.plus (e s) (times N (pos 0 -ℤ W s +ℤ pos 1) d)) (e t) joined_step.0
-        (L.transitive (N.plus (e s) (times N (pos 0 -ℤ W s +ℤ pos 1) d))
-        (N.plus (e s) (N.plus (e t) (N.minus (e s)))) (e t)
-        (plus-at_most N L (e s) (e s) (times N (pos 0 -ℤ W s +ℤ pos 1) d) (N.plus (e t) (N.minus (e s)))
-        (at_most-same N L (e s))
-        (L.transitive (times N (pos 0 -ℤ W s +ℤ pos 1) d) (times N (pos k) d) (N.plus (e t) (N.minus (e s)))
-        (times_more N L (pos 0 -ℤ W s +ℤ pos 1) (pos k) d low
-        (few (W s) (size_of w n) (sum_above w s n))) (step.2 s lt h)))
-        (forth N L (e s) (e t)).0)))
+        through N L (after s).0 (take_over N L (N.plus (e s) (N.minus (times N (W s) d))) (e t) d
+        (through N L joined_step.0
+        (through N L (plus-at_most N L (e s) (e s) (times N (pos 0 -ℤ W s +ℤ pos 1) d) (N.plus (e t) (N.minus (e s)))
+        (at_most-same N L (e s)) (through N L (times_more N L (pos 0 -ℤ W s +ℤ pos 1) (pos k) d low
+        (few (W s) (size_of w n) (sum_above w s n))) (step.2 s lt h))) (forth N L (e s) (e t)).0)))
       where
         few : (u : ℤ) (m : ℕ) → (pos 0 -ℤ pos m) ≤ℤ u → (pos 0 -ℤ u +ℤ pos 1) ≤ℤ pos (suc m)
         few u m h = omega (arith, ints)
@@ -139,8 +127,7 @@ module _ {C : Type 0} (N : Numbers C) (L : IsOrderedGroup N) (halve : CanHalve N
         joined_step : Equal N (N.plus (N.plus (e s) (N.minus (times N (W s) d))) d)
             (N.plus (e s) (times N (pos 0 -ℤ W s +ℤ pos 1) d))
         joined_step =
-            chain N L (L.associates (e s) (N.minus (times N (W s) d)) d)
-            (right N L (e s)
+            chain N L (L.associates (e s) (N.minus (times N (W s) d)) d) (right N L (e s)
             (back N L (chain N L (times-add N L (pos 0 -ℤ W s) (pos 1) d)
             (chain N L (left N L (times N (pos 1) d) (times-minus N L (W s) d))
             (right N L (N.minus (times N (W s) d)) (times-one N L d))))))
@@ -179,8 +166,7 @@ module _ {C : Type 0} (N : Numbers C) (L : IsOrderedGroup N) (halve : CanHalve N
       differs : ¬ HaveSameIn N g y z
       differs same =
           let amounts = same_amounts N L g y z b is.0.0 (stepped_long N L g y is.0.0 w d) same in
-          above
-          (L.transitive (e b) (excess_in N g z b) E (right N L (g.worth b) (minus-equal N L amounts)).0 at_top)
+          above (through N L (right N L (g.worth b) (minus-equal N L amounts)).0 at_top)
 
       each : (s : ℕ) → 1 ≤ s → s < 1 + (2 ^ n - 2)
           → Equal N (excess_in N g z s) (e s) ⊎ AtMost N (excess_in N g z s) E
@@ -188,25 +174,18 @@ module _ {C : Type 0} (N : Numbers C) (L : IsOrderedGroup N) (halve : CanHalve N
           let inside : s < 2 ^ n = omega (arith, one, past) in
           elim (true_or_false (level s)) [
             | inl in_level ↦
-                by_lt_z (pos 0) (W s)
-                (λ up. inr
+                by_lt_z (pos 0) (W s) (λ up. inr
                 (let first = up_one (W s) up in
-                L.transitive (excess_in N g z s) (N.plus (e s) (N.minus d)) (N.plus (e b) (N.minus d))
-                (one_step s first)
-                (L.shifts (e s) (e b) (N.minus d)
-                (most s inside
+                through N L (one_step s first) (L.shifts (e s) (e b) (N.minus d) (most s inside
                 (and_both (level s) (int_le (pos 1) (W s)) in_level (to_le (pos 1) (W s) first))))))
                 (λ le. inl (same_excess s (flat (W s) le (none_less s inside in_level))))
             | inr out ↦
                 let proper = to_proper n s one (omega (arith, one, past)) in
-                inr (L.transitive (excess_in N g z s) (N.plus (e t) (N.minus d)) (N.plus (e b) (N.minus d))
-                (still_under s inside
-                (and_both (is_proper n s) (not (N.at_most (e t) (e s))) proper
+                inr (through N L (still_under s inside (and_both (is_proper n s) (not (N.at_most (e t) (e s))) proper
                 (elim (true_or_false (N.at_most (e t) (e s))) [
                   | inl le ↦ absurd (false≢true (sym out ∙ level_from s proper le))
                   | inr less ↦ ap not less
-                ])))
-                (L.shifts (e t) (e b) (N.minus d) parts.1))
+                ]))) (L.shifts (e t) (e b) (N.minus d) parts.1))
           ]
         where
           up_one : (u : ℤ) → pos 0 <ℤ u → pos 1 ≤ℤ u

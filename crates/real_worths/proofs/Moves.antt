@@ -13,8 +13,8 @@ use Rattle.real_shares.specs.Numbers.{Numbers, IsOrderedGroup, AtMost, Less, Equ
 use Rattle.real_shares.specs.Shares.{number_of, amount_of}
 use Rattle.real_shares.proofs.Orders.{from_less, at_most-same}
 use Rattle.real_shares.proofs.Multiples.{chain, back, equal_path, plus-equal, left, right, neutral_left, minus-plus}
-use Rattle.real_shares.proofs.Multiples.{minus-equal, minus-zero, is_minus, added-low, plus-at_most}
-use Rattle.real_shares.proofs.Multiples.{total_below-equal, total_below-plus, total_below-minus}
+use Rattle.real_shares.proofs.Multiples.{minus-equal, minus-zero, is_minus, added-low, plus-at_most, total_below-equal}
+use Rattle.real_shares.proofs.Multiples.{total_below-plus, total_below-minus, through}
 use Rattle.real_shares.proofs.Soundness.{before-from}
 use Rattle.real_worths.specs.Games.{NumberGame, excess_in, IsEfficientIn, InFamilyIn, HaveSameIn, excess_list_in}
 use Rattle.real_worths.specs.Games.{IsNucleolusIn}
@@ -28,8 +28,7 @@ module _ {C : Type 0} (N : Numbers C) (L : IsOrderedGroup N) where
   -- w - (a + d) is (w - a) - d
   pub less_more : (w a d : C)
       → Equal N (N.plus w (N.minus (N.plus a d))) (N.plus (N.plus w (N.minus a)) (N.minus d))
-  less_more w a d =
-      chain N L (right N L w (minus-plus N L a d)) (back N L (L.associates w (N.minus a) (N.minus d)))
+  less_more w a d = chain N L (right N L w (minus-plus N L a d)) (back N L (L.associates w (N.minus a) (N.minus d)))
 
   -- a - d + d is a
   pub put_back : (a d : C) → Equal N (N.plus (N.plus a (N.minus d)) d) a
@@ -41,7 +40,7 @@ module _ {C : Type 0} (N : Numbers C) (L : IsOrderedGroup N) where
   pub no_less : (a d : C) → AtMost N a (N.plus a (N.minus d)) → AtMost N d N.zero
   no_less a d le =
       let b = N.plus a (N.minus d) in
-      added-low N L b d (L.transitive (N.plus b d) a b (put_back a d).0 le)
+      added-low N L b d (through N L (put_back a d).0 le)
 
 module _ {C : Type 0} (N : Numbers C) (L : IsOrderedGroup N) (g : NumberGame C) (y : List C)
     (long : length y ≡ g.players)
@@ -77,10 +76,7 @@ module _ {C : Type 0} (N : Numbers C) (L : IsOrderedGroup N) (g : NumberGame C) 
       (alone_gets N L (λ l. cond (has_player s l) d N.zero) k n lt)
     where
       swap : (a b : Bool) → cond a (cond b d N.zero) N.zero ≡ cond b (cond a d N.zero) N.zero
-      swap true true = refl
-      swap true false = refl
-      swap false true = refl
-      swap false false = refl
+      swap a b = grind arith
 
   amount_moved : (s : ℕ)
       → Equal N (amount_of N moved s)
@@ -165,9 +161,7 @@ module _ {C : Type 0} (N : Numbers C) (L : IsOrderedGroup N) (g : NumberGame C) 
     low = from_less N L N.zero d some
 
     more : (a : C) → AtMost N a (N.plus a d)
-    more a =
-        L.transitive a (N.plus a N.zero) (N.plus a d) (L.neutral a).1
-        (plus-at_most N L a a N.zero d (at_most-same N L a) low)
+    more a = through N L (L.neutral a).1 (plus-at_most N L a a N.zero d (at_most-same N L a) low)
 
     moved_efficient : IsEfficientIn N g y → IsEfficientIn N g moved
     moved_efficient e =
@@ -178,29 +172,20 @@ module _ {C : Type 0} (N : Numbers C) (L : IsOrderedGroup N) (g : NumberGame C) 
         → (l : ℕ) → l < n → AtMost N (g.worth (singleton l)) (number_of N moved l)
     rational e r l lt = elim (same_or_other l i) [
       | inl same ↦
-          L.transitive (g.worth (singleton l)) (number_of N y l) (number_of N moved l) (r l lt)
-          (L.transitive (number_of N y l) (N.plus (number_of N y l) d) (number_of N moved l)
-          (more (number_of N y l))
-          (back N L (got l lt (N.plus (number_of N y l) d)
+          through N L (r l lt) (through N L (more (number_of N y l)) (back N L (got l lt (N.plus (number_of N y l) d)
           (chain N L (gets_more (singleton l) (ap (λ k. has_player (singleton k) i) same ∙ has_player-singleton i)
           (ap (λ k. has_player (singleton k) j) same ∙ has_player-singleton_other i j (λ f. ne (sym f))))
           (left N L d (amount_alone N L g y l long lt))))).0)
       | inr other ↦ elim (same_or_other l j) [
         | inl same ↦
-            L.transitive (g.worth (singleton l)) (N.plus (number_of N y l) (N.minus d)) (number_of N moved l)
-            (rw same (give e))
-            (back N L (got l lt (N.plus (number_of N y l) (N.minus d))
-            (chain N L
-            (gets_less (singleton l)
-            (ap (λ k. has_player (singleton k) i) same ∙ has_player-singleton_other j i ne)
+            through N L (rw same (give e)) (back N L (got l lt (N.plus (number_of N y l) (N.minus d)) (chain N L
+            (gets_less (singleton l) (ap (λ k. has_player (singleton k) i) same ∙ has_player-singleton_other j i ne)
             (ap (λ k. has_player (singleton k) j) same ∙ has_player-singleton j))
             (left N L (N.minus d) (amount_alone N L g y l long lt))))).0
         | inr neither ↦
-            L.transitive (g.worth (singleton l)) (number_of N y l) (number_of N moved l) (r l lt)
-            (back N L (got l lt (number_of N y l)
+            through N L (r l lt) (back N L (got l lt (number_of N y l)
             (chain N L (gets_same (singleton l) false (has_player-singleton_other l i (λ f. other (sym f)))
-            (has_player-singleton_other l j (λ f. neither (sym f))))
-            (amount_alone N L g y l long lt)))).0
+            (has_player-singleton_other l j (λ f. neither (sym f)))) (amount_alone N L g y l long lt)))).0
       ]
     ]
       where
@@ -214,13 +199,10 @@ module _ {C : Type 0} (N : Numbers C) (L : IsOrderedGroup N) (g : NumberGame C) 
 
     differs : ¬ HaveSameIn N g y moved
     differs same =
-        let alone = chain N L (back N L (amount_alone N L g moved i moved_long hi))
-        (chain N L
+        let alone = chain N L (back N L (amount_alone N L g moved i moved_long hi)) (chain N L
         (gets_more (singleton i) (has_player-singleton i) (has_player-singleton_other i j (λ f. ne (sym f))))
         (left N L d (amount_alone N L g y i long hi))) in
-        some
-        (added-low N L (number_of N y i) d
-        (L.transitive (N.plus (number_of N y i) d) (number_of N moved i) (number_of N y i) alone.1 (same i hi).1))
+        some (added-low N L (number_of N y i) d (through N L alone.1 (same i hi).1))
 
     -- the coalition c with i and without j has no less excess than each such one, and each with j and without i has
     -- less by d twice at least
@@ -245,22 +227,10 @@ module _ {C : Type 0} (N : Numbers C) (L : IsOrderedGroup N) (g : NumberGame C) 
         by_tests s one past true true e f = inl (excess_same s true e f)
         by_tests s one past false false e f = inl (excess_same s false e f)
         by_tests s one past true false e f =
-            inr
-            (L.transitive (excess_in N g moved s) (N.plus (excess_in N g y s) (N.minus d)) (excess_in N g moved c)
-            (excess_less s e f).0
-            (L.transitive (N.plus (excess_in N g y s) (N.minus d)) (N.plus (excess_in N g y c) (N.minus d))
-            (excess_in N g moved c)
-            (L.shifts (excess_in N g y s) (excess_in N g y c) (N.minus d) (most s one past e f)) here.1))
+            inr (through N L (excess_less s e f).0
+            (through N L (L.shifts (excess_in N g y s) (excess_in N g y c) (N.minus d) (most s one past e f)) here.1))
         by_tests s one past false true e f =
-            inr (L.transitive (excess_in N g moved s) (N.plus (excess_in N g y s) d) (excess_in N g moved c)
-            (excess_more s e f).0
-            (L.transitive (N.plus (excess_in N g y s) d) (N.plus (excess_in N g y c) (N.minus d))
-            (excess_in N g moved c)
-            (twice s one past e f) here.1))
+            inr (through N L (excess_more s e f).0 (through N L (twice s one past e f) here.1))
 
         above : Less N (excess_in N g moved c) (excess_in N g y c)
-        above le =
-            some
-            (no_less N L (excess_in N g y c) d
-            (L.transitive (excess_in N g y c) (excess_in N g moved c) (N.plus (excess_in N g y c) (N.minus d)) le
-            here.0))
+        above le = some (no_less N L (excess_in N g y c) d (through N L le here.0))

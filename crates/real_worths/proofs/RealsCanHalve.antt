@@ -11,12 +11,10 @@ half (pos k) = pos (k / 2)
 half (negsuc k) = negsuc (k / 2)
 
 low : (z : ℤ) → (half z +ℤ half z) ≤ℤ z
-low (pos k) = omega (arith, ints)
-low (negsuc k) = omega (arith, ints)
+low z = grind (arith, ints)
 
 high : (z : ℤ) → z ≤ℤ (half z +ℤ half z +ℤ pos 1)
-high (pos k) = omega (arith, ints)
-high (negsuc k) = omega (arith, ints)
+high z = grind (arith, ints)
 
 abbrev half_of : Real → Real
 half_of c = record {

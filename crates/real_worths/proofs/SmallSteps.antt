@@ -1,6 +1,7 @@
 -- A number above zero that is as small as needed; and shares moved by multiples of it.
-use Rattle.std.proofs.Common.{◌≡◌, ℕ, zero, suc, ◌+◌, ◌<◌, Bool, true, false, cond, List, length, map}
-use Rattle.std.proofs.Common.{ℤ, pos, negsuc, ◌+ℤ◌, ◌-ℤ◌, ◌≤ℤ◌, unsigned_abs, refl, sym, ap, ◌∙◌, inl, inr, arith}
+use Rattle.std.proofs.Common.{◌≡◌, ℕ, zero, suc, ◌+◌, ◌<◌, Bool, true, false, cond}
+use Rattle.std.proofs.Common.{List, length, map, ℤ, pos, negsuc}
+use Rattle.std.proofs.Common.{◌+ℤ◌, ◌-ℤ◌, ◌≤ℤ◌, unsigned_abs, refl, sym, ap, ◌∙◌, inl, inr, arith}
 use Rattle.std.specs.List.{range_with_len}
 use Rattle.std.proofs.lemmas.Bool.{false≢true}
 use Rattle.std.proofs.lemmas.Int.{ints}
@@ -11,9 +12,10 @@ use Rattle.definitions.specs.Coalitions.{has_player, sum_over}
 use Rattle.real_shares.specs.Numbers.{Numbers, IsOrderedGroup, AtMost, Less, Equal, times, total_below}
 use Rattle.real_shares.specs.Shares.{number_of, amount_of}
 use Rattle.real_shares.proofs.Orders.{at_most-same, equal-same, from_less}
-use Rattle.real_shares.proofs.Multiples.{chain, back, equal_path, plus-equal, left, right, minus-equal}
-use Rattle.real_shares.proofs.Multiples.{plus-at_most, times-zero, times-keeps, times-add}
-use Rattle.real_shares.proofs.Multiples.{total_below-plus, total_below-equal}
+use Rattle.real_shares.proofs.Multiples.{chain, back, equal_path, plus-equal, left}
+use Rattle.real_shares.proofs.Multiples.{right, minus-equal, plus-at_most}
+use Rattle.real_shares.proofs.Multiples.{times-zero, times-keeps, times-add, total_below-plus, total_below-equal}
+use Rattle.real_shares.proofs.Multiples.{through}
 use Rattle.real_worths.specs.Games.{NumberGame, excess_in, CanHalve}
 use Rattle.real_worths.proofs.CoreFirst.{amount_at}
 use Rattle.real_worths.proofs.Moves.{less_more}
@@ -31,15 +33,13 @@ module _ {C : Type 0} (N : Numbers C) (L : IsOrderedGroup N) where
   -- multiples of what isn't below zero
   multiple_low : (k : ℕ) (d : C) → AtMost N N.zero d → AtMost N N.zero (times N (pos k) d)
   multiple_low k d low =
-      L.transitive N.zero (times N (pos k) N.zero) (times N (pos k) d) (times-zero N L (pos k)).1
-      (times-keeps N L (pos k) N.zero d (omega (arith, linear)) low)
+      through N L (times-zero N L (pos k)).1 (times-keeps N L (pos k) N.zero d (omega (arith, linear)) low)
 
   pub times_more : (u v : ℤ) (d : C) → AtMost N N.zero d → u ≤ℤ v → AtMost N (times N u d) (times N v d)
   times_more u v d low le =
       let (k, e) = gap (v -ℤ u) (omega (arith, linear, le)) in
       let whole : u +ℤ pos k ≡ v = omega (arith, linear, e) in
-      L.transitive (times N u d) (N.plus (times N u d) (times N (pos k) d)) (times N v d)
-      (no_less_with N L (times N u d) (times N (pos k) d) (multiple_low k d low))
+      through N L (no_less_with N L (times N u d) (times N (pos k) d) (multiple_low k d low))
       (chain N L (back N L (times-add N L u (pos k) d))
       (equal_path N L (times N (u +ℤ pos k) d) (times N v d) (ap (λ z. times N z d) whole))).0
     where
@@ -50,10 +50,8 @@ module _ {C : Type 0} (N : Numbers C) (L : IsOrderedGroup N) where
   module _ (halve : CanHalve N) where
     half_some : (c : C) → Less N N.zero c → Less N N.zero (halve c).0
     half_some c some le =
-        some
-        (L.transitive c (N.plus (halve c).0 (halve c).0) N.zero (halve c).1.1
-        (L.transitive (N.plus (halve c).0 (halve c).0) (N.plus N.zero N.zero) N.zero
-        (plus-at_most N L (halve c).0 N.zero (halve c).0 N.zero le le) (L.neutral N.zero).0))
+        some (through N L (halve c).1.1
+        (through N L (plus-at_most N L (halve c).0 N.zero (halve c).0 N.zero le le) (L.neutral N.zero).0))
 
     -- some number k times at most c
     small : (k : ℕ) (c : C) → Less N N.zero c → (d : C) × Less N N.zero d × AtMost N (times N (pos k) d) c
@@ -64,11 +62,8 @@ module _ {C : Type 0} (N : Numbers C) (L : IsOrderedGroup N) where
         let low = lesser first.0 h first.1 (half_some c some) in (
           low.0,
           low.1,
-          L.transitive (N.plus (times N (pos k) low.0) low.0) (N.plus h h) c
-              (plus-at_most N L (times N (pos k) low.0) h low.0 h
-              (L.transitive (times N (pos k) low.0) (times N (pos k) first.0) h
-              (times-keeps N L (pos k) low.0 first.0 (omega (arith, linear)) low.2) first.2)
-              low.3)
+          through N L (plus-at_most N L (times N (pos k) low.0) h low.0 h
+              (through N L (times-keeps N L (pos k) low.0 first.0 (omega (arith, linear)) low.2) first.2) low.3)
               (halve c).1.0,
         )
 
@@ -95,12 +90,11 @@ module _ {C : Type 0} (N : Numbers C) (L : IsOrderedGroup N) where
                 low.1,
                 λ s lt h. elim (less_or_last s b lt) [
                   | inl less ↦
-                      L.transitive (times N (pos k) low.0) (times N (pos k) before.0) (f s)
-                      (times-keeps N L (pos k) low.0 before.0 (omega (arith, linear)) low.2) (before.2 s less h)
+                      through N L (times-keeps N L (pos k) low.0 before.0 (omega (arith, linear)) low.2)
+                      (before.2 s less h)
                   | inr last ↦
-                      L.transitive (times N (pos k) low.0) (f b) (f s)
-                      (L.transitive (times N (pos k) low.0) (times N (pos k) here.0) (f b)
-                      (times-keeps N L (pos k) low.0 here.0 (omega (arith, linear)) low.3) here.2)
+                      through N L
+                      (through N L (times-keeps N L (pos k) low.0 here.0 (omega (arith, linear)) low.3) here.2)
                       (equal_path N L (f b) (f s) (ap f (sym last))).0
                 ],
               )

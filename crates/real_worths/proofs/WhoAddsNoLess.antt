@@ -1,7 +1,7 @@
 -- Say j gets more than i, which adds no less. Make their shares equal: with i in the place of j a coalition has an
 -- excess that is greater by what j gets more at least, so these shares come before the nucleolus.
-use Rattle.std.proofs.Common.{◌≡◌, ◌≢◌, ℕ, ◌+◌, ◌-◌, ◌^◌, ◌<◌, ◌≤◌, true, false, not, List, length}
-use Rattle.std.proofs.Common.{sym, ap, ◌∙◌, inl, inr, arith}
+use Rattle.std.proofs.Common.{◌≡◌, ◌≢◌, ℕ, ◌+◌, ◌-◌, ◌^◌, ◌<◌, ◌≤◌, true, false, not, List, length, sym, ap, ◌∙◌, inl}
+use Rattle.std.proofs.Common.{inr, arith}
 use Rattle.std.proofs.lemmas.Bool.{false≢true}
 use Rattle.definitions.proofs.Cases.{from_not}
 use Rattle.definitions.proofs.Masks.{singleton-within}
@@ -16,12 +16,12 @@ use Rattle.laws.proofs.Withouts.{without}
 use Rattle.real_shares.specs.Numbers.{Numbers, IsOrderedGroup, AtMost, Equal}
 use Rattle.real_shares.specs.Shares.{number_of, amount_of}
 use Rattle.real_shares.proofs.Orders.{decided, from_less}
-use Rattle.real_shares.proofs.Multiples.{chain, back, equal_path, left, right, minus-equal}
+use Rattle.real_shares.proofs.Multiples.{chain, back, equal_path, left, right, minus-equal, through}
 use Rattle.real_worths.specs.Games.{NumberGame, excess_in, IsNucleolusIn, CanHalve, AddsNoLessIn}
 use Rattle.real_worths.proofs.CoreFirst.{length_in}
 use Rattle.real_worths.proofs.Moves.{less_more, no_gain}
-use Rattle.real_worths.proofs.Joined.{half_positive, both_halves, take_over, no_less_with, greatest_among}
-use Rattle.real_worths.proofs.Joined.{amount_more, rational_of}
+use Rattle.real_worths.proofs.Joined.{half_positive, both_halves, take_over, no_less_with, greatest_among, amount_more}
+use Rattle.real_worths.proofs.Joined.{rational_of}
 
 module _ {C : Type 0} (N : Numbers C) (L : IsOrderedGroup N) (halve : CanHalve N) (g : NumberGame C)
     (family : Family)
@@ -79,12 +79,9 @@ module _ {C : Type 0} (N : Numbers C) (L : IsOrderedGroup N) (halve : CanHalve N
         let a = N.plus (g.worth (r + 2 ^ j)) (N.minus (amount_of N y r)) in
         let b = N.plus (g.worth (r + 2 ^ i)) (N.minus (amount_of N y r)) in
         let twice = chain N L (left N L h (left N L h (excess_joined r j hj out_j))) (between a) in
-        L.transitive (N.plus (N.plus (e (r + 2 ^ j)) h) h) (N.plus a (N.minus u)) (e (r + 2 ^ i)) twice.0
-        (L.transitive (N.plus a (N.minus u)) (N.plus b (N.minus u)) (e (r + 2 ^ i))
-        (L.shifts a b (N.minus u)
+        through N L twice.0 (through N L (L.shifts a b (N.minus u)
         (L.shifts (g.worth (r + 2 ^ j)) (g.worth (r + 2 ^ i)) (N.minus (amount_of N y r))
-        (adds r within out_i out_j)))
-        (excess_joined r i hi out_i).1)
+        (adds r within out_i out_j))) (excess_joined r i hi out_i).1)
 
     some_i : holds_without i j (singleton i) ≡ true
     some_i =
@@ -97,15 +94,11 @@ module _ {C : Type 0} (N : Numbers C) (L : IsOrderedGroup N) (halve : CanHalve N
         let alone = adds 0 (omega (arith, singleton-within n i hi)) (has_player-empty i) (has_player-empty j) in
         let first : 0 + 2 ^ j ≡ singleton j = omega arith in
         let second : 0 + 2 ^ i ≡ singleton i = omega arith in
-        L.transitive (g.worth (singleton j)) (g.worth (0 + 2 ^ j)) (N.plus v (N.minus h))
-        (equal_path N L (g.worth (singleton j)) (g.worth (0 + 2 ^ j)) (ap g.worth (sym first))).0
-        (L.transitive (g.worth (0 + 2 ^ j)) (g.worth (0 + 2 ^ i)) (N.plus v (N.minus h)) alone
-        (L.transitive (g.worth (0 + 2 ^ i)) (g.worth (singleton i)) (N.plus v (N.minus h))
-        (equal_path N L (g.worth (0 + 2 ^ i)) (g.worth (singleton i)) (ap g.worth second)).0
-        (L.transitive (g.worth (singleton i)) u (N.plus v (N.minus h)) (r i hi)
-        (take_over N L u v h
-        (L.transitive (N.plus u h) (N.plus (N.plus u h) h) v
-        (no_less_with N L (N.plus u h) h (from_less N L N.zero h (half_positive N L u v h halves more)))
+        through N L (equal_path N L (g.worth (singleton j)) (g.worth (0 + 2 ^ j)) (ap g.worth (sym first))).0
+        (through N L alone
+        (through N L (equal_path N L (g.worth (0 + 2 ^ i)) (g.worth (singleton i)) (ap g.worth second)).0
+        (through N L (r i hi) (take_over N L u v h
+        (through N L (no_less_with N L (N.plus u h) h (from_less N L N.zero h (half_positive N L u v h halves more)))
         (both_halves N L u v h halves).0)))))
 
     rising : (c : ℕ)
@@ -122,10 +115,8 @@ module _ {C : Type 0} (N : Numbers C) (L : IsOrderedGroup N) (halve : CanHalve N
         joined (has_player t i) (has_player t j) (has_player-more_same r i lacks_i)
         (ap not (has_player-more_other r i j lacks_i (λ f. ne (sym f)) ∙ part.2)) in
         take_over N L (N.plus (e s) h) (e c) h
-        (L.transitive (N.plus (N.plus (e s) h) h) (N.plus (N.plus (e (r + 2 ^ j)) h) h) (e c)
-        (left N L h (left N L h (equal_path N L (e s) (e (r + 2 ^ j)) (ap e part.3)))).0
-        (L.transitive (N.plus (N.plus (e (r + 2 ^ j)) h) h) (e t) (e c) (other r part.1 lacks_i part.2)
-        (most t (more-lt n r i part.1 hi lacks_i) t_holds)))
+        (through N L (left N L h (left N L h (equal_path N L (e s) (e (r + 2 ^ j)) (ap e part.3)))).0
+        (through N L (other r part.1 lacks_i part.2) (most t (more-lt n r i part.1 hi lacks_i) t_holds)))
 
     never : ⊥
     never = elim (greatest_among N L (holds_without i j) e (2 ^ n)) [

@@ -1,5 +1,5 @@
 -- Three airlines, of whom the last has paid: by computation.
-use Rattle.std.proofs.Common.{◌≡◌, ℕ, zero, suc, ◌<◌, List, [], ◌∷◌, pos, slice_index, refl, arith}
+use Rattle.std.proofs.Common.{◌≡◌, ℕ, ◌<◌, List, [], ◌∷◌, pos, slice_index, refl, arith}
 use Rattle.definitions.proofs.Ring.{linear}
 use Rattle.laws.specs.SmallNucleoli.{payments}
 use Rattle.reduced_games.specs.AirportsLeft.{cost_left, AirlinesLeft}
@@ -8,9 +8,7 @@ abbrev costs : List ℕ
 costs = 2 ∷ (4 ∷ (6 ∷ []))
 
 costs_left : (k : ℕ) → k < 2 → pos (slice_index (4 ∷ (5 ∷ [])) k) ≡ cost_left costs payments 2 k
-costs_left zero lt = refl
-costs_left (suc zero) lt = refl
-costs_left (suc (suc k)) lt = absurd (omega arith)
+costs_left k lt = grind arith
 
 pub airlines_left : AirlinesLeft
 airlines_left = (

@@ -1,6 +1,6 @@
 -- The core of an airport isn't empty: who needs most can pay all.
-use Rattle.std.proofs.Common.{◌≡◌, ℕ, ◌<◌, ◌≤◌, Bool, true, false, cond, List, length, map}
-use Rattle.std.proofs.Common.{slice_index, pos, neg_ℤ, ◌*ℤ◌, ◌≤ℤ◌, refl, sym, ap, ◌∙◌, inl, arith}
+use Rattle.std.proofs.Common.{◌≡◌, ℕ, ◌<◌, ◌≤◌, Bool, true, false, cond, List, length, map, slice_index, pos, neg_ℤ}
+use Rattle.std.proofs.Common.{◌*ℤ◌, ◌≤ℤ◌, refl, sym, ap, ◌∙◌, inl, arith}
 use Rattle.std.specs.List.{range_with_len}
 use Rattle.std.proofs.lemmas.List.FromFn.{get_or-map-range_with_len, length-map-range_with_len}
 use Rattle.definitions.proofs.Ring.{linear, one-mulℤ}
@@ -21,6 +21,7 @@ use Rattle.reduced_games.proofs.Staying.{some_stay}
 use Rattle.reduced_games.proofs.NucleolusReduces.{both_reduce}
 use Rattle.reduced_games.proofs.ReducedAirport.{reduced_airport}
 use Rattle.reduced_games.proofs.GreatestMembers.{greatest_member}
+use Rattle.theorems.proofs.Products.{products}
 
 module _ (costs : List ℕ) (some : 1 ≤ length costs) where
   abbrev n : ℕ
@@ -62,24 +63,9 @@ module _ (costs : List ℕ) (some : 1 ≤ length costs) where
       by_member : (b : Bool) → has_player s payer ≡ b → (pos 1 *ℤ airport_worth costs s) ≤ℤ amount z s
       by_member true e =
           (let le = less (cost payer) (greatest_cost n cost s) (greatest_cost-at_least n cost s payer payer_in e) in
-          omega (
-            arith,
-            linear,
-            le,
-            z_amount s,
-            ap (λ (b : Bool). cond b (neg_ℤ (pos (cost payer))) (pos 0)) e,
-            one-mulℤ (airport_worth costs s),
-          ))
-      by_member false e =
-          (let le = less 0 (greatest_cost n cost s) (omega arith) in
-          omega (
-            arith,
-            linear,
-            le,
-            z_amount s,
-            ap (λ (b : Bool). cond b (neg_ℤ (pos (cost payer))) (pos 0)) e,
-            one-mulℤ (airport_worth costs s),
-          ))
+          omega (products, le, z_amount s, ap (λ (b : Bool). cond b (neg_ℤ (pos (cost payer))) (pos 0)) e))
+      by_member false e = (let le = less 0 (greatest_cost n cost s) (omega arith) in
+          omega (products, le, z_amount s, ap (λ (b : Bool). cond b (neg_ℤ (pos (cost payer))) (pos 0)) e))
 
   payer_in_core : InCore (airport_game costs) z
   payer_in_core = (
@@ -93,6 +79,6 @@ module _ (costs : List ℕ) (some : 1 ≤ length costs) where
 pub airport_by_nucleolus : AirportByNucleolus
 airport_by_nucleolus family m who costs left_costs x l a e is =
     let g = airport_game costs in
-    let core = payer_in_core costs (let player = e.player in omega (arith, player)) in
+    let core = payer_in_core costs (omega (arith, e.player)) in
     both_reduce family m who g (airport_game left_costs) x _ a
     (reduced_airport m who costs left_costs x l a (nucleolus_in_core family Plain g x _ (inl refl) is core) e) core is

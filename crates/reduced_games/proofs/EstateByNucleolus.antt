@@ -1,9 +1,8 @@
 -- Every nucleolus of an estate has the shares of the Talmud rule, so nobody gets more than the claim, nor less than
 -- nothing; so its reduced game is that of the estate that is left.
-use Rattle.std.proofs.Common.{ℤ, pos, ◌*ℤ◌, ◌≤ℤ◌, arith}
-use Rattle.std.proofs.Common.{◌≡◌, ◌∙◌}
+use Rattle.std.proofs.Common.{ℤ, pos, ◌*ℤ◌, ◌≤ℤ◌, arith, ◌≡◌, ◌∙◌}
 use lib.IntN.{*ℤ_comm}
-use Rattle.definitions.proofs.Ring.{linear, mul-leℤ, mul-le_cancelℤ, mul-zeroℤ, mul_left_commℤ}
+use Rattle.definitions.proofs.Ring.{linear, mul-leℤ, mul-le_cancelℤ}
 use Rattle.definitions.proofs.Families.{allocation_of, efficient_of}
 use Rattle.laws.specs.ClassGames.{bankruptcy_game}
 use Rattle.laws.proofs.EachTwoAreAGarment.{nobody_more}
@@ -12,6 +11,7 @@ use Rattle.laws.proofs.TalmudSharesExist.{talmud_exists}
 use Rattle.reduced_games.specs.EstatesLeft.{EstateByNucleolus}
 use Rattle.reduced_games.proofs.NucleolusReduces.{both_reduce}
 use Rattle.reduced_games.proofs.ReducedEstate.{reduced_estate}
+use Rattle.theorems.proofs.Products.{products, sorted_products}
 
 -- between 0 and the claim c, over another denominator
 between : (q d a b c : ℤ) → pos 1 ≤ℤ q → pos 1 ≤ℤ d → a *ℤ q ≡ b *ℤ d → pos 0 ≤ℤ a → a ≤ℤ (d *ℤ c)
@@ -21,8 +21,8 @@ between q d a b c one two e low high =
     let up = mul-leℤ q a (d *ℤ c) (omega (arith, linear, one)) high in
     let down = mul-leℤ q (pos 0) a (omega (arith, linear, one)) low in (
       mul-le_cancelℤ d (pos 0) b (omega (arith, linear, two))
-          (omega (arith, linear, down, e1, mul-zeroℤ q, mul-zeroℤ d)),
-      mul-le_cancelℤ d b (q *ℤ c) (omega (arith, linear, two)) (omega (arith, linear, up, e1, mul_left_commℤ q d c)),
+          (omega (products, down, e1)),
+      mul-le_cancelℤ d b (q *ℤ c) (omega (arith, linear, two)) (omega (sorted_products, up, e1)),
     )
 
 pub estate_by_nucleolus : EstateByNucleolus

@@ -1,7 +1,6 @@
 -- In the reduced game a coalition has the greatest excess of those whose staying part it is.
-use Rattle.std.proofs.Common.{◌≡◌, ◌⊎◌, ℕ, ◌^◌, ◌<◌, pos, ◌+ℤ◌, ◌-ℤ◌}
-use Rattle.std.proofs.Common.{ap, inl, inr, arith}
-use Rattle.definitions.proofs.Ring.{linear, one-mulℤ}
+use Rattle.std.proofs.Common.{◌≡◌, ◌⊎◌, ℕ, ◌^◌, ◌<◌, pos, ◌+ℤ◌, ◌-ℤ◌, ap, inl, inr, arith}
+use Rattle.definitions.proofs.Ring.{linear}
 use Rattle.definitions.proofs.Masks.{proper_or_all}
 use Rattle.definitions.proofs.Cases.{same_or_other}
 use Rattle.definitions.proofs.SumsOver.{amount-empty}
@@ -10,6 +9,7 @@ use Rattle.definitions.specs.Coalitions.{grand_coalition}
 use Rattle.definitions.specs.Games.{Game, Allocation, amount, excess, IsAllocation, IsEfficient}
 use Rattle.reduced_games.specs.ReducedGames.{AreSome, staying, staying_shares, worth_left, IsReducedGame}
 use Rattle.reduced_games.proofs.Staying.{staying_all, staying_length}
+use Rattle.theorems.proofs.Products.{products}
 
 -- the game on m players
 abbrev pub on : ℕ → Game → Game
@@ -25,7 +25,7 @@ module _ (m : ℕ) (who : ℕ → ℕ) (g h : Game) (x : Allocation) (a : AreSom
   left_is s t e = omega (arith, linear, ap (amount y) e)
 
   excess_is : (t : ℕ) → excess h y t ≡ h.worth t -ℤ amount y t
-  excess_is t = omega (arith, linear, one-mulℤ (h.worth t))
+  excess_is t = omega products
 
   pub greatest_excess : (t : ℕ) → 0 < t → t < grand_coalition m
       → IsGreatest (λ s. (s < 2 ^ g.players) × (staying m who s ≡ t)) (excess g x) (excess h y t)
@@ -45,7 +45,7 @@ module _ (m : ℕ) (who : ℕ → ℕ) (g h : Game) (x : Allocation) (a : AreSom
   pub efficient_staying : IsEfficient g x → IsEfficient (on m h) y
   efficient_staying e =
       let all = left_is (grand_coalition g.players) (grand_coalition m) (staying_all g.players m who a) in
-      omega (arith, linear, all, r.all, e, one-mulℤ (h.worth (grand_coalition m)))
+      omega (products, all, r.all, e)
 
   -- nobody and all have no excess, and each other coalition that of a coalition of the game
   pub some_excess : IsEfficient g x → (t : ℕ) → t < 2 ^ m
@@ -57,14 +57,6 @@ module _ (m : ℕ) (who : ℕ → ℕ) (g h : Game) (x : Allocation) (a : AreSom
       | inl less ↦
           (let top = (greatest_excess t (omega (arith, other)) less).0 in inr (top.0, top.1.0, top.1.1, top.2))
       | inr all ↦ inl
-          (omega (
-            arith,
-            linear,
-            excess_is t,
-            ap h.worth all,
-            ap (amount y) all,
-            efficient_staying e,
-            one-mulℤ (h.worth (grand_coalition m)),
-          ))
+          (omega (products, excess_is t, ap h.worth all, ap (amount y) all, efficient_staying e))
     ]
   ]

@@ -1,6 +1,5 @@
 -- Some member of a coalition has its greatest cost.
-use Rattle.std.proofs.Common.{◌≡◌, ◌⊎◌, ℕ, zero, suc, ◌^◌, ◌<◌, max, Bool, true, false, cond}
-use Rattle.std.proofs.Common.{refl, ◌∙◌, inl, inr, arith}
+use Rattle.std.proofs.Common.{◌≡◌, ◌⊎◌, ℕ, zero, suc, ◌^◌, ◌<◌, max, Bool, true, cond, refl, inl, inr, arith}
 use Rattle.definitions.proofs.SomeMembers.{some_member}
 use Rattle.definitions.specs.Classes.{greatest_cost}
 use Rattle.definitions.specs.Coalitions.{has_player}
@@ -23,15 +22,7 @@ greatest_or_none (suc n) cost s = by_last (has_player s n) refl (greatest_or_non
         → (greatest_cost n cost s ≡ 0) ⊎ IsCostOfMember n cost s (greatest_cost n cost s)
         → (max (greatest_cost n cost s) (cond b (cost n) 0) ≡ 0)
         ⊎ IsCostOfMember (suc n) cost s (max (greatest_cost n cost s) (cond b (cost n) 0))
-    by_last false e (inl none) = inl (omega (arith, none))
-    by_last false e (inr some) = inr (some.0, omega (arith, some.1), some.2, omega (arith, some.3))
-    by_last true e before = elim (greater (greatest_cost n cost s) (cost n)) [
-      | inr second ↦ inr (n, omega arith, e, second)
-      | inl first ↦ elim before [
-        | inl none ↦ inl (first ∙ none)
-        | inr some ↦ inr (some.0, omega (arith, some.1), some.2, first ∙ some.3)
-      ]
-    ]
+    by_last b e before = grind (arith, greater)
 
 -- some member of a coalition that isn't empty has the greatest cost
 pub greatest_member : (n : ℕ) (cost : ℕ → ℕ) (s : ℕ) → 0 < s → s < 2 ^ n
@@ -40,6 +31,5 @@ greatest_member n cost s some within = elim (greatest_or_none n cost s) [
   | inr found ↦ found
   | inl none ↦
       let i = some_member n s some within in
-      let low = greatest_cost-at_least n cost s i.0 i.1 i.2 in
-      (i.0, i.1, i.2, omega (arith, none, low))
+      (i.0, i.1, i.2, omega (arith, none, greatest_cost-at_least n cost s i.0 i.1 i.2))
 ]

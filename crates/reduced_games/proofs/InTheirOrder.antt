@@ -5,7 +5,7 @@ use Rattle.reduced_games.specs.SobolevsTheorem.{InTheirOrder}
 pub in_their_order : InTheirOrder
 in_their_order = (
   (omega arith, refl),
-  λ p. (let some = p.0 in omega (arith, some)),
+  λ p. (omega (arith, p.0)),
   λ k l lt within. lt,
   λ keeps. (let less = keeps 0 1 (omega arith) (omega arith) in omega (arith, less)),
 )

@@ -1,8 +1,7 @@
 -- What the members of a coalition have who go: all that it has, less what its members have who stay.
-use Rattle.std.proofs.Common.{◌≡◌, ◌≢◌, ◌⊎◌, ℕ, zero, suc, ◌-◌, ◌^◌, ◌<◌, Bool, true, false, cond, not, ◌&&◌}
-use Rattle.std.proofs.Common.{nat_eq, ℤ, pos, ◌+ℤ◌, ◌-ℤ◌, ◌*ℤ◌, ◌≤ℤ◌}
-use Rattle.std.proofs.Common.{refl, sym, ap, ◌∙◌, inl, inr, arith}
-use Rattle.definitions.proofs.Ring.{linear, one-mulℤ}
+use Rattle.std.proofs.Common.{◌≡◌, ◌≢◌, ◌⊎◌, ℕ, zero, suc, ◌-◌, ◌^◌, ◌<◌, Bool, true, false, cond, not, ◌&&◌, nat_eq, ℤ}
+use Rattle.std.proofs.Common.{pos, ◌+ℤ◌, ◌-ℤ◌, ◌*ℤ◌, ◌≤ℤ◌, refl, sym, ap, ◌∙◌, inl, inr, arith}
+use Rattle.definitions.proofs.Ring.{linear}
 use Rattle.definitions.proofs.Cases.{same_or_other, from_nat_eq, and_parts}
 use Rattle.definitions.proofs.Masks.{grand_coalition-within}
 use Rattle.definitions.proofs.Members.{has_player-singleton, has_player-singleton_other, has_player-complement}
@@ -12,8 +11,9 @@ use Rattle.definitions.proofs.Splits.{some_below-true}
 use Rattle.definitions.specs.Coalitions.{has_player, singleton, grand_coalition, sum_over, some_below}
 use Rattle.laws.proofs.RenumberedCoalitions.{coalition_where-has}
 use Rattle.reduced_games.specs.ReducedGames.{AreSome, staying}
-use Rattle.reduced_games.proofs.Staying.{staying_within, staying_is, staying_has, staying_all, old_numbers}
-use Rattle.reduced_games.proofs.Staying.{spread, sum_over-spread}
+use Rattle.reduced_games.proofs.Staying.{staying_within, staying_is, staying_has, staying_all, old_numbers, spread}
+use Rattle.reduced_games.proofs.Staying.{sum_over-spread}
+use Rattle.theorems.proofs.Products.{products}
 
 module _ (n m : ℕ) (who : ℕ → ℕ) (s : AreSome n m who) where
   abbrev pub leaving : (ℕ → ℤ) → ℕ → ℤ
@@ -26,11 +26,8 @@ module _ (n m : ℕ) (who : ℕ → ℕ) (s : AreSome n m who) where
   pub leaving_is : (a : ℕ → ℤ) (t : ℕ) → leaving a t ≡ sum_over n (gone a) t
   leaving_is a t =
       omega (
-        arith,
-        linear,
+        products,
         sum_over-combined n a (spread m who (λ k. a (who k))) (pos 1) (pos 1) t,
-        one-mulℤ (sum_over n a t),
-        one-mulℤ (sum_over n (spread m who (λ k. a (who k))) t),
         sum_over-spread n m who (λ k. a (who k)) t s.players,
       )
 
@@ -49,8 +46,7 @@ module _ (n m : ℕ) (who : ℕ → ℕ) (s : AreSome n m who) where
               | inl none ↦ inr
                   (omega (arith, linear, here, none.0, ap a same), (c, omega arith, sym same))
               | inr some ↦ absurd
-                  (let e = once some.1.0 c (omega (arith, some.1.1)) (omega arith) (some.1.2 ∙ same) in
-                  omega (arith, e, some.1.1))
+                  (omega (arith, once some.1.0 c (omega (arith, some.1.1)) (omega arith) (some.1.2 ∙ same), some.1.1))
             ]
         | inr other ↦
             let here = ap (λ (b : Bool). cond b (a (who c)) (pos 0)) (has_player-singleton_other (who c) i other) in
@@ -71,9 +67,9 @@ module _ (n m : ℕ) (who : ℕ → ℕ) (s : AreSome n m who) where
   gone_low a low i lt =
       elim (spread_either a i m s.once) [
         | inl none ↦
-            omega (arith, linear, low i lt, none.0, one-mulℤ (a i), one-mulℤ (spread m who (λ k. a (who k)) i))
+            omega (products, low i lt, none.0)
         | inr some ↦
-            omega (arith, linear, some.0, one-mulℤ (a i), one-mulℤ (spread m who (λ k. a (who k)) i))
+            omega (products, some.0)
       ]
 
   -- numbers of at least 0 add to at least 0
@@ -84,19 +80,11 @@ module _ (n m : ℕ) (who : ℕ → ℕ) (s : AreSome n m who) where
   pub leaving_less : (a b : ℕ → ℤ) (t : ℕ) → ((i : ℕ) → i < n → a i ≤ℤ b i) → leaving a t ≤ℤ leaving b t
   leaving_less a b t le =
       let d : ℕ → ℤ = λ i. pos 1 *ℤ b i -ℤ pos 1 *ℤ a i in
-      let p =
-      leaving_low d t
-      (λ i lt. (let here = le i lt in omega (arith, linear, here, one-mulℤ (a i), one-mulℤ (b i)))) in
       omega (
-        arith,
-        linear,
-        p,
+        products,
+        leaving_low d t (λ i lt. (let here = le i lt in omega (products, here))),
         sum_over-combined n b a (pos 1) (pos 1) t,
-        one-mulℤ (sum_over n b t),
-        one-mulℤ (sum_over n a t),
         sum_over-combined m (λ k. b (who k)) (λ k. a (who k)) (pos 1) (pos 1) (staying m who t),
-        one-mulℤ (sum_over m (λ k. b (who k)) (staying m who t)),
-        one-mulℤ (sum_over m (λ k. a (who k)) (staying m who t)),
       )
 
   -- of those alone who stay nobody goes
@@ -117,7 +105,7 @@ module _ (n m : ℕ) (who : ℕ → ℕ) (s : AreSome n m who) where
           elim (spread_either a i m s.once) [
             | inl none ↦ absurd (none.1 found.0 found.1 is)
             | inr one ↦
-                omega (arith, linear, one.0, one-mulℤ (a i), one-mulℤ (spread m who (λ k. a (who k)) i))
+                omega (products, one.0)
           ]
 
   -- of the other players those stay who don't in t
@@ -140,8 +128,7 @@ module _ (n m : ℕ) (who : ℕ → ℕ) (s : AreSome n m who) where
   leaving_parts a t within =
       let u = staying m who t in
       omega (
-        arith,
-        linear,
+        products,
         sum_over-complement n t a within,
         sum_over-complement m u (λ k. a (who k)) (staying_within m who t),
         ap (sum_over m (λ k. a (who k))) (staying_others t within),

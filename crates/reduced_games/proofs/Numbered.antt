@@ -1,6 +1,5 @@
 -- The numbers below a bound that pass a test, numbered from 0.
-use Rattle.std.proofs.Common.{◌≡◌, ℕ, zero, suc, ◌<◌, Bool, true, false, cond, ◌&&◌, nat_eq}
-use Rattle.std.proofs.Common.{refl, ap, inl, inr, arith}
+use Rattle.std.proofs.Common.{◌≡◌, ℕ, zero, suc, ◌<◌, Bool, true, false, cond, ◌&&◌, nat_eq, refl, ap, inl, inr, arith}
 use Rattle.definitions.proofs.Cases.{true_or_false, less_or_last, less_same_or_greater, from_nat_eq, from_not_nat_eq}
 
 -- how many below r pass
@@ -28,8 +27,7 @@ place_less test r (suc c) e lt = elim (less_or_last r c lt) [
         | inl passes ↦ (let step = place_yes test c passes in omega (arith, ih, step))
         | inr fails ↦ (let step = place_no test c fails in omega (arith, ih, step))
       ]
-  | inr same ↦ (let step = place_yes test r e in let whole = ap (λ k. place test (suc k)) same in
-      omega (arith, step, whole))
+  | inr same ↦ (omega (arith, place_yes test r e, ap (λ k. place test (suc k)) same))
 ]
 
 -- numbers that pass have places of their own
@@ -53,9 +51,7 @@ passing_is test (suc b) k lt = by_test (λ less. passing_is test b k less) (test
         → nat_eq (place test b) k ≡ q → IsFound test (suc b) k (cond (p && q) b (passing test b k))
     by_test ih true e true f = (omega arith, e, from_nat_eq (place test b) k f)
     by_test ih true e false f =
-        let before =
-        ih (let step = place_yes test b e in let ne = from_not_nat_eq (place test b) k f in
-        omega (arith, lt, step, ne)) in
+        let before = ih (omega (arith, lt, place_yes test b e, from_not_nat_eq (place test b) k f)) in
         (omega (arith, before.0), before.1, before.2)
     by_test ih false e q f =
         let before = ih (let step = place_no test b e in omega (arith, lt, step)) in
@@ -63,8 +59,7 @@ passing_is test (suc b) k lt = by_test (λ less. passing_is test b k less) (test
 
 -- and the one of that place
 pub passing_place : (test : ℕ → Bool) (b r : ℕ) → r < b → test r ≡ true → passing test b (place test r) ≡ r
-passing_place test b r lt e =
-    (let found = passing_is test b (place test r) (place_less test r b e lt) in
+passing_place test b r lt e = (let found = passing_is test b (place test r) (place_less test r b e lt) in
     place_once test (passing test b (place test r)) r found.1 e found.2)
 
 pub place_within : (test : ℕ → Bool) (b r : ℕ) → r < b → test r ≡ true → place test r < place test b

@@ -1,11 +1,10 @@
 -- The converse for pairs: an allocation lies in the prekernel, or in the core, where the shares of each two do in their
 -- reduced game (Peleg 1986).
-use Rattle.std.proofs.Common.{◌≡◌, ◌≢◌, ℕ, zero, suc, ◌+◌, ◌^◌, ◌<◌, Bool, true, false, cond}
-use Rattle.std.proofs.Common.{◌&&◌, not, IsTrue, ℤ, pos, ◌-ℤ◌, ◌*ℤ◌, ◌≤ℤ◌}
-use Rattle.std.proofs.Common.{refl, sym, ap, subst, ◌∙◌, inl, inr, arith}
+use Rattle.std.proofs.Common.{◌≡◌, ◌≢◌, ℕ, ◌+◌, ◌^◌, ◌<◌, Bool, true, false, cond, ◌&&◌, not, IsTrue, ℤ, pos, ◌-ℤ◌}
+use Rattle.std.proofs.Common.{◌*ℤ◌, ◌≤ℤ◌, sym, ap, subst, ◌∙◌, inl, inr, arith}
 use Rattle.std.proofs.lemmas.Bool.{false≢true}
 use Rattle.std.proofs.lemmas.Int.{by_lt_z}
-use Rattle.definitions.proofs.Ring.{linear, mul-zeroℤ}
+use Rattle.definitions.proofs.Ring.{linear}
 use Rattle.definitions.proofs.Cases.{same_or_other}
 use Rattle.definitions.proofs.Members.{sum_over-singleton}
 use Rattle.definitions.proofs.Scans.{IsGreatest-unique}
@@ -16,59 +15,42 @@ use Rattle.definitions.specs.Coalitions.{has_player, singleton, grand_coalition}
 use Rattle.definitions.specs.Games.{Game, Allocation, share, amount, excess, IsAllocation, IsEfficient, InCore}
 use Rattle.definitions.specs.Prekernel.{holds_without, IsSurplus, AreBalanced}
 use Rattle.theorems.proofs.Transfers.{prenucleolus_in_prekernel}
-use Rattle.reduced_games.specs.ReducedGames.{AreSome, staying, staying_shares, IsReducedGame}
-use Rattle.reduced_games.specs.ReducedGames.{the_two, IsStandard, PrekernelByPairs, EachTwoAreStandard, CoreByPairs}
+use Rattle.reduced_games.specs.ReducedGames.{AreSome, staying, staying_shares, IsReducedGame, the_two, IsStandard}
+use Rattle.reduced_games.specs.ReducedGames.{PrekernelByPairs, EachTwoAreStandard, CoreByPairs}
 use Rattle.reduced_games.proofs.Staying.{staying_share, staying_amount}
 use Rattle.reduced_games.proofs.Excesses.{on, greatest_excess, allocation_staying, efficient_staying}
 use Rattle.reduced_games.proofs.ReducedGamesExist.{is_reduced}
 use Rattle.reduced_games.proofs.PrekernelAndCoreReduce.{core_reduces}
+use Rattle.theorems.proofs.Products.{products}
 
 two_are_some : (n i j : ℕ) → i < n → j < n → i ≢ j → AreSome n 2 (the_two i j)
 two_are_some n i j hi hj ne = record { some = omega arith; players = within; once = single }
   where
     within : (k : ℕ) → k < 2 → the_two i j k < n
-    within zero lt = hi
-    within (suc zero) lt = hj
-    within (suc (suc k)) lt = absurd (omega arith)
+    within k lt = grind arith
 
     single : (k l : ℕ) → k < 2 → l < 2 → the_two i j k ≡ the_two i j l → k ≡ l
-    single zero zero hk hl e = refl
-    single zero (suc zero) hk hl e = absurd (ne e)
-    single (suc zero) zero hk hl e = absurd (ne (sym e))
-    single (suc zero) (suc zero) hk hl e = refl
-    single (suc (suc k)) l hk hl e = absurd (omega arith)
-    single k (suc (suc l)) hk hl e = absurd (omega arith)
+    single k l hk hl e = grind arith
 
 -- the coalition of two of which one passes the first test, and the other the second
 abbrev two_where : Bool → Bool → ℕ
 two_where b c = cond c (cond b (0 + 2 ^ 0) 0 + 2 ^ 1) (cond b (0 + 2 ^ 0) 0)
 
 first_alone : (b c : Bool) → two_where b c ≡ 1 → (b && not c) ≡ true
-first_alone true true e = absurd (omega (arith, e))
-first_alone true false e = refl
-first_alone false true e = absurd (omega (arith, e))
-first_alone false false e = absurd (omega (arith, e))
+first_alone b c e = grind arith
 
 alone_first : (b c : Bool) → (b && not c) ≡ true → two_where b c ≡ 1
-alone_first true true e = absurd (false≢true e)
-alone_first true false e = refl
-alone_first false c e = absurd (false≢true e)
+alone_first b c e = grind arith
 
 second_alone : (b c : Bool) → two_where b c ≡ 2 → (c && not b) ≡ true
-second_alone true true e = absurd (omega (arith, e))
-second_alone true false e = absurd (omega (arith, e))
-second_alone false true e = refl
-second_alone false false e = absurd (omega (arith, e))
+second_alone b c e = grind arith
 
 alone_second : (b c : Bool) → (c && not b) ≡ true → two_where b c ≡ 2
-alone_second true true e = absurd (false≢true e)
-alone_second false true e = refl
-alone_second b false e = absurd (false≢true e)
+alone_second b c e = grind arith
 
 greatest_same : (P Q : ℕ → Type 0) (f : ℕ → ℤ) (w : ℤ) → ((s : ℕ) → P s → Q s) → ((s : ℕ) → Q s → P s)
     → IsGreatest P f w → IsGreatest Q f w
-greatest_same P Q f w to back top =
-    ((top.0.0, to top.0.0 top.0.1, top.0.2), λ s q. top.1 s (back s q))
+greatest_same P Q f w to back top = ((top.0.0, to top.0.0 top.0.1, top.0.2), λ s q. top.1 s (back s q))
 
 module _ (g h : Game) (x : Allocation) (i j : ℕ) (hi : i < g.players) (hj : j < g.players) (ne : i ≢ j)
     (r : IsReducedGame 2 (the_two i j) g x h) where
@@ -130,11 +112,10 @@ module _ (g h : Game) (x : Allocation) (i j : ℕ) (hi : i < g.players) (hj : j 
   -- in the core of the two, no coalition with i and without j blocks
   pub not_blocked : InCore h z → (s : ℕ) → s < 2 ^ g.players → holds_without i j s ≡ true → excess g x s ≤ℤ pos 0
   not_blocked c s within holds =
-      let le = first_surplus.1 s (within, holds) in
       let small : 1 < 2 ^ h.players = subst (λ k. 1 < 2 ^ k) (sym r.players) (omega arith) in
       by_lt_z (pos 0) (excess h z 1)
       (λ lt. absurd (c.2 1 small (omega (arith, linear, lt))))
-      (λ low. omega (arith, linear, le, low))
+      (λ low. omega (arith, linear, first_surplus.1 s (within, holds), low))
 
 pub prekernel_by_pairs : PrekernelByPairs
 prekernel_by_pairs g x hx e = (
@@ -161,22 +142,19 @@ core_by_pairs g x hx e nothing = (
     λ s within blocks. elim (same_or_other s 0) [
       | inl none ↦
           omega (
-            arith,
-            linear,
+            products,
             blocks,
             ap (amount x) none,
             amount-empty x,
             ap (λ t. x.den *ℤ g.worth t) none,
-            ap (λ u. x.den *ℤ u) nothing,
-            mul-zeroℤ x.den,
+            ap (◌*ℤ◌ x.den) nothing,
           )
       | inr other ↦ elim (same_or_other s (grand_coalition g.players)) [
         | inl all ↦ omega (arith, linear, blocks, ap (amount x) all, ap (λ t. x.den *ℤ g.worth t) all, e)
         | inr proper ↦
             let i = some_member g.players s (omega (arith, other)) within in
             let j = some_outsider g.players s within proper in
-            let ne : i.0 ≢ j.0 =
-            λ same. false≢true (sym j.2 ∙ ap (has_player s) (sym same) ∙ i.2) in
+            let ne : i.0 ≢ j.0 = λ same. false≢true (sym j.2 ∙ ap (has_player s) (sym same) ∙ i.2) in
             let found = is_reduced 2 (the_two i.0 j.0) g x (two_are_some g.players i.0 j.0 i.1 j.1 ne) in
             let low =
             not_blocked g found.0 x i.0 j.0 i.1 j.1 ne found.1 (each i.0 j.0 found.0 i.1 j.1 ne found.1) s within
@@ -188,6 +166,4 @@ core_by_pairs g x hx e nothing = (
 )
   where
     holds : (b c : Bool) → b ≡ true → c ≡ false → (b && not c) ≡ true
-    holds true false e f = refl
-    holds true true e f = absurd (false≢true (sym f))
-    holds false c e f = absurd (false≢true e)
+    holds b c e f = grind arith

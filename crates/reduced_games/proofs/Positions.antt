@@ -1,20 +1,20 @@
 -- Lists of coalitions with values, each as often as its weight: for each coalition one list, of coalitions of no less
 -- worth and with its worth as value, that holds each player equally often; and all lists in one.
-use Rattle.std.proofs.Common.{◌≡◌, ◌⊎◌, ℕ, zero, suc, ◌+◌, ◌<◌, ◌≤◌, Bool, true, false, cond}
-use Rattle.std.proofs.Common.{List, [], ◌∷◌, ◌++◌, length, length-append, get_or, unsigned_abs}
-use Rattle.std.proofs.Common.{ℤ, pos, ◌+ℤ◌, ◌*ℤ◌, ◌<ℤ◌, ◌≤ℤ◌}
-use Rattle.std.proofs.Common.{refl, sym, ap, ◌∙◌, inl, inr, arith}
+use Rattle.std.proofs.Common.{◌≡◌, ◌⊎◌, ℕ, zero, suc, ◌+◌, ◌<◌, ◌≤◌, Bool, true, false, cond, List, [], ◌∷◌, ◌++◌}
+use Rattle.std.proofs.Common.{length, length-append, get_or, unsigned_abs, ℤ, pos, ◌+ℤ◌, ◌*ℤ◌, ◌<ℤ◌, ◌≤ℤ◌, refl, sym}
+use Rattle.std.proofs.Common.{ap, ◌∙◌, inl, inr, arith}
 use Rattle.std.proofs.lemmas.Int.{ints, by_lt_z}
 use Rattle.std.specs.Ordering.{int_eq}
 use Rattle.std.specs.List.{AllByRecursion}
 use Rattle.definitions.proofs.Ring.{linear, suc-mulℤ, zero-mulℤ, mul-zeroℤ}
 use Rattle.definitions.proofs.Alls.{all_join}
 use Rattle.definitions.proofs.Cases.{less_or_last, same_or_other}
-use Rattle.definitions.proofs.Members.{has_player-singleton, has_player-singleton_other}
-use Rattle.definitions.proofs.Members.{sum_below-front, sum_below-zero}
+use Rattle.definitions.proofs.Members.{has_player-singleton, has_player-singleton_other, sum_below-front}
+use Rattle.definitions.proofs.Members.{sum_below-zero}
 use Rattle.definitions.specs.Sums.{sum_below}
 use Rattle.definitions.specs.Coalitions.{has_player, singleton}
 use Rattle.laws.proofs.Numbers.{pos-unsigned_abs}
+use Rattle.theorems.proofs.Products.{products}
 
 -- ---- lists of pairs
 
@@ -66,8 +66,7 @@ copies_all P zero p h = tt
 copies_all P (suc k) p h = (h (omega arith), copies_all P k p (λ lt. h (omega arith)))
 
 copies_hold : (k : ℕ) (p : ℕ × ℤ) → 0 < k → Holds p (copies k p)
-copies_hold zero p lt = absurd (omega arith)
-copies_hold (suc k) p lt = inl refl
+copies_hold k p lt = grind arith
 
 -- ---- the coalitions below t, each as often as its weight, all with the value v
 
@@ -80,8 +79,7 @@ weighed_sum : (f : ℕ × ℤ → ℤ) (w : ℕ → ℤ) (v : ℤ) (t : ℕ) →
 weighed_sum f w v zero low = refl
 weighed_sum f w v (suc t) low =
     omega (
-      arith,
-      linear,
+      products,
       list_sum-append f (weighed w v t) (copies (unsigned_abs (w t)) (t, v)),
       weighed_sum f w v t (λ s lt. low s (omega arith)),
       copies_sum f (unsigned_abs (w t)) (t, v),
@@ -127,8 +125,7 @@ IsEven n ps = (v : ℤ) (i j : ℕ) → i < n → j < n → list_sum (counts v i
 module _ (n b : ℕ) (E : ℕ → ℤ) (w : ℕ → ℤ) (v total : ℤ) (low : (s : ℕ) → s < b → pos 0 ≤ℤ w s)
     (balance : (i : ℕ) → i < n → sum_below b (λ s. w s *ℤ cond (has_player s i) (pos 1) (pos 0)) ≡ total) where
   weighed_counts : (u : ℤ) (i : ℕ) → i < n → list_sum (counts u i) (weighed w v b) ≡ cond (int_eq v u) total (pos 0)
-  weighed_counts u i lt =
-      weighed_sum (counts u i) w v b low ∙ by_value (int_eq v u)
+  weighed_counts u i lt = weighed_sum (counts u i) w v b low ∙ by_value (int_eq v u)
     where
       by_value : (e : Bool)
           → sum_below b (λ s. w s *ℤ cond e (cond (has_player s i) (pos 1) (pos 0)) (pos 0)) ≡ cond e total (pos 0)
@@ -205,8 +202,7 @@ singles_length a (suc k) v = ap suc (singles_length (suc a) k v)
 pub singles_at : (a k : ℕ) (v : ℤ) (d : ℕ × ℤ) (j : ℕ) → j < k → get_or (singles a k v) j d ≡ (singleton (a + j), v)
 singles_at a zero v d j lt = absurd (omega arith)
 singles_at a (suc k) v d zero lt = (let e : a ≡ a + 0 = omega arith in ap (λ i. (singleton i, v)) e)
-singles_at a (suc k) v d (suc j) lt =
-    (let e : suc a + j ≡ a + suc j = omega arith in
+singles_at a (suc k) v d (suc j) lt = (let e : suc a + j ≡ a + suc j = omega arith in
     singles_at (suc a) k v d j (omega arith) ∙ ap (λ i. (singleton i, v)) e)
 
 pub singles_all : (P : ℕ × ℤ → Type 0) (a k : ℕ) (v : ℤ) → ((j : ℕ) → a ≤ j → j < a + k → P (singleton j, v))
@@ -220,15 +216,13 @@ alone_counts : (u v : ℤ) (i j : ℕ) (b : Bool) → has_player (singleton j) i
 alone_counts u v i j b e = ap (λ (t : Bool). cond (int_eq v u) (cond t (pos 1) (pos 0)) (pos 0)) e
 
 nothing_either : (b : Bool) → cond b (pos 0) (pos 0) ≡ pos 0
-nothing_either true = refl
-nothing_either false = refl
+nothing_either b = grind arith
 
 singles_none : (u v : ℤ) (i a k : ℕ) → i < a → list_sum (counts u i) (singles a k v) ≡ pos 0
 singles_none u v i a zero lt = refl
 singles_none u v i a (suc k) lt =
     omega (
-      arith,
-      linear,
+      products,
       alone_counts u v i a false (has_player-singleton_other a i (λ e. omega (arith, lt, e))),
       nothing_either (int_eq v u),
       singles_none u v i (suc a) k (omega (arith, lt)),
@@ -241,15 +235,13 @@ singles_one u v i a zero low high = absurd (omega arith)
 singles_one u v i a (suc k) low high = elim (same_or_other i a) [
   | inl same ↦
       omega (
-        arith,
-        linear,
+        products,
         alone_counts u v i a true (ap (has_player (singleton a)) same ∙ has_player-singleton a),
         singles_none u v i (suc a) k (omega (arith, same)),
       )
   | inr other ↦
       omega (
-        arith,
-        linear,
+        products,
         alone_counts u v i a false (has_player-singleton_other a i other),
         nothing_either (int_eq v u),
         singles_one u v i (suc a) k (omega (arith, low, other)) (omega (arith, high)),

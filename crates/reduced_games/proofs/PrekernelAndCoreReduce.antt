@@ -1,14 +1,13 @@
 -- The prekernel and the core have the reduced game property (Peleg 1986).
-use Rattle.std.proofs.Common.{◌≡◌, ℕ, ◌^◌, ◌<◌, Bool, true}
-use Rattle.std.proofs.Common.{◌&&◌, not, ℤ, ◌≤ℤ◌}
-use Rattle.std.proofs.Common.{refl, sym, ap, subst, ◌∙◌, inl, inr, arith}
+use Rattle.std.proofs.Common.{◌≡◌, ℕ, ◌^◌, ◌<◌, Bool, true, ◌&&◌, not, ℤ, ◌≤ℤ◌, refl, sym, ap, subst, ◌∙◌, inl, inr}
+use Rattle.std.proofs.Common.{arith}
 use Rattle.definitions.proofs.Ring.{linear}
 use Rattle.definitions.specs.Coalitions.{has_player}
 use Rattle.definitions.specs.Games.{Game, Allocation, excess, InCore}
 use Rattle.definitions.specs.Prekernel.{holds_without, IsSurplus, InPrekernel}
 use Rattle.theorems.proofs.Moves.{proper_of}
-use Rattle.reduced_games.specs.ReducedGames.{AreSome, staying, staying_shares, IsReducedGame}
-use Rattle.reduced_games.specs.ReducedGames.{PrekernelReduces, CoreReduces}
+use Rattle.reduced_games.specs.ReducedGames.{AreSome, staying, staying_shares, IsReducedGame, PrekernelReduces}
+use Rattle.reduced_games.specs.ReducedGames.{CoreReduces}
 use Rattle.reduced_games.proofs.Staying.{staying_within, staying_has}
 use Rattle.reduced_games.proofs.Excesses.{on, greatest_excess, some_excess, allocation_staying, efficient_staying}
 
@@ -28,8 +27,7 @@ surplus_reduces m who g h x k l w a r hk hl top =
     let holds = holds_same m who s k l hk hl ∙ top.0.1.1 in
     let within = staying_within m who s in
     let proper = proper_of m k l (staying m who s) hl within holds in
-    let low =
-    (greatest_excess m who g h x a r (staying m who s) (omega (arith, proper)) (omega (arith, proper))).1 s
+    let low = (greatest_excess m who g h x a r (staying m who s) (omega (arith, proper)) (omega (arith, proper))).1 s
     (top.0.1.0, refl) in
     let high = at_most (staying m who s) within holds in
     ((staying m who s, (within, holds), omega (arith, linear, top.0.2, low, high)), λ t p. at_most t p.0 p.1)
@@ -39,8 +37,7 @@ surplus_reduces m who g h x k l w a r hk hl top =
     at_most t within holds =
         let proper = proper_of m k l t hl within holds in
         let best = (greatest_excess m who g h x a r t (omega (arith, proper)) (omega (arith, proper))).0 in
-        let there =
-        sym (holds_same m who best.0 k l hk hl) ∙ ap (holds_without k l) best.1.1 ∙ holds in
+        let there = sym (holds_same m who best.0 k l hk hl) ∙ ap (holds_without k l) best.1.1 ∙ holds in
         omega (arith, linear, best.2, top.1 best.0 (best.1.0, there))
 
 pub prekernel_reduces : PrekernelReduces

@@ -1,19 +1,21 @@
--- The reduced game of an airport. Some who stay have two choices: without the one who goes, or with it, who then brings
--- what it pays. The lesser cost rises with the greatest cost among those who stay, so it is the greatest of the lesser
+-- The reduced game of an airport. Some who stay have two choices: without the one who goes, or with it, who then
+-- brings
+-- what it pays. The lesser cost rises with the greatest cost among those who stay, so it is the greatest of the
+-- lesser
 -- costs of each.
-use Rattle.std.proofs.Common.{◌≡◌, ◌≢◌, ℕ, ◌-◌, ◌^◌, ◌<◌, ◌≤◌, max, Bool, true, false, cond}
-use Rattle.std.proofs.Common.{not, ◌&&◌, nat_eq, List, length, map, unsigned_abs, slice_index}
-use Rattle.std.proofs.Common.{ℤ, pos, neg_ℤ, ◌-ℤ◌, ◌*ℤ◌, ◌≤ℤ◌}
-use Rattle.std.proofs.Common.{sym, ap, ◌∙◌, inl, inr, arith}
+use Rattle.std.proofs.Common.{◌≡◌, ◌≢◌, ℕ, ◌-◌, ◌^◌, ◌<◌, ◌≤◌, max, Bool, true}
+use Rattle.std.proofs.Common.{false, cond, not, ◌&&◌, nat_eq, List}
+use Rattle.std.proofs.Common.{length, map, unsigned_abs, slice_index, ℤ, pos, neg_ℤ, ◌-ℤ◌, ◌*ℤ◌, ◌≤ℤ◌, sym, ap, ◌∙◌}
+use Rattle.std.proofs.Common.{inl, inr, arith}
 use Rattle.std.specs.Int.{int_min}
 use Rattle.std.specs.List.{range_with_len}
 use Rattle.std.proofs.lemmas.Bool.{false≢true}
 use Rattle.std.proofs.lemmas.Int.{ints, clamps, by_lt_z}
 use Rattle.std.proofs.lemmas.List.FromFn.{get_or-map-range_with_len, length-map-range_with_len}
-use Rattle.definitions.proofs.Ring.{linear, mul-leℤ, mul-negℤ, mul-nonnegativeℤ, one-mulℤ}
+use Rattle.definitions.proofs.Ring.{linear, mul-leℤ, mul-nonnegativeℤ}
 use Rattle.definitions.proofs.Casts.{pos-le}
-use Rattle.definitions.proofs.Cases.{same_or_other, true_or_false, and_parts, from_nat_eq, not_true}
-use Rattle.definitions.proofs.Cases.{int_min-left, int_min-right}
+use Rattle.definitions.proofs.Cases.{same_or_other, true_or_false, and_parts, from_nat_eq, not_true, int_min-left}
+use Rattle.definitions.proofs.Cases.{int_min-right}
 use Rattle.definitions.proofs.Masks.{grand_coalition-within, singleton-within}
 use Rattle.definitions.proofs.Members.{has_player-grand_coalition, has_player-complement, has_player-singleton}
 use Rattle.definitions.proofs.Members.{sum_below-same, has_player-singleton_other, sum_over-singleton}
@@ -31,10 +33,12 @@ use Rattle.airport.proofs.GreatestCosts.{greatest_cost-at_least, greatest_cost-a
 use Rattle.reduced_games.specs.ReducedGames.{AreSome, staying, staying_shares, worth_left, amount_leaving}
 use Rattle.reduced_games.specs.ReducedGames.{IsReducedGame}
 use Rattle.reduced_games.specs.AirportsLeft.{cost_left, IsAirportLeft, AirportsAreLeft, ReducedAirport}
-use Rattle.reduced_games.proofs.Staying.{staying_has, staying_all, staying_old, old_numbers, old_within}
-use Rattle.reduced_games.proofs.Staying.{staying_amount, some_stay}
+use Rattle.reduced_games.proofs.Staying.{staying_has, staying_all, staying_old}
+use Rattle.reduced_games.proofs.Staying.{old_numbers, old_within, staying_amount}
+use Rattle.reduced_games.proofs.Staying.{some_stay}
 use Rattle.reduced_games.proofs.GreatestMembers.{greatest_member}
 use Rattle.reduced_games.proofs.Leaving.{leaving_is, gone, spread_either, staying_others}
+use Rattle.theorems.proofs.Products.{products}
 
 -- ---- the lesser cost
 
@@ -69,7 +73,7 @@ module _ (m : ℕ) (who : ℕ → ℕ) (costs : List ℕ) (x : Allocation) (l : 
   own t = greatest_cost m (λ k. cost (who k)) t
 
   den_low : pos 0 ≤ℤ x.den
-  den_low = (let one = core.0.1 in omega (arith, linear, one))
+  den_low = omega (arith, linear, core.0.1)
 
   -- ---- who goes
 
@@ -84,7 +88,7 @@ module _ (m : ℕ) (who : ℕ → ℕ) (costs : List ℕ) (x : Allocation) (l : 
       ∙ sum_over-at_player n s l (share x l) player
     where
       left_over : (u v w : ℤ) → v ≡ w → pos 1 *ℤ u -ℤ pos 1 *ℤ v ≡ u -ℤ w
-      left_over u v w e = omega (arith, linear, one-mulℤ u, one-mulℤ v, e)
+      left_over u v w e = omega (products, e)
 
       gone_is : (i : ℕ) → i < n
           → gone n m who a (share x) i ≡ cond (has_player (singleton l) i) (share x l) (pos 0)
@@ -93,8 +97,7 @@ module _ (m : ℕ) (who : ℕ → ℕ) (costs : List ℕ) (x : Allocation) (l : 
           | inl same ↦
               left_over (share x i) _ (pos 0) none.0
               ∙ omega (
-                arith,
-                linear,
+                products,
                 ap (share x) same,
                 ap (λ (b : Bool). cond b (share x l) (pos 0))
                     (ap (has_player (singleton l)) same ∙ has_player-singleton l),
@@ -104,8 +107,7 @@ module _ (m : ℕ) (who : ℕ → ℕ) (costs : List ℕ) (x : Allocation) (l : 
         | inr one ↦
             left_over (share x i) _ (share x i) one.0
             ∙ omega (
-              arith,
-              linear,
+              products,
               ap (λ (b : Bool). cond b (share x l) (pos 0))
                   (has_player-singleton_other l i (λ e. goes one.1.0 one.1.1 (one.1.2 ∙ e))),
             )
@@ -122,16 +124,14 @@ module _ (m : ℕ) (who : ℕ → ℕ) (costs : List ℕ) (x : Allocation) (l : 
   member_cost : (s t i : ℕ) → staying m who s ≡ t → i < n → has_player s i ≡ true → i ≢ l → cost i ≤ own t
   member_cost s t i is lt has other =
       let k = stay i lt other in
-      let low =
-      greatest_cost-at_least m (λ k. cost (who k)) t k.0 k.1
+      let low = greatest_cost-at_least m (λ k. cost (who k)) t k.0 k.1
       (ap (λ r. has_player r k.0) (sym is) ∙ staying_has m who s k.0 k.1 ∙ ap (has_player s) k.2 ∙ has) in
       omega (arith, low, ap cost k.2)
 
   cost_without : (s t : ℕ) → staying m who s ≡ t → has_player s l ≡ false → greatest_cost n cost s ≡ own t
   cost_without s t is lacks =
       let low = own_within s t is in
-      let high =
-      greatest_cost-at_most n cost s (own t)
+      let high = greatest_cost-at_most n cost s (own t)
       (λ i lt has. member_cost s t i is lt has (λ e. false≢true (sym lacks ∙ ap (has_player s) (sym e) ∙ has))) in
       omega (arith, low, high)
 
@@ -159,23 +159,19 @@ module _ (m : ℕ) (who : ℕ → ℕ) (costs : List ℕ) (x : Allocation) (l : 
       → kept s ≡ neg_ℤ (x.den *ℤ pos (own t))
   kept_without s t is lacks =
       omega (
-        arith,
-        linear,
+        products,
         leaves s,
         ap (λ (b : Bool). cond b (share x l) (pos 0)) lacks,
         ap (λ c. x.den *ℤ neg_ℤ (pos c)) (cost_without s t is lacks),
-        mul-negℤ x.den (pos (own t)),
       )
 
   kept_with : (s t : ℕ) → staying m who s ≡ t → has_player s l ≡ true → kept s ≡ neg_ℤ (with_l t)
   kept_with s t is holds =
       omega (
-        arith,
-        linear,
+        products,
         leaves s,
         ap (λ (b : Bool). cond b (share x l) (pos 0)) holds,
         ap (λ c. x.den *ℤ neg_ℤ (pos c)) (cost_with s t is holds),
-        mul-negℤ x.den (pos (max (own t) (cost l))),
       )
 
   -- those alone who stay
@@ -202,13 +198,10 @@ module _ (m : ℕ) (who : ℕ → ℕ) (costs : List ℕ) (x : Allocation) (l : 
       let not_blocked = by_lt_z (amount x s) (x.den *ℤ airport_worth costs s)
       (λ blocks. absurd (core.2 s (old_within n m who t) blocks)) (λ le. le) in
       omega (
-        arith,
-        linear,
+        products,
         core.1,
         ap (λ c. x.den *ℤ neg_ℤ (pos c)) whole,
-        mul-negℤ x.den (pos (max (own t) (cost l))),
         ap (λ c. x.den *ℤ neg_ℤ (pos c)) alone,
-        mul-negℤ x.den (pos (own t)),
         not_blocked,
         s_leaves,
         all_leave,
@@ -232,14 +225,11 @@ module _ (m : ℕ) (who : ℕ → ℕ) (costs : List ℕ) (x : Allocation) (l : 
       ]) in
       let scaled = mul-leℤ x.den (pos (greatest_cost n cost s)) (pos (cost l)) den_low
       (pos-le (greatest_cost n cost s) (cost l) high) in
-      let not_blocked = by_lt_z (amount x s) (x.den *ℤ airport_worth costs s)
-      (λ blocks. absurd (core.2 s within blocks)) (λ le. le) in
       omega (
-        arith,
-        linear,
-        not_blocked,
+        products,
+        by_lt_z (amount x s) (x.den *ℤ airport_worth costs s) (λ blocks. absurd (core.2 s within blocks))
+            (λ le. le),
         scaled,
-        mul-negℤ x.den (pos (greatest_cost n cost s)),
         amount-at (airport_game costs) x s core.0,
         sum_over-singleton n l (share x) player,
       )
@@ -282,21 +272,11 @@ module _ (m : ℕ) (who : ℕ → ℕ) (costs : List ℕ) (x : Allocation) (l : 
     left_greatest t some within =
         let k = greatest_member m left_cost t some within in
         let j = greatest_member m (λ k. cost (who k)) t some within in
-        let up =
-        lesser_rises x.den (cost l) (pays x l) (cost (who k.0)) (own t) den_low
+        let up = lesser_rises x.den (cost l) (pays x l) (cost (who k.0)) (own t) den_low
         (greatest_cost-at_least m (λ k. cost (who k)) t k.0 k.1 k.2) in
         let down =
         pos-le (left_cost j.0) (greatest_cost m left_cost t) (greatest_cost-at_least m left_cost t j.0 j.1 j.2) in
-        omega (
-          arith,
-          linear,
-          ap pos k.3,
-          e.same k.0 k.1,
-          up,
-          down,
-          e.same j.0 j.1,
-          ap lesser_of j.3,
-        )
+        omega (products, ap pos k.3, e.same k.0 k.1, up, down, e.same j.0 j.1, ap lesser_of j.3)
 
     worth_is : (t : ℕ) → 0 < t → t < 2 ^ m → airport_worth left_costs t ≡ neg_ℤ (lesser_of (own t))
     worth_is t some within =
@@ -326,16 +306,14 @@ module _ (m : ℕ) (who : ℕ → ℕ) (costs : List ℕ) (x : Allocation) (l : 
         let u = grand_coalition m - t in
         let w = old_numbers n m who u in
         let s = grand_coalition n - w in
-        let all = grand_coalition-within n in
-        let all_m = grand_coalition-within m in
         let w_in = old_within n m who u in
-        let w_is : staying m who w ≡ u = staying_old n m who u a (omega (arith, all_m)) in
+        let w_is : staying m who w ≡ u = staying_old n m who u a (omega (arith, grand_coalition-within m)) in
         let is : staying m who s ≡ t =
         staying_others n m who a w w_in ∙ ap (λ z. grand_coalition m - z) w_is ∙ omega (arith, within) in
         let holds : has_player s l ≡ true = has_player-complement n w l w_in player ∙ ap not (old_lacks u) in
         let second = int_min-right (x.den *ℤ pos (own t)) (with_l t) le in (
           s,
-          (omega (arith, all), is),
+          (omega (arith, grand_coalition-within n), is),
           omega (arith, linear, worth_is t some within, second, kept_with s t is holds),
         ))
 
@@ -345,7 +323,8 @@ module _ (m : ℕ) (who : ℕ → ℕ) (costs : List ℕ) (x : Allocation) (l : 
       nobody = ap (λ c. neg_ℤ (pos c)) (greatest_cost-empty (length left_costs) left_cost);
       all = (let t = grand_coalition m in
           let second = int_min-right (x.den *ℤ pos (own t)) (with_l t) all_cheaper in
-          let whole = kept_with (grand_coalition n) t (staying_all n m who a) (has_player-grand_coalition n l player) in
+          let whole =
+          kept_with (grand_coalition n) t (staying_all n m who a) (has_player-grand_coalition n l player) in
           omega (arith, linear, worth_is t (some_stay m a.some) (grand_coalition-within m), second, whole));
       some = λ t some less.
           (attained t some (omega (arith, less)), λ s p. at_most s t some (omega (arith, less)) p.1);

@@ -1,13 +1,12 @@
 -- The reduced game of an estate. Partners who go bring at most what they are paid: so some who stay keep at most what
 -- the claims of the others who stay leave of the rest, which they keep with all who go, and nothing with none.
-use Rattle.std.proofs.Common.{◌≡◌, ◌⊎◌, ℕ, ◌-◌, ◌*◌, ◌^◌, ◌<◌, List, length, map, unsigned_abs}
-use Rattle.std.proofs.Common.{ℤ, pos, ◌-ℤ◌, ◌*ℤ◌, ◌≤ℤ◌, slice_index}
-use Rattle.std.proofs.Common.{refl, sym, ap, ◌∙◌, inl, inr, arith}
+use Rattle.std.proofs.Common.{◌≡◌, ◌⊎◌, ℕ, ◌-◌, ◌*◌, ◌^◌, ◌<◌, List, length, map, unsigned_abs, ℤ, pos, ◌-ℤ◌, ◌*ℤ◌}
+use Rattle.std.proofs.Common.{◌≤ℤ◌, slice_index, refl, sym, ap, ◌∙◌, inl, inr, arith}
 use Rattle.std.specs.Int.{int_max}
 use Rattle.std.specs.List.{range_with_len}
 use Rattle.std.proofs.lemmas.Int.{ints, clamps}
 use Rattle.std.proofs.lemmas.List.FromFn.{get_or-map-range_with_len, length-map-range_with_len}
-use Rattle.definitions.proofs.Ring.{linear, mul-leℤ, mul-subℤ, mul-zeroℤ}
+use Rattle.definitions.proofs.Ring.{linear, mul-leℤ, mul-zeroℤ}
 use Rattle.definitions.proofs.Cases.{int_max-cases}
 use Rattle.definitions.proofs.Masks.{grand_coalition-within}
 use Rattle.definitions.proofs.Members.{sum_over-grand_coalition, sum_below-nonnegative}
@@ -23,10 +22,10 @@ use Rattle.laws.specs.TalmudRule.{claimed}
 use Rattle.talmud.proofs.Worths.{worth-grand_coalition}
 use Rattle.reduced_games.specs.ReducedGames.{AreSome, staying, worth_left, amount_leaving, IsReducedGame}
 use Rattle.reduced_games.specs.EstatesLeft.{IsEstateLeft, AreAwards, EstatesAreLeft, ReducedEstate}
-use Rattle.reduced_games.proofs.Staying.{staying_all, staying_old, old_numbers, old_within}
-use Rattle.reduced_games.proofs.Staying.{staying_amount}
+use Rattle.reduced_games.proofs.Staying.{staying_all, staying_old, old_numbers, old_within, staying_amount}
 use Rattle.reduced_games.proofs.Leaving.{leaving, leaving_low, leaving_less, leaving_parts, nobody_leaves}
 use Rattle.reduced_games.proofs.Leaving.{staying_others}
+use Rattle.theorems.proofs.Products.{products}
 
 module _ (m : ℕ) (who : ℕ → ℕ) (estate : ℕ) (claims : List ℕ) (x : Allocation) (a : AreSome (length claims) m who)
     (d : AreAwards estate claims x) where
@@ -39,12 +38,8 @@ module _ (m : ℕ) (who : ℕ → ℕ) (estate : ℕ) (claims : List ℕ) (x : A
   -- what the members of s get who go
   paid_is : (s : ℕ) → amount_leaving m who x s ≡ leaving n m who a (share x) s
   paid_is s =
-      omega (
-        arith,
-        linear,
-        amount-at (bankruptcy_game estate claims) x s d.all.0,
-        staying_amount m who x (staying m who s),
-      )
+      omega
+      (products, amount-at (bankruptcy_game estate claims) x s d.all.0, staying_amount m who x (staying m who s))
 
   -- the estate is what all get
   estate_is : sum_below n (share x) ≡ x.den *ℤ pos estate
@@ -52,14 +47,13 @@ module _ (m : ℕ) (who : ℕ → ℕ) (estate : ℕ) (claims : List ℕ) (x : A
       sym (sum_over-grand_coalition n (share x))
       ∙ sym (amount-at (bankruptcy_game estate claims) x (grand_coalition n) d.all.0)
       ∙ d.all.1
-      ∙ ap (λ z. x.den *ℤ z) (worth-grand_coalition estate claims)
+      ∙ ap (◌*ℤ◌ x.den) (worth-grand_coalition estate claims)
 
   -- and what is left is what those get who stay
   left_is : x.den *ℤ pos estate -ℤ amount_leaving m who x (grand_coalition n) ≡ sum_below m (λ k. share x (who k))
   left_is =
       omega (
-        arith,
-        linear,
+        products,
         paid_is (grand_coalition n),
         estate_is,
         sum_over-grand_coalition n (share x),
@@ -114,19 +108,16 @@ module _ (m : ℕ) (who : ℕ → ℕ) (estate : ℕ) (claims : List ℕ) (x : A
         let rest = grand_coalition n - s in
         let c = sum_over n claim rest in
         let v = bankruptcy_worth estate claims s in
-        let den_low : pos 0 ≤ℤ x.den = (let one = d.all.0.1 in omega (arith, linear, one)) in
-        let low = mul-leℤ x.den (pos 0) v den_low (at_least_zero (pos estate -ℤ c)) in
-        let high = mul-leℤ x.den (pos estate -ℤ c) v den_low (at_least (pos estate -ℤ c)) in
+        let den_low : pos 0 ≤ℤ x.den = omega (arith, linear, d.all.0.1) in
         let scaled = sum_over-times n claim x.den rest in
-        let parts = ap (sum_over m (λ k. claimed claims x (who k))) is in
-        let e1 = mul-subℤ x.den (pos estate) c in (
+        let parts = ap (sum_over m (λ k. claimed claims x (who k))) is in (
           elim (int_max-cases (pos 0) (pos estate -ℤ c)) [
-            | inl none ↦ inl (ap (λ z. x.den *ℤ z) none.0 ∙ mul-zeroℤ x.den)
+            | inl none ↦ inl (ap (◌*ℤ◌ x.den) none.0 ∙ mul-zeroℤ x.den)
             | inr some ↦ inr
-                (omega (arith, linear, ap (λ z. x.den *ℤ z) some.0, e1, scaled, parts))
+                (omega (products, ap (◌*ℤ◌ x.den) some.0, scaled, parts))
           ],
-          omega (arith, linear, low, mul-zeroℤ x.den),
-          omega (arith, linear, high, e1, scaled, parts),
+          omega (products, mul-leℤ x.den (pos 0) v den_low (at_least_zero (pos estate -ℤ c))),
+          omega (products, mul-leℤ x.den (pos estate -ℤ c) v den_low (at_least (pos estate -ℤ c)), scaled, parts),
         )
       where
         at_least_zero : (z : ℤ) → pos 0 ≤ℤ int_max (pos 0) z
@@ -150,26 +141,14 @@ module _ (m : ℕ) (who : ℕ → ℕ) (estate : ℕ) (claims : List ℕ) (x : A
         let rest = grand_coalition n - s in
         let u = grand_coalition m - t in
         let there = worth_there s u within (staying_others n m who a s within ∙ ap (λ z. grand_coalition m - z) is) in
-        let paid = leaving_low n m who a (share x) s shares_low in
         let less = leaving_less n m who a (share x) (claimed claims x) rest (λ i lt. (d.each i lt).1) in
         let parts = leaving_parts n m who a (share x) s within in
         let two = at_least (pos left -ℤ claims_of u) in
         elim there.0 [
           | inl none ↦
-              omega (arith, linear, none, paid_is s, paid, worth_is t, two.0)
+              omega (arith, linear, none, paid_is s, leaving_low n m who a (share x) s shares_low, worth_is t, two.0)
           | inr some ↦
-              omega (
-                arith,
-                linear,
-                some,
-                paid_is s,
-                less,
-                parts,
-                e.paid,
-                paid_is (grand_coalition n),
-                worth_is t,
-                two.1,
-              )
+              omega (products, some, paid_is s, less, parts, e.paid, paid_is (grand_coalition n), worth_is t, two.1)
         ]
       where
         at_least : (z : ℤ) → (pos 0 ≤ℤ int_max (pos 0) z) × (z ≤ℤ int_max (pos 0) z)
@@ -182,32 +161,20 @@ module _ (m : ℕ) (who : ℕ → ℕ) (estate : ℕ) (claims : List ℕ) (x : A
           | inl none ↦
               let s = old_numbers n m who t in
               let is = staying_old n m who t a within in
-              let there =
-              worth_there s (grand_coalition m - t) (old_within n m who t)
+              let there = worth_there s (grand_coalition m - t) (old_within n m who t)
               (staying_others n m who a s (old_within n m who t) ∙ ap (λ z. grand_coalition m - z) is) in
               let high = at_most s t (old_within n m who t) is in (
                 s,
                 (old_within n m who t, is),
-                omega (
-                  arith,
-                  linear,
-                  high,
-                  there.1,
-                  paid_is s,
-                  nobody_leaves n m who a (share x) t,
-                  worth_is t,
-                  none.0,
-                ),
+                omega (products, high, there.1, paid_is s, nobody_leaves n m who a (share x) t, worth_is t, none.0),
               )
           | inr some ↦
               let u = grand_coalition m - t in
               let w = old_numbers n m who u in
               let s = grand_coalition n - w in
-              let all = grand_coalition-within n in
-              let all_m = grand_coalition-within m in
               let w_in = old_within n m who u in
-              let s_in : s < 2 ^ n = omega (arith, all) in
-              let w_is : staying m who w ≡ u = staying_old n m who u a (omega (arith, all_m)) in
+              let s_in : s < 2 ^ n = omega (arith, grand_coalition-within n) in
+              let w_is : staying m who w ≡ u = staying_old n m who u a (omega (arith, grand_coalition-within m)) in
               let is : staying m who s ≡ t =
               staying_others n m who a w w_in ∙ ap (λ z. grand_coalition m - z) w_is ∙ omega (arith, within) in
               let back : grand_coalition n - s ≡ w = omega (arith, w_in) in
@@ -216,8 +183,7 @@ module _ (m : ℕ) (who : ℕ → ℕ) (estate : ℕ) (claims : List ℕ) (x : A
                 s,
                 (s_in, is),
                 omega (
-                  arith,
-                  linear,
+                  products,
                   high,
                   there.2,
                   ap (leaving n m who a (claimed claims x)) back,
@@ -255,8 +221,7 @@ module _ (m : ℕ) (who : ℕ → ℕ) (estate : ℕ) (claims : List ℕ) (x : A
             (λ k lt. (d.each (who k) (a.players k lt)).1) in
             let all : grand_coalition m - 0 ≡ grand_coalition m = omega arith in
             omega (
-              arith,
-              linear,
+              products,
               e.paid,
               left_is,
               le,

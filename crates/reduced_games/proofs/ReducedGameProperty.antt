@@ -3,13 +3,12 @@
 -- by the other shares, its excess is above M there, so they come behind. If not, what those who stay gain is a transfer
 -- in the whole game that raises coalitions of excess M, and takes only from coalitions of less; and at a prenucleolus
 -- there is none.
-use Rattle.std.proofs.Common.{◌≡◌, ◌⊎◌, ℕ, zero, suc, ◌+◌, ◌-◌, ◌^◌, ◌<◌, ◌≤◌, Bool, true, false}
-use Rattle.std.proofs.Common.{map, ℤ, pos, ◌-ℤ◌, ◌*ℤ◌, ◌<ℤ◌, ◌≤ℤ◌, int_lt}
-use Rattle.std.proofs.Common.{refl, sym, ap, subst, ◌∙◌, inl, inr, arith}
+use Rattle.std.proofs.Common.{◌≡◌, ◌⊎◌, ℕ, zero, suc, ◌+◌, ◌-◌, ◌^◌, ◌<◌, ◌≤◌, Bool, true, false, map, ℤ, pos, ◌-ℤ◌}
+use Rattle.std.proofs.Common.{◌*ℤ◌, ◌<ℤ◌, ◌≤ℤ◌, int_lt, refl, sym, ap, subst, ◌∙◌, inl, inr, arith}
 use Rattle.std.proofs.lemmas.Bool.{false≢true}
 use Rattle.std.proofs.lemmas.Int.{by_lt_z}
 use Rattle.std.proofs.Math.Pow.{pow_pos}
-use Rattle.definitions.proofs.Ring.{linear, one-mulℤ, mul-oneℤ, mul-subℤ, mul-leℤ}
+use Rattle.definitions.proofs.Ring.{linear, one-mulℤ, mul-subℤ, mul-leℤ}
 use Rattle.definitions.proofs.Cases.{same_or_other, true_or_false}
 use Rattle.definitions.proofs.Masks.{proper_or_all, singleton-within}
 use Rattle.definitions.proofs.Members.{sum_over-combined, sum_over-singleton, sum_over-grand_coalition}
@@ -23,11 +22,11 @@ use Rattle.theorems.proofs.SortedLemmas.{ComesBefore-sorted}
 use Rattle.theorems.proofs.Soundness.{SameOrLow-range, SomeAbove-range}
 use Rattle.theorems.proofs.Transfers.{some_greatest}
 use Rattle.duality.proofs.NoGain.{no_gain}
-use lib.IntN.{*ℤ_comm}
 use Rattle.reduced_games.specs.ReducedGames.{AreSome, staying, staying_shares, IsReducedGame, ReducedGameProperty}
 use Rattle.reduced_games.proofs.Staying.{staying_within, staying_empty, staying_all, spread, sum_over-spread}
 use Rattle.reduced_games.proofs.Staying.{staying_share, staying_amount}
 use Rattle.reduced_games.proofs.Excesses.{on, greatest_excess, allocation_staying, efficient_staying}
+use Rattle.theorems.proofs.Products.{products, sorted_products}
 
 module _ (m : ℕ) (who : ℕ → ℕ) (g h : Game) (x : Allocation) (a : AreSome g.players m who)
     (r : IsReducedGame m who g x h) (is : IsNucleolus Preimputations Plain g x) (z : Allocation)
@@ -51,12 +50,10 @@ module _ (m : ℕ) (who : ℕ → ℕ) (g h : Game) (x : Allocation) (a : AreSom
   gains_are : (t : ℕ) → gains t ≡ amount z t -ℤ z.den *ℤ amount y t
   gains_are t =
       omega (
-        arith,
-        linear,
+        products,
         sum_over-combined m (share z) (λ k. share x (who k)) (pos 1) z.den t,
-        one-mulℤ (sum_over m (share z) t),
         ap (λ c. sum_over c (share z) t) hz.0.0,
-        ap (λ u. z.den *ℤ u) (staying_amount m who x t),
+        ap (◌*ℤ◌ z.den) (staying_amount m who x t),
       )
 
   -- so the excess falls by that
@@ -69,7 +66,7 @@ module _ (m : ℕ) (who : ℕ → ℕ) (g h : Game) (x : Allocation) (a : AreSom
         gains_are t,
         one-mulℤ (excess h z t),
         mul-subℤ z.den (pos 1 *ℤ w) (amount y t),
-        ap (λ u. z.den *ℤ u) (one-mulℤ w),
+        ap (◌*ℤ◌ z.den) (one-mulℤ w),
       )
 
   gains_none : gains 0 ≡ pos 0
@@ -84,8 +81,8 @@ module _ (m : ℕ) (who : ℕ → ℕ) (g h : Game) (x : Allocation) (a : AreSom
         linear,
         gains_are all,
         hz.1,
-        ap (λ u. z.den *ℤ u) e,
-        ap (λ u. z.den *ℤ u) (one-mulℤ w),
+        ap (◌*ℤ◌ z.den) e,
+        ap (◌*ℤ◌ z.den) (one-mulℤ w),
       )
 
   abbrev count : ℕ
@@ -100,12 +97,11 @@ module _ (m : ℕ) (who : ℕ → ℕ) (g h : Game) (x : Allocation) (a : AreSom
       let bound = z.den *ℤ M in
       let f : ℕ → ℤ = λ s. z.den *ℤ excess h y s in
       let k : ℕ → ℤ = λ s. pos 1 *ℤ excess h z s in
-      let same = ap (λ u. z.den *ℤ u) here in
-      let falls = excess_falls (suc c) in
+      let same = ap (◌*ℤ◌ z.den) here in
       ComesBefore-sorted bound (map f (proper_coalitions m)) (map k (proper_coalitions m))
       (SameOrLow-range bound f k 1 count (λ s low high. at_place s low high))
       (SomeAbove-range bound f k 1 count (suc c) (omega arith) (omega arith)
-      (omega (arith, linear, same)) (omega (arith, linear, same, falls, loses)))
+      (omega (arith, linear, same)) (omega (arith, linear, same, excess_falls (suc c), loses)))
     where
       at_place : (s : ℕ) → 1 ≤ s → s < 1 + count
           → (z.den *ℤ excess h y s ≡ pos 1 *ℤ excess h z s) ⊎ ((z.den *ℤ excess h y s) ≤ℤ (z.den *ℤ M))
@@ -113,7 +109,7 @@ module _ (m : ℕ) (who : ℕ → ℕ) (g h : Game) (x : Allocation) (a : AreSom
       at_place (suc t) low high = elim (each t (omega arith)) [
         | inl none ↦ inl (omega (arith, linear, none, excess_falls (suc t)))
         | inr le ↦ inr
-            (mul-leℤ z.den (excess h y (suc t)) M (let one = hz.0.1 in omega (arith, linear, one)) le)
+            (mul-leℤ z.den (excess h y (suc t)) M (omega (arith, linear, hz.0.1)) le)
       ]
 
   -- ---- or none does: then there is a transfer in the whole game
@@ -147,16 +143,14 @@ module _ (m : ℕ) (who : ℕ → ℕ) (g h : Game) (x : Allocation) (a : AreSom
 
       some : 0 < s
       some = elim (same_or_other s 0) [
-        | inl none ↦ absurd (let e = ap (staying m who) none ∙ staying_empty m who in
-            omega (arith, e, top.1.1))
+        | inl none ↦ absurd (omega (arith, ap (staying m who) none ∙ staying_empty m who, top.1.1))
         | inr other ↦ omega (arith, other)
       ]
 
       proper : s < grand_coalition n
       proper = elim (proper_or_all n s top.1.0) [
         | inl less ↦ less
-        | inr whole ↦ absurd (let e = ap (staying m who) whole ∙ staying_all n m who a in
-            omega (arith, e, top.1.1, lt))
+        | inr whole ↦ absurd (omega (arith, ap (staying m who) whole ∙ staying_all n m who a, top.1.1, lt))
       ]
 
       back : suc (s - 1) ≡ s
@@ -170,9 +164,8 @@ module _ (m : ℕ) (who : ℕ → ℕ) (g h : Game) (x : Allocation) (a : AreSom
               ⊎ (((excess g x s ≤ℤ M) × (pos 1 ≤ℤ sum_over n moved s)) ⊎ (excess g x s <ℤ M))
           with_part zero e = inl (moved_over s ∙ ap gains e ∙ gains_none)
           with_part (suc t) e =
-              let small = staying_within m who s in
               let same = moved_over s ∙ ap gains e in
-              elim (proper_or_all m (suc t) (omega (arith, e, small))) [
+              elim (proper_or_all m (suc t) (omega (arith, e, staying_within m who s))) [
                 | inr whole ↦ inl (same ∙ ap gains whole ∙ gains_all)
                 | inl less ↦
                     let le = (greatest_excess m who g h x a r (suc t) (omega arith) less).1 s (within, e) in
@@ -202,16 +195,8 @@ module _ (m : ℕ) (who : ℕ → ℕ) (g h : Game) (x : Allocation) (a : AreSom
             ap gains (sym back) ∙ none (singleton k - 1) (omega (arith, some, less)))
         | inr every ↦ ap gains every ∙ gains_all
       ] in
-      omega (
-        arith,
-        linear,
-        nothing,
-        sum_over-singleton m k gain lt,
-        one-mulℤ (share z k),
-        mul-oneℤ (share z k),
-        ap (λ u. u *ℤ z.den) (staying_share m who x k lt),
-        *ℤ_comm (share x (who k)) z.den,
-      )
+      omega
+      (sorted_products, nothing, sum_over-singleton m k gain lt, ap (λ u. u *ℤ z.den) (staying_share m who x k lt))
 
   lost : (t : ℕ) → losing t ≡ true → gains (suc t) <ℤ pos 0
   lost t e = omega (arith, linear, e)

@@ -1,7 +1,5 @@
 -- The reduced game exists, and is one.
-use Rattle.std.proofs.Common.{◌≡◌, ◌⊎◌, ℕ, ◌^◌, ◌<◌, ◌≤◌}
-use Rattle.std.proofs.Common.{nat_eq, ℤ, pos}
-use Rattle.std.proofs.Common.{refl, sym, ap, subst, ◌∙◌, inl, inr, arith}
+use Rattle.std.proofs.Common.{◌≡◌, ◌⊎◌, ℕ, ◌^◌, ◌<◌, ◌≤◌, nat_eq, ℤ, pos, refl, sym, ap, subst, ◌∙◌, inl, inr, arith}
 use Rattle.std.proofs.lemmas.Bool.{false≢true}
 use Rattle.definitions.proofs.Cases.{same_or_other, nat_eq-equal, from_nat_eq}
 use Rattle.definitions.proofs.Masks.{proper_or_all}
@@ -10,10 +8,9 @@ use Rattle.definitions.specs.Sums.{IsGreatest}
 use Rattle.definitions.specs.Coalitions.{grand_coalition}
 use Rattle.definitions.specs.Games.{Game, Allocation}
 use Rattle.theorems.proofs.Transfers.{some_greatest}
-use Rattle.reduced_games.specs.ReducedGames.{AreSome, staying, worth_left, IsReducedGame}
-use Rattle.reduced_games.specs.ReducedGames.{ReducedGamesExist, ReducedGameIsOne}
-use Rattle.reduced_games.proofs.Staying.{staying_old, old_numbers, old_within}
-use Rattle.reduced_games.proofs.Staying.{some_stay}
+use Rattle.reduced_games.specs.ReducedGames.{AreSome, staying, worth_left, IsReducedGame, ReducedGamesExist}
+use Rattle.reduced_games.specs.ReducedGames.{ReducedGameIsOne}
+use Rattle.reduced_games.proofs.Staying.{staying_old, old_numbers, old_within, some_stay}
 
 module _ (m : ℕ) (who : ℕ → ℕ) (g : Game) (x : Allocation) (a : AreSome g.players m who) where
   abbrev n : ℕ

@@ -1,12 +1,11 @@
 -- What follows from Sobolev's axioms: a rule's shares add to the worth of all, and players whom some renumbering
 -- exchanges that leaves the game as it is get the same (Peleg and Sudhölter).
-use Rattle.std.proofs.Common.{◌≡◌, ℕ, ◌<◌, length, ℤ, pos, ◌+ℤ◌, ◌-ℤ◌, ◌*ℤ◌, ◌≤ℤ◌}
-use Rattle.std.proofs.Common.{refl, sym, ap, subst, ◌∙◌, arith}
+use Rattle.std.proofs.Common.{◌≡◌, ℕ, ◌<◌, length, ℤ, pos, ◌+ℤ◌, ◌-ℤ◌, ◌*ℤ◌, ◌≤ℤ◌, refl, sym, ap, subst, ◌∙◌, arith}
 use Rattle.std.proofs.lemmas.Int.{ints}
 use Rattle.std.proofs.lemmas.List.{length-map}
 use Rattle.std.proofs.lemmas.List.FromFn.{get_or-map-range_with_len}
 use mathlib.Core.Path.{fun_ext}
-use Rattle.definitions.proofs.Ring.{linear, add-mulℤ, mul-cancelℤ, mul-oneℤ, one-mulℤ, mul-zeroℤ, mul_assocℤ}
+use Rattle.definitions.proofs.Ring.{linear, add-mulℤ, mul-cancelℤ, mul-oneℤ, mul_assocℤ}
 use lib.IntN.{*ℤ_comm}
 use Rattle.definitions.proofs.Members.{sum_over-singleton}
 use Rattle.definitions.proofs.SumsOver.{sum_over-zero, sum_over-empty}
@@ -20,6 +19,7 @@ use Rattle.laws.proofs.RenumberingChangesNothing.{renumbered_share}
 use Rattle.reduced_games.specs.ReducedGames.{AreSome, staying_shares, worth_left, IsReducedGame}
 use Rattle.reduced_games.specs.SobolevsTheorem.{IsPlayable, KeepTheirOrder, MeetsSobolevsAxioms}
 use Rattle.reduced_games.proofs.Staying.{staying_share, staying_amount, staying_all}
+use Rattle.theorems.proofs.Products.{products, sorted_products}
 
 -- ---- games and shares
 
@@ -49,7 +49,7 @@ proper_nothing = (omega arith, refl)
 proper_for_one : (v : ℤ) → IsPlayable (for_one v)
 proper_for_one v = (
   omega arith,
-  (let none = sum_over-empty 1 (λ i. v) in omega (arith, linear, none, mul-zeroℤ (pos 1))),
+  (let none = sum_over-empty 1 (λ i. v) in omega (products, none)),
 )
 
 module _ (rule : Game → Allocation) (a : MeetsSobolevsAxioms rule) where
@@ -72,7 +72,7 @@ module _ (rule : Game → Allocation) (a : MeetsSobolevsAxioms rule) where
       let b : ℕ → ℤ = λ i. pos 0 in
       let same : equivalent_game (pos 2) b nothing_for_one ≡ nothing_for_one =
       same_game 1 (λ s. pos 2 *ℤ pos 0 +ℤ sum_over 1 b s) (λ s. pos 0)
-      (λ s. (let none = sum_over-zero 1 s in omega (arith, linear, none, mul-zeroℤ (pos 2)))) in
+      (λ s. (let none = sum_over-zero 1 s in omega (products, none))) in
       let twice = subst (λ g. share (rule g) 0 *ℤ x.den ≡ (pos 2 *ℤ share x 0 +ℤ x.den *ℤ pos 0) *ℤ (rule g).den) same
       (share_equivalent (pos 2) b nothing_for_one 0 (omega (arith, linear)) proper_nothing (omega arith)) in
       half x.den (share x 0) (den_of nothing_for_one proper_nothing) twice
@@ -80,11 +80,9 @@ module _ (rule : Game → Allocation) (a : MeetsSobolevsAxioms rule) where
       half : (d z : ℤ) → pos 0 ≤ℤ (d -ℤ pos 1) → z *ℤ d ≡ (pos 2 *ℤ z +ℤ d *ℤ pos 0) *ℤ d → z ≡ pos 0
       half d z one e =
           let two : pos 2 *ℤ z ≡ z +ℤ z = omega (arith, ints) in
-          let none = mul-zeroℤ d in
-          let whole : pos 2 *ℤ z +ℤ d *ℤ pos 0 ≡ z +ℤ z = omega (arith, linear, two, none) in
-          let doubled = e ∙ ap (λ u. u *ℤ d) whole ∙ add-mulℤ z z d in
+          let whole : pos 2 *ℤ z +ℤ d *ℤ pos 0 ≡ z +ℤ z = omega (products, two) in
           mul-cancelℤ d z (pos 0) (omega (arith, linear, one))
-          (omega (arith, linear, doubled, none, *ℤ_comm d z))
+          (omega (sorted_products, e ∙ ap (λ u. u *ℤ d) whole ∙ add-mulℤ z z d))
 
   -- and of any worth, that
   worth_alone : (v : ℤ) → share (rule (for_one v)) 0 ≡ (rule (for_one v)).den *ℤ v
@@ -98,9 +96,9 @@ module _ (rule : Game → Allocation) (a : MeetsSobolevsAxioms rule) where
       shaped : (d q z y v : ℤ) → pos 0 ≤ℤ (d -ℤ pos 1) → z ≡ pos 0 → y *ℤ d ≡ (pos 1 *ℤ z +ℤ d *ℤ v) *ℤ q
           → y ≡ q *ℤ v
       shaped d q z y v one none e =
-          let inner : pos 1 *ℤ z +ℤ d *ℤ v ≡ d *ℤ v = omega (arith, linear, one-mulℤ z, none) in
+          let inner : pos 1 *ℤ z +ℤ d *ℤ v ≡ d *ℤ v = omega (products, none) in
           mul-cancelℤ d y (q *ℤ v) (omega (arith, linear, one))
-          (*ℤ_comm d y ∙ e ∙ ap (λ u. u *ℤ q) inner ∙ mul_assocℤ d v q ∙ ap (λ u. d *ℤ u) (*ℤ_comm v q))
+          (*ℤ_comm d y ∙ e ∙ ap (λ u. u *ℤ q) inner ∙ mul_assocℤ d v q ∙ ap (◌*ℤ◌ d) (*ℤ_comm v q))
 
   -- the reduced game of one who stays: so it gets what the others leave
   pub efficient_rule : (g : Game) → IsPlayable g → IsEfficient g (rule g)
@@ -114,14 +112,13 @@ module _ (rule : Game → Allocation) (a : MeetsSobolevsAxioms rule) where
       let reduced : IsReducedGame 1 (λ k. 0) g x (for_one v) = record {
         players = refl;
         nobody = (proper_for_one v).1;
-        all = omega (arith, linear, one, mul-zeroℤ (pos 1));
+        all = omega (products, one);
         some = λ t low high. absurd (omega (arith, low, high));
       } in
       let in_order : KeepTheirOrder 1 (λ k. 0) = λ k l less lt. absurd (omega arith) in
       let same = a.reduced 1 (λ k. 0) g (for_one v) p some in_order reduced 0 (omega arith) in
       let y = rule (for_one v) in
-      let got : share x 0 ≡ v =
-      shaped y.den (share x 0) v (den_of (for_one v) (proper_for_one v))
+      let got : share x 0 ≡ v = shaped y.den (share x 0) v (den_of (for_one v) (proper_for_one v))
       (sym (worth_alone v) ∙ sym (mul-oneℤ (share y 0)) ∙ same
       ∙ ap (λ z. z *ℤ y.den) (staying_share 1 (λ k. 0) x 0 (omega arith))) in
       let kept = ap (amount (staying_shares 1 (λ k. 0) x)) (staying_all g.players 1 (λ k. 0) some)
@@ -129,8 +126,7 @@ module _ (rule : Game → Allocation) (a : MeetsSobolevsAxioms rule) where
       omega (arith, linear, got, kept)
     where
       shaped : (d z v : ℤ) → pos 0 ≤ℤ (d -ℤ pos 1) → d *ℤ v ≡ z *ℤ d → z ≡ v
-      shaped d z v one e =
-          mul-cancelℤ d z v (omega (arith, linear, one)) (*ℤ_comm d z ∙ sym e)
+      shaped d z v one e = mul-cancelℤ d z v (omega (arith, linear, one)) (*ℤ_comm d z ∙ sym e)
 
   -- who is renumbered, where the game stays the same, has the share of the other
   pub same_share : (g : Game) (to back : ℕ → ℕ) (i : ℕ) → IsPlayable g → IsRenumbering g.players to back
@@ -141,11 +137,4 @@ module _ (rule : Game → Allocation) (a : MeetsSobolevsAxioms rule) where
       (a.anonymous to back g p r i lt) in
       let f = renumbered_share to x i (let long = (a.single g p).0 in omega (arith, lt, long)) in
       mul-cancelℤ x.den (share x (to i)) (share x i) (let d = den_of g p in omega (arith, linear, d))
-      (omega (
-        arith,
-        linear,
-        e,
-        ap (λ z. z *ℤ x.den) f,
-        *ℤ_comm x.den (share x (to i)),
-        *ℤ_comm x.den (share x i),
-      ))
+      (omega (sorted_products, e, ap (λ z. z *ℤ x.den) f))

@@ -1,8 +1,7 @@
 -- At the prenucleolus there are for each coalition weights that balance, on it and on coalitions of no less excess
 -- (Kohlberg 1971): otherwise some transfer would give it more and take from none of them.
-use Rattle.std.proofs.Common.{◌≡◌, ℕ, zero, suc, ◌-◌, ◌^◌, ◌<◌, ◌≤◌, Bool, true, false, ◌||◌}
-use Rattle.std.proofs.Common.{ℤ, pos, ◌<ℤ◌, ◌≤ℤ◌, int_le, int_lt}
-use Rattle.std.proofs.Common.{refl, sym, ◌∙◌, inl, inr, arith}
+use Rattle.std.proofs.Common.{◌≡◌, ℕ, zero, suc, ◌-◌, ◌^◌, ◌<◌, ◌≤◌, Bool, true, false, ◌||◌, ℤ, pos, ◌<ℤ◌, ◌≤ℤ◌}
+use Rattle.std.proofs.Common.{int_le, int_lt, refl, sym, ◌∙◌, inl, inr, arith}
 use Rattle.std.proofs.lemmas.Bool.{false≢true}
 use Rattle.std.proofs.lemmas.Int.{by_lt_z, ints}
 use Rattle.definitions.proofs.Ring.{linear}
@@ -68,9 +67,8 @@ module _ (g : Game) (x : Allocation) (is : IsNucleolus Preimputations Plain g x)
       moves_one = moves_if (sum_over n z (suc d)) gain
 
       still_if : (v : ℤ) → (int_lt v (pos 0) || int_lt (pos 0) v) ≡ false → v ≡ pos 0
-      still_if v f =
-          (let both = neither (int_lt v (pos 0)) (int_lt (pos 0) v) f in
-          let a = both.0 in let b = both.1 in omega (arith, linear, a, b))
+      still_if v f = (let both = neither (int_lt v (pos 0)) (int_lt (pos 0) v) f in
+          omega (arith, linear, both.0, both.1))
 
       unmoved : (t : ℕ) → moves t ≡ false → sum_over n z (suc t) ≡ pos 0
       unmoved t f = still_if (sum_over n z (suc t)) f

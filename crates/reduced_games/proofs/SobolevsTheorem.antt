@@ -1,13 +1,12 @@
 -- Sobolev's theorem (Sobolev 1975; Peleg and Sudhölter). A rule that meets the axioms gives nothing to each player of
 -- the game of excesses at the prenucleolus, since that is a reduced game of a game of words; so it gives the
 -- prenucleolus. And the prenucleolus meets the axioms, since it is one and has each of the four properties.
-use Rattle.std.proofs.Common.{◌≡◌, ◌⊎◌, ℕ, zero, suc, ◌-◌, ◌^◌, ◌<◌, ◌≤◌, List, [], length, get_or, map}
-use Rattle.std.proofs.Common.{ℤ, pos, neg_ℤ, ◌+ℤ◌, ◌*ℤ◌, ◌≤ℤ◌}
-use Rattle.std.proofs.Common.{refl, sym, ap, ◌∙◌, inl, inr, arith}
+use Rattle.std.proofs.Common.{◌≡◌, ◌⊎◌, ℕ, zero, suc, ◌-◌, ◌^◌, ◌<◌, ◌≤◌, List, [], length, get_or, map, ℤ, pos, neg_ℤ}
+use Rattle.std.proofs.Common.{◌+ℤ◌, ◌*ℤ◌, ◌≤ℤ◌, refl, sym, ap, ◌∙◌, inl, inr, arith}
 use Rattle.std.proofs.lemmas.Int.{ints, by_lt_z}
 use lib.IntN.{*ℤ_comm}
 use Rattle.definitions.proofs.Alls.{all_at}
-use Rattle.definitions.proofs.Ring.{linear, mul-zeroℤ, mul-cancelℤ, mul_assocℤ, mul_left_commℤ, mul-subℤ, zero-mulℤ}
+use Rattle.definitions.proofs.Ring.{linear, mul-zeroℤ, mul-cancelℤ, mul_assocℤ, mul_left_commℤ, zero-mulℤ}
 use Rattle.definitions.proofs.Cases.{less_or_last, below_or_above}
 use Rattle.definitions.proofs.Masks.{singleton-within}
 use Rattle.definitions.proofs.SumsOver.{sum_over-times, sum_over-same, sum_over-empty, amount-at, amount-empty}
@@ -29,10 +28,11 @@ use Rattle.reduced_games.proofs.Staying.{staying_empty}
 use Rattle.reduced_games.proofs.ReducedGameProperty.{reduced_game_property}
 use Rattle.reduced_games.proofs.Rules.{share_equivalent}
 use Rattle.reduced_games.proofs.SideWeights.{weights_at, none_at}
-use Rattle.reduced_games.proofs.Positions.{AllWeights, positions, counts, list_sum-places, held_at}
-use Rattle.reduced_games.proofs.Positions.{WithSingles, with_singles}
+use Rattle.reduced_games.proofs.Positions.{AllWeights, positions, counts, list_sum-places, held_at, WithSingles}
+use Rattle.reduced_games.proofs.Positions.{with_singles}
 use Rattle.reduced_games.proofs.WordGames.{word_rises}
 use Rattle.reduced_games.proofs.WordGameShares.{nothing_given}
+use Rattle.theorems.proofs.Products.{products, sorted_products}
 
 -- a number below finitely many
 floor_of : (k : ℕ) (f : ℕ → ℤ) → (b : ℤ) × ((t : ℕ) → t < k → b ≤ℤ f t)
@@ -66,7 +66,7 @@ module _ (rule : Game → Allocation) (ax : MeetsSobolevsAxioms rule) (g : Game)
   E s = excess g x s
 
   excess_nobody : E 0 ≡ pos 0
-  excess_nobody = omega (arith, linear, amount-empty x, ap (λ z. x.den *ℤ z) p.1, mul-zeroℤ x.den)
+  excess_nobody = omega (products, amount-empty x, ap (◌*ℤ◌ x.den) p.1)
 
   excess_all : E (grand_coalition n) ≡ pos 0
   excess_all = omega (arith, linear, is.0.1)
@@ -83,13 +83,8 @@ module _ (rule : Game → Allocation) (ax : MeetsSobolevsAxioms rule) (g : Game)
 
   excesses_are : (s : ℕ) → excesses.worth s ≡ E s
   excesses_are s =
-      omega (
-        arith,
-        linear,
-        sum_over-times n (share x) (neg_ℤ (pos 1)) s,
-        minus (sum_over n (share x) s),
-        amount-at g x s is.0.0,
-      )
+      omega
+      (products, sum_over-times n (share x) (neg_ℤ (pos 1)) s, minus (sum_over n (share x) s), amount-at g x s is.0.0)
 
   all_weights : AllWeights n (2 ^ n) (2 ^ n - 2) E
   all_weights = record {
@@ -116,8 +111,7 @@ module _ (rule : Game → Allocation) (ax : MeetsSobolevsAxioms rule) (g : Game)
   pair_at l = get_or pairs l (0, pos 0)
 
   inside_at : (l : ℕ) → l < length pairs → ((pair_at l).0 < 2 ^ n) × ((pair_at l).1 ≤ℤ E (pair_at l).0)
-  inside_at l lt =
-      all_at (λ q. (q.0 < 2 ^ n) × (q.1 ≤ℤ E q.0)) pairs l (0, pos 0) lt all_positions.positions.inside
+  inside_at l lt = all_at (λ q. (q.0 < 2 ^ n) × (q.1 ≤ℤ E q.0)) pairs l (0, pos 0) lt all_positions.positions.inside
 
   excesses_get_nothing : (i : ℕ) → i < n → share (rule excesses) i ≡ pos 0
   excesses_get_nothing =
@@ -156,8 +150,7 @@ module _ (rule : Game → Allocation) (ax : MeetsSobolevsAxioms rule) (g : Game)
           let outer : h *ℤ t ≡ h *ℤ pos 0 =
           *ℤ_comm h t ∙ sym e ∙ ap (λ y. y *ℤ d) none ∙ zero-mulℤ d ∙ sym (mul-zeroℤ h) in
           let inner = mul-cancelℤ h t (pos 0) (omega (arith, linear, one)) outer in
-          let turned = mul_left_commℤ d (neg_ℤ (pos 1)) a ∙ minus (d *ℤ a) in
-          omega (arith, linear, inner, turned, *ℤ_comm s q, *ℤ_comm a d)
+          omega (sorted_products, inner, mul_left_commℤ d (neg_ℤ (pos 1)) a ∙ minus (d *ℤ a))
 
 -- ---- other denominators of the same shares
 
@@ -165,22 +158,15 @@ module _ (g : Game) (x y : Allocation) (is : IsNucleolus Preimputations Plain g 
     (same : IsSame g y x) where
   amounts : (s : ℕ) → x.den *ℤ amount y s ≡ y.den *ℤ amount x s
   amounts s =
-      ap (λ z. x.den *ℤ z) (amount-at g y s hy) ∙ sym (sum_over-times g.players (share y) x.den s)
+      ap (◌*ℤ◌ x.den) (amount-at g y s hy) ∙ sym (sum_over-times g.players (share y) x.den s)
       ∙ sum_over-same g.players (λ i. x.den *ℤ share y i) (λ i. y.den *ℤ share x i) s
       (λ i lt. *ℤ_comm x.den (share y i) ∙ same i lt ∙ *ℤ_comm (share x i) y.den)
-      ∙ sum_over-times g.players (share x) y.den s ∙ ap (λ z. y.den *ℤ z) (sym (amount-at g x s is.0.0))
+      ∙ sum_over-times g.players (share x) y.den s ∙ ap (◌*ℤ◌ y.den) (sym (amount-at g x s is.0.0))
 
   excesses_same : (s : ℕ) → x.den *ℤ excess g y s ≡ y.den *ℤ excess g x s
   excesses_same s =
       let v = g.worth s in
-      omega (
-        arith,
-        linear,
-        mul-subℤ x.den (y.den *ℤ v) (amount y s),
-        mul-subℤ y.den (x.den *ℤ v) (amount x s),
-        mul_left_commℤ x.den y.den v,
-        amounts s,
-      )
+      omega (sorted_products, amounts s)
 
   x_positive : pos 1 ≤ℤ x.den
   x_positive = is.0.0.1
@@ -189,7 +175,7 @@ module _ (g : Game) (x y : Allocation) (is : IsNucleolus Preimputations Plain g 
   efficient =
       let all = grand_coalition g.players in
       mul-cancelℤ x.den (amount y all) (y.den *ℤ g.worth all) (let one = x_positive in omega (arith, linear, one))
-      (amounts all ∙ ap (λ z. y.den *ℤ z) is.0.1 ∙ mul_left_commℤ y.den x.den (g.worth all))
+      (amounts all ∙ ap (◌*ℤ◌ y.den) is.0.1 ∙ mul_left_commℤ y.den x.den (g.worth all))
 
   pub same_nucleolus : IsNucleolus Preimputations Plain g y
   same_nucleolus = (
@@ -201,10 +187,10 @@ module _ (g : Game) (x y : Allocation) (is : IsNucleolus Preimputations Plain g 
         (map (λ s. x.den *ℤ excess g z s) (proper_coalitions g.players))
         (map (λ s. z.den *ℤ excess g y s) (proper_coalitions g.players))
         (map (λ s. y.den *ℤ excess g z s) (proper_coalitions g.players))
-        (let one = hy.1 in omega (arith, linear, one)) (let one = x_positive in omega (arith, linear, one))
+        (omega (arith, linear, hy.1)) (let one = x_positive in omega (arith, linear, one))
         (values_times y.den x.den (λ s. z.den *ℤ excess g x s) (λ s. z.den *ℤ excess g y s)
         (proper_coalitions g.players)
-        (λ s. mul_left_commℤ y.den z.den (excess g x s) ∙ ap (λ t. z.den *ℤ t) (sym (excesses_same s))
+        (λ s. mul_left_commℤ y.den z.den (excess g x s) ∙ ap (◌*ℤ◌ z.den) (sym (excesses_same s))
         ∙ mul_left_commℤ z.den x.den (excess g y s)))
         (values_times y.den x.den (λ s. x.den *ℤ excess g z s) (λ s. y.den *ℤ excess g z s)
         (proper_coalitions g.players) (λ s. mul_left_commℤ y.den x.den (excess g z s)))
@@ -214,8 +200,8 @@ module _ (g : Game) (x y : Allocation) (is : IsNucleolus Preimputations Plain g 
       joined : (q d r a b c : ℤ) → pos 1 ≤ℤ q → b *ℤ q ≡ a *ℤ d → a *ℤ r ≡ c *ℤ q → b *ℤ r ≡ c *ℤ d
       joined q d r a b c one e f =
           mul-cancelℤ q (b *ℤ r) (c *ℤ d) (omega (arith, linear, one))
-          (mul_left_commℤ q b r ∙ ap (λ z. b *ℤ z) (*ℤ_comm q r) ∙ mul_left_commℤ b r q
-          ∙ ap (λ z. r *ℤ z) e ∙ mul_left_commℤ r a d ∙ sym (mul_assocℤ a r d) ∙ ap (λ z. z *ℤ d) f
+          (mul_left_commℤ q b r ∙ ap (◌*ℤ◌ b) (*ℤ_comm q r) ∙ mul_left_commℤ b r q
+          ∙ ap (◌*ℤ◌ r) e ∙ mul_left_commℤ r a d ∙ sym (mul_assocℤ a r d) ∙ ap (λ z. z *ℤ d) f
           ∙ ap (λ z. z *ℤ d) (*ℤ_comm c q) ∙ mul_assocℤ q c d)
 
 -- ---- both ways
@@ -240,14 +226,14 @@ prenucleolus_meets rule is = record {
       (renumbering_changes_nothing Preimputations Plain g (rule g) to back (inl refl) r (is g p));
   reduced = λ m who g h p a o r.
       nucleolus_unique Preimputations Plain h (rule h) (staying_shares m who (rule g))
-      (is h ((let players = r.players in let some = a.some in omega (arith, players, some)), r.nobody))
+      (is h ((omega (arith, r.players, a.some)), r.nobody))
       (reduced_game_property m who g h (rule g) a r (is g p));
 }
   where
     proper_equivalent : (k : ℤ) (b : ℕ → ℤ) (g : Game) → IsPlayable g → IsPlayable (equivalent_game k b g)
     proper_equivalent k b g p = (
       p.0,
-      omega (arith, linear, ap (λ z. k *ℤ z) p.1, mul-zeroℤ k, sum_over-empty g.players b),
+      omega (products, ap (◌*ℤ◌ k) p.1, sum_over-empty g.players b),
     )
 
     proper_renumbered : (back : ℕ → ℕ) (g : Game) → IsPlayable g → IsPlayable (renumbered_game back g)

@@ -1,12 +1,10 @@
 -- The members of a coalition who stay: which they are, what their numbers add to, and that each coalition of those who
 -- stay is the staying part of some coalition.
-use Rattle.std.proofs.Common.{◌≡◌, ℕ, zero, suc, ◌^◌, ◌<◌, ◌≤◌, Bool, cond, ◌&&◌}
-use Rattle.std.proofs.Common.{nat_eq, length, ℤ, pos}
-use Rattle.std.proofs.Common.{sym, ap, ◌∙◌, inl, inr, arith}
+use Rattle.std.proofs.Common.{◌≡◌, ℕ, zero, suc, ◌^◌, ◌<◌, ◌≤◌, Bool, cond, ◌&&◌, nat_eq, length, ℤ, pos, sym, ap, ◌∙◌}
+use Rattle.std.proofs.Common.{inl, inr, arith}
 use Rattle.std.proofs.lemmas.Bool.{false≢true}
 use Rattle.std.proofs.Math.Nat.{pow-suc}
 use Rattle.std.proofs.lemmas.List.FromFn.{get_or-map-range_with_len, length-map-range_with_len}
-use Rattle.definitions.proofs.Ring.{linear}
 use Rattle.definitions.proofs.Cases.{nat_eq-same, from_nat_eq, true_or_false, and_parts, and_both, not_true}
 use Rattle.definitions.proofs.Masks.{grand_coalition-within}
 use Rattle.definitions.proofs.Members.{has_player-empty, has_player-grand_coalition, sum_below-same}
@@ -19,6 +17,7 @@ use Rattle.laws.specs.Renumbering.{coalition_where}
 use Rattle.laws.proofs.AtPlayer.{at_player, sum_over-at_player}
 use Rattle.laws.proofs.RenumberedCoalitions.{coalition_where-within, coalition_where-has, same_below}
 use Rattle.reduced_games.specs.ReducedGames.{AreSome, staying, staying_shares}
+use Rattle.theorems.proofs.Products.{products}
 
 -- ---- the part of a coalition that stays
 
@@ -80,8 +79,7 @@ old_has n m who t k a lt =
 
 pub staying_old : (n m : ℕ) (who : ℕ → ℕ) (t : ℕ) → AreSome n m who → t < 2 ^ m
     → staying m who (old_numbers n m who t) ≡ t
-staying_old n m who t a within =
-    staying_is m who (old_numbers n m who t) t within (λ k lt. old_has n m who t k a lt)
+staying_old n m who t a within = staying_is m who (old_numbers n m who t) t within (λ k lt. old_has n m who t k a lt)
 
 -- ---- sums
 
@@ -101,8 +99,7 @@ sum_over-spread n m who a s within =
     by_players zero within = sum_over-zero n s
     by_players (suc m) within =
         omega (
-          arith,
-          linear,
+          products,
           sum_over-add n (spread m who a) (at_player (who m) (a m)) s,
           by_players m (λ k lt. within k (omega arith)),
           sum_over-at_player n s (who m) (a m) (within m (omega arith)),

@@ -1,13 +1,11 @@
 -- The Talmud rule is consistent (Aumann and Maschler 1985). Each two who stay still divide what they get together as
 -- the contested garment, and only the rule's shares do; they are the rule's over any denominator.
-use Rattle.std.proofs.Common.{◌≡◌, ℕ, ◌<◌, Bool, true, false, cond, List, length}
-use Rattle.std.proofs.Common.{ℤ, pos, ◌+ℤ◌, ◌-ℤ◌, ◌*ℤ◌, ◌<ℤ◌, ◌≤ℤ◌, int_lt, slice_index}
-use Rattle.std.proofs.Common.{refl, sym, ap, ◌∙◌, inl, inr, arith}
+use Rattle.std.proofs.Common.{◌≡◌, ℕ, ◌<◌, Bool, true, false, cond, List, length, ℤ, pos, ◌+ℤ◌, ◌-ℤ◌, ◌*ℤ◌, ◌<ℤ◌, ◌≤ℤ◌}
+use Rattle.std.proofs.Common.{int_lt, slice_index, refl, sym, ap, ◌∙◌, inl, inr, arith}
 use Rattle.std.specs.Int.{int_min}
 use Rattle.std.proofs.lemmas.Int.{ints, by_lt_z}
 use lib.IntN.{*ℤ_comm}
-use Rattle.definitions.proofs.Ring.{linear, mul-leℤ, mul-subℤ, mul-addℤ, mul-oneℤ, one-mulℤ, mul-cancelℤ}
-use Rattle.definitions.proofs.Ring.{mul-le_cancelℤ, mul-zeroℤ}
+use Rattle.definitions.proofs.Ring.{linear, mul-leℤ, mul-subℤ, mul-oneℤ, one-mulℤ, mul-cancelℤ, mul-le_cancelℤ}
 use Rattle.definitions.proofs.Cases.{true_or_false, int_min-left, int_min-right}
 use Rattle.definitions.proofs.Members.{sum_below-same, sum_over-grand_coalition}
 use Rattle.definitions.proofs.Parts.{sum_below-le}
@@ -24,6 +22,7 @@ use Rattle.laws.proofs.TalmudSharesExist.{talmud_exists}
 use Rattle.reduced_games.specs.ReducedGames.{AreSome, staying, staying_shares}
 use Rattle.reduced_games.specs.EstatesLeft.{IsEstateLeft, TalmudIsConsistent}
 use Rattle.reduced_games.proofs.Staying.{staying_all, staying_length, staying_share, staying_amount}
+use Rattle.theorems.proofs.Products.{products}
 
 -- ---- shares of the rule over another denominator
 
@@ -31,9 +30,9 @@ min_scaled : (d a b : ℤ) → pos 0 ≤ℤ d → int_min (d *ℤ a) (d *ℤ b) 
 min_scaled d a b low =
     by_lt_z a b
     (λ lt. (let le = mul-leℤ d a b low (omega (arith, linear, lt)) in
-    int_min-left (d *ℤ a) (d *ℤ b) le ∙ ap (λ z. d *ℤ z) (sym (int_min-left a b (omega (arith, linear, lt))))))
+    int_min-left (d *ℤ a) (d *ℤ b) le ∙ ap (◌*ℤ◌ d) (sym (int_min-left a b (omega (arith, linear, lt))))))
     (λ ge. int_min-right (d *ℤ a) (d *ℤ b) (mul-leℤ d b a low ge)
-    ∙ ap (λ z. d *ℤ z) (sym (int_min-right a b ge)))
+    ∙ ap (◌*ℤ◌ d) (sym (int_min-right a b ge)))
 
 module _ (left : ℕ) (claims : List ℕ) (w y : Allocation) (h : IsTalmud left claims w)
     (players : length y.shares ≡ length claims) (one : y.den ≡ pos 1)
@@ -49,10 +48,10 @@ module _ (left : ℕ) (claims : List ℕ) (w y : Allocation) (h : IsTalmud left 
   part_of i = part left claims y i
 
   positive : pos 0 <ℤ w.den
-  positive = (let p = h.positive in omega (arith, linear, p))
+  positive = omega (arith, linear, h.positive)
 
   low : pos 0 ≤ℤ w.den
-  low = (let p = h.positive in omega (arith, linear, p))
+  low = omega (arith, linear, h.positive)
 
   -- the part by w is that by y, times the denominator
   part_scaled : (i : ℕ) → i < length claims → part left claims w i ≡ w.den *ℤ part_of i
@@ -60,7 +59,7 @@ module _ (left : ℕ) (claims : List ℕ) (w y : Allocation) (h : IsTalmud left 
     where
       share_scaled : share w i ≡ w.den *ℤ share y i
       share_scaled =
-          sym (mul-oneℤ (share w i)) ∙ ap (λ z. share w i *ℤ z) (sym one) ∙ same i lt ∙ *ℤ_comm (share y i) w.den
+          sym (mul-oneℤ (share w i)) ∙ ap (◌*ℤ◌ (share w i)) (sym one) ∙ same i lt ∙ *ℤ_comm (share y i) w.den
 
       by_kind : (b : Bool) → cond b (share w i) (w.den *ℤ cut_of i -ℤ share w i)
           ≡ w.den *ℤ cond b (share y i) (y.den *ℤ cut_of i -ℤ share y i)
@@ -72,14 +71,14 @@ module _ (left : ℕ) (claims : List ℕ) (w y : Allocation) (h : IsTalmud left 
             share_scaled,
             mul-subℤ w.den (y.den *ℤ cut_of i) (share y i),
             ap (λ z. w.den *ℤ (z *ℤ cut_of i)) one,
-            ap (λ z. w.den *ℤ z) (one-mulℤ (cut_of i)),
+            ap (◌*ℤ◌ w.den) (one-mulℤ (cut_of i)),
           )
 
   -- twice the part, times the denominator, is the lesser of the cut claim times the denominator and twice the bound
   twice : (i : ℕ) → i < length claims
       → w.den *ℤ (part_of i +ℤ part_of i) ≡ int_min (w.den *ℤ cut_of i) (bound +ℤ bound)
   twice i lt =
-      (let p = part_scaled i lt in omega (arith, linear, p, mul-addℤ w.den (part_of i) (part_of i)))
+      (let p = part_scaled i lt in omega (products, p))
       ∙ h.parts.2 i lt
 
   abbrev Bounded : ℤ → Type 0
@@ -94,9 +93,8 @@ module _ (left : ℕ) (claims : List ℕ) (w y : Allocation) (h : IsTalmud left 
   bound_met k lt less =
       let t = part_of k in
       let here = twice k lt ∙ int_min-right (w.den *ℤ cut_of k) (bound +ℤ bound) (omega (arith, linear, less)) in
-      let not_less = h.parts.1 in
       let some : pos 0 ≤ℤ (t +ℤ t) =
-      mul-le_cancelℤ w.den (pos 0) (t +ℤ t) positive (omega (arith, linear, here, not_less, mul-zeroℤ w.den)) in (
+      mul-le_cancelℤ w.den (pos 0) (t +ℤ t) positive (omega (products, here, h.parts.1)) in (
         omega (arith, linear, some),
         λ i h.
             let e =
@@ -123,8 +121,7 @@ module _ (left : ℕ) (claims : List ℕ) (w y : Allocation) (h : IsTalmud left 
   some_bound = elim (true_or_false (some_below (length claims) is_met)) [
     | inl some ↦
         let found = some_below-true (length claims) is_met some in
-        let is = found.2 in
-        let met = bound_met found.0 found.1 (omega (arith, linear, is)) in
+        let met = bound_met found.0 found.1 (omega (arith, linear, found.2)) in
         (part_of found.0, met.0, met.1)
     | inr none ↦ (
       pos left,
@@ -195,17 +192,9 @@ module _ (m : ℕ) (who : ℕ → ℕ) (estate left : ℕ) (claims left_claims :
   -- the claims cover what is left
   covered : pos left ≤ℤ sum_below (length left_claims) (λ k. pos (slice_index left_claims k))
   covered =
-      let le =
-      sum_below-le m (λ k. share x (who k)) (λ k. pos (slice_index left_claims k))
-      (λ k lt. (let high = (nobody_more estate claims x h (who k) (a.players k lt)).1 in
-      omega (arith, linear, high, e.same k lt))) in
-      omega (
-        arith,
-        linear,
-        left_is,
-        le,
-        ap (λ c. sum_below c (λ k. pos (slice_index left_claims k))) e.players,
-      )
+      let le = sum_below-le m (λ k. share x (who k)) (λ k. pos (slice_index left_claims k))
+      (λ k lt. (omega (arith, linear, (nobody_more estate claims x h (who k) (a.players k lt)).1, e.same k lt))) in
+      omega (products, left_is, le, ap (λ c. sum_below c (λ k. pos (slice_index left_claims k))) e.players)
 
   pub talmud_left : IsTalmud left left_claims y
   talmud_left =

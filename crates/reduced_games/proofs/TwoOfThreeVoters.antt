@@ -34,15 +34,13 @@ one_alone (suc (suc (suc t))) some less = absurd (omega arith)
 
 -- with nobody else the first voter keeps nothing, but with the third it keeps 2
 no_partner : ¬ IsReducedGame 2 (λ k. k) majority thirds without_third
-no_partner r =
-    let most = (r.some 1 (omega arith) (omega arith)).1 5 (omega arith, refl) in
-    omega (arith, linear, most)
+no_partner r = omega (arith, linear, (r.some 1 (omega arith) (omega arith)).1 5 (omega arith, refl))
 
 a_third_each : IsStandard left_to_two (staying_shares 2 (λ k. k) thirds)
 a_third_each = record { players = refl; shares = (refl, omega (arith, linear)); all = refl; alike = refl }
 
 not_all_for_one : ¬ IsStandard left_to_two (record { shares = pos 2 ∷ (pos 0 ∷ []); den = pos 1 })
-not_all_for_one s = let e = s.alike in omega (arith, linear, e)
+not_all_for_one s = omega (arith, linear, s.alike)
 
 pub two_of_three_voters : TwoOfThreeVoters
 two_of_three_voters = (

@@ -1,9 +1,7 @@
 -- In the game of all words each player gets nothing: by exchanges all get the same, and all together nothing. So by the
 -- reduced game property the players of the given game, by their words, get nothing in theirs.
-use Rattle.std.proofs.Common.{◌≡◌, ℕ, ◌^◌, ◌<◌, ◌≤◌, Bool, false, cond}
-use Rattle.std.proofs.Common.{ℤ, pos, ◌+ℤ◌, ◌*ℤ◌, ◌<ℤ◌, ◌≤ℤ◌}
-use Rattle.std.proofs.Common.{refl, sym, ap, ◌∙◌, inl, inr, arith}
-use lib.IntN.{*ℤ_comm}
+use Rattle.std.proofs.Common.{◌≡◌, ℕ, ◌^◌, ◌<◌, ◌≤◌, Bool, false, cond, ℤ, pos, ◌+ℤ◌, ◌*ℤ◌, ◌<ℤ◌, ◌≤ℤ◌, refl, sym, ap}
+use Rattle.std.proofs.Common.{◌∙◌, inl, inr, arith}
 use Rattle.definitions.proofs.Ring.{linear, mul-leℤ, mul-zeroℤ, zero-mulℤ, mul-cancelℤ, mul-oneℤ}
 use Rattle.definitions.proofs.Cases.{less_same_or_greater, nat_eq-other}
 use Rattle.definitions.proofs.Masks.{grand_coalition-within}
@@ -19,12 +17,12 @@ use Rattle.reduced_games.proofs.Staying.{staying_is, staying_empty, staying_all,
 use Rattle.reduced_games.proofs.Rules.{efficient_rule, same_share, share_equivalent}
 use Rattle.reduced_games.proofs.Numbered.{place_less}
 use Rattle.reduced_games.proofs.Words.{count_of, swap, AreAlike, kept_alike}
-use Rattle.reduced_games.proofs.WordGames.{word, word_within, word_has, word_weight, is_word, to_word, many}
-use Rattle.reduced_games.proofs.WordGames.{word_of, number}
-use Rattle.reduced_games.proofs.WordGames.{number_within, word_of_number, word_of_within, word_of_alike}
+use Rattle.reduced_games.proofs.WordGames.{word, word_within, word_has, word_weight, is_word, to_word, many, word_of}
+use Rattle.reduced_games.proofs.WordGames.{number, number_within, word_of_number, word_of_within, word_of_alike}
 use Rattle.reduced_games.proofs.WordGames.{number_of_word, cylinder, cylinder_within, cylinder_has, best, best_up}
-use Rattle.reduced_games.proofs.WordGames.{best_least, is_end, value, players_of_within, word_game}
-use Rattle.reduced_games.proofs.WordGames.{worth_nobody, worth_all, to_renumbers, game_same}
+use Rattle.reduced_games.proofs.WordGames.{best_least, is_end, value, players_of_within, word_game, worth_nobody}
+use Rattle.reduced_games.proofs.WordGames.{worth_all, to_renumbers, game_same}
+use Rattle.theorems.proofs.Products.{products, sorted_products}
 
 module _ (rule : Game → Allocation) (ax : MeetsSobolevsAxioms rule) (n L : ℕ) (C : ℕ → ℕ) (u : ℕ → ℤ) (floor : ℤ)
     (some : 1 ≤ n)
@@ -46,8 +44,7 @@ module _ (rule : Game → Allocation) (ax : MeetsSobolevsAxioms rule) (n L : ℕ
   num r = number n L C u floor r
 
   words_alike : (i : ℕ) → i < n → AreAlike L u (w i) (w 0)
-  words_alike i lt v =
-      word_weight n L C u floor i v ∙ even v i 0 lt some ∙ sym (word_weight n L C u floor 0 v)
+  words_alike i lt v = word_weight n L C u floor i v ∙ even v i 0 lt some ∙ sym (word_weight n L C u floor 0 v)
 
   -- the player of the word of player j
   abbrev who : ℕ → ℕ
@@ -88,10 +85,9 @@ module _ (rule : Game → Allocation) (ax : MeetsSobolevsAxioms rule) (n L : ℕ
       let whole = ap (λ t. sum_over t (share x) (grand_coalition N)) (ax.single game proper).0
       ∙ sum_over-grand_coalition N (share x) in
       let e = efficient_rule rule ax game proper in
-      let none = ap (λ z. x.den *ℤ z) (worth_all n L C u floor) ∙ mul-zeroℤ x.den in
       all_alike k lt
       ∙ mul-cancelℤ (pos N) c (pos 0) (positive N proper.0)
-      (omega (arith, linear, total, whole, e, none, mul-zeroℤ (pos N)))
+      (omega (products, total, whole, e, ap (◌*ℤ◌ x.den) (worth_all n L C u floor) ∙ mul-zeroℤ x.den))
     where
       positive : (k : ℕ) → 1 ≤ k → pos 0 <ℤ pos k
       positive k one = omega (arith, linear)
@@ -169,8 +165,7 @@ module _ (rule : Game → Allocation) (ax : MeetsSobolevsAxioms rule) (n L : ℕ
       scaled = equivalent_game x.den (λ i. pos 0) given
 
       scaled_worth : (t : ℕ) → t < 2 ^ n → scaled.worth t ≡ x.den *ℤ E t
-      scaled_worth t within =
-          omega (arith, linear, sum_over-zero n t, ap (λ z. x.den *ℤ z) (same t within))
+      scaled_worth t within = omega (arith, linear, sum_over-zero n t, ap (◌*ℤ◌ x.den) (same t within))
 
       den_low : pos 0 ≤ℤ x.den
       den_low = (let one = (ax.single game proper).1 in omega (arith, linear, one))
@@ -178,9 +173,9 @@ module _ (rule : Game → Allocation) (ax : MeetsSobolevsAxioms rule) (n L : ℕ
       reduced : IsReducedGame n who game x scaled
       reduced = record {
         players = refl;
-        nobody = scaled_worth 0 (omega (arith, whole)) ∙ ap (λ z. x.den *ℤ z) nobody ∙ mul-zeroℤ x.den;
-        all = scaled_worth (grand_coalition n) (grand_coalition-within n) ∙ ap (λ z. x.den *ℤ z) all
-            ∙ sym (ap (λ z. x.den *ℤ z) (worth_all n L C u floor)) ∙ sym (left_is (grand_coalition N));
+        nobody = scaled_worth 0 (omega (arith, whole)) ∙ ap (◌*ℤ◌ x.den) nobody ∙ mul-zeroℤ x.den;
+        all = scaled_worth (grand_coalition n) (grand_coalition-within n) ∙ ap (◌*ℤ◌ x.den) all
+            ∙ sym (ap (◌*ℤ◌ x.den) (worth_all n L C u floor)) ∙ sym (left_is (grand_coalition N));
         some = λ t positive less.
             let within : t < 2 ^ n = omega (arith, less) in
             let found = met t positive less in
@@ -189,9 +184,8 @@ module _ (rule : Game → Allocation) (ax : MeetsSobolevsAxioms rule) (n L : ℕ
             let is = staying_cylinder found.0 found.1 ∙ found.2 in
             let worth = worth_is s t s_in is positive less in
             let up = best_up n L C u floor L found.0 s found.1 refl in
-            let down = best_low s t is within in
-            let exact : E t ≡ game.worth s = omega (arith, linear, worth, up, down, found.3) in (
-              (s, (s_in, is), scaled_worth t within ∙ ap (λ z. x.den *ℤ z) exact ∙ sym (left_is s)),
+            let exact : E t ≡ game.worth s = omega (arith, linear, worth, up, best_low s t is within, found.3) in (
+              (s, (s_in, is), scaled_worth t within ∙ ap (◌*ℤ◌ x.den) exact ∙ sym (left_is s)),
               λ r p.
                   let worth_r = worth_is r t p.0 p.1 positive less in
                   let le = best_low r t p.1 within in
@@ -225,9 +219,8 @@ module _ (rule : Game → Allocation) (ax : MeetsSobolevsAxioms rule) (n L : ℕ
               → t *ℤ g ≡ (q *ℤ s +ℤ g *ℤ pos 0) *ℤ h → s ≡ pos 0
           shaped q g h s t z one two e none f =
               let t_none : t ≡ pos 0 = sym (mul-oneℤ t) ∙ e ∙ ap (λ y. y *ℤ h) none ∙ zero-mulℤ h in
-              let inner : q *ℤ s +ℤ g *ℤ pos 0 ≡ q *ℤ s = omega (arith, linear, mul-zeroℤ g) in
+              let inner : q *ℤ s +ℤ g *ℤ pos 0 ≡ q *ℤ s = omega products in
               let outer : h *ℤ (q *ℤ s) ≡ h *ℤ pos 0 =
-              *ℤ_comm h (q *ℤ s) ∙ ap (λ y. y *ℤ h) (sym inner) ∙ sym f ∙ ap (λ y. y *ℤ g) t_none ∙ zero-mulℤ g
-              ∙ sym (mul-zeroℤ h) in
+              omega (sorted_products, ap (λ y. y *ℤ h) (sym inner), f, ap (λ y. y *ℤ g) t_none) in
               let qs = mul-cancelℤ h (q *ℤ s) (pos 0) (omega (arith, linear, two)) outer in
               mul-cancelℤ q s (pos 0) (omega (arith, linear, one)) (qs ∙ sym (mul-zeroℤ q))

@@ -1,9 +1,8 @@
 -- The game of all words: its players are the words that have as many positions of each value as that of a player of a
 -- given game. A coalition of all words with some position is worth the value of that position, and each other coalition
 -- little. An exchange of positions of one value exchanges players and leaves the game as it is.
-use Rattle.std.proofs.Common.{◌≡◌, ℕ, zero, suc, ◌+◌, ◌-◌, ◌^◌, ◌<◌, ◌≤◌, Bool, true, false, cond, ◌||◌, nat_eq}
-use Rattle.std.proofs.Common.{ℤ, pos, ◌≤ℤ◌}
-use Rattle.std.proofs.Common.{refl, sym, ap, subst, ◌∙◌, inl, inr, arith}
+use Rattle.std.proofs.Common.{◌≡◌, ℕ, zero, suc, ◌+◌, ◌-◌, ◌^◌, ◌<◌, ◌≤◌, Bool, true, false, cond, ◌||◌, nat_eq, ℤ, pos}
+use Rattle.std.proofs.Common.{◌≤ℤ◌, refl, sym, ap, subst, ◌∙◌, inl, inr, arith}
 use Rattle.std.proofs.Math.Nat.{pow-le-pow_right}
 use Rattle.std.proofs.lemmas.Bool.{false≢true}
 use Rattle.std.proofs.lemmas.Int.{ints, clamps}
@@ -13,8 +12,7 @@ use Rattle.definitions.proofs.Ring.{linear}
 use Rattle.definitions.proofs.Cases.{true_or_false, same_or_other, less_or_last, nat_eq-same, nat_eq-other}
 use Rattle.definitions.proofs.Cases.{nat_eq-equal, from_nat_eq, or_true, below_or_above}
 use Rattle.definitions.proofs.Masks.{grand_coalition-within}
-use Rattle.definitions.proofs.Members.{sum_below-same, sum_below-zero, has_player-singleton}
-use Rattle.definitions.proofs.Members.{has_player-singleton_other}
+use Rattle.definitions.proofs.Members.{sum_below-same, sum_below-zero, has_player-singleton, has_player-singleton_other}
 use Rattle.definitions.proofs.Parts.{has_player-past}
 use Rattle.definitions.proofs.Splits.{passes_below, passes_below-at, some_below-true, some_below-false}
 use Rattle.theorems.proofs.Examples.{from_int_eq}
@@ -28,8 +26,8 @@ use Rattle.reduced_games.proofs.Staying.{staying_empty}
 use Rattle.reduced_games.proofs.Rules.{same_game}
 use Rattle.reduced_games.proofs.Numbered.{place, passing, passing_is, passing_place, place_within}
 use Rattle.reduced_games.proofs.Words.{count_of, weight_of, swap, swap_within, swap_has, swap_twice, swap_weight}
-use Rattle.laws.proofs.Numbers.{to_int_eq}
 use Rattle.reduced_games.proofs.Words.{value_exchanged, AreAlike, all_pass}
+use Rattle.laws.proofs.Numbers.{to_int_eq}
 
 -- where nobody from c on passes, the coalition of those who do is below 2 ^ c
 short_where : (c k : ℕ) (test : ℕ → Bool) → ((l : ℕ) → c ≤ l → l < k → test l ≡ false)
@@ -78,9 +76,8 @@ module _ (n L : ℕ) (C : ℕ → ℕ) (u : ℕ → ℤ) (floor : ℤ) where
         ∙ word_has j (front + j) (omega (arith, long, lt)) ∙ ap (λ s. has_player s j) (alone j lt)
         ∙ has_player-singleton j))
     | inr great ↦
-        (let small = short_where (suc (front + i)) L (λ l. has_player (C l) i) after in
-        let power : 2 ^ suc (front + i) ≤ 2 ^ (front + j) = pow-le-pow_right two (omega (arith, less)) in
-        omega (arith, small, power, great))
+        (let power : 2 ^ suc (front + i) ≤ 2 ^ (front + j) = pow-le-pow_right two (omega (arith, less)) in
+        omega (arith, short_where (suc (front + i)) L (λ l. has_player (C l) i) after, power, great))
   ]
     where
       two : 0 < 2
@@ -188,12 +185,10 @@ module _ (n L : ℕ) (C : ℕ → ℕ) (u : ℕ → ℤ) (floor : ℤ) where
       first a b = omega (arith, ints, clamps)
 
       either : (b : Bool) → u l ≤ℤ best c s → u l ≤ℤ cond b (int_max (u c) (best c s)) (best c s)
-      either true h = over (u l) (u c) (best c s) h
-      either false h = h
+      either b h = grind (arith, over)
 
       at_last : (b : Bool) → b ≡ true → u l ≡ u c → u l ≤ℤ cond b (int_max (u c) (best c s)) (best c s)
-      at_last true f same = (let p = first (u c) (best c s) in omega (arith, linear, p, same))
-      at_last false f same = absurd (false≢true f)
+      at_last b f same = grind (arith, linear, first)
 
   pub best_least : (c s : ℕ) (z : ℤ) → floor ≤ℤ z → ((l : ℕ) → l < c → cylinder l ≡ s → u l ≤ℤ z) → best c s ≤ℤ z
   best_least zero s z low h = low
@@ -205,8 +200,7 @@ module _ (n L : ℕ) (C : ℕ → ℕ) (u : ℕ → ℤ) (floor : ℤ) where
 
       either : (b : Bool) → nat_eq (cylinder c) s ≡ b → best c s ≤ℤ z
           → cond b (int_max (u c) (best c s)) (best c s) ≤ℤ z
-      either true e p = both (u c) (best c s) (h c (omega arith) (from_nat_eq (cylinder c) s e)) p
-      either false e p = p
+      either b e p = grind (arith, both, from_nat_eq)
 
   -- nobody and all are worth nothing
   abbrev pub is_end : ℕ → Bool
@@ -294,8 +288,7 @@ module _ (n L : ℕ) (C : ℕ → ℕ) (u : ℕ → ℤ) (floor : ℤ) where
         omega (arith, linear, up, value_exchanged L u a b l e)))
 
     best_same : (s : ℕ) → s < 2 ^ many → best L (image s) ≡ best L s
-    best_same s within =
-        (let up = best_no_less s in let down = best_no_less (image s) in
+    best_same s within = (let up = best_no_less s in let down = best_no_less (image s) in
         omega (arith, linear, up, down, ap (best L) (image_twice s within)))
 
     end_same : (c s : ℕ) → image c ≡ c → s < 2 ^ many → nat_eq (image s) c ≡ nat_eq s c
@@ -318,8 +311,7 @@ module _ (n L : ℕ) (C : ℕ → ℕ) (u : ℕ → ℤ) (floor : ℤ) where
     worth_same s =
         let c = players_of s in
         let c_within = coalition_where-within many (λ k. has_player s k) in
-        let same : image s ≡ image c =
-        same_below many (image s) (image c) (image_within s) (image_within c)
+        let same : image s ≡ image c = same_below many (image s) (image c) (image_within s) (image_within c)
         (λ k lt. image_has s k lt
         ∙ sym (coalition_where-has many (λ k. has_player s k) (to k) (to_within k lt)) ∙ sym (image_has c k lt)) in
         ap value (players_of_within (image s) (image_within s) ∙ same) ∙ value_same c c_within

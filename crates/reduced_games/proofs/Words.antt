@@ -1,8 +1,7 @@
 -- Words: a word says of each position whether it has it. An exchange of two positions of one value makes words of
 -- words; and where two words have as many positions of each value, some exchanges make the one of the other.
-use Rattle.std.proofs.Common.{◌≡◌, ◌⊎◌, ℕ, zero, suc, ◌^◌, ◌<◌, Bool, true, false, cond, not, ◌||◌, ◌&&◌}
-use Rattle.std.proofs.Common.{unsigned_abs, ℤ, pos, ◌<ℤ◌, ◌≤ℤ◌}
-use Rattle.std.proofs.Common.{refl, sym, ap, ◌∙◌, inl, inr, arith}
+use Rattle.std.proofs.Common.{◌≡◌, ◌⊎◌, ℕ, zero, suc, ◌^◌, ◌<◌, Bool, true, false, cond, not, ◌||◌, ◌&&◌, unsigned_abs}
+use Rattle.std.proofs.Common.{ℤ, pos, ◌<ℤ◌, ◌≤ℤ◌, refl, sym, ap, ◌∙◌, inl, inr, arith}
 use Rattle.std.proofs.lemmas.Int.{ints}
 use Rattle.std.specs.Ordering.{int_eq}
 use Rattle.definitions.proofs.Ring.{linear}
@@ -109,11 +108,7 @@ module _ (L : ℕ) (u : ℕ → ℤ) where
             → has_player o l ≡ q
             → cond e (cond q (pos 1) (pos 0)) (pos 0) <ℤ cond e (cond p (pos 1) (pos 0)) (pos 0)
             → (u l ≡ v) × (has_player t l ≡ true) × (has_player o l ≡ false)
-        by_case true e true f false h less = (from_int_eq (u l) v e, f, h)
-        by_case true e true f true h less = absurd (omega (arith, linear, less))
-        by_case true e false f true h less = absurd (omega (arith, linear, less))
-        by_case true e false f false h less = absurd (omega (arith, linear, less))
-        by_case false e p f q h less = absurd (omega (arith, linear, less))
+        by_case e h p f q k less = grind (arith, linear, from_int_eq)
 
     at_value : (t l : ℕ) → part t (u l) l ≡ cond (has_player t l) (pos 1) (pos 0)
     at_value t l =
@@ -178,17 +173,11 @@ module _ (L : ℕ) (u : ℕ → ℤ) where
         ]
       where
         has_more : (p q : Bool) → cond q (pos 1) (pos 0) <ℤ cond p (pos 1) (pos 0) → (p ≡ true) × (q ≡ false)
-        has_more true false lt = (refl, refl)
-        has_more true true lt = absurd (omega (arith, linear, lt))
-        has_more false true lt = absurd (omega (arith, linear, lt))
-        has_more false false lt = absurd (omega (arith, linear, lt))
+        has_more p q lt = grind (arith, linear)
 
         has_same : (p q : Bool) → cond p (pos 1) (pos 0) ≤ℤ cond q (pos 1) (pos 0)
             → cond q (pos 1) (pos 0) ≤ℤ cond p (pos 1) (pos 0) → p ≡ q
-        has_same true true h k = refl
-        has_same false false h k = refl
-        has_same true false h k = absurd (omega (arith, linear, h))
-        has_same false true h k = absurd (omega (arith, linear, k))
+        has_same p q h k = grind (arith, linear)
 
     -- the exchange of the two brings r nearer to s
     module _ (a : Apart r s) where
@@ -218,8 +207,7 @@ module _ (L : ℕ) (u : ℕ → ℤ) where
           let low = one_or_none-low (differ r s l) in omega (arith, linear, none, low)
         where
           same : (b : Bool) → cond ((b && not b) || (not b && b)) (pos 1) (pos 0) ≡ pos 0
-          same true = refl
-          same false = refl
+          same b = grind arith
 
       no_more : (l : ℕ) → l < L → apart_at moved l ≤ℤ apart_at r l
       no_more l lt = elim (same_or_other l a.first) [
@@ -249,18 +237,16 @@ module _ (L : ℕ) (u : ℕ → ℤ) where
     by_distance zero r hr alike near = elim (apart_or_same r s alike hr hs) [
       | inr same ↦ ap P same
       | inl a ↦ absurd
-          (let less = nearer r s alike a in let low = distance_low (swap a.first a.second r) s in
-          omega (arith, linear, less, low, near))
+          (omega (arith, linear, nearer r s alike a, distance_low (swap a.first a.second r) s, near))
     ]
     by_distance (suc k) r hr alike near = elim (apart_or_same r s alike hr hs) [
       | inr same ↦ ap P same
       | inl a ↦
           let w = swap a.first a.second r in
-          let less = nearer r s alike a in
           sym (kept a.first a.second r a.first_in a.second_in a.value hr alike)
           ∙ by_distance k w (swap_within a.first a.second r)
           (λ v. swap_weight a.first a.second r v a.first_in a.second_in a.value ∙ alike v)
-          (omega (arith, linear, less, near))
+          (omega (arith, linear, nearer r s alike a, near))
     ]
 
     pub kept_alike : (r : ℕ) → r < 2 ^ L → AreAlike r s → P r ≡ P s

@@ -1,15 +1,14 @@
 -- An objection of k against l at a kernel point can be countered: by l alone, where k outweighs l, and otherwise by a
 -- coalition that has the surplus of l against k (Davis and Maschler 1967). At a core point nobody has an objection.
-use Rattle.std.proofs.Common.{◌≡◌, ◌≢◌, ℕ, zero, suc, ◌<◌, false, ℤ, pos, ◌*ℤ◌}
-use Rattle.std.proofs.Common.{◌≤ℤ◌, sym, ap, ◌∙◌, inl, inr, arith, Bool, cond}
+use Rattle.std.proofs.Common.{◌≡◌, ◌≢◌, ℕ, zero, suc, ◌<◌, false, ℤ, pos, ◌*ℤ◌, ◌≤ℤ◌, sym, ap, ◌∙◌, inl, inr, arith}
+use Rattle.std.proofs.Common.{Bool, cond}
 use Rattle.std.proofs.lemmas.Bool.{false≢true}
 use Rattle.std.proofs.lemmas.Int.{by_lt_z}
-use lib.IntN.{*ℤ_comm}
 use Rattle.definitions.proofs.Cases.{same_or_other, less_or_last, from_not}
 use Rattle.definitions.proofs.Masks.{singleton-within}
 use Rattle.definitions.proofs.Members.{has_player-singleton_other, sum_over-singleton, sum_below-nonnegative}
 use Rattle.definitions.proofs.Parts.{part}
-use Rattle.definitions.proofs.Ring.{linear, mul-leℤ, mul-zeroℤ}
+use Rattle.definitions.proofs.Ring.{linear, mul-leℤ}
 use Rattle.definitions.proofs.SumsOver.{amount-at}
 use Rattle.theorems.proofs.Moves.{parted}
 use Rattle.theorems.proofs.Transfers.{surplus_of, holds_without-singleton}
@@ -20,10 +19,10 @@ use Rattle.definitions.specs.Prekernel.{IsSurplus}
 use Rattle.definitions.specs.declared.Family.TheVariants.{Imputations}
 use Rattle.stability.specs.BargainingSet.{IsObjection, IsCounter, KernelIsInBargainingSet, NucleolusIsInBargainingSet}
 use Rattle.stability.specs.BargainingSet.{BargainingSetIsntEmpty, CoreIsInBargainingSet}
-use Rattle.laws.proofs.NucleolusIsInCore.{core_family}
-use Rattle.laws.proofs.NucleolusIsInCore.{core_low}
+use Rattle.laws.proofs.NucleolusIsInCore.{core_family, core_low}
 use Rattle.stability.proofs.Kernel.{nucleolus_in_kernel, kernel_isnt_empty}
 use Rattle.stability.proofs.Counters.{answer, counters, rise, rise-within, rise-all}
+use Rattle.theorems.proofs.Products.{sorted_products}
 
 -- ---- the kernel
 
@@ -68,8 +67,7 @@ kernel_in_bargaining_set g x h = (
   where
     no_less : (k l p : ℕ) (y : Allocation) (o : IsObjection g x k l p y) (most : (m : ℤ) × IsSurplus g x k l m)
         (other : (m : ℤ) × IsSurplus g x l k m) → most.0 ≤ℤ other.0 → excess g x p ≤ℤ excess g x other.1.0.0
-    no_less k l p y o most other le =
-        omega (arith, linear, le, most.1.1 p (o.within, o.without), other.1.0.2)
+    no_less k l p y o most other le = omega (arith, linear, le, most.1.1 p (o.within, o.without), other.1.0.2)
 
 pub nucleolus_in_bargaining_set : NucleolusIsInBargainingSet
 nucleolus_in_bargaining_set g x h = kernel_in_bargaining_set g x (nucleolus_in_kernel g x h)
@@ -94,23 +92,10 @@ no_objection : (g : Game) (x : Allocation) → InCore g x → (k l p : ℕ) (y :
     → ¬ IsObjection g x k l p y
 no_objection g x h k l p y hk o =
     let inside = (parted (has_player p k) (has_player p l) o.without).0 in
-    let here : part (rise x y) p k ≡ rise x y k =
-    ap (λ (b : Bool). cond b (rise x y k) (pos 0)) inside in
+    let here : part (rise x y) p k ≡ rise x y k = ap (λ (b : Bool). cond b (rise x y k) (pos 0)) inside in
     let some = one_of_all g.players k (part (rise x y) p) (rise-within g x k l p y o) hk in
-    let none =
-    mul-leℤ y.den (excess g x p) (pos 0) (omega (arith, linear, o.shares.1)) (core_low g x h p o.within) in
-    omega (
-      arith,
-      linear,
-      here,
-      some,
-      none,
-      mul-zeroℤ y.den,
-      rise-all g x k l p y h.0 o,
-      o.more,
-      *ℤ_comm (share x k) y.den,
-      *ℤ_comm (share y k) x.den,
-    )
+    let none = mul-leℤ y.den (excess g x p) (pos 0) (omega (arith, linear, o.shares.1)) (core_low g x h p o.within) in
+    omega (sorted_products, here, some, none, rise-all g x k l p y h.0 o, o.more)
 
 pub core_in_bargaining_set : CoreIsInBargainingSet
 core_in_bargaining_set g x h = (

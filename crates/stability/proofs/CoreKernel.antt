@@ -1,7 +1,6 @@
 -- At a core point no surplus is above 0, and who gets just its worth alone has a surplus of 0 at least: so nobody is
 -- outweighed.
-use Rattle.std.proofs.Common.{◌≡◌, ◌≢◌, ℕ, ◌<◌}
-use Rattle.std.proofs.Common.{◌-ℤ◌, ◌*ℤ◌, sym, arith}
+use Rattle.std.proofs.Common.{◌≡◌, ◌≢◌, ℕ, ◌<◌, ◌-ℤ◌, ◌*ℤ◌, sym, arith}
 use Rattle.definitions.proofs.Masks.{singleton-within}
 use Rattle.definitions.proofs.Members.{sum_over-singleton}
 use Rattle.definitions.proofs.Ring.{linear}

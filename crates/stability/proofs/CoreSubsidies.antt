@@ -1,12 +1,11 @@
 -- What a coalition gets and what the others get add to the worth of all: so one gets at least its worth just where the
 -- other gets at most what it adds.
-use Rattle.std.proofs.Common.{◌≡◌, ℕ, ◌-◌, ◌^◌, ◌<◌, ◌+◌, ◌+ℤ◌}
-use Rattle.std.proofs.Common.{◌-ℤ◌, ◌*ℤ◌, ◌≤ℤ◌, ℤ, ap, arith}
+use Rattle.std.proofs.Common.{◌≡◌, ℕ, ◌-◌, ◌^◌, ◌<◌, ◌+◌, ◌+ℤ◌, ◌-ℤ◌, ◌*ℤ◌, ◌≤ℤ◌, ℤ, ap, arith}
 use Rattle.std.proofs.lemmas.Int.{by_lt_z}
 use Rattle.definitions.proofs.Masks.{singleton-within}
 use Rattle.definitions.proofs.Members.{sum_over-complement, sum_over-grand_coalition, sum_over-singleton}
 use Rattle.definitions.proofs.Parts.{others_lacks}
-use Rattle.definitions.proofs.Ring.{linear, mul-subℤ}
+use Rattle.definitions.proofs.Ring.{linear}
 use Rattle.definitions.proofs.SumsOver.{amount-at}
 use Rattle.definitions.specs.Coalitions.{singleton, grand_coalition}
 use Rattle.definitions.specs.Games.{Game, Allocation, share, amount, IsAllocation, IsEfficient, InCore}
@@ -14,6 +13,7 @@ use Rattle.definitions.specs.declared.Family.TheVariants.{Imputations}
 use Rattle.laws.proofs.NucleolusIsInCore.{core_family}
 use Rattle.stability.proofs.Unions.{opposite-within, opposite-twice}
 use Rattle.stability.specs.Subsidies.{IsSubsidyFree, CoreIsSubsidyFree, DummiesInTheCore}
+use Rattle.theorems.proofs.Products.{products}
 
 -- what the others get
 rest : (g : Game) (x : Allocation) (s : ℕ) → IsAllocation g x → IsEfficient g x → s < 2 ^ g.players
@@ -21,8 +21,7 @@ rest : (g : Game) (x : Allocation) (s : ℕ) → IsAllocation g x → IsEfficien
 rest g x s hx e lt =
     let n = g.players in
     omega (
-      arith,
-      linear,
+      products,
       sum_over-complement n s (share x) lt,
       sum_over-grand_coalition n (share x),
       amount-at g x s hx,
@@ -41,7 +40,7 @@ to_free g x h = (
       by_lt_z (amount x (all - s)) (x.den *ℤ g.worth (all - s))
       (λ blocks. absurd (h.2 (all - s) (opposite-within g.players s) blocks))
       (λ le. le) in
-      omega (arith, linear, reach, rest g x s h.0 h.1 lt, mul-subℤ x.den (g.worth all) (g.worth (all - s))),
+      omega (products, reach, rest g x s h.0 h.1 lt),
 )
 
 to_core : (g : Game) (x : Allocation) → IsSubsidyFree g x → InCore g x
@@ -52,15 +51,7 @@ to_core g x h = (
       let all = grand_coalition g.players in
       let at_most = h.2 (all - s) (opposite-within g.players s) in
       let same = ap (λ (t : ℕ). x.den *ℤ g.worth t) (opposite-twice g.players s lt) in
-      omega (
-        arith,
-        linear,
-        blocks,
-        at_most,
-        same,
-        rest g x s h.0 h.1 lt,
-        mul-subℤ x.den (g.worth all) (g.worth (all - (all - s))),
-      ),
+      omega (products, blocks, at_most, same, rest g x s h.0 h.1 lt),
 )
 
 pub core_is_subsidy_free : CoreIsSubsidyFree
@@ -73,18 +64,10 @@ dummies_in_the_core g x i h lt dummy =
     let all = grand_coalition n in
     let one = singleton-within n i lt in
     let whole : (all - singleton i) + singleton i ≡ all = omega (arith, one) in
-    let adds =
-    dummy (all - singleton i) (opposite-within n (singleton i)) (others_lacks n i one lt) in
+    let adds = dummy (all - singleton i) (opposite-within n (singleton i)) (others_lacks n i one lt) in
     let high = (to_free g x h).2 (singleton i) one in
     let low = (core_family Imputations g x h).2 i lt in
     let worth : g.worth all -ℤ g.worth (all - singleton i) ≡ g.worth (singleton i) =
     omega (arith, linear, adds, ap g.worth whole) in
-    omega (
-      arith,
-      linear,
-      high,
-      low,
-      ap (λ (z : ℤ). x.den *ℤ z) worth,
-      amount-at g x (singleton i) h.0,
-      sum_over-singleton n i (share x) lt,
-    )
+    omega
+    (products, high, low, ap (◌*ℤ◌ x.den) worth, amount-at g x (singleton i) h.0, sum_over-singleton n i (share x) lt)

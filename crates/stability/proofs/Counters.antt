@@ -1,15 +1,14 @@
 -- A counter objection: each member of q who is in p gets what y gives it, each other what x gives it, and player l what
 -- is left of the worth of q. Where the excess of q is at least that of p, that is at least nothing (Davis and Maschler
 -- 1967).
-use Rattle.std.proofs.Common.{◌≡◌, ℕ, ◌^◌, ◌<◌, Bool, true}
-use Rattle.std.proofs.Common.{false, not, cond, map, ℤ, pos}
-use Rattle.std.proofs.Common.{◌+ℤ◌, ◌-ℤ◌, ◌*ℤ◌, ◌≤ℤ◌, refl, sym, ap, ◌∙◌, arith}
+use Rattle.std.proofs.Common.{◌≡◌, ℕ, ◌^◌, ◌<◌, Bool, true, false, not, cond, map, ℤ, pos, ◌+ℤ◌, ◌-ℤ◌, ◌*ℤ◌, ◌≤ℤ◌, refl}
+use Rattle.std.proofs.Common.{sym, ap, ◌∙◌, arith}
 use Rattle.std.specs.List.{range_with_len}
 use Rattle.std.proofs.lemmas.List.FromFn.{get_or-map-range_with_len, length-map-range_with_len}
 use lib.IntN.{*ℤ_comm}
 use Rattle.definitions.proofs.Members.{sum_over-combined}
 use Rattle.definitions.proofs.Parts.{part, sum_below-le}
-use Rattle.definitions.proofs.Ring.{linear, mul-subℤ, mul-leℤ, mul-positiveℤ, mul_assocℤ, mul_left_commℤ}
+use Rattle.definitions.proofs.Ring.{linear, mul-leℤ, mul-positiveℤ}
 use Rattle.definitions.proofs.SumsOver.{sum_over-same, sum_over-add, sum_over-times, amount-at}
 use Rattle.theorems.proofs.Moves.{parted}
 use Rattle.definitions.specs.Coalitions.{has_player, singleton, sum_over}
@@ -17,6 +16,7 @@ use Rattle.definitions.specs.Games.{Game, Allocation, share, amount, excess, IsA
 use Rattle.definitions.specs.Prekernel.{holds_without}
 use Rattle.laws.proofs.AtPlayer.{sum_over-at_player}
 use Rattle.stability.specs.BargainingSet.{GetsNoLess, IsObjection, IsCounter}
+use Rattle.theorems.proofs.Products.{products, sorted_products}
 
 -- ---- what the members of p get more at y
 
@@ -29,8 +29,7 @@ pub rise-within : (g : Game) (x : Allocation) (k l p : ℕ) (y : Allocation) →
 rise-within g x k l p y o i lt = by_test (has_player p i) refl
   where
     by_test : (b : Bool) → has_player p i ≡ b → pos 0 ≤ℤ cond b (rise x y i) (pos 0)
-    by_test true e =
-        omega (arith, linear, o.no_less i lt e, *ℤ_comm (share x i) y.den, *ℤ_comm (share y i) x.den)
+    by_test true e = omega (arith, linear, o.no_less i lt e, *ℤ_comm (share x i) y.den, *ℤ_comm (share y i) x.den)
     by_test false e = omega (arith, linear)
 
 -- the members of p get what p is worth, in place of what they get at x
@@ -38,13 +37,10 @@ pub rise-all : (g : Game) (x : Allocation) (k l p : ℕ) (y : Allocation) → Is
     → sum_over g.players (rise x y) p ≡ y.den *ℤ excess g x p
 rise-all g x k l p y hx o =
     omega (
-      arith,
-      linear,
+      sorted_products,
       sum_over-combined g.players (share y) (share x) x.den y.den p,
-      ap (λ (z : ℤ). x.den *ℤ z) (sym (amount-at g y p o.shares) ∙ o.divides),
-      ap (λ (z : ℤ). y.den *ℤ z) (amount-at g x p hx),
-      mul_left_commℤ x.den y.den (g.worth p),
-      mul-subℤ y.den (x.den *ℤ g.worth p) (amount x p),
+      ap (◌*ℤ◌ x.den) (sym (amount-at g y p o.shares) ∙ o.divides),
+      ap (◌*ℤ◌ y.den) (amount-at g x p hx),
     )
 
 -- ---- the shares of q
@@ -73,36 +69,17 @@ module _ (g : Game) (x : Allocation) (k l p : ℕ) (y : Allocation) (q : ℕ) (h
   claims =
       let parts = sum_over-add n (λ i. y.den *ℤ share x i) (part (rise x y) p) q in
       let first = sum_over-times n (share x) y.den q in
-      let second =
-      sum_below-le n (part (part (rise x y) p) q) (part (rise x y) p)
+      let second = sum_below-le n (part (part (rise x y) p) q) (part (rise x y) p)
       (λ i lt. at_most (has_player q i) (part (rise x y) p i) (rise-within g x k l p y o i lt)) in
-      omega (
-        arith,
-        linear,
-        parts,
-        first,
-        second,
-        rise-all g x k l p y hx o,
-        ap (λ (z : ℤ). y.den *ℤ z) (amount-at g x q hx),
-      )
+      omega (products, parts, first, second, rise-all g x k l p y hx o, ap (◌*ℤ◌ y.den) (amount-at g x q hx))
     where
       at_most : (b : Bool) (z : ℤ) → pos 0 ≤ℤ z → cond b z (pos 0) ≤ℤ z
-      at_most true z h = omega (arith, linear)
-      at_most false z h = h
+      at_most b z h = grind (arith, linear)
 
   some_left : pos 0 ≤ℤ rest
   some_left =
-      let one = o.shares.1 in
-      let more = mul-leℤ y.den (excess g x p) (excess g x q) (omega (arith, linear, one)) no_less in
-      omega (
-        arith,
-        linear,
-        claims,
-        more,
-        mul-subℤ y.den (x.den *ℤ g.worth q) (amount x q),
-        mul_assocℤ x.den y.den (g.worth q),
-        mul_left_commℤ x.den y.den (g.worth q),
-      )
+      let more = mul-leℤ y.den (excess g x p) (excess g x q) (omega (arith, linear, o.shares.1)) no_less in
+      omega (sorted_products, claims, more)
 
   share-answer : (i : ℕ) → i < n → share answer i ≡ given i
   share-answer i lt = get_or-map-range_with_len given 0 n i i (pos 0) lt (omega arith)
@@ -119,31 +96,19 @@ module _ (g : Game) (x : Allocation) (k l p : ℕ) (y : Allocation) (q : ℕ) (h
       omega (arith, linear, a, b, c, d)
 
   no_less_than_claim : (i : ℕ) → i < n → claim i ≤ℤ share answer i
-  no_less_than_claim i lt =
-      let up = at_least (has_player (singleton l) i) in
-      omega (arith, linear, share-answer i lt, up)
+  no_less_than_claim i lt = omega (arith, linear, share-answer i lt, at_least (has_player (singleton l) i))
     where
       at_least : (b : Bool) → pos 0 ≤ℤ cond b rest (pos 0)
-      at_least true = some_left
-      at_least false = omega (arith, linear)
+      at_least b = grind (arith, linear, some_left)
 
   -- who is in p gets what y gives it
   as_promised : (i : ℕ) → i < n → has_player q i ≡ true → has_player p i ≡ true → GetsNoLess y answer i
   as_promised i lt in_q in_p =
       let claimed : claim i ≡ x.den *ℤ share y i =
       ap (λ (b : Bool). y.den *ℤ share x i +ℤ cond b (rise x y i) (pos 0)) in_p ∙ back in
-      let le =
-      mul-leℤ y.den (x.den *ℤ share y i) (share answer i) (omega (arith, linear, o.shares.1))
+      let le = mul-leℤ y.den (x.den *ℤ share y i) (share answer i) (omega (arith, linear, o.shares.1))
       (omega (arith, linear, claimed, no_less_than_claim i lt)) in
-      omega (
-        arith,
-        linear,
-        le,
-        *ℤ_comm (share y i) (x.den *ℤ y.den),
-        mul_assocℤ x.den y.den (share y i),
-        mul_left_commℤ x.den y.den (share y i),
-        *ℤ_comm (share answer i) y.den,
-      )
+      omega (sorted_products, le)
     where
       back : y.den *ℤ share x i +ℤ (x.den *ℤ share y i -ℤ y.den *ℤ share x i) ≡ x.den *ℤ share y i
       back = omega (arith, linear)
@@ -153,17 +118,9 @@ module _ (g : Game) (x : Allocation) (k l p : ℕ) (y : Allocation) (q : ℕ) (h
   as_before i lt in_q out =
       let claimed : claim i ≡ y.den *ℤ share x i =
       ap (λ (b : Bool). y.den *ℤ share x i +ℤ cond b (rise x y i) (pos 0)) out ∙ nothing in
-      let le =
-      mul-leℤ x.den (y.den *ℤ share x i) (share answer i) (omega (arith, linear, hx.1))
+      let le = mul-leℤ x.den (y.den *ℤ share x i) (share answer i) (omega (arith, linear, hx.1))
       (omega (arith, linear, claimed, no_less_than_claim i lt)) in
-      omega (
-        arith,
-        linear,
-        le,
-        *ℤ_comm (share x i) (x.den *ℤ y.den),
-        mul_assocℤ x.den y.den (share x i),
-        *ℤ_comm (share answer i) x.den,
-      )
+      omega (sorted_products, le)
     where
       nothing : y.den *ℤ share x i +ℤ pos 0 ≡ y.den *ℤ share x i
       nothing = omega (arith, linear)

@@ -3,9 +3,8 @@
 --
 --   lies_in n r s   all players of r are in s
 --   cover n e s     the greatest number e r of the coalitions r that lie in s
-use Rattle.std.proofs.Common.{◌≡◌, ℕ, ◌+◌, ◌^◌, ◌<◌, Bool, true}
-use Rattle.std.proofs.Common.{false, ◌&&◌, ◌||◌, not, ℤ, ◌+ℤ◌, ◌≤ℤ◌}
-use Rattle.std.proofs.Common.{refl, sym, ap, ◌∙◌, inl, inr, arith}
+use Rattle.std.proofs.Common.{◌≡◌, ℕ, ◌+◌, ◌^◌, ◌<◌, Bool, true, false, ◌&&◌, ◌||◌, not, ℤ, ◌+ℤ◌, ◌≤ℤ◌, sym, ap, ◌∙◌}
+use Rattle.std.proofs.Common.{inl, inr, arith}
 use Rattle.std.proofs.lemmas.Bool.{false≢true}
 use Rattle.std.proofs.Math.Pow.{pow_pos}
 use Rattle.definitions.proofs.Cases.{same_or_other, from_not, or_cases, and_parts}
@@ -32,8 +31,7 @@ lies_from n r s h =
     (λ i lt. by_test (has_player r i) (has_player s i) (h i lt)))
   where
     by_test : (p q : Bool) → (p ≡ true → q ≡ true) → (p && not q) ≡ false
-    by_test true q h = ap not (h refl)
-    by_test false q h = refl
+    by_test p q h = grind arith
 
 pub lies_to : (n r s i : ℕ) → lies_in n r s ≡ true → i < n → has_player r i ≡ true → has_player s i ≡ true
 lies_to n r s i h lt inside =
@@ -42,9 +40,7 @@ lies_to n r s i h lt inside =
     (from_not (some_below n (λ i. has_player r i && not (has_player s i))) h) i lt)
   where
     by_test : (p q : Bool) → p ≡ true → (p && not q) ≡ false → q ≡ true
-    by_test true true e h = refl
-    by_test true false e h = sym h
-    by_test false q e h = absurd (false≢true e)
+    by_test p q e h = grind arith
 
 module _ (n : ℕ) (e : ℕ → ℤ) where
   pub greatest_in : (s : ℕ) → (m : ℤ) × IsGreatest (λ r. (r < 2 ^ n) × (lies_in n r s ≡ true)) e m
@@ -86,8 +82,7 @@ module _ (n : ℕ) (e : ℕ → ℤ) where
         coalition_where-within n (λ k. has_player a k && has_player b k),
         lies_from n (common n a b) s
             (λ k lt inside.
-            let both =
-            and_parts (has_player a k) (has_player b k)
+            let both = and_parts (has_player a k) (has_player b k)
             (sym (coalition_where-has n (λ k. has_player a k && has_player b k) k lt) ∙ inside) in
             in_both k (lies_to n a (s + 2 ^ i) k first.0.1.1 lt both.0)
             (lies_to n b (s + 2 ^ j) k second.0.1.1 lt both.1)),

@@ -1,12 +1,9 @@
 -- Where the first of three takes all, the two others are worth 1 and get nothing: the second outweighs the first, and
 -- objects with half of it, which the first can't counter.
-use Rattle.std.proofs.Common.{◌≡◌, ◌⊎◌, ℕ, ◌<◌, Bool, true, false}
-use Rattle.std.proofs.Common.{◌||◌, not, nat_eq, ℤ, pos, ◌+ℤ◌, ◌*ℤ◌}
-use Rattle.std.proofs.Common.{◌≤ℤ◌, int_le, refl, sym, ap, ◌∙◌, inl, inr, arith, rules}
-use Rattle.std.proofs.lemmas.Bool.{false≢true}
+use Rattle.std.proofs.Common.{◌≡◌, ◌⊎◌, ℕ, ◌<◌, Bool, true, ◌||◌, not, nat_eq, ℤ, pos, ◌+ℤ◌, ◌*ℤ◌, ◌≤ℤ◌, int_le, refl}
+use Rattle.std.proofs.Common.{sym, ap, ◌∙◌, inl, inr, arith, rules}
 use Rattle.std.proofs.lemmas.Int.{ints}
 use Rattle.definitions.proofs.Cases.{from_nat_eq}
-use Rattle.definitions.proofs.Ring.{linear, mul-oneℤ, one-mulℤ, mul-zeroℤ}
 use Rattle.definitions.proofs.Splits.{passes_below-at}
 use Rattle.definitions.proofs.SumsOver.{amount-at}
 use Rattle.theorems.proofs.Examples.{from_either}
@@ -24,6 +21,7 @@ use Rattle.stability.specs.Majority.{majority, first_takes_all, last_halves, Maj
 use Rattle.stability.proofs.BargainingSet.{nucleolus_in_bargaining_set}
 use Rattle.stability.proofs.Kernel.{nucleolus_in_kernel}
 use Rattle.stability.proofs.LeastCore.{prenucleolus_in_least_core}
+use Rattle.theorems.proofs.Products.{products}
 
 -- ---- the kernel
 
@@ -47,8 +45,7 @@ first_surplus = (
 
 not_in_kernel : ¬ InKernel majority first_takes_all
 not_in_kernel h =
-    let alone : pos 1 ≡ pos 0 =
-    h.1 1 0 (omega arith) (omega arith) (λ e. omega (arith, e))
+    let alone : pos 1 ≡ pos 0 = h.1 1 0 (omega arith) (omega arith) (λ e. omega (arith, e))
     (pos 1, pos 0, second_surplus, first_surplus, search rules) in
     omega (arith, ints, alone)
 
@@ -75,37 +72,20 @@ first_alone_or_third q lt h =
   where
     by_tests : (b c d : Bool) → nat_eq q 1 ≡ c → nat_eq q 5 ≡ d → (not b || (c || d)) ≡ true → b ≡ true
         → (q ≡ 1) ⊎ (q ≡ 5)
-    by_tests true true d e f h k = inl (from_nat_eq q 1 e)
-    by_tests true false true e f h k = inr (from_nat_eq q 5 f)
-    by_tests true false false e f h k = absurd (false≢true h)
-    by_tests false c d e f h k = absurd (false≢true k)
+    by_tests b c d e f h k = grind (arith, from_nat_eq)
 
 pub no_counter : (q : ℕ) (z : Allocation) → IsCounter majority first_takes_all 1 0 6 last_halves q z → ⊥
 no_counter q z c = elim (first_alone_or_third q c.within c.without) [
   | inl alone ↦
-      let got =
-      sym (ap (amount z) alone ∙ amount-at majority z 1 c.shares) ∙ c.divides
+      let got = sym (ap (amount z) alone ∙ amount-at majority z 1 c.shares) ∙ c.divides
       ∙ ap (λ (s : ℕ). z.den *ℤ majority.worth s) alone in
-      let mine = c.as_before 0 (omega arith) (ap (λ (s : ℕ). has_player s 0) alone) refl in
-      omega (arith, linear, got, mine, c.shares.1, one-mulℤ z.den, mul-oneℤ (share z 0), mul-zeroℤ z.den)
+      omega (products, got, c.as_before 0 (omega arith) (ap (λ (s : ℕ). has_player s 0) alone) refl, c.shares.1)
   | inr third ↦
-      let got =
-      sym (ap (amount z) third ∙ amount-at majority z 5 c.shares) ∙ c.divides
+      let got = sym (ap (amount z) third ∙ amount-at majority z 5 c.shares) ∙ c.divides
       ∙ ap (λ (s : ℕ). z.den *ℤ majority.worth s) third in
       let mine = c.as_before 0 (omega arith) (ap (λ (s : ℕ). has_player s 0) third) refl in
       let other = c.as_promised 2 (omega arith) (ap (λ (s : ℕ). has_player s 2) third) refl in
-      omega (
-        arith,
-        linear,
-        got,
-        mine,
-        other,
-        c.shares.1,
-        one-mulℤ z.den,
-        mul-oneℤ z.den,
-        mul-oneℤ (share z 0),
-        twice (share z 2),
-      )
+      omega (products, got, mine, other, c.shares.1, twice (share z 2))
 ]
   where
     twice : (a : ℤ) → a *ℤ pos 2 ≡ a +ℤ a

@@ -3,9 +3,8 @@
 -- gives the others nothing (Maschler, Peleg and Shapley 1972).
 --
 --   Gain g x   such a coalition and such shares, a member that gains, and a player outside
-use Rattle.std.proofs.Common.{◌≡◌, ℕ, ◌+◌, ◌^◌, ◌<◌, ◌≤◌, Bool, true, false, ◌&&◌}
-use Rattle.std.proofs.Common.{cond, ℤ, pos, ◌*ℤ◌, ◌<ℤ◌, ◌≤ℤ◌, int_lt, refl, sym, ap}
-use Rattle.std.proofs.Common.{◌∙◌, inl, inr, arith}
+use Rattle.std.proofs.Common.{◌≡◌, ℕ, ◌+◌, ◌^◌, ◌<◌, ◌≤◌, Bool, true, false, ◌&&◌, cond, ℤ, pos, ◌*ℤ◌, ◌<ℤ◌, ◌≤ℤ◌}
+use Rattle.std.proofs.Common.{int_lt, refl, sym, ap, ◌∙◌, inl, inr, arith}
 use Rattle.std.specs.Ordering.{int_eq}
 use Rattle.std.proofs.lemmas.Bool.{false≢true}
 use Rattle.std.proofs.lemmas.Int.{by_lt_z, ints}
@@ -15,7 +14,7 @@ use Rattle.definitions.proofs.Masks.{singleton-within}
 use Rattle.definitions.proofs.Members.{has_player-empty, has_player-grand_coalition, sum_below-zero, sum_over-singleton}
 use Rattle.definitions.proofs.Members.{sum_over-grand_coalition}
 use Rattle.definitions.proofs.Parts.{part, sum_below-le, sum_over-more}
-use Rattle.definitions.proofs.Ring.{linear, mul-leℤ, mul-positiveℤ, mul-zeroℤ}
+use Rattle.definitions.proofs.Ring.{linear, mul-leℤ, mul-positiveℤ}
 use Rattle.definitions.proofs.SomeMembers.{some_outsider}
 use Rattle.definitions.proofs.Splits.{some_below-true, some_below-false}
 use Rattle.definitions.proofs.SumsOver.{amount-at, amount-empty}
@@ -31,13 +30,13 @@ use Rattle.laws.proofs.ShapleyValuesExist.{shapley_exists}
 use Rattle.laws.proofs.Numbers.{to_int_eq}
 use Rattle.stability.proofs.Covers.{lies_in, lies_from, lies_to, greatest_in, cover, cover_game, cover-convex}
 use Rattle.stability.proofs.Supermodular.{excess-both}
+use Rattle.theorems.proofs.Products.{products}
 
 at_most_all : (n s : ℕ) (f : ℕ → ℤ) → ((i : ℕ) → i < n → pos 0 ≤ℤ f i) → sum_over n f s ≤ℤ sum_below n f
 at_most_all n s f low = sum_below-le n (part f s) f (λ i lt. by_test (has_player s i) (f i) (low i lt))
   where
     by_test : (c : Bool) (z : ℤ) → pos 0 ≤ℤ z → cond c z (pos 0) ≤ℤ z
-    by_test true z h = omega (arith, linear)
-    by_test false z h = h
+    by_test c z h = grind (arith, linear)
 
 pub record Gain (g : Game) (x : Allocation) : Type 0 where
   pub z : Allocation
@@ -61,8 +60,7 @@ pub record Gain (g : Game) (x : Allocation) : Type 0 where
   pub l_out : has_player p l ≡ false
 
 pub empty_nothing : (g : Game) (x : Allocation) → g.worth 0 ≡ pos 0 → excess g x 0 ≡ pos 0
-empty_nothing g x nobody =
-    omega (arith, linear, amount-empty x, ap (λ (u : ℤ). x.den *ℤ u) nobody, mul-zeroℤ x.den)
+empty_nothing g x nobody = omega (products, amount-empty x, ap (◌*ℤ◌ x.den) nobody)
 
 -- ---- the coalition of the greatest excess, and what its members can get more
 
@@ -81,8 +79,7 @@ module _ (g : Game) (convex : IsConvex g) (nobody : g.worth 0 ≡ pos 0) (x : Al
   w_nobody =
       let most = (greatest_in n e 0).1 in
       let r = most.0.0 in
-      let none : r ≡ 0 =
-      same_below n r 0 most.0.1.0 (pow_pos n)
+      let none : r ≡ 0 = same_below n r 0 most.0.1.0 (pow_pos n)
       (λ i lt. not_true (has_player r i)
       (λ inside. false≢true (sym (has_player-empty i) ∙ lies_to n r 0 i most.0.1.1 lt inside))
       ∙ sym (has_player-empty i)) in
@@ -94,7 +91,7 @@ module _ (g : Game) (convex : IsConvex g) (nobody : g.worth 0 ≡ pos 0) (x : Al
       (cover-convex n e (λ a b ha hb. excess-both g x a b convex hx ha hb))
 
   z_positive : pos 0 <ℤ z.den
-  z_positive = let one = z_core.0.1 in omega (arith, linear, one)
+  z_positive = omega (arith, linear, z_core.0.1)
 
   -- a coalition gets in z at least the excess of each part
   reach : (q r : ℕ) → q < 2 ^ n → r < 2 ^ n → lies_in n r q ≡ true → (z.den *ℤ e r) ≤ℤ sum_over n (share z) q
@@ -107,17 +104,9 @@ module _ (g : Game) (convex : IsConvex g) (nobody : g.worth 0 ≡ pos 0) (x : Al
 
   nonnegative : (i : ℕ) → i < n → pos 0 ≤ℤ share z i
   nonnegative i lt =
-      let some =
-      reach (singleton i) 0 (singleton-within n i lt) (pow_pos n)
+      let some = reach (singleton i) 0 (singleton-within n i lt) (pow_pos n)
       (lies_from n 0 (singleton i) (λ j hj inside. absurd (false≢true (sym (has_player-empty j) ∙ inside)))) in
-      omega (
-        arith,
-        linear,
-        some,
-        sum_over-singleton n i (share z) lt,
-        ap (λ (u : ℤ). z.den *ℤ u) (empty_nothing g x nobody),
-        mul-zeroℤ z.den,
-      )
+      omega (products, some, sum_over-singleton n i (share z) lt, ap (◌*ℤ◌ z.den) (empty_nothing g x nobody))
 
   -- the greatest excess
   top : ℤ
@@ -161,22 +150,17 @@ module _ (g : Game) (convex : IsConvex g) (nobody : g.worth 0 ≡ pos 0) (x : Al
 
   p_last : (r : ℕ) → r < 2 ^ n → e r ≡ top → r ≤ p
   unfolding p
-  p_last r hr same =
-      let le = last.1.1 r (hr, to_int_eq (e r) top same) in
-      let is = last.1.0.2 in
-      omega (arith, ints, le, is)
+  p_last r hr same = omega (arith, ints, last.1.1 r (hr, to_int_eq (e r) top same), last.1.0.2)
 
   p_gets : sum_over n (share z) p ≡ z.den *ℤ top
   p_gets =
       let some = reach p p p_within p_within (lies_from n p p (λ i lt inside. inside)) in
-      let all = at_most_all n p (share z) nonnegative in
-      omega (arith, linear, some, all, total, ap (λ (u : ℤ). z.den *ℤ u) p_top)
+      omega (arith, linear, some, at_most_all n p (share z) nonnegative, total, ap (◌*ℤ◌ z.den) p_top)
 
   others_get_nothing : (i : ℕ) → i < n → has_player p i ≡ false → share z i ≡ pos 0
   others_get_nothing i lt out =
       let more = sum_over-more n p i (share z) lt out in
-      let all = at_most_all n (p + 2 ^ i) (share z) nonnegative in
-      omega (arith, linear, more, all, p_gets, total, nonnegative i lt)
+      omega (arith, linear, more, at_most_all n (p + 2 ^ i) (share z) nonnegative, p_gets, total, nonnegative i lt)
 
   some_gain : pos 0 <ℤ (z.den *ℤ top)
   some_gain = mul-positiveℤ z.den top z_positive top_positive
@@ -189,16 +173,14 @@ module _ (g : Game) (convex : IsConvex g) (nobody : g.worth 0 ≡ pos 0) (x : Al
         let both = and_parts (has_player p found.0) (int_lt (pos 0) (share z found.0)) found.2 in
         (found.0, found.1, both.0, omega (arith, ints, both.1))
     | inr none ↦ absurd
-        (let le =
-        sum_below-le n (part (share z) p) (λ i. pos 0)
+        (let le = sum_below-le n (part (share z) p) (λ i. pos 0)
         (λ i lt. by_test (has_player p i) (share z i)
         (some_below-false n (λ i. has_player p i && int_lt (pos 0) (share z i)) none i lt)) in
         omega (arith, linear, le, sum_below-zero n (λ i. pos 0) (λ i lt. refl), p_gets, some_gain))
   ]
     where
       by_test : (c : Bool) (u : ℤ) → (c && int_lt (pos 0) u) ≡ false → cond c u (pos 0) ≤ℤ pos 0
-      by_test true u h = omega (arith, ints, h)
-      by_test false u h = omega (arith, linear)
+      by_test c u h = grind (arith, ints)
 
   outsider : (j : ℕ) × (j < n) × (has_player p j ≡ false)
   outsider =

@@ -2,22 +2,19 @@
 -- Shapley 1972). What the members of the coalition p of the greatest excess can get more is as z has it, and of that
 -- player k leaves a little to each of the others. Who would counter without k needs the excess of a coalition, which is
 -- at most what z gives it: so no member of p can be in it, and p with it would have no less excess.
-use Rattle.std.proofs.Common.{◌≡◌, ◌≢◌, ℕ, zero, suc, ◌^◌, ◌<◌, ◌≤◌, Bool, true}
-use Rattle.std.proofs.Common.{false, ◌&&◌, ◌||◌, not, cond, map, ℤ, pos, ◌+ℤ◌, ◌*ℤ◌}
-use Rattle.std.proofs.Common.{◌<ℤ◌, ◌≤ℤ◌, neg_ℤ, refl, sym, ap, ◌∙◌, inl, inr, arith}
+use Rattle.std.proofs.Common.{◌≡◌, ◌≢◌, ℕ, zero, suc, ◌^◌, ◌<◌, ◌≤◌, Bool, true, false, ◌&&◌, ◌||◌, not, cond, map, ℤ}
+use Rattle.std.proofs.Common.{pos, ◌+ℤ◌, ◌*ℤ◌, ◌<ℤ◌, ◌≤ℤ◌, neg_ℤ, sym, ap, ◌∙◌, inl, inr, arith}
 use Rattle.std.specs.List.{range_with_len}
 use Rattle.std.proofs.lemmas.Bool.{false≢true}
 use Rattle.std.proofs.lemmas.Int.{ints}
 use Rattle.std.proofs.lemmas.List.FromFn.{get_or-map-range_with_len, length-map-range_with_len}
 use Rattle.std.proofs.Math.Pow.{pow_pos}
-use lib.IntN.{*ℤ_comm}
 use Rattle.definitions.proofs.Cases.{below_or_above, same_or_other, true_or_false, not_true, and_parts, or_right}
 use Rattle.definitions.proofs.Halves.{size_below, size_below-zero, size_below-yes, size_below-no, size_below-some}
 use Rattle.definitions.proofs.Members.{has_player-empty, has_player-singleton, has_player-singleton_other}
 use Rattle.definitions.proofs.Members.{sum_below-same, sum_over-nonnegative}
 use Rattle.definitions.proofs.Parts.{part, sum_below-le}
 use Rattle.definitions.proofs.Ring.{ring_laws, linear, mul-leℤ, mul-le_cancelℤ, mul-positiveℤ, mul-nonnegativeℤ}
-use Rattle.definitions.proofs.Ring.{mul-zeroℤ, mul-oneℤ, mul-addℤ, add-mulℤ, mul-subℤ, mul_assocℤ}
 use Rattle.definitions.proofs.SumsOver.{sum_over-same, sum_over-add, sum_over-times, amount-at}
 use Rattle.definitions.specs.Coalitions.{has_player, singleton, sum_over}
 use Rattle.definitions.specs.Convexity.{IsConvex}
@@ -33,15 +30,14 @@ use Rattle.stability.proofs.Covers.{lies_in, lies_from}
 use Rattle.stability.proofs.GreatestGain.{Gain, gain, empty_nothing}
 use Rattle.stability.proofs.Supermodular.{excess-both}
 use Rattle.stability.proofs.Unions.{union, common}
+use Rattle.theorems.proofs.Products.{products, sorted_products}
 
 members_le : (n s : ℕ) (a b : ℕ → ℤ) → ((i : ℕ) → i < n → has_player s i ≡ true → a i ≤ℤ b i)
     → sum_over n a s ≤ℤ sum_over n b s
-members_le n s a b h =
-    sum_below-le n (part a s) (part b s) (λ i lt. by_test (has_player s i) (a i) (b i) (h i lt))
+members_le n s a b h = sum_below-le n (part a s) (part b s) (λ i lt. by_test (has_player s i) (a i) (b i) (h i lt))
   where
     by_test : (c : Bool) (y z : ℤ) → (c ≡ true → y ≤ℤ z) → cond c y (pos 0) ≤ℤ cond c z (pos 0)
-    by_test true y z h = h refl
-    by_test false y z h = omega (arith, linear)
+    by_test c y z h = grind (arith, linear)
 
 sum_over-ones : (n s : ℕ) → sum_over n (λ i. pos 1) s ≡ pos (size_below n s)
 sum_over-ones zero s = sym (ap pos (size_below-zero s))
@@ -110,8 +106,7 @@ module _ (g : Game) (convex : IsConvex g) (nobody : g.worth 0 ≡ pos 0) (x : Al
       ≡ (c *ℤ sum_over n (share z) q +ℤ sum_over n (part (λ j. pos 1) p) q) +ℤ cond (has_player q k) (neg_ℤ c) (pos 0)
   extra-sum q =
       omega (
-        arith,
-        linear,
+        products,
         sum_over-add n (λ i. c *ℤ share z i +ℤ part (λ j. pos 1) p i) (part (λ j. neg_ℤ c) (singleton k)) q,
         sum_over-add n (λ i. c *ℤ share z i) (part (λ j. pos 1) p) q,
         sum_over-times n (share z) c q,
@@ -121,11 +116,10 @@ module _ (g : Game) (convex : IsConvex g) (nobody : g.worth 0 ≡ pos 0) (x : Al
   raised-sum : (q : ℕ) → sum_over n raised q ≡ scale *ℤ amount x q +ℤ sum_over n extra q
   raised-sum q =
       omega (
-        arith,
-        linear,
+        products,
         sum_over-add n (λ i. scale *ℤ share x i) extra q,
         sum_over-times n (share x) scale q,
-        ap (λ (u : ℤ). scale *ℤ u) (amount-at g x q hx),
+        ap (◌*ℤ◌ scale) (amount-at g x q hx),
       )
 
   -- each member of p gets more
@@ -138,11 +132,10 @@ module _ (g : Game) (convex : IsConvex g) (nobody : g.worth 0 ≡ pos 0) (x : Al
             ap (λ (b : Bool). cond b (neg_ℤ c) (pos 0)) (ap (has_player (singleton k)) same ∙ has_player-singleton k) in
             let much =
             mul-leℤ c (pos 1) (share z k) (omega (arith, linear, c_some)) (omega (arith, linear, gain.k_gains)) in
-            omega (arith, linear, one, left, much, mul-oneℤ c, ap (λ (j : ℕ). c *ℤ share z j) same)
+            omega (products, one, left, much, ap (λ (j : ℕ). c *ℤ share z j) same)
         | inr other ↦
             let none = ap (λ (b : Bool). cond b (neg_ℤ c) (pos 0)) (has_player-singleton_other k i other) in
-            let some =
-            mul-nonnegativeℤ c (share z i) (omega (arith, linear, c_some)) (gain.nonnegative i lt) in
+            let some = mul-nonnegativeℤ c (share z i) (omega (arith, linear, c_some)) (gain.nonnegative i lt) in
             omega (arith, linear, one, none, some)
       ]
 
@@ -150,44 +143,30 @@ module _ (g : Game) (convex : IsConvex g) (nobody : g.worth 0 ≡ pos 0) (x : Al
   gets_more i lt inside =
       let some = extra-some i lt inside in
       let up = mul-positiveℤ (extra i) x.den (omega (arith, linear, some)) (omega (arith, linear, hx.1)) in
-      omega (
-        arith,
-        linear,
-        up,
-        ap (λ (u : ℤ). u *ℤ x.den) (share-y i lt),
-        add-mulℤ (scale *ℤ share x i) (extra i) x.den,
-        turned (share x i) scale x.den,
-      )
+      omega (products, up, ap (λ (u : ℤ). u *ℤ x.den) (share-y i lt), turned (share x i) scale x.den)
     where
       turned : (a b d : ℤ) → a *ℤ (b *ℤ d) ≡ (b *ℤ a) *ℤ d
       turned a b d = simp ring_laws
 
   divides : amount y p ≡ (scale *ℤ x.den) *ℤ g.worth p
   divides =
-      let long = ap (λ (m : ℕ). sum_over m (share y) p) (length-map-range_with_len raised 0 n) in
-      let each = sum_over-same n (share y) raised p share-y in
       let ones : sum_over n (part (λ j. pos 1) p) p ≡ c =
       sum_below-same n (part (part (λ j. pos 1) p) p) (part (λ j. pos 1) p) (λ i lt. by_test (has_player p i))
       ∙ sum_over-ones n p in
       omega (
-        arith,
-        linear,
-        long,
-        each,
+        sorted_products,
+        ap (λ (m : ℕ). sum_over m (share y) p) (length-map-range_with_len raised 0 n),
+        sum_over-same n (share y) raised p share-y,
         raised-sum p,
         extra-sum p,
         ones,
         ap (λ (b : Bool). cond b (neg_ℤ c) (pos 0)) gain.k_in,
-        ap (λ (u : ℤ). c *ℤ u) gain.p_gets,
-        sym (mul_assocℤ c z.den top),
-        ap (λ (u : ℤ). scale *ℤ u) (sym gain.p_top),
-        mul-subℤ scale (x.den *ℤ g.worth p) (amount x p),
-        mul_assocℤ scale x.den (g.worth p),
+        ap (◌*ℤ◌ c) gain.p_gets,
+        ap (◌*ℤ◌ scale) (sym gain.p_top),
       )
     where
       by_test : (b : Bool) → cond b (cond b (pos 1) (pos 0)) (pos 0) ≡ cond b (pos 1) (pos 0)
-      by_test true = refl
-      by_test false = refl
+      by_test b = grind arith
 
   objection : IsObjection g x k l p y
   objection = record {
@@ -195,8 +174,7 @@ module _ (g : Game) (convex : IsConvex g) (nobody : g.worth 0 ≡ pos 0) (x : Al
     without = both_tests (has_player p k) (has_player p l) gain.k_in (ap not gain.l_out);
     shares = (
       length-map-range_with_len raised 0 n,
-      (let some = mul-positiveℤ scale x.den scale_positive (omega (arith, linear, hx.1)) in
-          omega (arith, linear, some)),
+      (omega (arith, linear, mul-positiveℤ scale x.den scale_positive (omega (arith, linear, hx.1)))),
     );
     divides = divides;
     no_less = λ i lt inside. (let more = gets_more i lt inside in omega (arith, linear, more));
@@ -215,15 +193,7 @@ module _ (g : Game) (convex : IsConvex g) (nobody : g.worth 0 ≡ pos 0) (x : Al
     each_needs : (i : ℕ) → i < n → has_player q i ≡ true → (u.den *ℤ raised i) ≤ℤ ((scale *ℤ x.den) *ℤ share u i)
     each_needs i lt inside = elim (true_or_false (has_player p i)) [
       | inl in_p ↦
-          let le = o.as_promised i lt inside in_p in
-          omega (
-            arith,
-            linear,
-            le,
-            ap (λ (a : ℤ). a *ℤ u.den) (share-y i lt),
-            *ℤ_comm (raised i) u.den,
-            *ℤ_comm (share u i) (scale *ℤ x.den),
-          )
+          omega (sorted_products, o.as_promised i lt inside in_p, ap (λ (a : ℤ). a *ℤ u.den) (share-y i lt))
       | inr out ↦
           let le = o.as_before i lt inside out in
           let more =
@@ -231,23 +201,13 @@ module _ (g : Game) (convex : IsConvex g) (nobody : g.worth 0 ≡ pos 0) (x : Al
           let ne : i ≢ k = λ same. false≢true (sym out ∙ ap (has_player p) same ∙ gain.k_in) in
           let nothing : extra i ≡ pos 0 =
           omega (
-            arith,
-            linear,
-            ap (λ (a : ℤ). c *ℤ a) (gain.others_get_nothing i lt out),
-            mul-zeroℤ c,
+            products,
+            ap (◌*ℤ◌ c) (gain.others_get_nothing i lt out),
             ap (λ (b : Bool). cond b (pos 1) (pos 0)) out,
             ap (λ (b : Bool). cond b (neg_ℤ c) (pos 0)) (has_player-singleton_other k i ne),
           ) in
-          omega (
-            arith,
-            linear,
-            more,
-            mul-addℤ u.den (scale *ℤ share x i) (extra i),
-            ap (λ (a : ℤ). u.den *ℤ a) nothing,
-            mul-zeroℤ u.den,
-            first (share x i) scale u.den,
-            second (share u i) scale x.den,
-          )
+          omega
+          (products, more, ap (◌*ℤ◌ u.den) nothing, first (share x i) scale u.den, second (share u i) scale x.den)
     ]
       where
         first : (a b d : ℤ) → d *ℤ (b *ℤ a) ≡ b *ℤ (a *ℤ d)
@@ -259,23 +219,18 @@ module _ (g : Game) (convex : IsConvex g) (nobody : g.worth 0 ≡ pos 0) (x : Al
     -- so the excess of q, times the scale, covers what its members would get more
     extra_covered : sum_over n extra q ≤ℤ (scale *ℤ e q)
     extra_covered =
-        let sums = members_le n q (λ i. u.den *ℤ raised i) (λ i. (scale *ℤ x.den) *ℤ share u i) each_needs in
-        let left = sum_over-times n raised u.den q in
-        let right = sum_over-times n (share u) (scale *ℤ x.den) q in
         let got = sym (amount-at g u q o.shares) ∙ o.divides in
-        let one = o.shares.1 in
         let most =
-        mul-le_cancelℤ u.den (sum_over n raised q) (scale *ℤ (x.den *ℤ g.worth q)) (omega (arith, linear, one))
+        mul-le_cancelℤ u.den (sum_over n raised q) (scale *ℤ (x.den *ℤ g.worth q)) (omega (arith, linear, o.shares.1))
         (omega (
-          arith,
-          linear,
-          sums,
-          left,
-          right,
-          ap (λ (a : ℤ). (scale *ℤ x.den) *ℤ a) got,
+          products,
+          members_le n q (λ i. u.den *ℤ raised i) (λ i. (scale *ℤ x.den) *ℤ share u i) each_needs,
+          sum_over-times n raised u.den q,
+          sum_over-times n (share u) (scale *ℤ x.den) q,
+          ap (◌*ℤ◌ ((scale *ℤ x.den))) got,
           turned scale x.den u.den (g.worth q),
         )) in
-        omega (arith, linear, most, raised-sum q, mul-subℤ scale (x.den *ℤ g.worth q) (amount x q))
+        omega (products, most, raised-sum q)
       where
         turned : (a b d t : ℤ) → (a *ℤ b) *ℤ (d *ℤ t) ≡ d *ℤ (a *ℤ (b *ℤ t))
         turned a b d t = simp ring_laws
@@ -283,12 +238,8 @@ module _ (g : Game) (convex : IsConvex g) (nobody : g.worth 0 ≡ pos 0) (x : Al
     covered : (scale *ℤ e q) ≤ℤ (c *ℤ sum_over n (share z) q)
     covered =
         let some = gain.reach q o.within in
-        omega (
-          arith,
-          linear,
-          mul-leℤ c (z.den *ℤ e q) (sum_over n (share z) q) (omega (arith, linear, c_some)) some,
-          mul_assocℤ c z.den (e q),
-        )
+        omega
+        (sorted_products, mul-leℤ c (z.den *ℤ e q) (sum_over n (share z) q) (omega (arith, linear, c_some)) some)
 
     sums : sum_over n extra q ≡ c *ℤ sum_over n (share z) q +ℤ sum_over n (part (λ j. pos 1) p) q
     sums = omega (arith, linear, extra-sum q, ap (λ (b : Bool). cond b (neg_ℤ c) (pos 0)) k_not)
@@ -297,8 +248,7 @@ module _ (g : Game) (convex : IsConvex g) (nobody : g.worth 0 ≡ pos 0) (x : Al
     ones_low i lt = by_test (has_player p i)
       where
         by_test : (b : Bool) → pos 0 ≤ℤ cond b (pos 1) (pos 0)
-        by_test true = omega (arith, linear)
-        by_test false = omega (arith, linear)
+        by_test b = grind (arith, linear)
 
     -- no member of p is in q
     apart : (i : ℕ) → i < n → (has_player p i && has_player q i) ≡ false
@@ -309,24 +259,20 @@ module _ (g : Game) (convex : IsConvex g) (nobody : g.worth 0 ≡ pos 0) (x : Al
         let here : part (part (λ j. pos 1) p) q i ≡ pos 1 =
         ap (λ (b : Bool). cond b (part (λ j. pos 1) p i) (pos 0)) in_both.1
         ∙ ap (λ (b : Bool). cond b (pos 1) (pos 0)) in_both.0 in
-        let one =
-        one_of_all n i (part (part (λ j. pos 1) p) q)
+        let one = one_of_all n i (part (part (λ j. pos 1) p) q)
         (λ j hj. by_test (has_player q j) (part (λ j. pos 1) p j) (ones_low j hj)) lt in
         omega (arith, linear, one, here, sums, extra_covered, covered))
       where
         by_test : (b : Bool) (a : ℤ) → pos 0 ≤ℤ a → pos 0 ≤ℤ cond b a (pos 0)
-        by_test true a h = h
-        by_test false a h = omega (arith, linear)
+        by_test b a h = grind (arith, linear)
 
     -- so p with q has no less excess than p
     q_low : pos 0 ≤ℤ e q
     q_low =
-        let some =
-        mul-nonnegativeℤ c (sum_over n (share z) q) (omega (arith, linear, c_some))
+        let some = mul-nonnegativeℤ c (sum_over n (share z) q) (omega (arith, linear, c_some))
         (sum_over-nonnegative n q (share z) gain.nonnegative) in
-        let ones = sum_over-nonnegative n q (part (λ j. pos 1) p) ones_low in
         mul-le_cancelℤ scale (pos 0) (e q) scale_positive
-        (omega (arith, linear, some, ones, sums, extra_covered, mul-zeroℤ scale))
+        (omega (products, some, sum_over-nonnegative n q (part (λ j. pos 1) p) ones_low, sums, extra_covered))
 
     never : ⊥
     never =
@@ -339,16 +285,14 @@ module _ (g : Game) (convex : IsConvex g) (nobody : g.worth 0 ≡ pos 0) (x : Al
         let both = excess-both g x p q convex hx gain.p_within o.within in
         let r_top : e r ≡ top =
         omega (arith, linear, both, ap e none, empty_nothing g x nobody, gain.p_top, q_low, gain.low r r_within) in
-        let le = gain.p_last r r_within r_top in
-        let inside : lies_in n p r ≡ true =
-        lies_from n p r
+        let inside : lies_in n p r ≡ true = lies_from n p r
         (λ i lt h. coalition_where-has n (λ i. has_player p i || has_player q i) i lt
         ∙ ap (λ (b : Bool). b || has_player q i) h) in
         let ge : p ≤ r = elim (below_or_above r p) [
           | inl less ↦ absurd (false≢true (sym (ap not (misses-less n p r gain.p_within less)) ∙ inside))
           | inr more ↦ more
         ] in
-        let same : r ≡ p = omega (arith, le, ge) in
+        let same : r ≡ p = omega (arith, gain.p_last r r_within r_top, ge) in
         false≢true
         (sym gain.l_out ∙ ap (λ (t : ℕ). has_player t l) (sym same)
         ∙ coalition_where-has n (λ i. has_player p i || has_player q i) l gain.hl

@@ -1,7 +1,6 @@
 -- Where player i outweighs j at the nucleolus, j gets just its worth alone: else a small move from j to i would leave
 -- an imputation whose excesses come first (Schmeidler 1969).
-use Rattle.std.proofs.Common.{◌≡◌, ◌≢◌, ℕ, ◌^◌, ◌<◌, true, ℤ, pos}
-use Rattle.std.proofs.Common.{◌*ℤ◌, ◌<ℤ◌, refl, sym, subst, inl, arith}
+use Rattle.std.proofs.Common.{◌≡◌, ◌≢◌, ℕ, ◌^◌, ◌<◌, true, ℤ, pos, ◌*ℤ◌, ◌<ℤ◌, refl, sym, subst, inl, arith}
 use Rattle.std.proofs.lemmas.Int.{by_lt_z}
 use Rattle.definitions.proofs.Ring.{linear}
 use Rattle.definitions.proofs.Scans.{IsGreatest-unique}
@@ -69,8 +68,7 @@ prekernel_from g x h never = (
   λ i j hi hj ne.
       let most = surplus_of g x i j hi ne in
       let other = surplus_of g x j i hj (λ e. ne (sym e)) in
-      let same : other.0 ≡ most.0 =
-      by_lt_z other.0 most.0
+      let same : other.0 ≡ most.0 = by_lt_z other.0 most.0
       (λ lt. absurd (never i j hi hj ne (most.0, other.0, most.1, other.1, lt)))
       (λ le. by_lt_z most.0 other.0
       (λ lt. absurd (never j i hj hi (λ e. ne (sym e)) (other.0, most.0, other.1, most.1, lt)))

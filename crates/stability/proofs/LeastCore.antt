@@ -1,31 +1,30 @@
 -- Of two preimputations the one with the lesser greatest excess comes first: so the prenucleolus has the least
 -- (Maschler, Peleg and Shapley 1979). At a core point no excess is above 0, so the least isn't.
-use Rattle.std.proofs.Common.{◌≡◌, ℕ, ◌-◌, ◌^◌, ◌<◌, true, not, nat_eq}
-use Rattle.std.proofs.Common.{map, ℤ, pos, ◌*ℤ◌, ◌<ℤ◌, ◌≤ℤ◌}
-use Rattle.std.proofs.Common.{sym, ap, ◌∙◌, inl, inr, arith}
+use Rattle.std.proofs.Common.{◌≡◌, ℕ, ◌-◌, ◌^◌, ◌<◌, true, not, nat_eq, map, ℤ, pos, ◌*ℤ◌, ◌<ℤ◌, ◌≤ℤ◌, sym, ap, ◌∙◌}
+use Rattle.std.proofs.Common.{inl, inr, arith}
 use Rattle.std.proofs.lemmas.Bool.{false≢true}
 use Rattle.std.proofs.lemmas.Bool.Decides.{nat_tests}
 use Rattle.std.proofs.lemmas.Int.{by_lt_z}
 use Rattle.std.proofs.Math.Pow.{pow_pos}
-use lib.IntN.{*ℤ_comm}
 use Rattle.definitions.proofs.Cases.{same_or_other}
 use Rattle.definitions.proofs.Masks.{proper_or_all}
 use Rattle.definitions.proofs.Measured.{weight, measured-weight, weight-positive, measured-positive}
-use Rattle.definitions.proofs.Ring.{linear, mul-leℤ, mul-le_cancelℤ, mul-zeroℤ, mul_left_commℤ}
+use Rattle.definitions.proofs.Ring.{linear, mul-leℤ, mul-le_cancelℤ, mul_left_commℤ}
 use Rattle.definitions.proofs.SumsOver.{amount-empty}
 use Rattle.theorems.proofs.OneWay.{beats_one_way}
 use Rattle.theorems.proofs.SortedLemmas.{ComesBefore-sorted}
 use Rattle.theorems.proofs.Soundness.{SameOrLow-range, SomeAbove-range}
 use Rattle.theorems.proofs.Transfers.{some_greatest}
 use Rattle.definitions.specs.Coalitions.{grand_coalition, proper_coalitions}
-use Rattle.definitions.specs.Games.{Game, Allocation, amount, excess, measured_excess, IsAllocation}
-use Rattle.definitions.specs.Games.{InFamily, Beats, IsSame, Blocks}
+use Rattle.definitions.specs.Games.{Game, Allocation, amount, excess, measured_excess, IsAllocation, InFamily, Beats}
+use Rattle.definitions.specs.Games.{IsSame, Blocks}
 use Rattle.definitions.specs.declared.Family.TheVariants.{Preimputations}
 use Rattle.definitions.specs.declared.Measure.{Measure}
 use Rattle.duality.proofs.Nucleoli.{prenucleoli_exist}
 use Rattle.laws.proofs.NucleolusIsInCore.{core_low, same_excess}
 use Rattle.stability.specs.LeastCore.{IsGreatestExcess, PrenucleolusIsInLeastCore, LeastCoreIsntEmpty}
 use Rattle.stability.specs.LeastCore.{LeastCoreIsInCore}
+use Rattle.theorems.proofs.Products.{products, sorted_products}
 
 -- ---- shares that are the same
 
@@ -34,11 +33,11 @@ same_measured : (measure : Measure) (g : Game) (x y : Allocation) (s : ℕ) → 
     → IsSame g x y → x.den *ℤ measured_excess measure g y s ≡ y.den *ℤ measured_excess measure g x s
 same_measured measure g x y s hx hy same =
     let w = weight measure s in
-    ap (λ (z : ℤ). x.den *ℤ z) (measured-weight measure s (excess g y s))
+    ap (◌*ℤ◌ x.den) (measured-weight measure s (excess g y s))
     ∙ mul_left_commℤ x.den w (excess g y s)
-    ∙ ap (λ (z : ℤ). w *ℤ z) (same_excess g x y s hx hy same)
+    ∙ ap (◌*ℤ◌ w) (same_excess g x y s hx hy same)
     ∙ mul_left_commℤ w y.den (excess g x s)
-    ∙ ap (λ (z : ℤ). y.den *ℤ z) (sym (measured-weight measure s (excess g x s)))
+    ∙ ap (◌*ℤ◌ y.den) (sym (measured-weight measure s (excess g x s)))
 
 -- ---- the prenucleolus
 
@@ -61,14 +60,12 @@ lesser_beats measure g x y m k hx hy most_x most_y lt =
         → (x.den *ℤ measured_excess measure g y s) ≤ℤ (k *ℤ x.den)
     at_most s some less =
         omega (
-          arith,
-          linear,
+          sorted_products,
           mul-leℤ x.den (measured_excess measure g y s) k (omega (arith, linear, hx.1)) (most_y.1 s (some, less)),
-          *ℤ_comm k x.den,
         )
 
     above : (k *ℤ x.den) <ℤ (y.den *ℤ measured_excess measure g x most_x.0.0)
-    above = omega (arith, linear, lt, ap (λ (z : ℤ). y.den *ℤ z) most_x.0.2, *ℤ_comm m y.den)
+    above = omega (sorted_products, lt, ap (◌*ℤ◌ y.den) most_x.0.2)
 
 pub prenucleolus_in_least_core : PrenucleolusIsInLeastCore
 prenucleolus_in_least_core measure g x h = (
@@ -86,15 +83,11 @@ prenucleolus_in_least_core measure g x h = (
     differ y m k hy most_x most_y lt same =
         let t = most_x.0.0 in
         omega (
-          arith,
-          linear,
+          sorted_products,
           lt,
-          ap (λ (z : ℤ). y.den *ℤ z) most_x.0.2,
-          *ℤ_comm m y.den,
-          *ℤ_comm k x.den,
+          ap (◌*ℤ◌ y.den) most_x.0.2,
           same_measured measure g x y t h.0.0 hy.0 same,
-          mul-leℤ x.den (measured_excess measure g y t) k (omega (arith, linear, h.0.0.1))
-              (most_y.1 t most_x.0.1),
+          mul-leℤ x.den (measured_excess measure g y t) k (omega (arith, linear, h.0.0.1)) (most_y.1 t most_x.0.1),
         )
 
 pub least_core_isnt_empty : LeastCoreIsntEmpty
@@ -131,8 +124,7 @@ least_core_in_core measure g x z can core h = (
   h.0.1,
   λ s lt. elim (same_or_other s 0) [
     | inl none ↦ λ blocks. nobody (omega (
-      arith,
-      linear,
+      products,
       blocks,
       ap (amount x) none,
       ap g.worth none,
@@ -141,31 +133,16 @@ least_core_in_core measure g x z can core h = (
     ))
     | inr some ↦ elim (proper_or_all g.players s lt) [
       | inl less ↦ λ blocks. proper s (omega (arith, some)) less blocks
-      | inr all ↦ λ blocks. omega (
-        arith,
-        linear,
-        blocks,
-        h.0.1,
-        ap (amount x) all,
-        ap (λ (k : ℕ). x.den *ℤ g.worth k) all,
-      )
+      | inr all ↦ λ blocks. omega (products, blocks, h.0.1, ap (amount x) all, ap (λ (k : ℕ). x.den *ℤ g.worth k) all)
     ]
   ],
 )
   where
     nobody : pos 0 <ℤ (x.den *ℤ g.worth 0) → ⊥
     nobody up =
-        let here = core_low g z core 0 (pow_pos g.players) in
-        let worth : g.worth 0 ≤ℤ pos 0 =
-        mul-le_cancelℤ z.den (g.worth 0) (pos 0) (omega (arith, linear, core.0.1))
-        (omega (arith, linear, here, amount-empty z, mul-zeroℤ z.den)) in
-        omega (
-          arith,
-          linear,
-          up,
-          mul-leℤ x.den (g.worth 0) (pos 0) (omega (arith, linear, h.0.0.1)) worth,
-          mul-zeroℤ x.den,
-        )
+        let worth : g.worth 0 ≤ℤ pos 0 = mul-le_cancelℤ z.den (g.worth 0) (pos 0) (omega (arith, linear, core.0.1))
+        (omega (products, core_low g z core 0 (pow_pos g.players), amount-empty z)) in
+        omega (products, up, mul-leℤ x.den (g.worth 0) (pos 0) (omega (arith, linear, h.0.0.1)) worth)
 
     proper : (s : ℕ) → 0 < s → s < grand_coalition g.players → Blocks g x s → ⊥
     proper s some less blocks =
@@ -177,13 +154,9 @@ least_core_in_core measure g x z can core h = (
         let within : t < 2 ^ g.players = omega (arith, most_z.0.1.1) in
         let up = weight-positive measure g.players t can most_z.0.1.0 within in
         let low = mul-leℤ w (excess g z t) (pos 0) (omega (arith, linear, up)) (core_low g z core t within) in
-        let below : k ≤ℤ pos 0 =
-        omega (arith, linear, most_z.0.2, low, measured-weight measure t (excess g z t), mul-zeroℤ w) in
-        let none = mul-leℤ x.den k (pos 0) (omega (arith, linear, h.0.0.1)) below in
-        let less_m : m ≤ℤ pos 0 =
-        mul-le_cancelℤ z.den m (pos 0) (omega (arith, linear, core.0.1))
-        (omega (arith, linear, least, none, mul-zeroℤ x.den, mul-zeroℤ z.den, *ℤ_comm m z.den, *ℤ_comm k x.den)) in
-        let above =
-        measured-positive measure g.players s (excess g x s) can some (omega (arith, less))
+        let below : k ≤ℤ pos 0 = omega (products, most_z.0.2, low, measured-weight measure t (excess g z t)) in
+        let less_m : m ≤ℤ pos 0 = mul-le_cancelℤ z.den m (pos 0) (omega (arith, linear, core.0.1))
+        (omega (sorted_products, least, mul-leℤ x.den k (pos 0) (omega (arith, linear, h.0.0.1)) below)) in
+        let above = measured-positive measure g.players s (excess g x s) can some (omega (arith, less))
         (omega (arith, linear, blocks)) in
         omega (arith, linear, above, most_x.1 s (some, less), less_m)

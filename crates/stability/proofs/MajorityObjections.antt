@@ -1,9 +1,8 @@
 -- Objections and counters of three who vote by majority: by computation, and for all that could be offered.
-use Rattle.std.proofs.Common.{◌≢◌, ℕ, ◌<◌, ◌&&◌, ◌||◌, not, pos, ◌*ℤ◌, int_le, refl}
-use Rattle.std.proofs.Common.{sym, ap, ◌∙◌, inl, inr, arith, rules}
+use Rattle.std.proofs.Common.{◌≢◌, ℕ, ◌<◌, ◌&&◌, ◌||◌, not, pos, ◌*ℤ◌, int_le, refl, sym, ap, ◌∙◌, inl, inr, arith}
+use Rattle.std.proofs.Common.{rules}
 use Rattle.std.proofs.lemmas.Int.{ints}
 use Rattle.definitions.proofs.Cases.{and_both}
-use Rattle.definitions.proofs.Ring.{linear, mul-oneℤ, one-mulℤ, mul-zeroℤ, zero-mulℤ}
 use Rattle.definitions.proofs.Splits.{passes_below-at}
 use Rattle.definitions.proofs.SumsOver.{amount-at}
 use Rattle.theorems.proofs.Examples.{from_either}
@@ -21,6 +20,7 @@ use Rattle.stability.specs.Majority.{majority, first_takes_all, last_halves, out
 use Rattle.stability.proofs.FirstTakesAll.{second_surplus, first_surplus, objection, first_alone_or_third, no_counter}
 use Rattle.stability.proofs.FirstTakesAll.{greatest_of_thirds}
 use Rattle.stability.proofs.Kernel.{none_outweighs}
+use Rattle.theorems.proofs.Products.{products}
 
 nobody_outweighs : (i j : ℕ) → i < 3 → j < 3 → i ≢ j → ¬ Outweighs majority thirds i j
 nobody_outweighs i j hi hj ne =
@@ -32,28 +32,13 @@ nobody_outweighs i j hi hj ne =
 no_objection : (p : ℕ) (y : Allocation) → ¬ IsObjection majority first_takes_all 0 1 p y
 no_objection p y o = elim (first_alone_or_third p o.within o.without) [
   | inl alone ↦
-      let got =
-      sym (ap (amount y) alone ∙ amount-at majority y 1 o.shares) ∙ o.divides
+      let got = sym (ap (amount y) alone ∙ amount-at majority y 1 o.shares) ∙ o.divides
       ∙ ap (λ (s : ℕ). y.den *ℤ majority.worth s) alone in
-      omega (arith, linear, got, o.more, o.shares.1, one-mulℤ y.den, mul-oneℤ (share y 0), mul-zeroℤ y.den)
+      omega (products, got, o.more, o.shares.1)
   | inr third ↦
-      let got =
-      sym (ap (amount y) third ∙ amount-at majority y 5 o.shares) ∙ o.divides
+      let got = sym (ap (amount y) third ∙ amount-at majority y 5 o.shares) ∙ o.divides
       ∙ ap (λ (s : ℕ). y.den *ℤ majority.worth s) third in
-      let other = o.no_less 2 (omega arith) (ap (λ (s : ℕ). has_player s 2) third) in
-      omega (
-        arith,
-        linear,
-        got,
-        other,
-        o.more,
-        o.shares.1,
-        one-mulℤ y.den,
-        mul-oneℤ y.den,
-        mul-oneℤ (share y 0),
-        mul-oneℤ (share y 2),
-        zero-mulℤ y.den,
-      )
+      omega (products, got, o.no_less 2 (omega arith) (ap (λ (s : ℕ). has_player s 2) third), o.more, o.shares.1)
 ]
 
 -- ---- by thirds
@@ -90,9 +75,7 @@ half_counter = record {
 }
 
 not_twice : ¬ IsGreatestExcess Plain majority thirds (pos 2)
-not_twice h =
-    let at_most = greatest_of_thirds.1 h.0.0 h.0.1 in
-    omega (arith, ints, at_most, h.0.2)
+not_twice h = omega (arith, ints, greatest_of_thirds.1 h.0.0 h.0.1, h.0.2)
 
 pub majority_objections : MajorityObjections
 majority_objections = (

@@ -4,9 +4,8 @@
 --
 --   IsReducible n z f p     the part p is such
 --   reducible_in, _out      so are the two
-use Rattle.std.proofs.Common.{◌≡◌, ℕ, ◌^◌, ◌<◌, Bool, true, false, ◌&&◌, ◌||◌, not}
-use Rattle.std.proofs.Common.{ℤ, pos, ◌≤ℤ◌, refl, sym, ap, ◌∙◌, inl, inr, arith}
-use Rattle.std.proofs.lemmas.Bool.{false≢true}
+use Rattle.std.proofs.Common.{◌≡◌, ℕ, ◌^◌, ◌<◌, Bool, true, false, ◌&&◌, ◌||◌, not, ℤ, pos, ◌≤ℤ◌, ap, ◌∙◌, inl, inr}
+use Rattle.std.proofs.Common.{arith}
 use Rattle.definitions.proofs.Cases.{true_or_false, and_parts, and_true, and_false, from_not, or_right, or_false}
 use Rattle.definitions.proofs.Ring.{linear}
 use Rattle.definitions.proofs.Splits.{some_below-true, some_below-false}
@@ -39,8 +38,7 @@ module _ (n : ℕ) (z f : ℕ → ℤ) (p : ℕ → Bool) (modular : IsSupermodu
             let l = some_below-true n (λ l. outside p t l && outside p r.0 l) left in
             let c = common n r.0 t in
             let again = may c (common-within n r.0 t) in
-            let le =
-            most (union n r.0 t) (union-within n r.0 t)
+            let le = most (union n r.0 t) (union-within n r.0 t)
             (splits_from n p (union n r.0 t) (
               some_in.0,
               some_in.1,
@@ -72,8 +70,7 @@ module _ (n : ℕ) (z f : ℕ → ℤ) (p : ℕ → Bool) (modular : IsSupermodu
           r.1,
           λ i lt in_t. r.2 i lt (and_parts (p i) (has_player t i) in_t).0,
           r.3
-              ∙ (let parts =
-              total-parts n z (inside p s) (inside (inside p t) s) (outside p t)
+              ∙ (let parts = total-parts n z (inside p s) (inside (inside p t) s) (outside p t)
               (λ i lt. whole (p i) (has_player t i) (has_player r.0 i) (has_player s i) (r.2 i lt)
               (some_below-false n (λ l. outside p t l && outside p r.0 l) none i lt)) in
               omega (arith, linear, parts, none_out)),
@@ -82,28 +79,17 @@ module _ (n : ℕ) (z f : ℕ → ℤ) (p : ℕ → Bool) (modular : IsSupermodu
       ]
     where
       held : (q a b : Bool) → (q && b) ≡ true → (q && (a || b)) ≡ true
-      held true a b e = or_right a b e
-      held false a b e = e
+      held q a b e = grind (arith, or_right)
 
       lacked : (q a b : Bool) → ((q && not b) && (q && not a)) ≡ true → (q && not (a || b)) ≡ true
-      lacked true true true e = e
-      lacked true true false e = e
-      lacked true false true e = e
-      lacked true false false e = refl
-      lacked false a b e = e
+      lacked q a b e = grind arith
 
       moved : (q a b c : Bool) → (q ≡ true → a ≡ c) → (q && (a && b)) ≡ ((q && b) && c)
-      moved true a true c h = and_true a ∙ h refl
-      moved true a false c h = and_false a
-      moved false a b c h = refl
+      moved q a b c h = grind (arith, and_false, and_true)
 
       whole : (q b a c : Bool) → (q ≡ true → a ≡ c) → ((q && not b) && (q && not a)) ≡ false
           → ((q && c) ≡ (((q && b) && c) || (q && not b))) × ((((q && b) && c) && (q && not b)) ≡ false)
-      whole true true a true h e = (refl, refl)
-      whole true true a false h e = (refl, refl)
-      whole true false true c h e = (sym (h refl), refl)
-      whole true false false c h e = absurd (false≢true (sym e))
-      whole false b a c h e = (refl, refl)
+      whole q b a c h e = grind arith
 
   pub reducible_out : IsReducible n z f (outside p t)
   reducible_out s hs =
@@ -113,8 +99,7 @@ module _ (n : ℕ) (z f : ℕ → ℤ) (p : ℕ → Bool) (modular : IsSupermodu
             let l = some_below-true n (λ l. inside p t l && inside p r.0 l) both_in in
             let u = union n r.0 t in
             let again = may u (union-within n r.0 t) in
-            let le =
-            most (common n r.0 t) (common-within n r.0 t)
+            let le = most (common n r.0 t) (common-within n r.0 t)
             (splits_from n p (common n r.0 t) (
               l.0,
               l.1,
@@ -137,8 +122,7 @@ module _ (n : ℕ) (z f : ℕ → ℤ) (p : ℕ → Bool) (modular : IsSupermodu
                   ∙ or_false (has_player r.0 i)
                   ∙ r.2 i lt parts.0,
               again.3
-                  ∙ (let parts =
-                  total-parts n z (inside p u) (inside (outside p t) s) (inside p t)
+                  ∙ (let parts = total-parts n z (inside p u) (inside (outside p t) s) (inside p t)
                   (λ i lt. joined (p i) (has_player r.0 i) (has_player t i) (has_player s i) (has_player u i)
                   (union-has n r.0 t i lt) (r.2 i lt)) in
                   omega (arith, linear, parts, none_in)),
@@ -157,25 +141,14 @@ module _ (n : ℕ) (z f : ℕ → ℤ) (p : ℕ → Bool) (modular : IsSupermodu
       ]
     where
       held : (q a b : Bool) → ((q && b) && (q && a)) ≡ true → (q && (a && b)) ≡ true
-      held true true true e = refl
-      held true true false e = e
-      held true false true e = e
-      held true false false e = e
-      held false a b e = e
+      held q a b e = grind arith
 
       lacked : (q a b : Bool) → (q && not b) ≡ true → (q && not (a && b)) ≡ true
-      lacked true true b e = e
-      lacked true false b e = refl
-      lacked false a b e = e
+      lacked q a b e = grind arith
 
       joined : (q a b c u : Bool) → u ≡ (a || b) → (q ≡ true → a ≡ c)
           → ((q && u) ≡ (((q && not b) && c) || (q && b))) × ((((q && not b) && c) && (q && b)) ≡ false)
-      joined true a true c u e h = (e ∙ or_right a true refl, refl)
-      joined true a false true u e h = (e ∙ or_false a ∙ h refl, refl)
-      joined true a false false u e h = (e ∙ or_false a ∙ h refl, refl)
-      joined false a b c u e h = (refl, refl)
+      joined q a b c u e h = grind (arith, or_false, or_right)
 
       left_out : (q b a c : Bool) → (q ≡ true → a ≡ c) → ((q && b) && (q && a)) ≡ false → (q && c) ≡ ((q && not b) && c)
-      left_out true true a c h e = sym (h refl) ∙ e
-      left_out true false a c h e = refl
-      left_out false b a c h e = refl
+      left_out q b a c h e = grind arith

@@ -6,9 +6,8 @@
 --   inside p s, outside p s   the players of the part p that are in s, and those that aren't
 --   Some n test               a player that passes a test
 --   IsNearRing n p z d        the coalitions that pass d are such, and each has a positive sum
-use Rattle.std.proofs.Common.{◌≡◌, ◌⊎◌, ℕ, zero, suc, ◌^◌, ◌<◌, Bool}
-use Rattle.std.proofs.Common.{true, false, ◌&&◌, ◌||◌, not, ℤ, pos, ◌<ℤ◌}
-use Rattle.std.proofs.Common.{◌≤ℤ◌, refl, sym, ap, ◌∙◌, inl, inr, arith}
+use Rattle.std.proofs.Common.{◌≡◌, ◌⊎◌, ℕ, zero, suc, ◌^◌, ◌<◌, Bool, true, false, ◌&&◌, ◌||◌, not, ℤ, pos, ◌<ℤ◌, ◌≤ℤ◌}
+use Rattle.std.proofs.Common.{refl, sym, ap, ◌∙◌, inl, inr, arith}
 use Rattle.std.proofs.lemmas.Bool.{false≢true}
 use Rattle.std.proofs.lemmas.Int.{ints}
 use Rattle.definitions.proofs.Cases.{true_or_false, and_parts, and_both, and_false, from_not, or_left, or_right}
@@ -58,11 +57,9 @@ module _ (n : ℕ) (p : ℕ → Bool) (z : ℕ → ℤ) (d : ℕ → Bool) (nr :
   none_meets e i he de hi in_t lacks k =
       elim (true_or_false (some_below n (λ l. outside p t l && outside p e l))) [
         | inl left ↦
-            let both =
-            (nr.ring t e ht he dt de k (some_below-true n (λ l. outside p t l && outside p e l) left)).1 in
+            let both = (nr.ring t e ht he dt de k (some_below-true n (λ l. outside p t l && outside p e l) left)).1 in
             let le = (fewest (common n t e) (common-within n t e) both).0 in
-            let lt =
-            count-less n i (inside p t) (inside p (common n t e)) hi in_t
+            let lt = count-less n i (inside p t) (inside p (common n t e)) hi in_t
             (lost (p i) (has_player t i) (has_player e i) (has_player (common n t e) i) (common-has n t e i hi) lacks)
             (λ l h. first_of (p l) (has_player t l) (has_player e l) (has_player (common n t e) l)
             (common-has n t e l h)) in
@@ -70,8 +67,7 @@ module _ (n : ℕ) (p : ℕ → Bool) (z : ℕ → ℤ) (d : ℕ → Bool) (nr :
         | inr none ↦
             let le = (fewest e he de).1 in
             let both = and_parts (inside p t k.0) (inside p e k.0) k.2 in
-            let lt =
-            count-less n k.0 (inside p t) (outside p e) k.1 both.0
+            let lt = count-less n k.0 (inside p t) (outside p e) k.1 both.0
             (not_out (p k.0) (has_player e k.0) both.1)
             (λ l h. must (p l) (has_player t l) (has_player e l)
             (some_below-false n (λ l. outside p t l && outside p e l) none l h)) in
@@ -79,24 +75,16 @@ module _ (n : ℕ) (p : ℕ → Bool) (z : ℕ → ℤ) (d : ℕ → Bool) (nr :
       ]
     where
       lost : (q a b c : Bool) → c ≡ (a && b) → b ≡ false → (q && c) ≡ false
-      lost false a b c e f = refl
-      lost true true b c e f = e ∙ f
-      lost true false b c e f = e
+      lost q a b c e f = grind arith
 
       first_of : (q a b c : Bool) → c ≡ (a && b) → (q && c) ≡ true → (q && a) ≡ true
-      first_of true true b c e f = refl
-      first_of true false b c e f = sym e ∙ f
-      first_of false a b c e f = f
+      first_of q a b c e f = grind arith
 
       not_out : (q b : Bool) → (q && b) ≡ true → (q && not b) ≡ false
-      not_out true true e = refl
-      not_out true false e = absurd (false≢true e)
-      not_out false b e = refl
+      not_out q b e = grind arith
 
       must : (q a b : Bool) → ((q && not a) && (q && not b)) ≡ false → (q && not b) ≡ true → (q && a) ≡ true
-      must true true b e f = refl
-      must true false b e f = sym e ∙ f
-      must false a b e f = f
+      must q a b e f = grind arith
 
   -- so a player outside is in one that misses t
   beside : (j : ℕ) → j < n → outside p t j ≡ true
@@ -124,8 +112,7 @@ module _ (n : ℕ) (p : ℕ → Bool) (z : ℕ → ℤ) (d : ℕ → Bool) (nr :
   -- all of the part is in w, whose sum is positive
   full : (w : ℕ → Bool) → pos 0 <ℤ total n z (λ i. p i && w i) → ((j : ℕ) → j < n → (p j && not (w j)) ≡ false) → ⊥
   full w up none =
-      let same = total-same n z (λ i. p i && w i) p (λ i lt. by_test (p i) (w i) (none i lt)) in
-      omega (arith, linear, up, same, nothing)
+      omega (arith, linear, up, total-same n z (λ i. p i && w i) p (λ i lt. by_test (p i) (w i) (none i lt)), nothing)
     where
       by_test : (a b : Bool) → (a && not b) ≡ false → (a && b) ≡ a
       by_test true true e = refl
@@ -184,14 +171,12 @@ module _ (n : ℕ) (p : ℕ → Bool) (z : ℕ → ℤ) (d : ℕ → Bool) (nr :
 
     wider-positive : pos 0 <ℤ total n z (λ i. p i && wider i)
     wider-positive =
-        let parts =
-        total-parts n z (λ i. p i && wider i) (λ i. p i && w i) (inside p most)
+        let parts = total-parts n z (λ i. p i && wider i) (λ i. p i && w i) (inside p most)
         (λ i lt. (
           either (p i) (w i) (has_player most i),
           apart_of (p i) (w i) (has_player most i) (fresh i lt),
         )) in
-        let more = nr.positive most most-within most-in in
-        omega (arith, linear, parts, up, more)
+        omega (arith, linear, parts, up, nr.positive most most-within most-in)
       where
         either : (a b c : Bool) → (a && (b || c)) ≡ ((a && b) || (a && c))
         either true b c = refl
@@ -248,8 +233,7 @@ module _ (n : ℕ) (p : ℕ → Bool) (z : ℕ → ℤ) (d : ℕ → Bool) (nr :
                 (some_below-false n (meets t most) (from_not (some_below n (meets t most)) most-fits.1) i h)
                 (some_below-false n (meets t e) (from_not (some_below n (meets t e)) m) i h))))),
           ) in
-          let lt =
-          count-less n l (inside p r) (inside p most) hl
+          let lt = count-less n l (inside p r) (inside p most) hl
           (joined (p l) (has_player most l) (has_player e l) (has_player r l) (union-has n most e l hl) in_e)
           (ap (λ (c : Bool). p l && c) out ∙ and_false (p l))
           (λ i h. joined_first (p i) (has_player most i) (has_player e i) (has_player r i) (union-has n most e i h)) in
@@ -258,26 +242,17 @@ module _ (n : ℕ) (p : ℕ → Bool) (z : ℕ → ℤ) (d : ℕ → Bool) (nr :
       where
         both_out : (q a b c : Bool) → (q && a) ≡ true → ((q && a) && (q && b)) ≡ false → ((q && a) && (q && c)) ≡ false
             → ((q && not b) && (q && not c)) ≡ true
-        both_out true true b c e f g = and_both (not b) (not c) (ap not f) (ap not g)
-        both_out true false b c e f g = absurd (false≢true e)
-        both_out false a b c e f g = absurd (false≢true e)
+        both_out q a b c e f g = grind (arith, and_both)
 
         neither_meets : (q a b c u : Bool) → u ≡ (b || c) → ((q && a) && (q && b)) ≡ false
             → ((q && a) && (q && c)) ≡ false → ((q && a) && (q && u)) ≡ false
-        neither_meets true true true c u e f g = absurd (false≢true (sym f))
-        neither_meets true true false c u e f g = e ∙ g
-        neither_meets true false b c u e f g = refl
-        neither_meets false a b c u e f g = refl
+        neither_meets q a b c u e f g = grind arith
 
         joined : (q b c u : Bool) → u ≡ (b || c) → (q && c) ≡ true → (q && u) ≡ true
-        joined true true c u e f = e
-        joined true false c u e f = e ∙ f
-        joined false b c u e f = f
+        joined q b c u e f = grind arith
 
         joined_first : (q b c u : Bool) → u ≡ (b || c) → (q && b) ≡ true → (q && u) ≡ true
-        joined_first true true c u e f = e
-        joined_first true false c u e f = absurd (false≢true f)
-        joined_first false b c u e f = f
+        joined_first q b c u e f = grind arith
 
     wider-kept : IsKept wider
     wider-kept e he de m = elim (each e he de m) [
@@ -305,8 +280,7 @@ module _ (n : ℕ) (p : ℕ → Bool) (z : ℕ → ℤ) (d : ℕ → Bool) (nr :
   grow zero w few start up each = elim (true_or_false (some_below n (λ j. p j && not (w j)))) [
     | inl some ↦
         let j = some_below-true n (λ j. p j && not (w j)) some in
-        let one = count-some n j.0 (λ i. p i && not (w i)) j.1 j.2 in
-        omega (arith, ints, one, few)
+        omega (arith, ints, count-some n j.0 (λ i. p i && not (w i)) j.1 j.2, few)
     | inr none ↦ full w up (some_below-false n (λ j. p j && not (w j)) none)
   ]
   grow (suc m) w few start up each = elim (true_or_false (some_below n (λ j. p j && not (w j)))) [

@@ -1,8 +1,7 @@
 -- The opposites of the coalitions of a near ring are one, for the negated numbers. A coalition with the fewest players
 -- of the part inside or outside is in the one or the other; so where the part's sum is nothing there is none.
-use Rattle.std.proofs.Common.{◌≡◌, ℕ, ◌^◌, ◌<◌, Bool, true, false, ◌&&◌, ◌||◌, not}
-use Rattle.std.proofs.Common.{ℤ, pos, neg_ℤ, ◌≤ℤ◌, refl, sym, ap, ◌∙◌, inl, inr}
-use Rattle.std.proofs.Common.{arith}
+use Rattle.std.proofs.Common.{◌≡◌, ℕ, ◌^◌, ◌<◌, Bool, true, false, ◌&&◌, ◌||◌, not, ℤ, pos, neg_ℤ, ◌≤ℤ◌, sym, ap, ◌∙◌}
+use Rattle.std.proofs.Common.{inl, inr, arith}
 use Rattle.std.proofs.lemmas.Bool.{false≢true}
 use Rattle.definitions.proofs.Cases.{true_or_false, or_left, or_right, or_other}
 use Rattle.definitions.proofs.Members.{has_player-complement}
@@ -22,9 +21,7 @@ module _ (n : ℕ) (p : ℕ → Bool) (s : ℕ) (lt : s < 2 ^ n) where
       ap (λ (b : Bool). p i && not b) (has_player-complement n s i lt h) ∙ by_test (p i) (has_player s i)
     where
       by_test : (q b : Bool) → (q && not (not b)) ≡ (q && b)
-      by_test true true = refl
-      by_test true false = refl
-      by_test false b = refl
+      by_test q b = grind arith
 
 opposites : (n : ℕ) (p : ℕ → Bool) (z : ℕ → ℤ) (d : ℕ → Bool) → IsNearRing n p z d → total n z p ≡ pos 0
     → IsNearRing n p (λ i. neg_ℤ (z i)) (λ s. d (opposite n s))
@@ -51,8 +48,7 @@ opposites n p z d nr nothing = record {
         ap d (sym (opposites-union n a b ha hb)) ∙ both.0,
       );
   apart = λ s i j hs ds hi hj in_s out_s.
-      let e =
-      nr.apart (opposite n s) j i (opposite-within n s) ds hj hi (inside-opposite n p s hs j hj ∙ out_s)
+      let e = nr.apart (opposite n s) j i (opposite-within n s) ds hj hi (inside-opposite n p s hs j hj ∙ out_s)
       (outside-opposite n p s hs i hi ∙ in_s) in (
         opposite n e.0,
         opposite-within n e.0,
@@ -63,8 +59,7 @@ opposites n p z d nr nothing = record {
   positive = λ s hs ds.
       let up = nr.positive (opposite n s) (opposite-within n s) ds in
       let same = total-same n z (inside p (opposite n s)) (outside p s) (inside-opposite n p s hs) in
-      let parts =
-      total-parts n z p (inside p s) (outside p s) (λ i lt. by_test (p i) (has_player s i)) in
+      let parts = total-parts n z p (inside p s) (outside p s) (λ i lt. by_test (p i) (has_player s i)) in
       omega (arith, linear, up, same, parts, nothing, total-negated n z (inside p s));
 }
   where
@@ -72,9 +67,7 @@ opposites n p z d nr nothing = record {
     swapped {a} {b} {c} {e} f g h = ap (λ (k : Bool). k && b) f ∙ ap (λ (k : Bool). c && k) g ∙ h
 
     by_test : (q b : Bool) → (q ≡ ((q && b) || (q && not b))) × (((q && b) && (q && not b)) ≡ false)
-    by_test true true = (refl, refl)
-    by_test true false = (refl, refl)
-    by_test false b = (refl, refl)
+    by_test q b = grind arith
 
 -- so where the part's sum is nothing there is none
 pub no_near_ring : (n : ℕ) (p : ℕ → Bool) (z : ℕ → ℤ) (d : ℕ → Bool) → IsNearRing n p z d → total n z p ≡ pos 0
@@ -99,26 +92,24 @@ no_near_ring n p z d nr nothing s hs ds = elim (some_greatest either fewness (2 
       | inl first ↦
           impossible n p z d nr nothing t ht first
           (λ r hr dr.
-          let one = least r (hr, or_left (d r) (d (opposite n r)) dr) in
           let two =
           least (opposite n r) (
             opposite-within n r,
             or_right (d (opposite n r)) (d (opposite n (opposite n r))) (ap d (opposite-twice n r hr) ∙ dr),
           ) in (
-            omega (arith, linear, one, is),
+            omega (arith, linear, least r (hr, or_left (d r) (d (opposite n r)) dr), is),
             omega (arith, linear, two, is, counted r hr),
           ))
       | inr out ↦
           impossible n p (λ i. neg_ℤ (z i)) (λ r. d (opposite n r)) (opposites n p z d nr nothing)
           (total-negated n z p ∙ ap neg_ℤ nothing) t ht (or_other (d t) (d (opposite n t)) out dt)
           (λ r hr dr.
-          let one = least r (hr, or_right (d r) (d (opposite n r)) dr) in
           let two =
           least (opposite n r) (
             opposite-within n r,
             or_left (d (opposite n r)) (d (opposite n (opposite n r))) dr,
           ) in (
-            omega (arith, linear, one, is),
+            omega (arith, linear, least r (hr, or_right (d r) (d (opposite n r)) dr), is),
             omega (arith, linear, two, is, counted r hr),
           ))
     ]

@@ -6,9 +6,8 @@
 --   IsSupermodular n f       two coalitions have no more than their union and their common players together
 --   IsReturned n f           for each with i and without j there is one with j and without i of no less
 --   IsSplitGreatest          no coalition that splits the part has more
-use Rattle.std.proofs.Common.{◌≡◌, ◌≢◌, ℕ, ◌^◌, ◌<◌, Bool, true, false, ◌&&◌, ◌||◌}
-use Rattle.std.proofs.Common.{not, ℤ, pos, neg_ℤ, ◌+ℤ◌, ◌<ℤ◌, ◌≤ℤ◌, refl, sym, ap}
-use Rattle.std.proofs.Common.{◌∙◌, inl, inr, arith}
+use Rattle.std.proofs.Common.{◌≡◌, ◌≢◌, ℕ, ◌^◌, ◌<◌, Bool, true, false, ◌&&◌, ◌||◌, not, ℤ, pos, neg_ℤ, ◌+ℤ◌, ◌<ℤ◌}
+use Rattle.std.proofs.Common.{◌≤ℤ◌, sym, ap, ◌∙◌, inl, inr, arith}
 use Rattle.std.proofs.lemmas.Bool.{false≢true}
 use Rattle.std.proofs.lemmas.Int.{by_lt_z}
 use Rattle.std.specs.Ordering.{int_eq}
@@ -71,14 +70,12 @@ module _ (n : ℕ) (f z : ℕ → ℤ) (p : ℕ → Bool) (modular : IsSupermodu
           let one = joined a b i j in
           let two = shared a b i j in
           let le = modular a b ha hb in
-          let high = most (union n a b) (union-within n a b) one in
-          let low = most (common n a b) (common-within n a b) two in
           let first = (top-to a ta).1 in
           let second = (top-to b tb).1 in (
             top-from (union n a b) (union-within n a b) one
-                (omega (arith, linear, le, low, first, second)),
+                (omega (arith, linear, le, most (common n a b) (common-within n a b) two, first, second)),
             top-from (common n a b) (common-within n a b) two
-                (omega (arith, linear, le, high, first, second)),
+                (omega (arith, linear, le, most (union n a b) (union-within n a b) one, first, second)),
           );
       apart = λ s i j lt h hi hj in_s out_s.
           let has = (and_parts (p i) (has_player s i) in_s) in
@@ -116,14 +113,10 @@ module _ (n : ℕ) (f z : ℕ → ℤ) (p : ℕ → Bool) (modular : IsSupermodu
             )
           where
             held : (q c e : Bool) → ((q && c) && (q && e)) ≡ true → (q && (c || e)) ≡ true
-            held true true e h = refl
-            held true false e h = absurd (false≢true h)
-            held false c e h = h
+            held q c e h = grind arith
 
             lacked : (q c e : Bool) → ((q && not c) && (q && not e)) ≡ true → (q && not (c || e)) ≡ true
-            lacked true true e h = h
-            lacked true false e h = h
-            lacked false c e h = h
+            lacked q c e h = grind arith
 
         shared : (a b : ℕ) → Some n (λ i. inside p a i && inside p b i) → Some n (λ i. outside p a i && outside p b i)
             → splits n p (common n a b) ≡ true
@@ -141,14 +134,10 @@ module _ (n : ℕ) (f z : ℕ → ℤ) (p : ℕ → Bool) (modular : IsSupermodu
             )
           where
             held : (q c e : Bool) → ((q && c) && (q && e)) ≡ true → (q && (c && e)) ≡ true
-            held true true e h = h
-            held true false e h = h
-            held false c e h = h
+            held q c e h = grind arith
 
             lacked : (q c e : Bool) → ((q && not c) && (q && not e)) ≡ true → (q && not (c && e)) ≡ true
-            lacked true true e h = absurd (false≢true h)
-            lacked true false e h = refl
-            lacked false c e h = h
+            lacked q c e h = grind arith
 
   -- one of them has a sum of nothing at most
   pub lowest_top : (i j : ℕ) → i < n → j < n → i ≢ j → p i ≡ true → p j ≡ true

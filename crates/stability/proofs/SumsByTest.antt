@@ -2,10 +2,8 @@
 --
 --   total n a t   the numbers a of the players below n that pass t, added
 --   count n t     how many players below n pass t
-use Rattle.std.proofs.Common.{◌≡◌, ℕ, zero, suc, ◌<◌, Bool, true, false, ◌&&◌, ◌||◌}
-use Rattle.std.proofs.Common.{not, if◌then◌else◌, ℤ, pos, neg_ℤ, ◌+ℤ◌, ◌<ℤ◌, ◌≤ℤ◌, refl}
-use Rattle.std.proofs.Common.{sym, ap, ◌∙◌, inl, inr, arith}
-use Rattle.std.proofs.lemmas.Bool.{false≢true}
+use Rattle.std.proofs.Common.{◌≡◌, ℕ, zero, suc, ◌<◌, Bool, true, false, ◌&&◌, ◌||◌, not, if◌then◌else◌, ℤ, pos, neg_ℤ}
+use Rattle.std.proofs.Common.{◌+ℤ◌, ◌<ℤ◌, ◌≤ℤ◌, refl, sym, ap, ◌∙◌, inl, inr, arith}
 use Rattle.std.proofs.lemmas.Int.{ints}
 use Rattle.definitions.proofs.Cases.{less_or_last, and_both}
 use Rattle.definitions.proofs.Members.{sum_below-same, sum_below-add, sum_below-nonnegative}
@@ -33,10 +31,7 @@ total-parts n a t u v parts =
     ∙ sum_below-add n (λ i. kept (u i) (a i)) (λ i. kept (v i) (a i))
   where
     by_test : (b c d : Bool) (k : ℤ) → b ≡ (c || d) → (c && d) ≡ false → kept b k ≡ kept c k +ℤ kept d k
-    by_test b true true k e f = absurd (false≢true (sym f))
-    by_test b true false k e f = ap (λ (h : Bool). kept h k) e ∙ omega (arith, linear)
-    by_test b false true k e f = ap (λ (h : Bool). kept h k) e ∙ omega (arith, linear)
-    by_test b false false k e f = ap (λ (h : Bool). kept h k) e ∙ omega (arith, linear)
+    by_test b c d k e f = grind (arith, linear)
 
 pub total-negated : (n : ℕ) (a : ℕ → ℤ) (t : ℕ → Bool) → total n (λ i. neg_ℤ (a i)) t ≡ neg_ℤ (total n a t)
 total-negated zero a t = refl
@@ -44,8 +39,7 @@ total-negated (suc n) a t =
     let last = by_test (t n) (a n) in omega (arith, linear, total-negated n a t, last)
   where
     by_test : (b : Bool) (k : ℤ) → kept b (neg_ℤ k) ≡ neg_ℤ (kept b k)
-    by_test true k = refl
-    by_test false k = refl
+    by_test b k = grind arith
 
 -- ---- how many
 
@@ -56,8 +50,7 @@ count-nonnegative : (n : ℕ) (t : ℕ → Bool) → pos 0 ≤ℤ count n t
 count-nonnegative n t = sum_below-nonnegative n (λ i. kept (t i) (pos 1)) (λ i lt. by_test (t i))
   where
     by_test : (b : Bool) → pos 0 ≤ℤ kept b (pos 1)
-    by_test true = omega (arith, linear)
-    by_test false = omega (arith, linear)
+    by_test b = grind (arith, linear)
 
 pub count-most : (n : ℕ) (t : ℕ → Bool) → count n t ≤ℤ pos n
 count-most zero t = omega (arith, linear)
@@ -65,34 +58,27 @@ count-most (suc n) t =
     let last = by_test (t n) in omega (arith, ints, count-most n t, last)
   where
     by_test : (b : Bool) → kept b (pos 1) ≤ℤ pos 1
-    by_test true = omega (arith, linear)
-    by_test false = omega (arith, linear)
+    by_test b = grind (arith, linear)
 
 pub count-some : (n j : ℕ) (t : ℕ → Bool) → j < n → t j ≡ true → pos 1 ≤ℤ count n t
 count-some zero j t lt h = absurd (omega arith)
 count-some (suc n) j t lt h = elim (less_or_last j n lt) [
   | inl less ↦ (let more = count-some n j t less h in let last = by_test (t n) in omega (arith, linear, more, last))
   | inr same ↦
-      let some = count-nonnegative n t in
       let last : kept (t n) (pos 1) ≡ pos 1 = ap (λ (b : Bool). kept b (pos 1)) (ap t (sym same) ∙ h) in
-      omega (arith, linear, some, last)
+      omega (arith, linear, count-nonnegative n t, last)
 ]
   where
     by_test : (b : Bool) → pos 0 ≤ℤ kept b (pos 1)
-    by_test true = omega (arith, linear)
-    by_test false = omega (arith, linear)
+    by_test b = grind (arith, linear)
 
 -- all who pass u pass t, and j passes t alone
 pub count-less : (n j : ℕ) (t u : ℕ → Bool) → j < n → t j ≡ true → u j ≡ false
     → ((i : ℕ) → i < n → u i ≡ true → t i ≡ true) → count n u <ℤ count n t
 count-less n j t u lt inside outside all =
-    let parts =
-    total-parts n (λ i. pos 1) t u (λ i. t i && not (u i)) (λ i h. by_test (t i) (u i) (all i h)) in
+    let parts = total-parts n (λ i. pos 1) t u (λ i. t i && not (u i)) (λ i h. by_test (t i) (u i) (all i h)) in
     let some = count-some n j (λ i. t i && not (u i)) lt (and_both (t j) (not (u j)) inside (ap not outside)) in
     omega (arith, linear, parts, some)
   where
     by_test : (b c : Bool) → (c ≡ true → b ≡ true) → (b ≡ (c || (b && not c))) × ((c && (b && not c)) ≡ false)
-    by_test true true h = (refl, refl)
-    by_test true false h = (refl, refl)
-    by_test false true h = absurd (false≢true (h refl))
-    by_test false false h = (refl, refl)
+    by_test b c h = grind arith

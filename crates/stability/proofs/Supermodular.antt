@@ -1,14 +1,13 @@
 -- Of a convex game, two coalitions are worth no more than all their members together and those that are in both
 -- (Shapley 1971): the members of the first join those in both, and no less the second, one by one.
 use Rattle.std.proofs.Common.{◌≡◌, ◌≢◌, ℕ, zero, suc, ◌+◌, ◌^◌, ◌<◌, ◌≤◌, Bool}
-use Rattle.std.proofs.Common.{true, false, ◌&&◌, ◌||◌, nat_lt, cond, ℤ, pos, ◌+ℤ◌, ◌-ℤ◌}
-use Rattle.std.proofs.Common.{◌≤ℤ◌, refl, sym, ap, ◌∙◌, inl, inr, arith}
-use Rattle.std.proofs.lemmas.Bool.{false≢true}
+use Rattle.std.proofs.Common.{true, false, ◌&&◌, ◌||◌, nat_lt, cond}
+use Rattle.std.proofs.Common.{ℤ, pos, ◌+ℤ◌, ◌-ℤ◌, ◌≤ℤ◌, refl, sym, ap, ◌∙◌, inl, inr, arith}
 use Rattle.std.proofs.lemmas.Bool.Decides.{nat_tests}
 use Rattle.definitions.proofs.Cases.{same_or_other, nat_lt-past, nat_lt-less}
 use Rattle.definitions.proofs.Members.{sum_below-same, sum_below-add}
 use Rattle.definitions.proofs.Parts.{has_player-more_same, has_player-more_other, has_player-within, more-lt, part}
-use Rattle.definitions.proofs.Ring.{linear, mul-leℤ, mul-addℤ}
+use Rattle.definitions.proofs.Ring.{linear, mul-leℤ}
 use Rattle.definitions.proofs.SumsOver.{amount-at}
 use Rattle.definitions.specs.Coalitions.{has_player}
 use Rattle.definitions.specs.Convexity.{IsConvex}
@@ -17,6 +16,7 @@ use Rattle.convexity.proofs.Joining.{adds_more}
 use Rattle.laws.proofs.RenumberedCoalitions.{coalition_where-within, coalition_where-has, same_below}
 use Rattle.laws.specs.Renumbering.{coalition_where}
 use Rattle.stability.proofs.Unions.{union, common}
+use Rattle.theorems.proofs.Products.{products}
 
 -- ---- one by one
 
@@ -96,8 +96,7 @@ module _ (n a b : ℕ) where
       grown-has k j lt ∙ by_tests (has_player a j) (has_player b j) (nat_lt j k) (sym (shared-has k j lt) ∙ inside)
     where
       by_tests : (p q r : Bool) → (p && (q || r)) ≡ true → (q || (p && r)) ≡ true
-      by_tests true q r h = h
-      by_tests false q r h = absurd (false≢true h)
+      by_tests p q r h = grind arith
 
 module _ (g : Game) (convex : IsConvex g) (a b : ℕ) where
   abbrev n : ℕ
@@ -115,12 +114,10 @@ module _ (g : Game) (convex : IsConvex g) (a b : ℕ) where
       stays : shared_test a b (suc k) k ≡ shared_test a b k k → grown_test a b (suc k) k ≡ grown_test a b k k
           → (low (suc k) -ℤ low k) ≤ℤ (high (suc k) -ℤ high k)
       stays e f =
-          let one =
-          ap g.worth
+          let one = ap g.worth
           (none_more n a b (shared_test a b (suc k)) (shared_test a b k)
           (kept n a b (shared_test a b (suc k)) (shared_test a b k) k e (shared-other n a b k))) in
-          let two =
-          ap g.worth
+          let two = ap g.worth
           (none_more n a b (grown_test a b (suc k)) (grown_test a b k)
           (kept n a b (grown_test a b (suc k)) (grown_test a b k) k f (grown-other n a b k))) in
           omega (arith, linear, one, two)
@@ -131,11 +128,9 @@ module _ (g : Game) (convex : IsConvex g) (a b : ℕ) where
           let in_s : shared_test a b (suc k) k ≡ true = rw (ha, hb, lt_here k) refl in
           let out_g : grown_test a b k k ≡ false = rw (ha, hb, nat_lt-past k k (omega arith)) refl in
           let in_g : grown_test a b (suc k) k ≡ true = rw (ha, hb, lt_here k) refl in
-          let one =
-          ap g.worth
+          let one = ap g.worth
           (one_more n a b (shared_test a b (suc k)) (shared_test a b k) k lt out_s in_s (shared-other n a b k)) in
-          let two =
-          ap g.worth
+          let two = ap g.worth
           (one_more n a b (grown_test a b (suc k)) (grown_test a b k) k lt out_g in_g (grown-other n a b k)) in
           let more =
           adds_more g k (shared n a b k) (grown n a b k) convex (shared-within n a b k) (grown-within n a b k) lt
@@ -144,9 +139,7 @@ module _ (g : Game) (convex : IsConvex g) (a b : ℕ) where
 
       by_tests : (c d : Bool) → has_player a k ≡ c → has_player b k ≡ d
           → (low (suc k) -ℤ low k) ≤ℤ (high (suc k) -ℤ high k)
-      by_tests true true ha hb = stays (rw (ha, hb) refl) (rw (ha, hb) refl)
-      by_tests true false ha hb = joins ha hb
-      by_tests false d ha hb = stays (rw ha refl) (rw ha refl)
+      by_tests c d ha hb = grind (arith, joins, stays)
 
   steps : (k : ℕ) → k ≤ n → (low k -ℤ low 0) ≤ℤ (high k -ℤ high 0)
   steps zero le = omega (arith, linear)
@@ -155,54 +148,40 @@ module _ (g : Game) (convex : IsConvex g) (a b : ℕ) where
   pub supermodular : a < 2 ^ n → b < 2 ^ n
       → (g.worth a +ℤ g.worth b) ≤ℤ (g.worth (union n a b) +ℤ g.worth (common n a b))
   supermodular ha hb =
-      let all = steps n (omega arith) in
-      let first : low 0 ≡ g.worth (common n a b) =
-      ap g.worth
+      let first : low 0 ≡ g.worth (common n a b) = ap g.worth
       (none_more n a b (shared_test a b 0) (λ i. has_player a i && has_player b i)
       (λ i. ap (λ (c : Bool). has_player a i && (has_player b i || c)) (nat_lt-past i 0 (omega arith))
       ∙ ap (λ (c : Bool). has_player a i && c) (or_none (has_player b i)))) in
-      let second : high 0 ≡ g.worth b =
-      ap g.worth
+      let second : high 0 ≡ g.worth b = ap g.worth
       (same_below n (grown n a b 0) b (grown-within n a b 0) hb
       (λ i h. grown-has n a b 0 i h
       ∙ ap (λ (c : Bool). has_player b i || (has_player a i && c)) (nat_lt-past i 0 (omega arith))
       ∙ none_added (has_player a i) (has_player b i))) in
-      let third : low n ≡ g.worth a =
-      ap g.worth
+      let third : low n ≡ g.worth a = ap g.worth
       (same_below n (shared n a b n) a (shared-within n a b n) ha
       (λ i h. shared-has n a b n i h
       ∙ ap (λ (c : Bool). has_player a i && (has_player b i || c)) (nat_lt-less i n h)
       ∙ all_added (has_player a i) (has_player b i))) in
-      let fourth : high n ≡ g.worth (union n a b) =
-      ap g.worth
+      let fourth : high n ≡ g.worth (union n a b) = ap g.worth
       (same_below n (grown n a b n) (union n a b) (grown-within n a b n)
       (coalition_where-within n (λ i. has_player a i || has_player b i))
       (λ i h. grown-has n a b n i h
       ∙ ap (λ (c : Bool). has_player b i || (has_player a i && c)) (nat_lt-less i n h)
       ∙ either_way (has_player a i) (has_player b i)
       ∙ sym (coalition_where-has n (λ i. has_player a i || has_player b i) i h))) in
-      omega (arith, linear, all, first, second, third, fourth)
+      omega (arith, linear, steps n (omega arith), first, second, third, fourth)
     where
       or_none : (q : Bool) → (q || false) ≡ q
-      or_none true = refl
-      or_none false = refl
+      or_none q = grind arith
 
       none_added : (p q : Bool) → (q || (p && false)) ≡ q
-      none_added true true = refl
-      none_added true false = refl
-      none_added false true = refl
-      none_added false false = refl
+      none_added p q = grind arith
 
       all_added : (p q : Bool) → (p && (q || true)) ≡ p
-      all_added true true = refl
-      all_added true false = refl
-      all_added false q = refl
+      all_added p q = grind arith
 
       either_way : (p q : Bool) → (q || (p && true)) ≡ (p || q)
-      either_way true true = refl
-      either_way true false = refl
-      either_way false true = refl
-      either_way false false = refl
+      either_way p q = grind arith
 
 -- ---- what the members get
 
@@ -214,46 +193,28 @@ amount-both g x a b hx =
     let u = union n a b in
     let c = common n a b in
     let one = sum_below-add n (part f u) (part f c) in
-    let two =
-    sum_below-same n (λ i. part f u i +ℤ part f c i) (λ i. part f a i +ℤ part f b i)
+    let two = sum_below-same n (λ i. part f u i +ℤ part f c i) (λ i. part f a i +ℤ part f b i)
     (λ i lt. ap (λ (t : Bool). cond t (f i) (pos 0) +ℤ part f c i)
     (coalition_where-has n (λ i. has_player a i || has_player b i) i lt)
     ∙ ap (λ (t : Bool). cond (has_player a i || has_player b i) (f i) (pos 0) +ℤ cond t (f i) (pos 0))
     (coalition_where-has n (λ i. has_player a i && has_player b i) i lt)
     ∙ by_tests (has_player a i) (has_player b i) (f i)) in
     let three = sum_below-add n (part f a) (part f b) in
-    omega (
-      arith,
-      linear,
-      one,
-      two,
-      three,
-      amount-at g x u hx,
-      amount-at g x c hx,
-      amount-at g x a hx,
-      amount-at g x b hx,
-    )
+    omega
+    (products, one, two, three, amount-at g x u hx, amount-at g x c hx, amount-at g x a hx, amount-at g x b hx)
   where
     by_tests : (p q : Bool) (z : ℤ)
         → cond (p || q) z (pos 0) +ℤ cond (p && q) z (pos 0) ≡ cond p z (pos 0) +ℤ cond q z (pos 0)
-    by_tests true true z = refl
-    by_tests true false z = refl
-    by_tests false true z = omega (arith, linear)
-    by_tests false false z = refl
+    by_tests p q z = grind (arith, linear)
 
 pub excess-both : (g : Game) (x : Allocation) (a b : ℕ) → IsConvex g → IsAllocation g x → a < 2 ^ g.players
     → b < 2 ^ g.players
     → (excess g x a +ℤ excess g x b) ≤ℤ (excess g x (union g.players a b) +ℤ excess g x (common g.players a b))
 excess-both g x a b convex hx ha hb =
     let n = g.players in
-    let one = hx.1 in
     omega (
-      arith,
-      linear,
+      products,
       mul-leℤ x.den (g.worth a +ℤ g.worth b) (g.worth (union n a b) +ℤ g.worth (common n a b))
-          (omega (arith, linear, one))
-          (supermodular g convex a b ha hb),
-      mul-addℤ x.den (g.worth a) (g.worth b),
-      mul-addℤ x.den (g.worth (union n a b)) (g.worth (common n a b)),
+          (omega (arith, linear, hx.1)) (supermodular g convex a b ha hb),
       amount-both g x a b hx,
     )

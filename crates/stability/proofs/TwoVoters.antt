@@ -1,6 +1,5 @@
 -- Two voters: by computation.
-use Rattle.std.proofs.Common.{◌+◌, ◌-◌, ◌||◌, pos, ◌+ℤ◌, ◌-ℤ◌}
-use Rattle.std.proofs.Common.{◌*ℤ◌, int_le, refl, arith, rules}
+use Rattle.std.proofs.Common.{◌+◌, ◌-◌, ◌||◌, pos, ◌+ℤ◌, ◌-ℤ◌, ◌*ℤ◌, int_le, refl, arith, rules}
 use Rattle.std.proofs.lemmas.Int.{ints}
 use Rattle.definitions.proofs.Cases.{or_other}
 use Rattle.definitions.proofs.Splits.{passes_below, passes_below-at}
@@ -12,8 +11,7 @@ use Rattle.stability.specs.ZeroMonotonic.{IsZeroMonotonic}
 
 does_no_harm : IsZeroMonotonic both_agree
 does_no_harm s i lt hi out =
-    let e =
-    or_other _ _ out
+    let e = or_other _ _ out
     (passes_below-at 2
     (λ i. has_player s i
     || int_le (both_agree.worth s +ℤ both_agree.worth (singleton i)) (both_agree.worth (s + singleton i)))
@@ -29,8 +27,7 @@ free = (
   (refl, search rules),
   refl,
   λ s lt.
-      (let e =
-      passes_below-at 4
+      (let e = passes_below-at 4
       (λ s. int_le (amount halves s) (pos 2 *ℤ (both_agree.worth 3 -ℤ both_agree.worth (3 - s)))) refl s lt in
       omega (arith, ints, e)),
 )

@@ -3,8 +3,7 @@
 --   union n a b     the players of either
 --   common n a b    the players of both
 --   opposite n s    the players that aren't in s
-use Rattle.std.proofs.Common.{◌≡◌, ℕ, ◌-◌, ◌^◌, ◌<◌, Bool, true, false, ◌&&◌, ◌||◌}
-use Rattle.std.proofs.Common.{not, refl, sym, ap, ◌∙◌, arith}
+use Rattle.std.proofs.Common.{◌≡◌, ℕ, ◌-◌, ◌^◌, ◌<◌, Bool, ◌&&◌, ◌||◌, not, sym, ap, ◌∙◌, arith}
 use Rattle.definitions.proofs.Masks.{grand_coalition-within}
 use Rattle.definitions.proofs.Members.{has_player-complement}
 use Rattle.definitions.specs.Coalitions.{has_player, grand_coalition}
@@ -51,8 +50,7 @@ opposites-union n a b ha hb =
     ∙ sym (has_player-complement n (common n a b) i (common-within n a b) lt))
   where
     by_tests : (c d : Bool) → (not c || not d) ≡ not (c && d)
-    by_tests true d = refl
-    by_tests false d = refl
+    by_tests c d = grind arith
 
 pub opposites-common : (n a b : ℕ) → a < 2 ^ n → b < 2 ^ n
     → common n (opposite n a) (opposite n b) ≡ opposite n (union n a b)
@@ -66,5 +64,4 @@ opposites-common n a b ha hb =
     ∙ sym (has_player-complement n (union n a b) i (union-within n a b) lt))
   where
     by_tests : (c d : Bool) → (not c && not d) ≡ not (c || d)
-    by_tests true d = refl
-    by_tests false d = refl
+    by_tests c d = grind arith

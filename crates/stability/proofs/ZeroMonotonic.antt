@@ -1,9 +1,8 @@
 -- Where nobody who joins does harm, who is outweighed could join the coalitions that outweigh it, so nobody is: the
 -- kernel is the prekernel. And whoever got less than alone at a prekernel point would be in all coalitions of the
 -- greatest excess, but not in those that balance it (Maschler, Peleg and Shapley 1972).
-use Rattle.std.proofs.Common.{◌≡◌, ◌≢◌, ℕ, ◌+◌, ◌^◌, ◌<◌, true, false, not, ℤ}
-use Rattle.std.proofs.Common.{pos, ◌*ℤ◌, ◌<ℤ◌, ◌≤ℤ◌, refl, sym}
-use Rattle.std.proofs.Common.{ap, ◌∙◌, inl, inr, arith}
+use Rattle.std.proofs.Common.{◌≡◌, ◌≢◌, ℕ, ◌+◌, ◌^◌, ◌<◌, true, false, not, ℤ, pos, ◌*ℤ◌, ◌<ℤ◌, ◌≤ℤ◌, refl, sym, ap}
+use Rattle.std.proofs.Common.{◌∙◌, inl, inr, arith}
 use Rattle.std.proofs.lemmas.Bool.{false≢true}
 use Rattle.std.proofs.lemmas.Int.{by_lt_z}
 use Rattle.definitions.proofs.Cases.{same_or_other, true_or_false, from_not}
@@ -16,8 +15,8 @@ use Rattle.theorems.proofs.Moves.{parted, joined as both_tests, proper_of}
 use Rattle.theorems.proofs.ScaledLists.{order_kept, values_times}
 use Rattle.theorems.proofs.Transfers.{surplus_of, holds_without-singleton, prenucleolus_in_prekernel}
 use Rattle.definitions.specs.Coalitions.{has_player, singleton, grand_coalition, proper_coalitions}
-use Rattle.definitions.specs.Games.{Game, Allocation, share, excess, IsAllocation}
-use Rattle.definitions.specs.Games.{IsIndividuallyRational, InFamily, Beats, IsSame, IsNucleolus, excess_list}
+use Rattle.definitions.specs.Games.{Game, Allocation, share, excess, IsAllocation, IsIndividuallyRational, InFamily}
+use Rattle.definitions.specs.Games.{Beats, IsSame, IsNucleolus, excess_list}
 use Rattle.definitions.specs.Prekernel.{IsSurplus, InPrekernel}
 use Rattle.definitions.specs.declared.Family.{Family}
 use Rattle.definitions.specs.declared.Family.TheVariants.{Imputations, Preimputations}
@@ -32,6 +31,7 @@ use Rattle.stability.proofs.Kernel.{kernel_from, prekernel_from}
 use Rattle.stability.proofs.LeastCore.{greatest_excess_of}
 use Rattle.laws.proofs.NucleolusIsInCore.{same_excess}
 use Rattle.stability.proofs.WhoJoins.{joined, somebody_gets_more}
+use Rattle.theorems.proofs.Products.{products}
 
 -- ---- the kernel is in the prekernel
 
@@ -66,8 +66,7 @@ module _ (g : Game) (x : Allocation) (mono : IsZeroMonotonic g) (h : InKernel g 
       let within = more-lt g.players s l most.0.1.0 hl lacks in
       let more = joined g x s l mono h.0.0 most.0.1.0 hl lacks in
       let up : a ≤ℤ excess g x r = omega (arith, linear, more, just, most.0.2) in
-      let some =
-      somebody_gets_more g x r mono h.0.0 h.0.1 within
+      let some = somebody_gets_more g x r mono h.0.0 h.0.1 within
       (omega (arith, linear, up, lt, nothing, excess-alone g x l h.0.0 hl, just)) in
       let j = some.0 in
       let has_k : has_player r k ≡ true = has_player-more_other s l k lacks ne ∙ parts.0 in
@@ -75,16 +74,13 @@ module _ (g : Game) (x : Allocation) (mono : IsZeroMonotonic g) (h : InKernel g 
       let first = surplus_of g x k j hk k_j in
       let second = surplus_of g x j k some.1 (λ e. k_j (sym e)) in
       let reach = first.1.1 r (within, both_tests (has_player r k) (has_player r j) has_k (ap not some.2)) in
-      let no_less : first.0 ≤ℤ second.0 =
-      by_lt_z second.0 first.0
+      let no_less : first.0 ≤ℤ second.0 = by_lt_z second.0 first.0
       (λ less. absurd
-      (let just_j = h.1 k j hk some.1 k_j (first.0, second.0, first.1, second.1, less) in
-      omega (arith, linear, just_j, some.3)))
+      (omega (arith, linear, h.1 k j hk some.1 k_j (first.0, second.0, first.1, second.1, less), some.3)))
       (λ le. le) in
       let t = second.1.0.0 in
       let t_parts = parted (has_player t j) (has_player t k) second.1.0.1.1 in
-      let low =
-      joins k l t b hk hl ne just other second.1.0.1.0 (from_not (has_player t k) t_parts.1) in
+      let low = joins k l t b hk hl ne just other second.1.0.1.0 (from_not (has_player t k) t_parts.1) in
       omega (arith, linear, up, reach, no_less, second.1.0.2, low, lt)
 
   in_prekernel : InPrekernel g x
@@ -117,8 +113,7 @@ module _ (g : Game) (x : Allocation) (mono : IsZeroMonotonic g) (h : InPrekernel
             | inl r_proper ↦ omega
                 (arith, linear, more, less, same, most.1 r (omega (arith, some), r_proper))
             | inr all ↦ omega (
-              arith,
-              linear,
+              products,
               more,
               less,
               same,
@@ -147,8 +142,7 @@ module _ (g : Game) (x : Allocation) (mono : IsZeroMonotonic g) (h : InPrekernel
         let t_proper = proper_of g.players l i t hi balanced.2.0.1.0 balanced.2.0.1.1 in
         let t_low = most.1 t (omega (arith, t_proper.0), omega (arith, t_proper.1)) in
         let t_same : excess g x t ≡ m = omega (arith, linear, reach, most.0.2, balanced.2.0.2, t_low) in
-        let t_inside =
-        in_each m t most (omega (arith, t_proper.0)) (omega (arith, t_proper.1)) t_same proper in
+        let t_inside = in_each m t most (omega (arith, t_proper.0)) (omega (arith, t_proper.1)) t_same proper in
         false≢true (sym (from_not (has_player t i) parts.1) ∙ t_inside)
   ]
 
@@ -169,7 +163,7 @@ same_both a b c p q r some e f =
     let second : r *ℤ (b *ℤ p) ≡ p *ℤ (b *ℤ r) = simp ring_laws in
     let third : p *ℤ (c *ℤ q) ≡ q *ℤ (c *ℤ p) = simp ring_laws in
     mul-cancelℤ q (a *ℤ r) (c *ℤ p) some
-    (first ∙ ap (λ (z : ℤ). r *ℤ z) e ∙ second ∙ ap (λ (z : ℤ). p *ℤ z) f ∙ third)
+    (first ∙ ap (◌*ℤ◌ r) e ∙ second ∙ ap (◌*ℤ◌ p) f ∙ third)
 
 -- what one allocation beats, another with the same shares beats
 beats-same : (g : Game) (x p y : Allocation) → IsAllocation g x → IsAllocation g p → IsSame g x p → Beats Plain g p y
@@ -180,7 +174,7 @@ beats-same g x p y hx hp same h =
     (values_times x.den p.den (λ s. y.den *ℤ excess g p s) (λ s. y.den *ℤ excess g x s)
     (proper_coalitions g.players)
     (λ s. mul_left_commℤ x.den y.den (excess g p s)
-    ∙ ap (λ (z : ℤ). y.den *ℤ z) (same_excess g x p s hx hp same)
+    ∙ ap (◌*ℤ◌ y.den) (same_excess g x p s hx hp same)
     ∙ mul_left_commℤ y.den p.den (excess g x s)))
     (values_times x.den p.den (λ s. p.den *ℤ excess g y s) (λ s. x.den *ℤ excess g y s)
     (proper_coalitions g.players) (λ s. mul_left_commℤ x.den p.den (excess g y s))) h

@@ -1,8 +1,8 @@
 -- A game over a scale and the game of its whole numbers agree.
 use Rattle.std.proofs.Common.{ℤ, pos, ◌≤ℤ◌}
-use Rattle.theorems.proofs.Scaled.{excess_times, family_to, family_from, same_to, same_from, beats_to}
-use Rattle.theorems.proofs.Scaled.{beats_from, nucleolus_to, nucleolus_from, blocks_to, blocks_from}
-use Rattle.theorems.proofs.Scaled.{core_to, core_from, blocker_to, blocker_from}
+use Rattle.theorems.proofs.Scaled.{excess_times, family_to, family_from, same_to, same_from, beats_to, beats_from}
+use Rattle.theorems.proofs.Scaled.{nucleolus_to, nucleolus_from, blocks_to, blocks_from, core_to, core_from, blocker_to}
+use Rattle.theorems.proofs.Scaled.{blocker_from}
 use Rattle.theorems.proofs.ScaledLevels.{certifies_to, certifies_from}
 use Rattle.definitions.specs.Games.{Game, Allocation}
 use Rattle.definitions.specs.Scales.{AreAlike}

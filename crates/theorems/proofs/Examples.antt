@@ -1,14 +1,12 @@
 -- The definitions, computed on small games.
-use Rattle.std.proofs.Common.{◌≤◌, ◌≡◌, ℕ, zero, suc, ◌<◌, Bool, true, false, List}
-use Rattle.std.proofs.Common.{[], ◌∷◌, ℤ, pos}
-use Rattle.std.proofs.Common.{negsuc, ◌+ℤ◌, ◌≤ℤ◌, refl, arith, inl, rules, sym, ◌∙◌}
-use Rattle.std.proofs.Common.{slice_index, slice_index_or, int_le, int_lt, not, ◌||◌, ◌*ℤ◌}
+use Rattle.std.proofs.Common.{◌≤◌, ◌≡◌, ℕ, ◌<◌, Bool, true, false, List, [], ◌∷◌, ℤ, pos, negsuc, ◌+ℤ◌, ◌≤ℤ◌, refl}
+use Rattle.std.proofs.Common.{arith, inl, rules, sym, ◌∙◌, slice_index, slice_index_or, int_le, int_lt, not, ◌||◌, ◌*ℤ◌}
 use Rattle.std.proofs.lemmas.Bool.{false≢true}
 use Rattle.std.proofs.lemmas.Int.{ints}
 use Rattle.definitions.specs.Order.{sorted}
 use Rattle.definitions.specs.Coalitions.{has_player, singleton, weight_at, splits, members}
-use Rattle.definitions.specs.Games.{Game, Allocation, share, excess, excess_list, Beats}
-use Rattle.definitions.specs.Games.{IsChosenBlocker, InFamily, IsNucleolus}
+use Rattle.definitions.specs.Games.{Game, Allocation, share, excess, excess_list, Beats, IsChosenBlocker, InFamily}
+use Rattle.definitions.specs.Games.{IsNucleolus}
 use Rattle.definitions.specs.Certificates.{Level, HasForm, LevelHolds, Certifies, is_free, number_at}
 use Rattle.theorems.proofs.Soundness.{IsNucleolus-from_certificate}
 use Rattle.definitions.specs.declared.Family.TheVariants.{Imputations}
@@ -16,8 +14,8 @@ use Rattle.definitions.specs.declared.Measure.TheVariants.{Plain, PerHead}
 use Rattle.definitions.specs.declared.Mode.TheVariants.{Players}
 use Rattle.std.specs.Ordering.{int_eq}
 use Rattle.definitions.specs.Balanced.{IsBalancedOfExcessWorth}
-use Rattle.definitions.specs.Classes.{table_worth, airport_worth, bankruptcy_worth}
-use Rattle.definitions.specs.Classes.{plan_cost, Matrix, IsMatching, matching_value}
+use Rattle.definitions.specs.Classes.{table_worth, airport_worth, bankruptcy_worth, plan_cost, Matrix, IsMatching}
+use Rattle.definitions.specs.Classes.{matching_value}
 use Rattle.definitions.specs.Shapley.{shapley_total}
 use Rattle.definitions.proofs.Cases.{from_not}
 use Rattle.definitions.proofs.Splits.{passes_below-at}
@@ -112,11 +110,9 @@ chosen = record {
   within = omega arith;
   blocks = search rules;
   greatest = λ t h.
-      let e = passes_below-at 8 (λ t. int_le (excess majority first_takes_all t) (pos 1)) refl t h in
-      omega (arith, ints, e);
+      omega (arith, ints, passes_below-at 8 (λ t. int_le (excess majority first_takes_all t) (pos 1)) refl t h);
   least = λ t h.
-      let e = passes_below-at 6 (λ t. int_lt (excess majority first_takes_all t) (pos 1)) refl t h in
-      omega (arith, ints, e);
+      omega (arith, ints, passes_below-at 6 (λ t. int_lt (excess majority first_takes_all t) (pos 1)) refl t h);
 }
 
 -- ---- the certificate of the airport game
@@ -153,8 +149,7 @@ pub from_int_eq : (a b : ℤ) → int_eq a b ≡ true → a ≡ b
 from_int_eq a b e = grind (arith, ints)
 
 pub from_either : (b : Bool) (u v : ℤ) → (not b || int_le u v) ≡ true → b ≡ true → u ≤ℤ v
-from_either true u v e h = omega (arith, ints)
-from_either false u v e h = absurd (false≢true h)
+from_either b u v e h = grind (arith, ints)
 
 first_holds : LevelHolds Players Imputations Plain airport fair [] first_level
 first_holds = record {
@@ -279,6 +274,4 @@ pairs_collection = record {
 }
   where
     divides_one : (d : ℕ) (c : ℤ) → pos 1 ≡ pos d *ℤ c → d ≤ 1
-    divides_one d (pos zero) e = absurd (omega (arith, ints, e))
-    divides_one d (pos (suc k)) e = omega (arith, ints, e)
-    divides_one d (negsuc k) e = absurd (omega (arith, ints, e))
+    divides_one d c e = grind (arith, ints)

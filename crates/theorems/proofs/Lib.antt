@@ -1,3 +1,4 @@
+pub mod Products
 pub mod SortedLemmas
 pub mod Soundness
 pub mod OneWay

@@ -1,10 +1,7 @@
 -- Over twice the denominator, some units more for one player and as many less for another, and when the excesses
 -- then come first.
-use Rattle.std.proofs.Common.{◌≡◌, ◌≢◌, ◌⊎◌, ℕ, zero, suc, ◌+◌, ◌-◌, ◌^◌, ◌<◌}
-use Rattle.std.proofs.Common.{◌≤◌, Bool, true}
-use Rattle.std.proofs.Common.{false, ◌&&◌, not, cond, length, map, ℤ, pos, ◌+ℤ◌, ◌-ℤ◌}
-use Rattle.std.proofs.Common.{◌*ℤ◌, ◌≤ℤ◌}
-use Rattle.std.proofs.Common.{◌<ℤ◌, refl, sym, ap, ◌∙◌, inl, inr, arith}
+use Rattle.std.proofs.Common.{◌≡◌, ◌≢◌, ◌⊎◌, ℕ, ◌+◌, ◌-◌, ◌^◌, ◌<◌, ◌≤◌, Bool, true, false, ◌&&◌, not, cond, length}
+use Rattle.std.proofs.Common.{map, ℤ, pos, ◌+ℤ◌, ◌-ℤ◌, ◌*ℤ◌, ◌≤ℤ◌, ◌<ℤ◌, refl, sym, ap, ◌∙◌, inl, inr, arith}
 use Rattle.std.specs.List.{range_with_len}
 use Rattle.std.proofs.lemmas.Bool.{false≢true}
 use Rattle.std.proofs.lemmas.Int.{ints}
@@ -16,8 +13,7 @@ use Rattle.definitions.proofs.Members.{has_player-empty, has_player-grand_coalit
 use Rattle.definitions.proofs.Members.{has_player-singleton_other, sum_below-same, sum_over-combined}
 use Rattle.definitions.proofs.Members.{sum_over-singleton}
 use Rattle.definitions.proofs.Parts.{part}
-use Rattle.definitions.proofs.Ring.{linear, mul-addℤ, add-mulℤ, mul-subℤ, mul-oneℤ}
-use Rattle.definitions.proofs.Ring.{mul-leℤ, mul-positiveℤ, one-mulℤ}
+use Rattle.definitions.proofs.Ring.{linear, mul-leℤ, mul-positiveℤ}
 use Rattle.theorems.proofs.OneWay.{beats_one_way}
 use Rattle.theorems.proofs.SortedLemmas.{ComesBefore-sorted}
 use Rattle.theorems.proofs.Soundness.{SameOrLow-range, SomeAbove-range}
@@ -30,6 +26,7 @@ use Rattle.definitions.specs.Prekernel.{holds_without}
 use Rattle.definitions.specs.declared.Family.{Family}
 use Rattle.definitions.specs.declared.Family.TheVariants.{Imputations, Preimputations}
 use Rattle.definitions.specs.declared.Measure.{Measure}
+use Rattle.theorems.proofs.Products.{products}
 
 -- ---- the move
 
@@ -55,10 +52,7 @@ sum_over-units c n i s lt =
     ∙ sum_over-singleton n i (λ l. c_if c (has_player s l)) lt
   where
     swap : (a b : Bool) → cond a (c_if c b) (pos 0) ≡ cond b (c_if c a) (pos 0)
-    swap true true = refl
-    swap true false = refl
-    swap false true = refl
-    swap false false = refl
+    swap a b = grind arith
 
 share-moved : (c : ℤ) (x : Allocation) (i j l : ℕ) → l < length x.shares
     → share (moved c x i j) l ≡ moved_share c x i j l
@@ -73,15 +67,7 @@ twice z = omega (arith, ints)
 
 plain_share : (c : ℤ) (x : Allocation) (i j l : ℕ)
     → moved_share c x i j l ≡ share x l +ℤ share x l +ℤ units c i l -ℤ units c j l
-plain_share c x i j l =
-    omega (
-      arith,
-      linear,
-      twice (share x l),
-      one-mulℤ (pos 1 *ℤ units c j l -ℤ pos 1 *ℤ units c i l),
-      one-mulℤ (units c j l),
-      one-mulℤ (units c i l),
-    )
+plain_share c x i j l = omega (products, twice (share x l))
 
 amount-moved : (c : ℤ) (x : Allocation) (i j s : ℕ) → i < length x.shares → j < length x.shares
     → amount (moved c x i j) s ≡ amount x s +ℤ amount x s +ℤ c_if c (has_player s i) -ℤ c_if c (has_player s j)
@@ -93,22 +79,7 @@ amount-moved c x i j s hi hj =
     (λ l lt. ap (λ (z : ℤ). cond (has_player s l) z (pos 0)) (share-moved c x i j l lt)) in
     let d = sum_over-combined n (share x) (λ l. pos 1 *ℤ units c j l -ℤ pos 1 *ℤ units c i l) (pos 2) (pos 1) s in
     let e = sum_over-combined n (units c j) (units c i) (pos 1) (pos 1) s in
-    let ui = sum_over-units c n i s hi in
-    let uj = sum_over-units c n j s hj in
-    omega (
-      arith,
-      linear,
-      a,
-      b,
-      d,
-      e,
-      ui,
-      uj,
-      twice (sum_over n (share x) s),
-      one-mulℤ (sum_over n (λ l. pos 1 *ℤ units c j l -ℤ pos 1 *ℤ units c i l) s),
-      one-mulℤ (sum_over n (units c i) s),
-      one-mulℤ (sum_over n (units c j) s),
-    )
+    omega (products, a, b, d, e, sum_over-units c n i s hi, sum_over-units c n j s hj, twice (sum_over n (share x) s))
 
 pub excess-moved : (c : ℤ) (g : Game) (x : Allocation) (i j s : ℕ) → IsAllocation g x → i < g.players
     → j < g.players
@@ -117,37 +88,31 @@ pub excess-moved : (c : ℤ) (g : Game) (x : Allocation) (i j s : ℕ) → IsAll
 excess-moved c g x i j s h hi hj =
     let ki : i < length x.shares = rw h.0 hi in
     let kj : j < length x.shares = rw h.0 hj in
-    omega (arith, linear, amount-moved c x i j s ki kj, add-mulℤ x.den x.den (g.worth s))
+    omega (products, amount-moved c x i j s ki kj)
 
 -- tests of which the first passes and the second doesn't
 pub parted : (b c : Bool) → (b && not c) ≡ true → (b ≡ true) × (not c ≡ true)
-parted true c e = (refl, e)
-parted false c e = absurd (false≢true e)
+parted b c e = grind arith
 
 pub joined : (b c : Bool) → b ≡ true → not c ≡ true → (b && not c) ≡ true
 joined b c e h = rw (e, h) refl
 
 none_of : (c : ℤ) (b : Bool) → not b ≡ true → c_if c b ≡ pos 0
-none_of c true e = absurd (false≢true e)
-none_of c false e = refl
+none_of c b e = grind arith
 
 -- over twice the denominator, the excess of a coalition that holds j and lacks i rises
 pub excess-raised : (c : ℤ) (g : Game) (x : Allocation) (i j s : ℕ) → IsAllocation g x → i < g.players
     → j < g.players → holds_without j i s ≡ true → excess g (moved c x i j) s ≡ excess g x s +ℤ excess g x s +ℤ c
 excess-raised c g x i j s h hi hj e =
     let both = parted (has_player s j) (has_player s i) e in
-    let a = ap (c_if c) both.0 in
-    let b = none_of c (has_player s i) both.1 in
-    omega (arith, linear, excess-moved c g x i j s h hi hj, a, b)
+    omega (arith, linear, excess-moved c g x i j s h hi hj, ap (c_if c) both.0, none_of c (has_player s i) both.1)
 
 -- the excess of a coalition that holds i and lacks j falls
 pub excess-lowered : (c : ℤ) (g : Game) (x : Allocation) (i j s : ℕ) → IsAllocation g x → i < g.players
     → j < g.players → holds_without i j s ≡ true → excess g (moved c x i j) s ≡ excess g x s +ℤ excess g x s -ℤ c
 excess-lowered c g x i j s h hi hj e =
     let both = parted (has_player s i) (has_player s j) e in
-    let a = ap (c_if c) both.0 in
-    let b = none_of c (has_player s j) both.1 in
-    omega (arith, linear, excess-moved c g x i j s h hi hj, a, b)
+    omega (arith, linear, excess-moved c g x i j s h hi hj, ap (c_if c) both.0, none_of c (has_player s j) both.1)
 
 -- ---- the family
 
@@ -162,34 +127,27 @@ IsEfficient-moved c g x i j h hi hj e =
     let ki : i < length x.shares = rw h.0 hi in
     let kj : j < length x.shares = rw h.0 hj in
     let bi = ap (c_if c) (has_player-grand_coalition g.players i hi) in
-    let bj = ap (c_if c) (has_player-grand_coalition g.players j hj) in
-    omega (arith, linear, amount-moved c x i j all ki kj, bi, bj, e, add-mulℤ x.den x.den (g.worth all))
+    omega (products, amount-moved c x i j all ki kj, bi, ap (c_if c) (has_player-grand_coalition g.players j hj), e)
 
 -- what j keeps is at least its worth alone
 abbrev pub CanGive : ℤ → Game → Allocation → ℕ → Type 0
-CanGive c g x j =
-    (x.den *ℤ g.worth (singleton j) +ℤ x.den *ℤ g.worth (singleton j) +ℤ c) ≤ℤ (share x j +ℤ share x j)
+CanGive c g x j = (x.den *ℤ g.worth (singleton j) +ℤ x.den *ℤ g.worth (singleton j) +ℤ c) ≤ℤ (share x j +ℤ share x j)
 
 IsIndividuallyRational-moved : (c : ℤ) (g : Game) (x : Allocation) (i j : ℕ) → pos 1 ≤ℤ c → IsAllocation g x
     → IsIndividuallyRational g x → CanGive c g x j → IsIndividuallyRational g (moved c x i j)
 IsIndividuallyRational-moved c g x i j one h r give l lt =
     let y = share-moved c x i j l (rw h.0 lt) ∙ plain_share c x i j l in
-    let w = add-mulℤ x.den x.den (g.worth (singleton l)) in
     let up : pos 0 ≤ℤ units c i l = at_least (has_player (singleton i) l) in
     elim (same_or_other l j) [
       | inl same ↦
           let full = ap (c_if c) (ap (has_player (singleton j)) same ∙ has_player-singleton j) in
-          let a = ap (share x) same in
-          let b = ap (λ (k : ℕ). x.den *ℤ g.worth (singleton k)) same in
-          omega (arith, linear, y, w, up, full, a, b, give)
+          omega (products, y, up, full, ap (share x) same, ap (λ (k : ℕ). x.den *ℤ g.worth (singleton k)) same, give)
       | inr other ↦
-          let none = ap (c_if c) (has_player-singleton_other j l other) in
-          omega (arith, linear, y, w, up, none, r l lt)
+          omega (products, y, up, ap (c_if c) (has_player-singleton_other j l other), r l lt)
     ]
   where
     at_least : (b : Bool) → pos 0 ≤ℤ c_if c b
-    at_least true = omega (arith, linear, one)
-    at_least false = omega (arith, linear)
+    at_least b = grind (arith, linear)
 
 -- of an imputation the giver must be able to give
 pub InFamily-moved : (family : Family) (c : ℤ) (g : Game) (x : Allocation) (i j : ℕ) → pos 1 ≤ℤ c → i < g.players
@@ -213,8 +171,7 @@ differs-moved c g x i j one h hi ne same =
     let a = share x i in
     let more : share (moved c x i j) i ≡ a +ℤ a +ℤ c = omega (arith, linear, y, ui, uj) in
     let e : a *ℤ (q +ℤ q) ≡ (a +ℤ a +ℤ c) *ℤ q = same i hi ∙ ap (λ (z : ℤ). z *ℤ q) more in
-    let some = mul-positiveℤ c q (omega (arith, linear, one)) (omega (arith, linear, h.1)) in
-    omega (arith, linear, e, mul-addℤ a q q, add-mulℤ (a +ℤ a) c q, add-mulℤ a a q, some)
+    omega (products, e, mul-positiveℤ c q (omega (arith, linear, one)) (omega (arith, linear, h.1)))
 
 -- ---- the excesses
 
@@ -226,8 +183,7 @@ proper_of n i j s lt within h = (some s both.0, less)
     both = parted (has_player s i) (has_player s j) h
 
     some : (t : ℕ) → has_player t i ≡ true → 1 ≤ t
-    some zero e = absurd (false≢true (sym (has_player-empty i) ∙ e))
-    some (suc t) e = omega arith
+    some t e = grind (arith, has_player-empty)
 
     not_all : s ≡ grand_coalition n → ⊥
     not_all e =
@@ -248,22 +204,13 @@ pub measured-less : (measure : Measure) (n s : ℕ) (e c m : ℤ) → IsMeasurab
 measured-less measure n s e c m can some within one le =
     let w = weight measure s in
     let up = mul-positiveℤ w c (weight-positive measure n s can some within) (omega (arith, linear, one)) in
-    omega (
-      arith,
-      linear,
-      up,
-      le,
-      measured-weight measure s e,
-      measured-weight measure s (e +ℤ e -ℤ c),
-      mul-subℤ w (e +ℤ e) c,
-      mul-addℤ w e e,
-    )
+    omega (products, up, le, measured-weight measure s e, measured-weight measure s (e +ℤ e -ℤ c))
 
 measured-twice : (measure : Measure) (s : ℕ) (e : ℤ)
     → measured measure s (e +ℤ e) ≡ measured measure s e +ℤ measured measure s e
 measured-twice measure s e =
     let w = weight measure s in
-    omega (arith, linear, measured-weight measure s e, measured-weight measure s (e +ℤ e), mul-addℤ w e e)
+    omega (products, measured-weight measure s e, measured-weight measure s (e +ℤ e))
 
 -- where what rises stays below twice the surplus of i against j, the excesses after the move come before those of x
 moved_beats : (measure : Measure) (c : ℤ) (g : Game) (x : Allocation) (i j : ℕ) (m : ℤ)
@@ -300,9 +247,7 @@ moved_beats measure c g x i j m can one hx hi hj most rising =
         → x.den *ℤ measured_excess measure g (moved c x i j) s ≡ (x.den +ℤ x.den) *ℤ measured_excess measure g x s
     still s same =
         let u = measured_excess measure g x s in
-        let twofold =
-        ap (λ (z : ℤ). x.den *ℤ z) (ap (measured measure s) same ∙ measured-twice measure s (excess g x s)) in
-        omega (arith, linear, twofold, mul-addℤ x.den u u, add-mulℤ x.den x.den u)
+        omega (products, ap (◌*ℤ◌ x.den) (ap (measured measure s) same ∙ measured-twice measure s (excess g x s)))
 
     each : (s : ℕ) → 0 < s → s < 2 ^ g.players → (b d : Bool) → has_player s i ≡ b → has_player s j ≡ d
         → (x.den *ℤ measured_excess measure g (moved c x i j) s ≡ (x.den +ℤ x.den) *ℤ measured_excess measure g x s)
@@ -320,16 +265,7 @@ moved_beats measure c g x i j m can one hx hi hj most rising =
     above : (u : ℤ) → m ≡ u → (x.den *ℤ (m +ℤ m -ℤ pos 1)) <ℤ ((x.den +ℤ x.den) *ℤ u)
     above u same =
         let q = x.den in
-        omega (
-          arith,
-          linear,
-          hx.1,
-          ap (λ (z : ℤ). (q +ℤ q) *ℤ z) same,
-          add-mulℤ q q m,
-          mul-subℤ q (m +ℤ m) (pos 1),
-          mul-addℤ q m m,
-          mul-oneℤ q,
-        )
+        omega (products, hx.1, ap (◌*ℤ◌ ((q +ℤ q))) same)
 
 -- so at the nucleolus no such move is left within the family
 pub no_gain : (family : Family) (measure : Measure) (c : ℤ) (g : Game) (x : Allocation) (i j : ℕ) (m : ℤ)

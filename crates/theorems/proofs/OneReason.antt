@@ -1,7 +1,6 @@
 -- A certificate has at most one first failure.
-use Rattle.std.proofs.Common.{◌≡◌, ◌⊎◌, ℕ, ◌+◌, ◌^◌, ◌<◌, List, [], ◌∷◌, ◌++◌}
-use Rattle.std.proofs.Common.{ℤ, pos}
-use Rattle.std.proofs.Common.{◌*ℤ◌, ◌≤ℤ◌, refl, sym, ap, ◌∙◌, inl, inr, arith}
+use Rattle.std.proofs.Common.{◌≡◌, ◌⊎◌, ℕ, ◌+◌, ◌^◌, ◌<◌, List, [], ◌∷◌, ◌++◌, ℤ, pos, ◌*ℤ◌, ◌≤ℤ◌, refl, sym, ap, ◌∙◌}
+use Rattle.std.proofs.Common.{inl, inr, arith}
 use Rattle.std.specs.List.{AllByRecursion}
 use Rattle.definitions.proofs.Families.{efficient_of, individual_of}
 use Rattle.definitions.proofs.Scans.{IsGreatest-unique}
@@ -9,17 +8,16 @@ use Rattle.theorems.proofs.OneVerdict.{none_failing, level_fails_not}
 use Rattle.definitions.specs.Sums.{IsGreatest}
 use Rattle.definitions.specs.Coalitions.{singleton}
 use Rattle.definitions.specs.Games.{Game, Allocation, share, measured_excess, IsEfficient, InFamily}
-use Rattle.definitions.specs.Certificates.{Level, HasExcess, IsOutside, IsFixedVector, InSpan}
-use Rattle.definitions.specs.Failures.{Reason, not_efficient, not_individual, wrong_excess, coalition_sign}
-use Rattle.definitions.specs.Failures.{player_sign, unbalanced, bound_not_tight, outside_above, not_all}
-use Rattle.definitions.specs.Failures.{IsLeastFailing, IsFirstFailing, BoundWeighs, Balances, IsTight, Excesses}
-use Rattle.definitions.specs.Failures.{Weights, BoundWeights, IsBalanced, AreTight, LevelFails, IsLeastUnfixed}
-use Rattle.definitions.specs.Failures.{NotAllFixed, LevelsFail, IsFirstFailure}
+use Rattle.definitions.specs.Certificates.{Level, HasExcess, IsOutside}
+use Rattle.definitions.specs.Failures.{Reason, not_efficient, not_individual, wrong_excess, coalition_sign, player_sign}
+use Rattle.definitions.specs.Failures.{unbalanced, bound_not_tight, outside_above, not_all, IsLeastFailing}
+use Rattle.definitions.specs.Failures.{IsFirstFailing, BoundWeighs, Balances, IsTight, Excesses, Weights, BoundWeights}
+use Rattle.definitions.specs.Failures.{IsBalanced, AreTight, LevelFails, IsLeastUnfixed, NotAllFixed, LevelsFail}
+use Rattle.definitions.specs.Failures.{IsFirstFailure}
 use Rattle.definitions.specs.declared.Family.{Family}
 use Rattle.definitions.specs.declared.Family.TheVariants.{Imputations}
 use Rattle.definitions.specs.declared.Measure.{Measure}
 use Rattle.definitions.specs.declared.Mode.{Mode}
-use Rattle.definitions.specs.declared.Mode.TheVariants.{Players, Span}
 
 -- ---- what fails first is one thing
 
@@ -40,8 +38,7 @@ least_same n P i j f h = neither_below i j (λ lt. f.1 (h.2 i lt)) (λ lt. h.1 (
 
 unfixed_same : (mode : Mode) (n : ℕ) (levels : List Level) (i j : ℕ) → IsLeastUnfixed mode n levels i
     → IsLeastUnfixed mode n levels j → i ≡ j
-unfixed_same Players n levels i j f h = neither_below i j (λ lt. h.2 i lt f.1) (λ lt. f.2 j lt h.1)
-unfixed_same Span n levels i j f h = least_same n (λ i. InSpan n (IsFixedVector n levels) (singleton i)) i j f h
+unfixed_same mode n levels i j f h = grind (arith, least_same, neither_below)
 
 -- ---- the stages of the tests
 
@@ -59,10 +56,7 @@ named_same of Fails r s one (y, e, f) (z, k, h) = e ∙ ap of (one y z f h) ∙ 
 
 stage_same : {F H Holds L M : Type 0} (r s : Reason) → (F → H → r ≡ s) → (F → Holds → ⊥) → (H → Holds → ⊥)
     → (L → M → r ≡ s) → Stage F Holds L → Stage H Holds M → r ≡ s
-stage_same r s one no_f no_h later (inl f) (inl h) = one f h
-stage_same r s one no_f no_h later (inl f) (inr k) = absurd (no_f f k.0)
-stage_same r s one no_f no_h later (inr k) (inl h) = absurd (no_h h k.0)
-stage_same r s one no_f no_h later (inr j) (inr k) = later j.1 k.1
+stage_same r s one no_f no_h later h k = grind arith
 
 -- a stage that goes through a list of pairs
 list_same : {L M : Type 0} (of : ℕ → Reason) (P : ℕ × ℤ → Type 0) (ps : List (ℕ × ℤ)) (r s : Reason)
@@ -171,8 +165,7 @@ IsLeastShort family g x i =
 
 short_same : (family : Family) (g : Game) (x : Allocation) (i j : ℕ) → IsLeastShort family g x i
     → IsLeastShort family g x j → i ≡ j
-short_same family g x i j f h =
-    least_same g.players (λ i. (x.den *ℤ g.worth (singleton i)) ≤ℤ share x i) i j f.1 h.1
+short_same family g x i j f h = least_same g.players (λ i. (x.den *ℤ g.worth (singleton i)) ≤ℤ share x i) i j f.1 h.1
 
 abbrev Stages : Mode → Family → Measure → Game → Allocation → List Level → Reason → Type 0
 Stages mode family measure g x levels r =

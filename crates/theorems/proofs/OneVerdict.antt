@@ -4,9 +4,9 @@ use Rattle.std.specs.List.{AllByRecursion}
 use Rattle.definitions.proofs.Families.{efficient_of, individual_of}
 use Rattle.definitions.specs.Games.{Game, Allocation}
 use Rattle.definitions.specs.Certificates.{Level, LevelHolds, LevelsHold, Certifies}
-use Rattle.definitions.specs.Failures.{Reason, not_efficient, not_individual, wrong_excess, coalition_sign}
-use Rattle.definitions.specs.Failures.{player_sign, unbalanced, bound_not_tight, outside_above, not_all}
-use Rattle.definitions.specs.Failures.{IsFirstFailing, LevelFails, LevelsFail, IsFirstFailure}
+use Rattle.definitions.specs.Failures.{Reason, not_efficient, not_individual, wrong_excess, coalition_sign, player_sign}
+use Rattle.definitions.specs.Failures.{unbalanced, bound_not_tight, outside_above, not_all, IsFirstFailing, LevelFails}
+use Rattle.definitions.specs.Failures.{LevelsFail, IsFirstFailure}
 use Rattle.definitions.specs.declared.Family.{Family}
 use Rattle.definitions.specs.declared.Measure.{Measure}
 use Rattle.definitions.specs.declared.Mode.{Mode}

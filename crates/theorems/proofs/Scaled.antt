@@ -1,20 +1,19 @@
 -- A game over a scale and the game of its whole numbers: shares, excesses, families, the nucleolus and the core.
-use Rattle.std.proofs.Common.{◌≡◌, ℕ, Bool, true, false, cond, List, length, map, ℤ}
-use Rattle.std.proofs.Common.{pos, ◌-ℤ◌}
-use Rattle.std.proofs.Common.{◌*ℤ◌, ◌<ℤ◌, ◌≤ℤ◌, sym, ap, subst, ◌∙◌, inl, inr, arith}
+use Rattle.std.proofs.Common.{◌≡◌, ℕ, Bool, cond, List, length, map, ℤ, pos, ◌-ℤ◌, ◌*ℤ◌, ◌<ℤ◌, ◌≤ℤ◌, sym, ap, subst}
+use Rattle.std.proofs.Common.{◌∙◌, inl, inr, arith}
 use Rattle.std.proofs.lemmas.List.{get_or_past, get_or-map, length-map}
-use Rattle.definitions.proofs.Ring.{linear, mul-subℤ, mul_assocℤ, mul_left_commℤ, mul-leℤ}
-use Rattle.definitions.proofs.Ring.{mul-cancelℤ, mul-zeroℤ, one-mulℤ, mul-positiveℤ, mul_assoc_commℤ}
+use Rattle.definitions.proofs.Ring.{linear, mul_assocℤ, mul_left_commℤ, mul-leℤ, mul-cancelℤ, mul-zeroℤ, mul-positiveℤ}
+use Rattle.definitions.proofs.Ring.{mul_assoc_commℤ}
 use Rattle.definitions.proofs.Members.{sum_below-same, sum_below-times}
 use Rattle.theorems.proofs.ScaledLists.{order_kept, values_times}
 use Rattle.definitions.specs.Coalitions.{has_player, singleton, grand_coalition, proper_coalitions, sum_over}
-use Rattle.definitions.specs.Games.{Game, Allocation, share, amount, excess, measured_excess, excess_list}
-use Rattle.definitions.specs.Games.{IsAllocation, IsEfficient, IsIndividuallyRational, InFamily, Beats}
-use Rattle.definitions.specs.Games.{IsSame, IsNucleolus, Blocks, InCore, IsChosenBlocker}
+use Rattle.definitions.specs.Games.{Game, Allocation, share, amount, excess, measured_excess, excess_list, IsAllocation}
+use Rattle.definitions.specs.Games.{IsEfficient, IsIndividuallyRational, InFamily, Beats, IsSame, IsNucleolus, Blocks}
+use Rattle.definitions.specs.Games.{InCore, IsChosenBlocker}
 use Rattle.definitions.specs.Order.{sorted, ComesBefore}
-use Rattle.definitions.specs.Scales.{times, excess_over, IsEfficientOver, IsIndividuallyRationalOver}
-use Rattle.definitions.specs.Scales.{InFamilyOver, measured_excess_over, excess_list_over, BeatsOver}
-use Rattle.definitions.specs.Scales.{IsNucleolusOver, BlocksOver, InCoreOver, IsChosenBlockerOver}
+use Rattle.definitions.specs.Scales.{times, excess_over, IsEfficientOver, IsIndividuallyRationalOver, InFamilyOver}
+use Rattle.definitions.specs.Scales.{measured_excess_over, excess_list_over, BeatsOver, IsNucleolusOver, BlocksOver}
+use Rattle.definitions.specs.Scales.{InCoreOver, IsChosenBlockerOver}
 use Rattle.definitions.proofs.Measured.{weight, measured-weight}
 use Rattle.definitions.specs.Measures.{measured}
 use Rattle.definitions.specs.declared.Family.{Family}
@@ -22,6 +21,7 @@ use Rattle.definitions.specs.declared.Family.TheVariants.{Imputations, Preimputa
 use Rattle.definitions.specs.declared.Measure.{Measure}
 use Rattle.definitions.proofs.Cases.{below_or_above}
 use Rattle.definitions.proofs.Alls.{map_same}
+use Rattle.theorems.proofs.Products.{sorted_products}
 
 pub above_zero : (k : ℤ) → pos 1 ≤ℤ k → pos 0 <ℤ k
 above_zero k h = omega (arith, linear, h)
@@ -30,16 +30,14 @@ above_zero k h = omega (arith, linear, h)
 
 pub share_times : (k : ℤ) (x : Allocation) (i : ℕ) → share (times k x) i ≡ k *ℤ share x i
 share_times k x i = elim (below_or_above i (length x.shares)) [
-  | inl less ↦ get_or-map (λ a. k *ℤ a) x.shares i (pos 0) (pos 0) less
+  | inl less ↦ get_or-map (◌*ℤ◌ k) x.shares i (pos 0) (pos 0) less
   | inr past ↦
-      let long = length-map x.shares (λ a. k *ℤ a) in
-      get_or_past (map (λ a. k *ℤ a) x.shares) i (pos 0) (omega (arith, long, past))
-      ∙ sym (ap (λ (z : ℤ). k *ℤ z) (get_or_past x.shares i (pos 0) past) ∙ mul-zeroℤ k)
+      get_or_past (map (◌*ℤ◌ k) x.shares) i (pos 0) (omega (arith, length-map x.shares (λ a. k *ℤ a), past))
+      ∙ sym (ap (◌*ℤ◌ k) (get_or_past x.shares i (pos 0) past) ∙ mul-zeroℤ k)
 ]
 
 if_times : (b : Bool) (k a c : ℤ) → a ≡ k *ℤ c → cond b a (pos 0) ≡ k *ℤ cond b c (pos 0)
-if_times true k a c e = e
-if_times false k a c e = sym (mul-zeroℤ k)
+if_times b k a c e = grind (arith, mul-zeroℤ)
 
 pub amount_times : (k : ℤ) (x : Allocation) (s : ℕ) → amount (times k x) s ≡ k *ℤ amount x s
 amount_times k x s =
@@ -78,8 +76,7 @@ rational_to k g x r =
 
 rational_from : (k : ℤ) (g : Game) (x : Allocation) → IsIndividuallyRational g (times k x)
     → IsIndividuallyRationalOver k g x
-rational_from k g x r =
-    λ i lt. subst (λ (z : ℤ). (x.den *ℤ g.worth (singleton i)) ≤ℤ z) (share_times k x i) (r i lt)
+rational_from k g x r = λ i lt. subst (λ (z : ℤ). (x.den *ℤ g.worth (singleton i)) ≤ℤ z) (share_times k x i) (r i lt)
 
 pub family_to : (k : ℤ) (f : Family) (g : Game) (x : Allocation) → InFamilyOver k f g x → InFamily f g (times k x)
 family_to k Imputations g x h = (allocation_to k g x h.0, efficient_to k g x h.1, rational_to k g x h.2)
@@ -97,7 +94,7 @@ cross k a d = sym (mul_assocℤ k a d)
 pub same_to : (k : ℤ) (g : Game) (x y : Allocation) → IsSame g x y → IsSame g (times k x) (times k y)
 same_to k g x y h = λ i lt.
     ap (λ (z : ℤ). z *ℤ y.den) (share_times k x i) ∙ sym (cross k (share x i) y.den)
-    ∙ ap (λ (z : ℤ). k *ℤ z) (h i lt) ∙ cross k (share y i) x.den
+    ∙ ap (◌*ℤ◌ k) (h i lt) ∙ cross k (share y i) x.den
     ∙ sym (ap (λ (z : ℤ). z *ℤ x.den) (share_times k y i))
 
 pub same_from : (k : ℤ) (g : Game) (x y : Allocation) → pos 1 ≤ℤ k → IsSame g (times k x) (times k y) → IsSame g x y
@@ -112,7 +109,7 @@ lists_alike : (k : ℤ) (measure : Measure) (g : Game) (x : Allocation) (c : ℤ
     → excess_list measure g (times k x) c ≡ excess_list_over k measure g x c
 lists_alike k measure g x c =
     map_same (λ s. c *ℤ measured_excess measure g (times k x) s) (λ s. c *ℤ measured_excess_over k measure g x s)
-    (proper_coalitions g.players) (λ s. ap (λ (z : ℤ). c *ℤ z) (measured_times k measure g x s))
+    (proper_coalitions g.players) (λ s. ap (◌*ℤ◌ c) (measured_times k measure g x s))
 
 pub beats_to : (k : ℤ) (measure : Measure) (g : Game) (x y : Allocation) → BeatsOver k measure g x y
     → Beats measure g (times k x) (times k y)
@@ -137,12 +134,11 @@ abbrev pub part : ℤ → Allocation → Allocation
 part k y = record { shares = y.shares; den = k *ℤ y.den }
 
 scaled_sum : (k d w a : ℤ) → (k *ℤ d) *ℤ w -ℤ k *ℤ a ≡ k *ℤ (d *ℤ w -ℤ a)
-scaled_sum k d w a = omega (arith, linear, mul_assocℤ k d w, mul-subℤ k (d *ℤ w) a)
+scaled_sum k d w a = omega sorted_products
 
 part_family : (k : ℤ) (f : Family) (g : Game) (y : Allocation) → pos 1 ≤ℤ k → InFamily f g y
     → InFamilyOver k f g (part k y)
-part_family k Imputations g y p h =
-    (part_allocation k g y p h.0, part_efficient k g y h.1, part_rational k g y p h.2)
+part_family k Imputations g y p h = (part_allocation k g y p h.0, part_efficient k g y h.1, part_rational k g y p h.2)
   where
     part_allocation : (k : ℤ) (g : Game) (y : Allocation) → pos 1 ≤ℤ k → IsAllocation g y
         → IsAllocation g (part k y)
@@ -150,7 +146,7 @@ part_family k Imputations g y p h =
         (h.0, (let q = mul-positiveℤ k y.den (above_zero k p) (above_zero y.den h.1) in omega (arith, linear, q)))
 
     part_efficient : (k : ℤ) (g : Game) (y : Allocation) → IsEfficient g y → IsEfficientOver k g (part k y)
-    part_efficient k g y e = ap (λ (z : ℤ). k *ℤ z) e ∙ cross k y.den (g.worth (grand_coalition g.players))
+    part_efficient k g y e = ap (◌*ℤ◌ k) e ∙ cross k y.den (g.worth (grand_coalition g.players))
 
     part_rational : (k : ℤ) (g : Game) (y : Allocation) → pos 1 ≤ℤ k → IsIndividuallyRational g y
         → IsIndividuallyRationalOver k g (part k y)
@@ -159,7 +155,7 @@ part_family k Imputations g y p h =
         (mul-leℤ k (y.den *ℤ g.worth (singleton i)) (share y i) (omega (arith, linear, p)) (r i lt))
 part_family k Preimputations g y p h = (
   (h.0.0, (let q = mul-positiveℤ k y.den (above_zero k p) (above_zero y.den h.0.1) in omega (arith, linear, q))),
-  ap (λ (z : ℤ). k *ℤ z) h.1 ∙ cross k y.den (g.worth (grand_coalition g.players)),
+  ap (◌*ℤ◌ k) h.1 ∙ cross k y.den (g.worth (grand_coalition g.players)),
 )
 
 pub part_same : (k : ℤ) (g : Game) (x y : Allocation) → IsSame g x (part k y) → IsSame g (times k x) y
@@ -171,9 +167,9 @@ part_measured : (k : ℤ) (measure : Measure) (g : Game) (y : Allocation) (s : �
 part_measured k measure g y s =
     let w = weight measure s in
     measured-weight measure s (excess_over k g (part k y) s)
-    ∙ ap (λ (z : ℤ). w *ℤ z) (scaled_sum k y.den (g.worth s) (amount y s))
+    ∙ ap (◌*ℤ◌ w) (scaled_sum k y.den (g.worth s) (amount y s))
     ∙ mul_left_commℤ w k (excess g y s)
-    ∙ sym (ap (λ (z : ℤ). k *ℤ z) (measured-weight measure s (excess g y s)))
+    ∙ sym (ap (◌*ℤ◌ k) (measured-weight measure s (excess g y s)))
 
 part_beats : (k : ℤ) (measure : Measure) (g : Game) (x y : Allocation) → pos 1 ≤ℤ k
     → BeatsOver k measure g x (part k y) → Beats measure g (times k x) y
@@ -183,14 +179,10 @@ part_beats k measure g x y p b =
     (excess_list measure g y x.den) (omega (arith, linear)) (above_zero k p)
     (values_times (pos 1) k (λ s. (k *ℤ y.den) *ℤ measured_excess_over k measure g x s)
     (λ s. y.den *ℤ measured_excess measure g (times k x) s) (proper_coalitions g.players) (λ s.
-    one-mulℤ ((k *ℤ y.den) *ℤ measured_excess_over k measure g x s)
-    ∙ mul_assocℤ k y.den (measured_excess_over k measure g x s)
-    ∙ ap (λ (z : ℤ). k *ℤ (y.den *ℤ z)) (sym (measured_times k measure g x s))))
+    omega (sorted_products, ap (λ (z : ℤ). k *ℤ (y.den *ℤ z)) (sym (measured_times k measure g x s)))))
     (values_times (pos 1) k (λ s. x.den *ℤ measured_excess_over k measure g (part k y) s)
     (λ s. x.den *ℤ measured_excess measure g y s) (proper_coalitions g.players) (λ s.
-    one-mulℤ (x.den *ℤ measured_excess_over k measure g (part k y) s)
-    ∙ ap (λ (z : ℤ). x.den *ℤ z) (part_measured k measure g y s)
-    ∙ mul_left_commℤ x.den k (measured_excess measure g y s)))
+    omega (sorted_products, ap (◌*ℤ◌ x.den) (part_measured k measure g y s))))
     b
 
 pub nucleolus_to : (k : ℤ) (f : Family) (measure : Measure) (g : Game) (x : Allocation) → pos 1 ≤ℤ k

@@ -1,26 +1,24 @@
 -- A certificate over a scale, and the certificate with its excesses times the scale.
-use Rattle.std.proofs.Common.{◌≡◌, ℕ, zero, suc, ◌-◌, Bool, IsTrue, not, ◌&&◌, ◌||◌}
-use Rattle.std.proofs.Common.{nat_eq, List, [], ◌∷◌, ◌++◌}
-use Rattle.std.proofs.Common.{ℤ, pos, ◌*ℤ◌, ◌≤ℤ◌, refl, sym, ap, ap₂, subst, ◌∙◌}
-use Rattle.std.proofs.Common.{inl, inr, arith}
+use Rattle.std.proofs.Common.{◌≡◌, ℕ, zero, suc, ◌-◌, Bool, IsTrue, not, ◌&&◌, ◌||◌, nat_eq, List, [], ◌∷◌, ◌++◌, ℤ}
+use Rattle.std.proofs.Common.{pos, ◌*ℤ◌, ◌≤ℤ◌, refl, sym, ap, ap₂, subst, ◌∙◌, inl, inr, arith}
 use Rattle.std.specs.List.{list_any, AllByRecursion}
 use Rattle.std.specs.Prelude.{int_le}
 use Rattle.definitions.proofs.Ring.{linear, ring_laws, mul-leℤ, mul-le_cancelℤ, mul-cancelℤ, mul_assoc_commℤ}
 use Rattle.theorems.proofs.Scaled.{above_zero, share_times, measured_times, family_to, family_from}
 use Rattle.definitions.specs.Coalitions.{has_player, singleton, grand_coalition, some_below, splits}
 use Rattle.definitions.specs.Games.{Game, Allocation, measured_excess}
-use Rattle.definitions.specs.Certificates.{Level, is_listed, has_bound, is_free, IsFixedVector, InSpan}
-use Rattle.definitions.specs.Certificates.{IsOutside, IsAllFixed, HasExcess, HasAtMostExcess, IsTight}
-use Rattle.definitions.specs.Certificates.{BoundWeighs, IsBalanced, LevelHolds, LevelsHold, Certifies}
+use Rattle.definitions.specs.Certificates.{Level, is_listed, has_bound, is_free, IsFixedVector, InSpan, IsOutside}
+use Rattle.definitions.specs.Certificates.{IsAllFixed, HasExcess, HasAtMostExcess, IsTight, BoundWeighs, IsBalanced}
+use Rattle.definitions.specs.Certificates.{LevelHolds, LevelsHold, Certifies}
 use Rattle.definitions.specs.Scales.{times, measured_excess_over, IsLevelOver, AreLevelsOver, HasExcessOver}
-use Rattle.definitions.specs.Scales.{HasAtMostExcessOver, IsTightOver, LevelHoldsOver, LevelsHoldOver}
-use Rattle.definitions.specs.Scales.{CertifiesOver}
+use Rattle.definitions.specs.Scales.{HasAtMostExcessOver, IsTightOver, LevelHoldsOver, LevelsHoldOver, CertifiesOver}
 use Rattle.definitions.specs.Measures.{measured_den}
 use Rattle.definitions.specs.declared.Family.{Family}
 use Rattle.definitions.specs.declared.Measure.{Measure}
 use Rattle.definitions.specs.declared.Mode.{Mode}
 use Rattle.definitions.specs.declared.Mode.TheVariants.{Players, Span}
 use Rattle.definitions.proofs.Alls.{all_weaken}
+use Rattle.theorems.proofs.Products.{products}
 
 -- ---- levels with the same lists fix the same
 
@@ -130,7 +128,7 @@ excess_to k measure g x l m o s h =
     (above_zero l.excess_den o.fraction)
     (ap (λ (z : ℤ). l.excess_den *ℤ (z *ℤ m.excess_den)) (measured_times k measure g x s)
     ∙ sym (swapped e l.excess_den m.excess_den)
-    ∙ ap (λ (z : ℤ). m.excess_den *ℤ z) h
+    ∙ ap (◌*ℤ◌ m.excess_den) h
     ∙ excess_sides k e l.excess_den l.excess_num q m.excess_num m.excess_den o.excess)
 
 excess_from : (k : ℤ) (measure : Measure) (g : Game) (x : Allocation) (l m : Level) → IsLevelOver k l m → (s : ℕ)
@@ -142,7 +140,7 @@ excess_from k measure g x l m o s h =
     (above_zero m.excess_den o.whole_fraction)
     (swapped e l.excess_den m.excess_den
     ∙ sym (ap (λ (z : ℤ). l.excess_den *ℤ (z *ℤ m.excess_den)) (measured_times k measure g x s))
-    ∙ ap (λ (z : ℤ). l.excess_den *ℤ z) h
+    ∙ ap (◌*ℤ◌ l.excess_den) h
     ∙ sym (excess_sides k e l.excess_den l.excess_num q m.excess_num m.excess_den o.excess))
 
 at_most_to : (k : ℤ) (measure : Measure) (g : Game) (x : Allocation) (l m : Level) → IsLevelOver k l m → (s : ℕ)
@@ -150,17 +148,12 @@ at_most_to : (k : ℤ) (measure : Measure) (g : Game) (x : Allocation) (l m : Le
 at_most_to k measure g x l m o s h =
     let e = measured_excess_over k measure g x s in
     let q = measured_den measure x.den in
-    let le =
-    mul-leℤ m.excess_den (e *ℤ l.excess_den) ((k *ℤ l.excess_num) *ℤ q)
-    (omega (arith, linear, o.whole_fraction)) h in
-    let same = ap (λ (z : ℤ). l.excess_den *ℤ (z *ℤ m.excess_den)) (measured_times k measure g x s) in
     mul-le_cancelℤ l.excess_den (measured_excess measure g (times k x) s *ℤ m.excess_den) (m.excess_num *ℤ q)
     (above_zero l.excess_den o.fraction)
     (omega (
-      arith,
-      linear,
-      le,
-      same,
+      products,
+      mul-leℤ m.excess_den (e *ℤ l.excess_den) ((k *ℤ l.excess_num) *ℤ q) (omega (arith, linear, o.whole_fraction)) h,
+      ap (λ (z : ℤ). l.excess_den *ℤ (z *ℤ m.excess_den)) (measured_times k measure g x s),
       swapped e l.excess_den m.excess_den,
       excess_sides k e l.excess_den l.excess_num q m.excess_num m.excess_den o.excess,
     ))
@@ -170,17 +163,13 @@ at_most_from : (k : ℤ) (measure : Measure) (g : Game) (x : Allocation) (l m : 
 at_most_from k measure g x l m o s h =
     let e = measured_excess_over k measure g x s in
     let q = measured_den measure x.den in
-    let le =
-    mul-leℤ l.excess_den (measured_excess measure g (times k x) s *ℤ m.excess_den) (m.excess_num *ℤ q)
-    (omega (arith, linear, o.fraction)) h in
-    let same = ap (λ (z : ℤ). l.excess_den *ℤ (z *ℤ m.excess_den)) (measured_times k measure g x s) in
     mul-le_cancelℤ m.excess_den (e *ℤ l.excess_den) ((k *ℤ l.excess_num) *ℤ q)
     (above_zero m.excess_den o.whole_fraction)
     (omega (
-      arith,
-      linear,
-      le,
-      same,
+      products,
+      mul-leℤ l.excess_den (measured_excess measure g (times k x) s *ℤ m.excess_den) (m.excess_num *ℤ q)
+          (omega (arith, linear, o.fraction)) h,
+      ap (λ (z : ℤ). l.excess_den *ℤ (z *ℤ m.excess_den)) (measured_times k measure g x s),
       swapped e l.excess_den m.excess_den,
       excess_sides k e l.excess_den l.excess_num q m.excess_num m.excess_den o.excess,
     ))

@@ -1,8 +1,6 @@
 -- Lists of numbers times a number above 0: their order, and which comes first.
-use Rattle.std.proofs.Common.{◌≡◌, ℕ, Bool, true, false, cond, List, [], ◌∷◌, length}
-use Rattle.std.proofs.Common.{map, ℤ, pos, ◌*ℤ◌}
-use Rattle.std.proofs.Common.{◌<ℤ◌, int_lt, refl, sym, ap, ap₂, subst, ◌∙◌, inl, inr}
-use Rattle.std.proofs.Common.{arith}
+use Rattle.std.proofs.Common.{◌≡◌, ℕ, Bool, true, false, cond, List, [], ◌∷◌, length, map, ℤ, pos, ◌*ℤ◌, ◌<ℤ◌, int_lt}
+use Rattle.std.proofs.Common.{refl, sym, ap, ap₂, subst, ◌∙◌, inl, inr, arith}
 use Rattle.std.proofs.lemmas.List.{length-map}
 use Rattle.definitions.proofs.Ring.{linear, mul-leℤ, mul-ltℤ, mul-cancelℤ, mul-lt_cancelℤ}
 use Rattle.definitions.specs.Order.{with_number, sorted, IsLesser, ComesBefore}
@@ -10,7 +8,7 @@ use Rattle.definitions.proofs.Scans.{int_lt-true, int_lt-false}
 
 -- the numbers times c
 abbrev pub times : ℤ → List ℤ → List ℤ
-times c xs = map (λ z. c *ℤ z) xs
+times c xs = map (◌*ℤ◌ c) xs
 
 pub below_times : (c x y : ℤ) → pos 0 <ℤ c → int_lt (c *ℤ x) (c *ℤ y) ≡ int_lt x y
 below_times c x y p =
@@ -44,7 +42,7 @@ lesser_times c [] ys p h = absurd h
 lesser_times c (x ∷ xs) [] p h = absurd h
 lesser_times c (x ∷ xs) (y ∷ ys) p h = elim h [
   | inl less ↦ inl (mul-ltℤ c x y p less)
-  | inr more ↦ inr (ap (λ (z : ℤ). c *ℤ z) more.0, lesser_times c xs ys p more.1)
+  | inr more ↦ inr (ap (◌*ℤ◌ c) more.0, lesser_times c xs ys p more.1)
 ]
 
 pub lesser_cancel : (c : ℤ) (xs ys : List ℤ) → pos 0 <ℤ c → IsLesser (times c xs) (times c ys) → IsLesser xs ys

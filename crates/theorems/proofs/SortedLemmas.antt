@@ -1,8 +1,7 @@
 -- Two lists of integers of one length. Where the numbers at each place are equal, or the first is at most e, and at
 -- some place only the second is above e, the sorted first list comes before the sorted second: the lemma on ordered
 -- groups, at the integers.
-use Rattle.std.proofs.Common.{◌≡◌, ◌⊎◌, List, [], ◌∷◌, ℤ, pos, ◌<ℤ◌, ◌≤ℤ◌, inl}
-use Rattle.std.proofs.Common.{inr, subst, arith}
+use Rattle.std.proofs.Common.{◌≡◌, ◌⊎◌, List, [], ◌∷◌, ℤ, pos, ◌<ℤ◌, ◌≤ℤ◌, inl, inr, subst, arith}
 use Rattle.definitions.proofs.Ring.{linear}
 use Rattle.definitions.specs.Order.{sorted, ComesBefore}
 use Rattle.real_shares.specs.Numbers.{sorted_by}

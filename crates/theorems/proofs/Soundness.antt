@@ -1,7 +1,6 @@
 -- A certificate that meets its conditions certifies the nucleolus: from the theorem on ordered groups.
-use Rattle.std.proofs.Common.{◌≡◌, ◌⊎◌, ℕ, zero, suc, ◌+◌, ◌<◌, ◌≤◌, List, map}
-use Rattle.std.proofs.Common.{ℤ}
-use Rattle.std.proofs.Common.{◌≤ℤ◌, ◌<ℤ◌, sym, subst, inl, inr, arith}
+use Rattle.std.proofs.Common.{◌≡◌, ◌⊎◌, ℕ, zero, suc, ◌+◌, ◌<◌, ◌≤◌, List, map, ℤ, ◌≤ℤ◌, ◌<ℤ◌, sym, subst, inl, inr}
+use Rattle.std.proofs.Common.{arith}
 use Rattle.std.specs.List.{range_with_len}
 use Rattle.theorems.proofs.SortedLemmas.{SameOrLow, SomeAbove}
 use Rattle.definitions.specs.Measures.{IsMeasurable}

@@ -3,9 +3,8 @@
 --
 -- Where the surplus of i against j is the greater, half a unit of the denominator from j to i gives a preimputation
 -- whose excesses come first.
-use Rattle.std.proofs.Common.{◌≡◌, ◌≢◌, ◌⊎◌, ℕ, zero, suc, ◌^◌, ◌<◌, Bool, true}
-use Rattle.std.proofs.Common.{false, not, ℤ}
-use Rattle.std.proofs.Common.{pos, ◌<ℤ◌, refl, sym, ap, subst, ◌∙◌, inl, inr, arith}
+use Rattle.std.proofs.Common.{◌≡◌, ◌≢◌, ◌⊎◌, ℕ, zero, suc, ◌^◌, ◌<◌, Bool, true, false, not, ℤ, pos, ◌<ℤ◌, refl, sym}
+use Rattle.std.proofs.Common.{ap, subst, ◌∙◌, inl, inr, arith}
 use Rattle.std.proofs.lemmas.Bool.{false≢true}
 use Rattle.std.proofs.lemmas.Int.{by_lt_z}
 use Rattle.std.proofs.Math.Pow.{pow-lt}
