@@ -1,12 +1,12 @@
 -- Behind the tests of what is written, the tests of a certificate's form decide the form of its levels.
-use Rattle.std.proofs.Common.{◌≡◌, ℕ, ◌+◌, ◌≤◌, Bool, true, false, ◌&&◌, nat_le, if◌then◌else◌}
+use Rattle.std.proofs.Common.{◌≡◌, ℕ, ◌+◌, ◌≤◌, true, ◌&&◌, nat_le, if◌then◌else◌}
 use Rattle.std.proofs.Common.{List, [], ◌∷◌, ◌++◌}
 use Rattle.std.proofs.Common.{map, length, Some, None, pos, ◌≤ℤ◌, codes, refl, sym, ap}
 use Rattle.std.proofs.Common.{◌∙◌, inl, inr, arith}
 use Rattle.std.specs.Prelude.{unwrap_or, ◌⊎◌}
 use Rattle.std.specs.Bool.{Decides}
 use Rattle.std.specs.List.{list_all}
-use Rattle.std.proofs.lemmas.Bool.{false≢true, and_parts, and_from, ltb-true, leb-true, le-leb, lt-ltb}
+use Rattle.std.proofs.lemmas.Bool.{and_parts, and_from, ltb-true, leb-true, le-leb, lt-ltb}
 use Rattle.std.proofs.lemmas.Bool.Decides.{Decides-and}
 use Rattle.std.proofs.lemmas.List.{length-map}
 use Rattle.serde_json.specs.Data.{Data}
@@ -21,6 +21,7 @@ use Rattle.certificate_texts.specs.Shape.{mode_of}
 use Rattle.certificate_texts.specs.Levels.{level_of}
 use Rattle.certificate_texts.specs.Certificates.{level_trees, levels_of, certificate_of, allows_mode}
 use Rattle.certificate_texts.specs.Certificates.{has_few_levels, is_written, have_form, has_form}
+use Rattle.certificate_texts.proofs.Readings.{none_if, some_if}
 
 level_positive : (k n : ℕ) (d : Data) → pos 1 ≤ℤ (level_of k n d).excess_den
 level_positive k n d = (scaled_at_reduced k (codes "excess") d).positive
@@ -79,22 +80,13 @@ module _ (k n : ℕ) (m : Mode) (c : Data) (named : mode_of c ≡ Some m) where
       (ap (allows_mode n) named ∙ (decides_mode n m).1 f.players) (from_few_levels k n c f.few)) w)
       ((decides_levels k n [] (level_trees c)).1 f.each)
 
-  if_formed : (x : CertificateData) (b : Bool) → b ≡ true
-      → x ≡ record { players = n; mode = m; levels = levels_of k n c }
-      → Some x ≡ (if b then Some (certificate_of k n c) else None)
-  if_formed x true h e =
-      ap Some (e ∙ ap (λ o. record { players = n; mode = unwrap_or o Players; levels = levels_of k n c }) (sym named))
-  if_formed x false h e = absurd (false≢true h)
-
   pub formed : (x : CertificateData) → list_all (is_written k n) (level_trees c) ≡ true
       → x ≡ record { players = n; mode = m; levels = levels_of k n c } → HasForm m n (levels_of k n c)
       → Some x ≡ (if has_form k n c then Some (certificate_of k n c) else None)
-  formed x w e f = if_formed x (has_form k n c) (form_passes w f) e
+  formed x w e f =
+      some_if (has_form k n c) (certificate_of k n c) x (form_passes w f)
+      (e ∙ ap (λ o. record { players = n; mode = unwrap_or o Players; levels = levels_of k n c }) (sym named))
 
-if_not : {A : Type 0} (b : Bool) (x : A) → (b ≡ true → ⊥) → None ≡ (if b then Some x else None)
-if_not true x h = absurd (h refl)
-if_not false x h = refl
-
-pub malformed : (k n : ℕ) (m : Mode) (c : Data) → mode_of c ≡ Some m → ¬ HasForm m n (levels_of k n c)
-    → None ≡ (if has_form k n c then Some (certificate_of k n c) else None)
-malformed k n m c named h = if_not (has_form k n c) (certificate_of k n c) (λ e. h (form_holds k n m c named e))
+  pub malformed : ¬ HasForm m n (levels_of k n c)
+      → None ≡ (if has_form k n c then Some (certificate_of k n c) else None)
+  malformed h = none_if (has_form k n c) (certificate_of k n c) (λ e. h (form_holds e))

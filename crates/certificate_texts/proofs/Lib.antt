@@ -1,2 +1,4 @@
 pub mod Ascents
 pub mod FormTests
+pub mod Readings
+pub mod WrittenLevels

@@ -4,6 +4,8 @@
 mod ascending;
 mod certificates;
 mod levels;
+mod pairs;
+mod reader;
 mod shape;
 mod words;
 

@@ -6,7 +6,6 @@ ghost use Rattle.serde_json.specs.View.{view};
 ghost use Rattle.serde_json.specs.Find.{get};
 ghost use Rattle.json_trees.specs.Trees.{parts_at, passes, passes_if_there};
 
-use crate::integers::integer;
 use crate::looking::{parts, parts_at};
 use serde_json::Value;
 
@@ -110,20 +109,6 @@ impl Form for Numeric {
 
     fn fits(&self, value: &Value) -> bool {
         value.is_number() || (self.texts && value.is_string())
-    }
-}
-
-/// An integer.
-#[derive(Clone, Copy, Debug)]
-pub struct Integer;
-
-impl Form for Integer {
-    ghost use Rattle.json_trees.specs.Integers.{is_integer};
-
-    ghost form = { λ _. is_integer };
-
-    fn fits(&self, value: &Value) -> bool {
-        integer(value).is_some()
     }
 }
 

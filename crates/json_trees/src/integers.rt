@@ -1,10 +1,9 @@
 //! The integers of a JSON tree.
 ghost use Rattle.std.specs.Prelude.{◌≡◌};
 ghost use Rattle.serde_json.specs.View.{view};
-ghost use Rattle.json_trees.specs.Trees.{parts, integer};
-ghost use Rattle.json_trees.specs.Integers.{integer_at, second_integer};
+ghost use Rattle.json_trees.specs.Trees.{integer};
+ghost use Rattle.json_trees.specs.Integers.{integer_at};
 
-use crate::looking::parts;
 use serde_json::Value;
 
 /// The integer that a number is.
@@ -21,15 +20,5 @@ pub fn integer_at(value: &Value, key: &str) -> i64
     match value.get(key) {
         Some(part) => integer(part).unwrap_or(0),
         None => 0,
-    }
-}
-
-/// The integer of the second of two items, and 0 where there is none.
-pub fn second_integer(pair: &Value) -> i64
-    ensures { result ≡ second_integer (parts (view pair.now)) }
-{
-    match parts(pair) {
-        [_, number] => integer(number).unwrap_or(0),
-        _ => 0,
     }
 }

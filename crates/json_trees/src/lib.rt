@@ -11,12 +11,11 @@ mod looking;
 mod numbered;
 
 pub use form::{
-    ArrayOf, Form, Integer, Member, Number, Numeric, PairOf, SecondOf, Text, each_at, has,
-    has_if_there,
+    ArrayOf, Form, Member, Number, Numeric, PairOf, SecondOf, Text, each_at, has, has_if_there,
 };
-pub use fractions_scaled::{ScaledFraction, scaled, scaled_at, scaled_of};
+pub use fractions_scaled::{scaled, scaled_of};
 pub use fractions_written::{Fraction, fraction_of, fraction_or_zero};
-pub use integers::{integer, integer_at, second_integer};
+pub use integers::{integer, integer_at};
 pub use keys::has_only_keys;
 pub use looking::{pair_members, parts, parts_at, text};
 pub use numbered::numbered_player;
