@@ -1,5 +1,4 @@
 pub mod Lists
-pub mod TextViews
 pub mod PrintableLevels
 pub mod CertificateDepths
 pub mod CertificateNumbers

@@ -1,12 +1,12 @@
 //! Bird's shares and plan, as JSON.
-ghost use Rattle.std.specs.Prelude.{◌≡◌, pos, map, IfOk};
+ghost use Rattle.std.specs.Prelude.{◌≡◌, map, IfOk};
 ghost use Rattle.serde_json.specs.Data.{object};
 ghost use Rattle.serde_json.specs.View.{view, members_view};
-ghost use Rattle.report.specs.Limits.{IsScale};
 ghost use Rattle.report.specs.BirdTrees.{edge_cost, edge_tree, bird_tree};
 
 use crate::fraction::integer_value;
 use crate::objects::{with, with_answer, with_shares};
+use crate::scale::Scale;
 use fractions::OutOfMemory;
 use serde_json::{Map, Value};
 use std::alloc::Global;
@@ -18,9 +18,8 @@ pub(crate) fn bird_members(
     alloc: Global,
     shares: &Shares,
     tree: &Tree,
-    scale: u32,
+    scale: Scale,
 ) -> Result<Map<String, Value>, OutOfMemory>
-    requires { IsScale (pos scale) }
     ensures { IfOk result (λ m. object (members_view m.entries) ≡ bird_tree scale shares.now tree.now) }
 {
     let members = with_answer(alloc, "bird")?;
@@ -32,9 +31,8 @@ pub(crate) fn bird_members(
 fn edge_trees(
     alloc: Global,
     edges: &[(u32, u32, i64)],
-    scale: u32,
+    scale: Scale,
 ) -> Result<Vec<Value>, OutOfMemory>
-    requires { IsScale (pos scale) }
     ensures { IfOk result (λ v. map view v.items ≡ map (edge_tree scale) edges.now) }
 {
     let mut trees = Vec::new(alloc);
@@ -45,11 +43,10 @@ fn edge_trees(
 }
 
 /// What a link costs, over the scale: an integer where the scale is 1, and else a text.
-fn cost_value(alloc: Global, cost: i64, scale: u32) -> Result<Value, OutOfMemory>
-    requires { IsScale (pos scale) }
+fn cost_value(alloc: Global, cost: i64, scale: Scale) -> Result<Value, OutOfMemory>
     ensures { IfOk result (λ v. view v ≡ edge_cost scale cost) }
 {
-    if scale == 1 {
+    if scale.number() == 1 {
         return Ok(Value::from(cost));
     }
     integer_value(alloc, i128::from(cost), scale)
@@ -60,9 +57,8 @@ fn edge_tree(
     end: u32,
     player: u32,
     cost: i64,
-    scale: u32,
+    scale: Scale,
 ) -> Result<Value, OutOfMemory>
-    requires { IsScale (pos scale) }
     ensures { IfOk result (λ v. view v ≡ edge_tree scale (end, player, cost)) }
 {
     let cost = cost_value(alloc, cost, scale)?;

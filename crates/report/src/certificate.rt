@@ -1,14 +1,15 @@
 //! Certificates as JSON.
-ghost use Rattle.std.specs.Prelude.{◌≡◌, pos, map, IfOk};
+ghost use Rattle.std.specs.Prelude.{◌≡◌, map, IfOk};
 ghost use Rattle.std.specs.List.{AllByRecursion};
 ghost use Rattle.serde_json.specs.Data.{Data, object, array, put as with_member};
 ghost use Rattle.serde_json.specs.View.{view, items_of, members_view};
 ghost use Rattle.definitions.specs.Certificates.{IsSmall};
 ghost use Rattle.report.specs.Certificates.{weight_data, weight_pair, level_tree, certificate_tree};
-ghost use Rattle.report.specs.Limits.{IsScale, IsFine, HasSmallWeights};
+ghost use Rattle.report.specs.Limits.{IsFine, HasSmallWeights};
 
 use crate::objects::{pair, with, with_text, with_value};
 use crate::players::{player_numbers, player_value};
+use crate::scale::Scale;
 use crate::words::mode_word;
 use coalitions::Coalition;
 use fractions::OutOfMemory;
@@ -20,10 +21,9 @@ use std::alloc::Global;
 pub(crate) fn certificate_members(
     alloc: Global,
     certificate: &Certificate,
-    scale: u32,
+    scale: Scale,
 ) -> Result<Map<String, Value>, OutOfMemory>
-    requires scale { IsScale (pos scale) }
-    requires fine { AllByRecursion (λ l. IsFine l.excess_den) certificate.now.levels }
+    requires { AllByRecursion (λ l. IsFine l.excess_den) certificate.now.levels }
     ensures { IfOk result (λ m. object (members_view m.entries) ≡ certificate_tree scale certificate.now) }
 {
     let levels = level_trees(alloc, certificate.levels(), scale)?;
@@ -31,8 +31,7 @@ pub(crate) fn certificate_members(
     with_text(alloc, members, "mode", mode_word(certificate.mode()))
 }
 
-fn level_trees(alloc: Global, levels: &[Level], scale: u32) -> Result<Vec<Value>, OutOfMemory>
-    requires scale { IsScale (pos scale) }
+fn level_trees(alloc: Global, levels: &[Level], scale: Scale) -> Result<Vec<Value>, OutOfMemory>
     requires small { AllByRecursion HasSmallWeights levels.now }
     requires fine { AllByRecursion (λ l. IsFine l.excess_den) levels.now }
     ensures { IfOk result (λ v. map view v.items ≡ map (level_tree scale) levels.now) }
@@ -48,9 +47,8 @@ fn level_trees(alloc: Global, levels: &[Level], scale: u32) -> Result<Vec<Value>
 fn level_members(
     alloc: Global,
     level: &Level,
-    scale: u32,
+    scale: Scale,
 ) -> Result<Map<String, Value>, OutOfMemory>
-    requires scale { IsScale (pos scale) }
     requires small { HasSmallWeights level.now }
     requires fine { IsFine level.now.excess_den }
     ensures { IfOk result (λ m. object (members_view m.entries) ≡ level_tree scale level.now) }

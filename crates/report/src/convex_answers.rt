@@ -1,12 +1,12 @@
 //! What is said of a game's convexity, as JSON.
-ghost use Rattle.std.specs.Prelude.{◌≡◌, pos, false, IfOk};
+ghost use Rattle.std.specs.Prelude.{◌≡◌, false, IfOk};
 ghost use Rattle.serde_json.specs.Data.{object};
 ghost use Rattle.serde_json.specs.View.{members_view};
-ghost use Rattle.report.specs.Limits.{IsScale};
 ghost use Rattle.report.specs.ConvexTrees.{convex_tree};
 
 use crate::objects::{with, with_answer, with_coalition, with_integer, with_shares};
 use crate::players::player_value;
+use crate::scale::Scale;
 use coalitions::Coalition;
 use convexity::ConvexAnswer;
 use fractions::OutOfMemory;
@@ -19,9 +19,8 @@ pub(crate) fn convex_members(
     alloc: Global,
     is_cost: bool,
     answer: &ConvexAnswer,
-    scale: u32,
+    scale: Scale,
 ) -> Result<Map<String, Value>, OutOfMemory>
-    requires { IsScale (pos scale) }
     ensures { IfOk result (λ m. object (members_view m.entries) ≡ convex_tree scale is_cost answer.now) }
 {
     match answer {
@@ -40,9 +39,8 @@ fn both_shares_members(
     is_cost: bool,
     shapley: &Shares,
     marginal: &Shares,
-    scale: u32,
+    scale: Scale,
 ) -> Result<Map<String, Value>, OutOfMemory>
-    requires { IsScale (pos scale) }
     ensures { IfOk result
         (λ m. object (members_view m.entries)
         ≡ convex_tree scale is_cost (ConvexAnswer.Convex shapley.now marginal.now)) }
@@ -59,9 +57,8 @@ fn failure_members(
     i: u32,
     j: u32,
     deficit: i64,
-    scale: u32,
+    scale: Scale,
 ) -> Result<Map<String, Value>, OutOfMemory>
-    requires { IsScale (pos scale) }
     ensures { IfOk result
         (λ m. object (members_view m.entries) ≡ convex_tree scale false (ConvexAnswer.Not s i j deficit)) }
 {

@@ -1,14 +1,14 @@
 //! What is said of the core, as JSON.
-ghost use Rattle.std.specs.Prelude.{◌≡◌, pos, IfOk};
+ghost use Rattle.std.specs.Prelude.{◌≡◌, IfOk};
 ghost use Rattle.std.specs.List.{AllByRecursion};
 ghost use Rattle.serde_json.specs.Data.{object};
 ghost use Rattle.serde_json.specs.View.{members_view};
 ghost use Rattle.definitions.specs.Certificates.{IsSmall};
-ghost use Rattle.report.specs.Limits.{IsScale};
 ghost use Rattle.report.specs.CoreTrees.{core_point_tree, empty_core_tree};
 
 use crate::certificate::{weight_value, with_weights};
 use crate::objects::{with, with_answer, with_integer, with_shares, with_text};
+use crate::scale::Scale;
 use balanced_collections::Collection;
 use fractions::OutOfMemory;
 use serde_json::{Map, Value};
@@ -20,9 +20,8 @@ pub(crate) fn core_point_members(
     alloc: Global,
     is_cost: bool,
     shares: &Shares,
-    scale: u32,
+    scale: Scale,
 ) -> Result<Map<String, Value>, OutOfMemory>
-    requires { IsScale (pos scale) }
     ensures { IfOk result (λ m. object (members_view m.entries) ≡ core_point_tree scale is_cost shares.now) }
 {
     let members = with_answer(alloc, "core point")?;
@@ -36,9 +35,8 @@ pub(crate) fn empty_core_members(
     collection: &Collection,
     value: i128,
     against: i128,
-    scale: u32,
+    scale: Scale,
 ) -> Result<Map<String, Value>, OutOfMemory>
-    requires scale { IsScale (pos scale) }
     requires weights { AllByRecursion (λ p. IsSmall p.1) collection.now.weights }
     requires k { IsSmall collection.now.k }
     ensures { IfOk result (λ m. object (members_view m.entries) ≡ empty_core_tree scale collection.now value against) }

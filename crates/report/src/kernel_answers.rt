@@ -1,12 +1,13 @@
 //! What is said of shares and the prekernel, as JSON.
-ghost use Rattle.std.specs.Prelude.{◌≡◌, pos, IfOk};
+ghost use Rattle.std.specs.Prelude.{◌≡◌, IfOk};
 ghost use Rattle.serde_json.specs.Data.{object};
 ghost use Rattle.serde_json.specs.View.{members_view};
-ghost use Rattle.report.specs.Limits.{IsScale, IsFine};
+ghost use Rattle.report.specs.Limits.{IsFine};
 ghost use Rattle.report.specs.KernelTrees.{not_prekernel_tree};
 
 use crate::objects::{with, with_answer, with_value};
 use crate::players::player_value;
+use crate::scale::Scale;
 use fractions::{Frac, OutOfMemory};
 use serde_json::{Map, Value};
 use std::alloc::Global;
@@ -18,9 +19,8 @@ pub(crate) fn not_prekernel_members(
     j: u32,
     ij: &Frac,
     ji: &Frac,
-    scale: u32,
+    scale: Scale,
 ) -> Result<Map<String, Value>, OutOfMemory>
-    requires scale { IsScale (pos scale) }
     requires ij { IsFine ij.now.den }
     requires ji { IsFine ji.now.den }
     ensures { IfOk result (λ m. object (members_view m.entries) ≡ not_prekernel_tree scale i j ij.now ji.now) }

@@ -14,6 +14,7 @@ mod matching_answer;
 mod nucleolus;
 mod objects;
 mod players;
+mod scale;
 mod shapley_answers;
 mod shares;
 mod summary;

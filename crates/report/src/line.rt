@@ -1,5 +1,5 @@
 //! The line of an answer.
-ghost use Rattle.std.specs.Prelude.{◌≡◌, pos, unsigned_abs, IfOk, IsUtf8, Some};
+ghost use Rattle.std.specs.Prelude.{◌≡◌, unsigned_abs, IfOk, IsUtf8, Some};
 ghost use Rattle.serde_json.specs.Read.{read};
 ghost use Rattle.serde_json.specs.Data.{object};
 ghost use Rattle.serde_json.specs.View.{members_view};
@@ -15,6 +15,7 @@ use crate::kernel_answers::not_prekernel_members;
 use crate::matching_answer::matching_members;
 use crate::nucleolus::nucleolus_members;
 use crate::objects::{with, with_answer, with_coalition, with_integer, with_text, with_value};
+use crate::scale::Scale;
 use crate::shapley_answers::shapley_members;
 use crate::summary::summary_members;
 use crate::verdict::verdict_members;
@@ -36,25 +37,19 @@ pub fn write_report(alloc: Global, answer: Answer, scale: i64) -> Result<Vec<u8>
     ensures reads_back { IfOk result
         (λ v. read (without_newline v.items) ≡ Some (answer_tree (unsigned_abs scale) answer)) }
 {
-    let members = members_of(alloc, answer, narrow(scale))?;
+    let members = members_of(alloc, answer, Scale::new(scale))?;
     let mut text = Value::Object(members).to_vec(alloc)?;
     text.push(b'\n')?;
     Ok(text)
 }
 
-// The same scale in 32 bits.
-fn narrow(scale: i64) -> u32
-    requires { IsScale scale }
-    ensures value { result ≡ unsigned_abs scale }
-    ensures within { IsScale (pos result) }
-{
-    scale as u32
-}
-
 /// The members of the tree of an answer over the scale.
-fn members_of(alloc: Global, answer: Answer, scale: u32) -> Result<Map<String, Value>, OutOfMemory>
-    requires scale { IsScale (pos scale) }
-    requires printable { IsPrintable answer }
+fn members_of(
+    alloc: Global,
+    answer: Answer,
+    scale: Scale,
+) -> Result<Map<String, Value>, OutOfMemory>
+    requires { IsPrintable answer }
     ensures { IfOk result (λ m. object (members_view m.entries) ≡ answer_tree scale answer) }
 {
     match answer {
@@ -96,9 +91,8 @@ fn no_imputation_members(
     alloc: Global,
     singles: i64,
     total: i64,
-    scale: u32,
+    scale: Scale,
 ) -> Result<Map<String, Value>, OutOfMemory>
-    requires { IsScale (pos scale) }
     ensures { IfOk result
         (λ m. object (members_view m.entries) ≡ answer_tree scale (Answer.NoImputation singles total)) }
 {
@@ -111,10 +105,9 @@ fn not_efficient_members(
     alloc: Global,
     sum: &Frac,
     total: i64,
-    scale: u32,
+    scale: Scale,
 ) -> Result<Map<String, Value>, OutOfMemory>
-    requires scale { IsScale (pos scale) }
-    requires fine { IsFine sum.now.den }
+    requires { IsFine sum.now.den }
     ensures { IfOk result
         (λ m. object (members_view m.entries) ≡ answer_tree scale (Answer.NotEfficient sum.now total)) }
 {
@@ -127,10 +120,9 @@ fn blocked_members(
     alloc: Global,
     coalition: Coalition,
     excess: &Frac,
-    scale: u32,
+    scale: Scale,
 ) -> Result<Map<String, Value>, OutOfMemory>
-    requires scale { IsScale (pos scale) }
-    requires fine { IsFine excess.now.den }
+    requires { IsFine excess.now.den }
     ensures { IfOk result
         (λ m. object (members_view m.entries) ≡ answer_tree scale (Answer.Blocked coalition excess.now)) }
 {

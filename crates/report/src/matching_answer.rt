@@ -1,12 +1,12 @@
 //! The solution of a market, as JSON.
-ghost use Rattle.std.specs.Prelude.{◌≡◌, pos, map, IfOk};
+ghost use Rattle.std.specs.Prelude.{◌≡◌, map, IfOk};
 ghost use Rattle.serde_json.specs.Data.{object};
 ghost use Rattle.serde_json.specs.View.{view, members_view};
-ghost use Rattle.report.specs.Limits.{IsScale};
 ghost use Rattle.report.specs.MatchingTrees.{pair_tree, matching_tree};
 
 use crate::objects::{pair, with, with_answer, with_integer, with_shares};
 use crate::players::player_value;
+use crate::scale::Scale;
 use big_assignment::Solution;
 use fractions::OutOfMemory;
 use serde_json::{Map, Value};
@@ -17,9 +17,8 @@ use std::alloc::Global;
 pub(crate) fn matching_members(
     alloc: Global,
     solution: &Solution,
-    scale: u32,
+    scale: Scale,
 ) -> Result<Map<String, Value>, OutOfMemory>
-    requires { IsScale (pos scale) }
     ensures { IfOk result (λ m. object (members_view m.entries) ≡ matching_tree scale solution.now) }
 {
     let buyers_best = &solution.buyers_best;

@@ -1,13 +1,14 @@
 //! The nucleolus or the prenucleolus of a game, with its certificate, as JSON.
-ghost use Rattle.std.specs.Prelude.{◌≡◌, pos, IfOk};
+ghost use Rattle.std.specs.Prelude.{◌≡◌, IfOk};
 ghost use Rattle.std.specs.List.{AllByRecursion};
 ghost use Rattle.serde_json.specs.Data.{object};
 ghost use Rattle.serde_json.specs.View.{view, members_view};
-ghost use Rattle.report.specs.Limits.{IsScale, IsFine};
+ghost use Rattle.report.specs.Limits.{IsFine};
 ghost use Rattle.report.specs.Lines.{nucleolus_tree};
 
 use crate::certificate::certificate_members;
 use crate::objects::{with, with_shares, with_text};
+use crate::scale::Scale;
 use crate::words::family_word;
 use fractions::OutOfMemory;
 use kohlberg::Certificate;
@@ -23,10 +24,9 @@ pub(crate) fn nucleolus_members(
     is_cost: bool,
     shares: &Shares,
     certificate: &Certificate,
-    scale: u32,
+    scale: Scale,
 ) -> Result<Map<String, Value>, OutOfMemory>
-    requires scale { IsScale (pos scale) }
-    requires fine { AllByRecursion (λ l. IsFine l.excess_den) certificate.now.levels }
+    requires { AllByRecursion (λ l. IsFine l.excess_den) certificate.now.levels }
     ensures { IfOk result
         (λ m. object (members_view m.entries)
         ≡ nucleolus_tree scale family (view game) is_cost shares.now certificate.now) }

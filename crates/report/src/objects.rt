@@ -1,13 +1,14 @@
 //! JSON objects, member by member, and pairs.
-ghost use Rattle.std.specs.Prelude.{◌≡◌, pos, codes, IfOk};
+ghost use Rattle.std.specs.Prelude.{◌≡◌, codes, IfOk};
 ghost use Rattle.serde_json.specs.Data.{put as with_member, string, array, item, no_items, member, no_members};
 ghost use Rattle.serde_json.specs.View.{view, members_view};
-ghost use Rattle.report.specs.Limits.{IsScale, IsFine};
+ghost use Rattle.report.specs.Limits.{IsFine};
 ghost use Rattle.report.specs.ShareLists.{share_list};
 ghost use Rattle.report.specs.Values.{scaled_data, integer_data, player_numbers};
 
 use crate::fraction::{integer_value, value_over};
 use crate::players::player_numbers;
+use crate::scale::Scale;
 use crate::shares::share_texts;
 use coalitions::Coalition;
 use fractions::{Frac, OutOfMemory};
@@ -57,10 +58,9 @@ pub(crate) fn with_value(
     members: Map<String, Value>,
     key: &str,
     value: &Frac,
-    scale: u32,
+    scale: Scale,
 ) -> Result<Map<String, Value>, OutOfMemory>
-    requires scale { IsScale (pos scale) }
-    requires fine { IsFine value.now.den }
+    requires { IsFine value.now.den }
     ensures { IfOk result
         (λ m. members_view m.entries
         ≡ with_member key.now (scaled_data scale value.now) (members_view members.entries)) }
@@ -75,9 +75,8 @@ pub(crate) fn with_integer(
     members: Map<String, Value>,
     key: &str,
     value: i128,
-    scale: u32,
+    scale: Scale,
 ) -> Result<Map<String, Value>, OutOfMemory>
-    requires { IsScale (pos scale) }
     ensures { IfOk result
         (λ m. members_view m.entries
         ≡ with_member key.now (integer_data scale value) (members_view members.entries)) }
@@ -93,9 +92,8 @@ pub(crate) fn with_shares(
     key: &str,
     shares: &Shares,
     is_cost: bool,
-    scale: u32,
+    scale: Scale,
 ) -> Result<Map<String, Value>, OutOfMemory>
-    requires { IsScale (pos scale) }
     ensures { IfOk result
         (λ m. members_view m.entries
         ≡ with_member key.now (share_list scale is_cost shares.now) (members_view members.entries)) }

@@ -1,11 +1,11 @@
 //! The Shapley shares, as JSON.
-ghost use Rattle.std.specs.Prelude.{◌≡◌, pos, IfOk};
+ghost use Rattle.std.specs.Prelude.{◌≡◌, IfOk};
 ghost use Rattle.serde_json.specs.Data.{object};
 ghost use Rattle.serde_json.specs.View.{members_view};
-ghost use Rattle.report.specs.Limits.{IsScale};
 ghost use Rattle.report.specs.ShapleyTrees.{shapley_tree};
 
 use crate::objects::{with_answer, with_shares};
+use crate::scale::Scale;
 use fractions::OutOfMemory;
 use serde_json::{Map, Value};
 use std::alloc::Global;
@@ -16,9 +16,8 @@ pub(crate) fn shapley_members(
     alloc: Global,
     is_cost: bool,
     shares: &Shares,
-    scale: u32,
+    scale: Scale,
 ) -> Result<Map<String, Value>, OutOfMemory>
-    requires { IsScale (pos scale) }
     ensures { IfOk result (λ m. object (members_view m.entries) ≡ shapley_tree scale is_cost shares.now) }
 {
     let members = with_answer(alloc, "shapley")?;

@@ -1,12 +1,11 @@
 //! Lists of shares.
 ghost use Rattle.std.specs.Prelude.{◌≡◌, ◌^◌, pos, ◌≤ℤ◌, map, IfOk};
 ghost use Rattle.serde_json.specs.View.{view};
-ghost use Rattle.report.specs.Limits.{IsScale};
 ghost use Rattle.report.specs.ShareLists.{IsNumerator, as_printed, share_data};
 
-use crate::fraction::text_of;
+use crate::fraction::{fraction_value, over};
+use crate::scale::Scale;
 use fractions::OutOfMemory;
-use kohlberg::ratio;
 use serde_json::Value;
 use std::alloc::Global;
 use worth_core::Shares;
@@ -16,9 +15,8 @@ pub(crate) fn share_texts(
     alloc: Global,
     shares: &Shares,
     is_cost: bool,
-    scale: u32,
+    scale: Scale,
 ) -> Result<Vec<Value>, OutOfMemory>
-    requires { IsScale (pos scale) }
     ensures { IfOk result (λ v. map view v.items ≡ map (share_data scale is_cost shares.now.den) shares.now.shares) }
 {
     let mut texts = Vec::new(alloc);
@@ -35,17 +33,15 @@ pub(crate) fn share_text(
     num: i128,
     den: i128,
     is_cost: bool,
-    scale: u32,
+    scale: Scale,
 ) -> Result<Value, OutOfMemory>
-    requires scale { IsScale (pos scale) }
     requires positive { pos 1 ≤ℤ den }
     requires common { den ≤ℤ pos (2 ^ 63) }
     requires small { IsNumerator num }
     ensures { IfOk result (λ v. view v ≡ share_data scale is_cost den num) }
 {
-    let share = ratio(as_printed(num, is_cost), den * i128::from(scale));
-    let text = text_of(alloc, &share)?;
-    Ok(Value::String(text))
+    let share = over(as_printed(num, is_cost), den, scale);
+    fraction_value(alloc, &share)
 }
 
 fn as_printed(num: i128, is_cost: bool) -> i128

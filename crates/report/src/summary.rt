@@ -1,14 +1,15 @@
 //! What is said of a generated game, as JSON.
-ghost use Rattle.std.specs.Prelude.{◌≡◌, ◌<◌, ◌-◌, pos, length, IfOk};
+ghost use Rattle.std.specs.Prelude.{◌≡◌, ◌<◌, ◌-◌, length, IfOk};
 ghost use Rattle.serde_json.specs.Data.{object};
 ghost use Rattle.serde_json.specs.View.{view, members_view};
-ghost use Rattle.report.specs.Limits.{IsScale, IsFineIfThere};
+ghost use Rattle.report.specs.Limits.{IsFineIfThere};
 ghost use Rattle.report.specs.SummaryTrees.{least_denominator, player_share, share_members};
 ghost use Rattle.report.specs.SummaryTrees.{greatest_data, summary_tree};
 ghost use Rattle.report.specs.Values.{integer_data};
 
 use crate::fraction::{integer_value, value_over};
 use crate::objects::{with, with_text};
+use crate::scale::Scale;
 use crate::shares::share_text;
 use crate::words::kind_word;
 use fractions::{Frac, OutOfMemory};
@@ -38,10 +39,9 @@ pub struct Summary {
 pub(crate) fn summary_members(
     alloc: Global,
     summary: &Summary,
-    scale: u32,
+    scale: Scale,
 ) -> Result<Map<String, Value>, OutOfMemory>
-    requires scale { IsScale (pos scale) }
-    requires fine { IsFineIfThere summary.now.greatest }
+    requires { IsFineIfThere summary.now.greatest }
     ensures { IfOk result (λ m. object (members_view m.entries) ≡ summary_tree scale summary.now) }
 {
     let members = share_members(alloc, summary, scale)?;
@@ -57,9 +57,8 @@ pub(crate) fn summary_members(
 fn share_members(
     alloc: Global,
     summary: &Summary,
-    scale: u32,
+    scale: Scale,
 ) -> Result<Map<String, Value>, OutOfMemory>
-    requires { IsScale (pos scale) }
     ensures { IfOk result (λ m. members_view m.entries ≡ share_members scale summary.now) }
 {
     let players = summary.shares.players();
@@ -72,8 +71,7 @@ fn share_members(
 }
 
 /// The least common denominator of shares.
-fn common_value(alloc: Global, shares: &Shares, scale: u32) -> Result<Value, OutOfMemory>
-    requires { IsScale (pos scale) }
+fn common_value(alloc: Global, shares: &Shares, scale: Scale) -> Result<Value, OutOfMemory>
     ensures { IfOk result (λ v. view v ≡ integer_data scale (least_denominator shares.now)) }
 {
     let common = shares.least_den();
@@ -82,9 +80,13 @@ fn common_value(alloc: Global, shares: &Shares, scale: u32) -> Result<Value, Out
 }
 
 /// The share of a player, or what it pays.
-fn player_value(alloc: Global, summary: &Summary, i: u32, scale: u32) -> Result<Value, OutOfMemory>
-    requires scale { IsScale (pos scale) }
-    requires player { i < length summary.now.shares.shares }
+fn player_value(
+    alloc: Global,
+    summary: &Summary,
+    i: u32,
+    scale: Scale,
+) -> Result<Value, OutOfMemory>
+    requires { i < length summary.now.shares.shares }
     ensures { IfOk result (λ v. view v ≡ player_share scale summary.now i) }
 {
     let shares = &summary.shares;
@@ -92,9 +94,12 @@ fn player_value(alloc: Global, summary: &Summary, i: u32, scale: u32) -> Result<
 }
 
 /// The greatest excess, or that there is none.
-fn greatest_value(alloc: Global, greatest: &Option<Frac>, scale: u32) -> Result<Value, OutOfMemory>
-    requires scale { IsScale (pos scale) }
-    requires fine { IsFineIfThere greatest.now }
+fn greatest_value(
+    alloc: Global,
+    greatest: &Option<Frac>,
+    scale: Scale,
+) -> Result<Value, OutOfMemory>
+    requires { IsFineIfThere greatest.now }
     ensures { IfOk result (λ v. view v ≡ greatest_data scale greatest.now) }
 {
     match greatest {

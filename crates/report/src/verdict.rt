@@ -1,13 +1,14 @@
 //! Verdicts as JSON.
-ghost use Rattle.std.specs.Prelude.{◌≡◌, pos, IfOk};
+ghost use Rattle.std.specs.Prelude.{◌≡◌, IfOk};
 ghost use Rattle.serde_json.specs.Data.{object};
 ghost use Rattle.serde_json.specs.View.{members_view};
-ghost use Rattle.report.specs.Limits.{IsScale, IsFine, IsFineVerdict};
+ghost use Rattle.report.specs.Limits.{IsFine, IsFineVerdict};
 ghost use Rattle.report.specs.Verdicts.{no_alone, no_at_player, no_at_coalition, no_at_level};
-ghost use Rattle.report.specs.Verdicts.{no_above, reason_tree, verdict_tree};
+ghost use Rattle.report.specs.Verdicts.{no_above, reason_number, reason_tree, verdict_tree};
 
 use crate::objects::{with, with_answer, with_coalition, with_value};
 use crate::players::player_value;
+use crate::scale::Scale;
 use coalitions::Coalition;
 use fractions::{Frac, OutOfMemory};
 use kohlberg::{Place, Reason, Verdict};
@@ -18,10 +19,9 @@ use std::alloc::Global;
 pub(crate) fn verdict_members(
     alloc: Global,
     verdict: Verdict,
-    scale: u32,
+    scale: Scale,
 ) -> Result<Map<String, Value>, OutOfMemory>
-    requires scale { IsScale (pos scale) }
-    requires fine { IsFineVerdict verdict }
+    requires { IsFineVerdict verdict }
     ensures { IfOk result (λ m. object (members_view m.entries) ≡ verdict_tree scale verdict) }
 {
     match verdict {
@@ -33,34 +33,54 @@ pub(crate) fn verdict_members(
 fn reason_members(
     alloc: Global,
     reason: Reason,
-    scale: u32,
+    scale: Scale,
 ) -> Result<Map<String, Value>, OutOfMemory>
-    requires scale { IsScale (pos scale) }
-    requires fine { IsFineVerdict (Verdict.No reason) }
+    requires { IsFineVerdict (Verdict.No reason) }
     ensures { IfOk result (λ m. object (members_view m.entries) ≡ reason_tree scale reason) }
 {
+    let number = reason_number(&reason);
     match reason {
-        Reason::NotEfficient => no_alone(alloc, 1),
-        Reason::NotIndividual { player } => no_at_player(alloc, 2, player),
-        Reason::WrongExcess { level, coalition } => no_at_coalition(alloc, 3, level, coalition),
-        Reason::WeightSign { level, place } => weight_members(alloc, level, place),
-        Reason::Unbalanced { level, player } => no_at_level(alloc, 5, level, player),
-        Reason::BoundNotTight { level, player } => no_at_level(alloc, 6, level, player),
-        Reason::OutsideAbove { level, excess } => no_above(alloc, 7, level, &excess, scale),
-        Reason::NotAll { player } => no_at_player(alloc, 8, player),
+        Reason::NotEfficient => no_alone(alloc, number),
+        Reason::NotIndividual { player } => no_at_player(alloc, number, player),
+        Reason::WrongExcess { level, coalition } => no_at_coalition(
+            alloc, number, level, coalition,
+        ),
+        Reason::WeightSign { level, place } => weight_members(alloc, number, level, place),
+        Reason::Unbalanced { level, player } => no_at_level(alloc, number, level, player),
+        Reason::BoundNotTight { level, player } => no_at_level(alloc, number, level, player),
+        Reason::OutsideAbove { level, excess } => no_above(alloc, number, level, excess, scale),
+        Reason::NotAll { player } => no_at_player(alloc, number, player),
     }
 }
 
 fn weight_members(
     alloc: Global,
+    number: u32,
     level: u32,
     place: Place,
 ) -> Result<Map<String, Value>, OutOfMemory>
+    requires { number ≡ reason_number (Reason.WeightSign level place) }
     ensures { IfOk result (λ m. object (members_view m.entries) ≡ reason_tree 1 (Reason.WeightSign level place)) }
 {
     match place {
-        Place::Coalition(coalition) => no_at_coalition(alloc, 4, level, coalition),
-        Place::Player(player) => no_at_level(alloc, 4, level, player),
+        Place::Coalition(coalition) => no_at_coalition(alloc, number, level, coalition),
+        Place::Player(player) => no_at_level(alloc, number, level, player),
+    }
+}
+
+/// The number of a reason, 1 to 8, in the order in which conditions are tested.
+fn reason_number(reason: &Reason) -> u32
+    ensures { result ≡ reason_number reason.now }
+{
+    match reason {
+        Reason::NotEfficient => 1,
+        Reason::NotIndividual { .. } => 2,
+        Reason::WrongExcess { .. } => 3,
+        Reason::WeightSign { .. } => 4,
+        Reason::Unbalanced { .. } => 5,
+        Reason::BoundNotTight { .. } => 6,
+        Reason::OutsideAbove { .. } => 7,
+        Reason::NotAll { .. } => 8,
     }
 }
 
@@ -111,15 +131,14 @@ fn no_above(
     alloc: Global,
     reason: u32,
     level: u32,
-    excess: &Frac,
-    scale: u32,
+    excess: Frac,
+    scale: Scale,
 ) -> Result<Map<String, Value>, OutOfMemory>
-    requires scale { IsScale (pos scale) }
-    requires fine { IsFine excess.now.den }
-    ensures { IfOk result (λ m. object (members_view m.entries) ≡ no_above scale reason level excess.now) }
+    requires { IsFine excess.den }
+    ensures { IfOk result (λ m. object (members_view m.entries) ≡ no_above scale reason level excess) }
 {
     let members = with_answer(alloc, "no")?;
-    let members = with_value(alloc, members, "excess", excess, scale)?;
+    let members = with_value(alloc, members, "excess", &excess, scale)?;
     let members = with(alloc, members, "level", Value::from(level))?;
     with(alloc, members, "reason", Value::from(reason))
 }

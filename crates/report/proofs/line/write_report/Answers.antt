@@ -18,7 +18,7 @@ returns-clause-text c =
     let kept : to_z w64 (of_z w64 c.args.scale) ≡ c.args.scale = search rules in
     let tree : view (Object c.in_ok-members.members) ≡ answer_tree (unsigned_abs c.args.scale) c.args.answer =
     view-Object c.in_ok-members.members ∙ c.in_ok-members.ensures
-    ∙ ap (λ (k : ℕ). answer_tree k c.args.answer) (c.narrow.ensures.value ∙ ap unsigned_abs kept) in
+    ∙ ap (λ (k : ℕ). answer_tree k c.args.answer) (c.new.ensures ∙ ap unsigned_abs kept) in
     let text =
     c.in_ok-text.ensures.text
     (rw tree (no_float (unsigned_abs c.args.scale) c.args.answer c.requires.printable.form))
@@ -35,7 +35,7 @@ returns-clause-reads_back c =
     let kept : to_z w64 (of_z w64 c.args.scale) ≡ c.args.scale = search rules in
     let tree : view (Object c.in_ok-members.members) ≡ answer_tree (unsigned_abs c.args.scale) c.args.answer =
     view-Object c.in_ok-members.members ∙ c.in_ok-members.ensures
-    ∙ ap (λ (k : ℕ). answer_tree k c.args.answer) (c.narrow.ensures.value ∙ ap unsigned_abs kept) in
+    ∙ ap (λ (k : ℕ). answer_tree k c.args.answer) (c.new.ensures ∙ ap unsigned_abs kept) in
     let front = ap without_newline c.in_ok-push.ensures.items ∙ without_added _ in
     ap read front
     ∙ c.in_ok-text.ensures.reads_back

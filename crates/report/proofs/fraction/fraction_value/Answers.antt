@@ -4,7 +4,7 @@ use Rattle.std.proofs.lemmas.Bool.{false≢true}
 use Rattle.std.proofs.lemmas.Str.{IsUtf8-from_ascii}
 use Rattle.fractions.specs.FractionTexts.{fraction_text}
 use Rattle.report.proofs.AsciiFractions.{fraction_text_ascii}
-use Rattle.report.proofs.fraction.text_of.Goals as goal
+use Rattle.report.proofs.fraction.fraction_value.Goals as goal
 
 pub unreachable-requires : goal.unreachable-requires
 unreachable-requires c =
