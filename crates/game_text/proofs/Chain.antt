@@ -1,9 +1,10 @@
 -- What reading the tree says of the bytes.
 use Rattle.std.proofs.Common.{◌≡◌, ◌≤◌, ◌&&◌, ℕ, List, length, Bool, true, false, Option}
 use Rattle.std.proofs.Common.{Some}
-use Rattle.std.proofs.Common.{None, Result, Ok, Err, MatchResult, ap, ◌∙◌, subst}
+use Rattle.std.proofs.Common.{None, Result, Ok, Err, MatchResult, pos, ap, ◌∙◌, subst}
 use Rattle.std.proofs.lemmas.Bool.{and_from}
 use Rattle.serde_json.specs.Data.{Data}
+use Rattle.serde_json.specs.View.{view}
 use Rattle.document_parts.specs.Scales.{scale_of}
 use Rattle.game_text.specs.Text.{document_limit, IsTextOf}
 use Rattle.game_text.specs.Shape.{class_of, is_shaped}
@@ -11,18 +12,21 @@ use Rattle.game_text.specs.Limits.{has_players, has_numbers}
 use Rattle.game_text.specs.Names.{has_names}
 use Rattle.game_text.specs.OwnTests.{own_test}
 use Rattle.game_text.specs.Documents.{game_tree}
+use Rattle.game_text.specs.Games.{description_in}
 use Rattle.game_text.specs.Refusals.{unless, has_needed_numbers}
 use Rattle.game_text.specs.Refusals.{has_needed_shares, has_needed_form, IsRefused}
 use Rattle.game_text.specs.Denominators.{needed_keep_limits, contents_of, tree_refusal}
 use Rattle.game_text.specs.Steps.{own_refusal, game_refusal, share_refusal}
 use Rattle.game_text.specs.Steps.{certificate_refusal, needed_refusal, late_refusal}
-use Rattle.game_text.specs.Readings.{IsBuilt, IsBuildFault, IsGameReading, IsGameFault, IsTreeReading, IsTreeFault}
+use Rattle.game_text.specs.Readings.{HasSizes, IsBuilt, IsBuildFault, IsGameReading, IsGameFault}
+use Rattle.game_text.specs.Readings.{IsTreeReading, IsTreeFault}
 use Rattle.game_text.specs.Readings.{IsLateReading, IsLateFault, IsReading, IsFault, contents_in}
 use Rattle.game_text.specs.declared.command.Command.{Command}
 use Rattle.game_text.specs.declared.document.Document.{Document}
 use Rattle.game_text.specs.declared.fault.TextFault.{TextFault}
 use Rattle.game_text.specs.declared.fault.TextFault.TheVariants.{Refused, Memory}
 use Rattle.game_text.specs.declared.game.Game.{Game}
+use Rattle.game_text.specs.declared.reading.Said.{Said}
 use Rattle.kinds.specs.declared.refusal.Refusal.{Refusal}
 use Rattle.kinds.specs.declared.refusal.Refusal.TheVariants.{TooLong, NotJson, Shape, Players, Number}
 use Rattle.kinds.specs.declared.refusal.Refusal.TheVariants.{Names, Coalition, Estate, Matrix, Proposal}
@@ -140,37 +144,51 @@ late_fault : (command : Command) (tree : Data)
 late_fault command tree h (Refused r) e = h ∙ e
 late_fault command tree h Memory e = tt
 
-late_says : (command : Command) (tree : Data) (d : Document) → IsLateReading command (game_tree tree) tree d
+-- the document that is made of what is said, and of the tree and the scale of its game
+pub record IsMadeOf (s : Said) (game : Data) (d : Document) : Type 0 where
+  pub described : description_in d.game ≡ description_in s.game
+  pub tree : view d.tree ≡ game
+  pub measure : d.measure ≡ s.measure
+  pub scale : d.scale ≡ pos (scale_of game)
+  pub family : d.family ≡ s.family
+  pub shares : d.shares ≡ s.shares
+  pub certificate : d.certificate ≡ s.certificate
+
+late_says : (command : Command) (tree : Data) (s : Said) (d : Document)
+    → IsLateReading command (game_tree tree) tree s → IsMadeOf s (game_tree tree) d
     → contents_in d ≡ contents_of command tree
-late_says command tree d m =
-    let described = m.described in
-    let same = m.same in
-    let measure = m.measure in
-    let scale = m.scale in
-    let family = m.family in
-    let shares = m.shares in
-    let certificate = m.certificate in
+late_says command tree s d m made =
+    let described = made.described ∙ m.described in
+    let same = made.tree in
+    let measure = made.measure ∙ m.measure in
+    let scale = made.scale in
+    let family = made.family ∙ m.family in
+    let shares = made.shares ∙ m.shares in
+    let certificate = made.certificate ∙ m.certificate in
     cc
 
-at_game : (command : Command) (tree : Data) → is_shaped command tree ≡ true → has_players (game_tree tree) ≡ true
-    → (has_numbers (game_tree tree) && has_needed_numbers command tree) ≡ true
-    → (r : Result Document TextFault)
-    → MatchResult r (IsLateReading command (game_tree tree) tree) (IsLateFault command (game_tree tree) tree)
-    → MatchResult r (IsTreeReading command tree) (IsTreeFault command tree)
-at_game command tree a b c (Ok d) m =
-    record { passed = reached command tree a b c ∙ m.passed; says = late_says command tree d m }
-at_game command tree a b c (Err e) m = late_fault command tree (reached command tree a b c) e m
+-- a game that passed the tests of its shape, players and numbers, in a document whose shares are numbers where the
+-- command needs them
+module _ (command : Command) (game tree : Data) (its : game ≡ game_tree tree) (shaped : is_shaped command tree ≡ true)
+    (sizes : HasSizes game) (needed : has_needed_numbers command tree ≡ true) where
+  here : tree_refusal command tree ≡ late_refusal command (game_tree tree) tree
+  here =
+      reached command tree shaped (subst (λ g. has_players g ≡ true) its sizes.players)
+      (and_from (has_numbers (game_tree tree)) (has_needed_numbers command tree)
+      (subst (λ g. has_numbers g ≡ true) its sizes.numbers) needed)
 
-pub behind_numbers : (command : Command) (game tree : Data) → game ≡ game_tree tree → is_shaped command tree ≡ true
-    → has_players game ≡ true → has_numbers game ≡ true → has_needed_numbers command tree ≡ true
-    → (r : Result Document TextFault)
-    → MatchResult r (IsLateReading command game tree) (IsLateFault command game tree)
-    → MatchResult r (IsTreeReading command tree) (IsTreeFault command tree)
-behind_numbers command game tree e shaped players numbers needed r m =
-    at_game command tree shaped (subst (λ g. has_players g ≡ true) e players)
-    (and_from (has_numbers (game_tree tree)) (has_needed_numbers command tree)
-    (subst (λ g. has_numbers g ≡ true) e numbers) needed) r
-    (subst (λ g. MatchResult r (IsLateReading command g tree) (IsLateFault command g tree)) e m)
+  pub fault_behind_numbers : (e : TextFault) → IsLateFault command game tree e → IsTreeFault command tree e
+  fault_behind_numbers e m =
+      late_fault command tree here e (subst (λ g. IsLateFault command g tree e) its m)
+
+  pub behind_numbers : (s : Said) (d : Document) → IsLateReading command game tree s → IsMadeOf s game d
+      → IsTreeReading command tree d
+  behind_numbers s d m made =
+      let late = subst (λ g. IsLateReading command g tree s) its m in
+      record {
+        passed = here ∙ late.passed;
+        says = late_says command tree s d late (subst (λ g. IsMadeOf s g d) its made);
+      }
 
 pub few_players : (command : Command) (game tree : Data) → game ≡ game_tree tree → is_shaped command tree ≡ true
     → has_players game ≡ false → tree_refusal command tree ≡ Some Players

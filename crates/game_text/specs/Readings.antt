@@ -8,16 +8,15 @@
 --   IsShareReading, IsShareFault               the shares that a command needs; their refusal
 --   IsCertificateReading, IsCertificateFault   the certificate that a command needs; its refusal
 --   contents_in                                what a document in memory says
---   IsLateReading, IsLateFault                 the document of a game with its sizes; the first refusal then
+--   IsLateReading, IsLateFault                 what a document says of a game with its sizes; the first refusal then
 --   IsTreeReading, IsTreeFault                 the document of a tree; the first refusal of a tree
 --   IsReading, IsFault                         the document of the bytes; the first refusal of the bytes
-use Rattle.std.specs.Prelude.{◌≡◌, ◌⊎◌, ⊤, true, ℕ, pos, List, Option, Some, None}
+use Rattle.std.specs.Prelude.{◌≡◌, ◌⊎◌, ⊤, true, ℕ, List, Option, Some, None}
 use Rattle.serde_json.specs.Data.{Data}
 use Rattle.serde_json.specs.View.{view}
 use Rattle.definitions.specs.Games.{Allocation}
 use Rattle.kohlberg.specs.Certificate.{CertificateData}
 use Rattle.document_parts.specs.Excess.{measure_of}
-use Rattle.document_parts.specs.Scales.{scale_of}
 use Rattle.game_text.specs.Shape.{is_game_shaped}
 use Rattle.game_text.specs.Limits.{has_players, has_numbers}
 use Rattle.game_text.specs.Descriptions.{description_of}
@@ -34,6 +33,7 @@ use Rattle.game_text.specs.declared.document.Document.{Document}
 use Rattle.game_text.specs.declared.fault.TextFault.{TextFault}
 use Rattle.game_text.specs.declared.fault.TextFault.TheVariants.{Refused, Memory}
 use Rattle.game_text.specs.declared.game.Game.{Game}
+use Rattle.game_text.specs.declared.reading.Said.{Said}
 use Rattle.kinds.specs.declared.refusal.Refusal.{Refusal}
 
 pub record HasSizes (game : Data) : Type 0 where
@@ -106,16 +106,15 @@ contents_in d = record {
   certificate = d.certificate;
 }
 
--- the tests behind those of the shape, the players and the numbers pass, and this is what the tree says
-pub record IsLateReading (command : Command) (game tree : Data) (d : Document) : Type 0 where
+-- the tests behind those of the shape, the players and the numbers pass, and this is what the tree says beside the tree
+-- and the scale of the game
+pub record IsLateReading (command : Command) (game tree : Data) (s : Said) : Type 0 where
   pub passed : late_refusal command game tree ≡ None
-  pub described : description_in d.game ≡ description_of game
-  pub same : view d.tree ≡ game
-  pub measure : d.measure ≡ measure_of game
-  pub scale : d.scale ≡ pos (scale_of game)
-  pub family : d.family ≡ family_for command tree
-  pub shares : d.shares ≡ shares_for command game tree
-  pub certificate : d.certificate ≡ certificate_for command game tree
+  pub described : description_in s.game ≡ description_of game
+  pub measure : s.measure ≡ measure_of game
+  pub family : s.family ≡ family_for command tree
+  pub shares : s.shares ≡ shares_for command game tree
+  pub certificate : s.certificate ≡ certificate_for command game tree
 
 -- the tests behind those of the shape, the players and the numbers refuse it so; want of memory is free
 abbrev pub IsLateFault : Command → Data → Data → TextFault → Type 0

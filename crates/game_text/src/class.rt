@@ -21,21 +21,20 @@ pub enum Class {
     Voting,
 }
 
-/// The function of this name in the module of the class. The module of each class has `is_shaped`, `has_players`,
-/// `players` and `has_numbers`; both tables share theirs.
+/// The function of this name in the module of the class. The module of each class has `is_shaped`, `players` and
+/// `has_numbers`; both tables share theirs.
 macro_rules! by_class {
-    ($class:expr, $function:ident($($argument:expr),*), none: $none:expr) => {
+    ($class:expr, $function:ident($($argument:expr),*)) => {
         match $class {
-            Some($crate::class::Class::Table | $crate::class::Class::Cost) => {
+            $crate::class::Class::Table | $crate::class::Class::Cost => {
                 $crate::table_class::$function($($argument),*)
             }
-            Some($crate::class::Class::Airport) => $crate::airport_class::$function($($argument),*),
-            Some($crate::class::Class::Bankruptcy) => $crate::bankruptcy_class::$function($($argument),*),
-            Some($crate::class::Class::Tree) => $crate::tree_class::$function($($argument),*),
-            Some($crate::class::Class::Assignment) => $crate::assignment_class::$function($($argument),*),
-            Some($crate::class::Class::Market) => $crate::market_class::$function($($argument),*),
-            Some($crate::class::Class::Voting) => $crate::voting_class::$function($($argument),*),
-            None => $none,
+            $crate::class::Class::Airport => $crate::airport_class::$function($($argument),*),
+            $crate::class::Class::Bankruptcy => $crate::bankruptcy_class::$function($($argument),*),
+            $crate::class::Class::Tree => $crate::tree_class::$function($($argument),*),
+            $crate::class::Class::Assignment => $crate::assignment_class::$function($($argument),*),
+            $crate::class::Class::Market => $crate::market_class::$function($($argument),*),
+            $crate::class::Class::Voting => $crate::voting_class::$function($($argument),*),
         }
     };
 }

@@ -15,6 +15,7 @@ mod market_class;
 mod matrix_class;
 mod reading;
 mod shape;
+mod shaped;
 mod table_class;
 mod tree_class;
 mod voting_class;

@@ -1,30 +1,23 @@
 //! The numbers of players, and the sizes of worths and costs, that a game keeps within.
-ghost use Rattle.std.specs.Prelude.{◌≡◌};
+ghost use Rattle.std.specs.Prelude.{◌≡◌, Some, None, if◌then◌else◌};
 ghost use Rattle.serde_json.specs.View.{view};
 ghost use Rattle.game_text.specs.Shape.{class_of};
 ghost use Rattle.game_text.specs.Limits.{has_players, players, has_numbers_as};
 
 use crate::class::by_class;
-use crate::shape::class_of;
-use serde_json::Value;
+use crate::shaped::ShapedGame;
 
-/// Whether there are as many players, and numbers for them, as the class of the game allows.
-pub(crate) fn has_players(game: &Value) -> bool
-    ensures { result ≡ has_players (view game.now) }
+/// The number of players, where there are as many, and numbers for them, as the class of the game allows.
+pub(crate) fn players(game: &ShapedGame) -> Option<usize>
+    ensures { let tree = view game.now.tree.now in
+        result ≡ (if has_players tree then Some (players tree) else None) }
 {
-    by_class!(class_of(game), has_players(game), none: false)
-}
-
-/// The number of players of a game that has as many as its class allows.
-pub(crate) fn players(game: &Value) -> usize
-    ensures { result ≡ players (view game.now) }
-{
-    by_class!(class_of(game), players(game), none: 0)
+    by_class!(game.class, players(game.tree))
 }
 
 /// Whether each number of the game, times the scale, is within its limits.
-pub(crate) fn has_numbers(game: &Value, scale: u32) -> bool
-    ensures { result ≡ has_numbers_as scale (class_of (view game.now)) (view game.now) }
+pub(crate) fn has_numbers(game: &ShapedGame, scale: u32) -> bool
+    ensures { result ≡ has_numbers_as scale (class_of (view game.now.tree.now)) (view game.now.tree.now) }
 {
-    by_class!(class_of(game), has_numbers(game, scale), none: false)
+    by_class!(game.class, has_numbers(game.tree, scale))
 }

@@ -1,49 +1,51 @@
 //! Markets: what each buyer and each seller are worth together, for up to 32 buyers and 32 sellers.
-ghost use Rattle.std.specs.Prelude.{◌≡◌, IfOk, Some, None, if◌then◌else◌};
+ghost use Rattle.std.specs.Prelude.{◌≡◌, MatchResult, Some, None, if◌then◌else◌};
 ghost use Rattle.serde_json.specs.View.{view};
 ghost use Rattle.document_parts.specs.Scales.{scale_of};
 ghost use Rattle.game_text.specs.Shape.{class_of};
-ghost use Rattle.game_text.specs.MatrixClass.{rows_of};
-ghost use Rattle.game_text.specs.AssignmentClass.{are_even};
+ghost use Rattle.game_text.specs.AssignmentClass.{assignment_players};
 ghost use Rattle.game_text.specs.MarketClass.{has_market_players};
-ghost use Rattle.game_text.specs.Readings.{HasSizes};
+ghost use Rattle.game_text.specs.Readings.{HasSizes, IsBuilt, IsBuildFault};
 ghost use Rattle.game_text.specs.declared.class.Class.TheVariants.{Market};
 
-pub(crate) use crate::assignment_class::players;
 use crate::assignment_class::sellers_at;
+use crate::fault::TextFault;
+use crate::game::Game;
 pub(crate) use crate::matrix_class::{has_numbers, is_shaped};
 use big_assignment::{MarketFault, MarketGame};
 use document_parts::{is_short_list_size, rows_at};
-use fractions::OutOfMemory;
 use json_trees::parts_at;
+use kinds::Refusal;
 use serde_json::Value;
 use std::alloc::Global;
 
-/// Whether there are 1 to 32 buyers, and 1 to 32 sellers.
-pub(crate) fn has_players(game: &Value) -> bool
-    ensures { result ≡ has_market_players (view game.now) }
+/// The number of players, where there are 1 to 32 buyers, and 1 to 32 sellers.
+pub(crate) fn players(game: &Value) -> Option<usize>
+    ensures { result
+        ≡ (if has_market_players (view game.now) then Some (assignment_players (view game.now)) else None) }
 {
-    is_short_list_size(parts_at(game, "matrix").len()) && is_short_list_size(sellers_at(game))
+    let buyers = parts_at(game, "matrix").len();
+    let sellers = sellers_at(game);
+    if is_short_list_size(buyers) && is_short_list_size(sellers) {
+        Some(buyers + sellers)
+    } else {
+        None
+    }
 }
 
-/// The market that is described, its numbers times the scale. None where the rows differ in length.
-pub(crate) fn market_of(
-    alloc: Global,
-    game: &Value,
-    scale: u32,
-) -> Result<Option<MarketGame>, OutOfMemory>
+/// The market that is described, its numbers times the scale. It is refused where the rows differ in length.
+pub(crate) fn market_of(alloc: Global, game: &Value, scale: u32) -> Result<Game, TextFault>
     requires class { class_of (view game.now) ≡ Some Market }
     requires sizes { HasSizes (view game.now) }
     requires scale { scale ≡ scale_of (view game.now) }
-    ensures { IfOk result
-        (λ o. let rows = rows_of scale (view game.now) in o ≡ (if are_even rows then Some rows else None)) }
+    ensures { MatchResult result (IsBuilt (view game.now)) (IsBuildFault (view game.now)) }
 {
     let rows = rows_at(alloc, game, "matrix", scale)?;
     match MarketGame::new(alloc, rows) {
-        Ok(game) => Ok(Some(game)),
-        Err(MarketFault::Matrix) => Ok(None),
-        Err(MarketFault::Memory) => Err(OutOfMemory),
-        Err(MarketFault::Players) => unreachable!(),
-        Err(MarketFault::Number) => unreachable!(),
+        Ok(market) => Ok(Game::Market(market)),
+        Err(MarketFault::Players) => Err(TextFault::Refused(Refusal::Players)),
+        Err(MarketFault::Number) => Err(TextFault::Refused(Refusal::Number)),
+        Err(MarketFault::Matrix) => Err(TextFault::Refused(Refusal::Matrix)),
+        Err(MarketFault::Memory) => Err(TextFault::Memory),
     }
 }

@@ -17,7 +17,7 @@ ghost use Rattle.game_text.specs.Names.{has_names};
 ghost use Rattle.game_text.specs.Refusals.{has_needed_numbers};
 ghost use Rattle.game_text.specs.Text.{document_limit};
 ghost use Rattle.json_texts.specs.Newlines.{without_newline};
-ghost use Rattle.game_text.specs.Readings.{HasSizes, IsReading, IsFault, IsTreeReading};
+ghost use Rattle.game_text.specs.Readings.{IsReading, IsFault, IsTreeReading};
 ghost use Rattle.game_text.specs.Readings.{IsTreeFault, IsLateReading, IsLateFault};
 ghost use Rattle.game_text.specs.Readings.{IsGameReading, IsGameFault, IsProposal, IsProposalFault};
 ghost use Rattle.game_text.specs.Readings.{IsShareReading, IsShareFault, IsCertificateReading, IsCertificateFault};
@@ -27,10 +27,11 @@ use crate::command::Command;
 use crate::document::Document;
 use crate::fault::TextFault;
 use crate::game::Game;
-use crate::limits::{has_numbers, has_players, players};
-use crate::shape::is_shaped;
+use crate::limits::{has_numbers, players};
+use crate::shape::shaped_game;
+use crate::shaped::SizedGame;
 use certificate_texts::{certificate_of, family_of};
-use definitions::Family;
+use definitions::{Family, Measure};
 use document_parts::{
     Names, has_share_numbers, has_shares_for, know_sparse, measure_of, names_of, scale_of,
     shares_as_worth,
@@ -89,29 +90,43 @@ fn without_newline(bytes: &[u8]) -> &[u8]
 fn document_of(alloc: Global, command: Command, tree: Value) -> Result<Document, TextFault>
     ensures { MatchResult result (IsTreeReading command (view tree)) (IsTreeFault command (view tree)) }
 {
-    let shaped = is_shaped(command, &tree);
-    let Some(game) = tree.get("game") else {
+    let Some(shaped) = shaped_game(command, &tree) else {
         return Err(TextFault::Refused(Refusal::Shape));
     };
-    if !shaped {
-        return Err(TextFault::Refused(Refusal::Shape));
-    }
-    if !has_players(game) {
+    let Some(count) = players(&shaped) else {
         return Err(TextFault::Refused(Refusal::Players));
-    }
-    let Some(scale) = scale_of(game) else {
+    };
+    let Some(scale) = scale_of(shaped.tree) else {
         return Err(TextFault::Refused(Refusal::Number));
     };
-    if !has_numbers(game, scale) || !has_needed_numbers(command, &tree) {
+    if !has_numbers(&shaped, scale) || !has_needed_numbers(command, &tree) {
         return Err(TextFault::Refused(Refusal::Number));
     }
-    Reading {
+    let game = SizedGame {
+        class: shaped.class,
+        tree: shaped.tree,
+        count,
+        scale,
+    };
+    let said = Reading {
         alloc,
         command,
-        tree,
-        scale,
+        tree: &tree,
+        game,
     }
-    .document()
+    .said();
+    match said {
+        Ok(said) => Ok(Document {
+            game: said.game,
+            tree: game_out_of(tree),
+            measure: said.measure,
+            scale: i64::from(scale),
+            family: said.family,
+            shares: said.shares,
+            certificate: said.certificate,
+        }),
+        Err(e) => Err(e),
+    }
 }
 
 fn has_needed_numbers(command: Command, tree: &Value) -> bool
@@ -131,26 +146,28 @@ fn game_out_of(tree: Value) -> Value
 }
 
 /// The game, where its names are right, and what its class tests of it.
-fn right_game(alloc: Global, game: &Value, scale: u32) -> Result<Game, TextFault>
-    requires sizes { HasSizes (view game.now) }
-    requires scale { scale ≡ scale_of (view game.now) }
-    ensures { MatchResult result (IsGameReading (view game.now)) (IsGameFault (view game.now)) }
+fn right_game(alloc: Global, game: &SizedGame) -> Result<Game, TextFault>
+    ensures { MatchResult result (IsGameReading (view game.now.tree.now)) (IsGameFault (view game.now.tree.now)) }
 {
-    match right_names(alloc, game) {
-        Ok(Some(names)) => game_of(alloc, game, &names, scale),
+    match right_names(alloc, game.tree, game.players()) {
+        Ok(Some(names)) => game_of(alloc, game, &names),
         Ok(None) => Err(TextFault::Refused(Refusal::Names)),
         Err(OutOfMemory) => Err(TextFault::Memory),
     }
 }
 
 /// The names of the players, where they are right and a sparse table uses no other.
-fn right_names<'a>(alloc: Global, game: &'a Value) -> Result<Option<Names<'a>>, OutOfMemory>
+fn right_names<'a>(
+    alloc: Global,
+    game: &'a Value,
+    count: usize,
+) -> Result<Option<Names<'a>>, OutOfMemory>
+    requires { count ≡ players (view game.now) }
     ensures few { IfOk result (λ o. IfSome o (λ names. length names ≤ players (view game.now))) }
     ensures names { IfOk result
         (λ o. o ≡ (if has_names (view game.now) then Some (names_of (view game.now)) else None)) }
 {
-    let players = players(game);
-    match names_of(alloc, game, players) {
+    match names_of(alloc, game, count) {
         Ok(Some(names)) if know_sparse(&names, game) => Ok(Some(names)),
         Ok(_) => Ok(None),
         Err(e) => Err(e),
@@ -167,61 +184,46 @@ fn needed_family(command: Command, tree: &Value) -> Option<Family>
     }
 }
 
-/// A document behind the tests of its shape, its players and its numbers, and what the rest of it is read with.
+/// What a document says, but for the tree of its game.
+#[derive(Debug, Drop)]
+struct Said {
+    game: Game,
+    measure: Measure,
+    family: Option<Family>,
+    shares: Option<Shares>,
+    certificate: Option<Certificate>,
+}
+
+/// A document behind the tests of its shape, its players and its numbers.
 #[derive(Drop)]
-struct Reading {
+struct Reading<'a> {
     alloc: Global,
     command: Command,
     /// The tree of the document.
-    tree: Value,
-    /// The scale of its game.
-    scale: u32,
+    tree: &'a Value,
+    /// Its game.
+    game: SizedGame<'a>,
 }
 
-impl Reading {
-    /// The tree of the game.
-    fn game(&self) -> &Value
-        requires { HasSizes (game_tree (view self.now.tree)) }
-        ensures { view result.now ≡ game_tree (view self.now.tree) }
-    {
-        match self.tree.get("game") {
-            Some(game) => game,
-            None => unreachable!(),
-        }
-    }
-
-    /// The number of players of the game.
-    fn players(&self) -> usize
-        requires sizes { HasSizes (game_tree (view self.now.tree)) }
-        ensures value { result ≡ players (game_tree (view self.now.tree)) }
-        ensures some { 1 ≤ result }
-        ensures few { result ≤ 64 }
-    {
-        players(self.game())
-    }
-
-    /// The document.
-    fn document(self) -> Result<Document, TextFault>
-        requires sizes { HasSizes (game_tree (view self.tree)) }
-        requires scale { self.scale ≡ scale_of (game_tree (view self.tree)) }
+impl Reading<'_> {
+    /// What the document says.
+    fn said(&self) -> Result<Said, TextFault>
         ensures { MatchResult result
-            (IsLateReading self.command (game_tree (view self.tree)) (view self.tree))
-            (IsLateFault self.command (game_tree (view self.tree)) (view self.tree)) }
+            (IsLateReading self.now.command (view self.now.game.tree.now) (view self.now.tree.now))
+            (IsLateFault self.now.command (view self.now.game.tree.now) (view self.now.tree.now)) }
     {
-        match right_game(self.alloc, self.game(), self.scale) {
-            Ok(described) => self.document_of_game(described),
+        match right_game(self.alloc, &self.game) {
+            Ok(described) => self.said_of(described),
             Err(e) => Err(e),
         }
     }
 
-    /// The document of a game that is right, where what the command needs beside it is right too.
-    fn document_of_game(self, described: Game) -> Result<Document, TextFault>
-        requires sizes { HasSizes (game_tree (view self.tree)) }
-        requires scale { self.scale ≡ scale_of (game_tree (view self.tree)) }
-        requires described { IsGameReading (game_tree (view self.tree)) described }
+    /// What a document says whose game is right, where what the command needs beside it is right too.
+    fn said_of(&self, described: Game) -> Result<Said, TextFault>
+        requires { IsGameReading (view self.now.game.tree.now) described }
         ensures { MatchResult result
-            (IsLateReading self.command (game_tree (view self.tree)) (view self.tree))
-            (IsLateFault self.command (game_tree (view self.tree)) (view self.tree)) }
+            (IsLateReading self.now.command (view self.now.game.tree.now) (view self.now.tree.now))
+            (IsLateFault self.now.command (view self.now.game.tree.now) (view self.now.tree.now)) }
     {
         let shares = match self.needed_shares(described.is_cost()) {
             Ok(shares) => shares,
@@ -231,12 +233,10 @@ impl Reading {
             Ok(certificate) => certificate,
             Err(e) => return Err(e),
         };
-        Ok(Document {
-            measure: measure_of(self.game()),
-            family: needed_family(self.command, &self.tree),
+        Ok(Said {
             game: described,
-            tree: game_out_of(self.tree),
-            scale: i64::from(self.scale),
+            measure: measure_of(self.game.tree),
+            family: needed_family(self.command, self.tree),
             shares,
             certificate,
         })
@@ -244,16 +244,15 @@ impl Reading {
 
     /// The proposed shares, where there is one for each player and their denominator isn't too large.
     fn right_shares(&self, are_payments: bool) -> Result<Shares, TextFault>
-        requires sizes { HasSizes (game_tree (view self.now.tree)) }
-        requires scale { self.now.scale ≡ scale_of (game_tree (view self.now.tree)) }
-        requires sign { are_payments ≡ is_cost (description_of (game_tree (view self.now.tree))) }
-        ensures { MatchResult result (IsProposal (game_tree (view self.now.tree)) (view self.now.tree))
-            (IsProposalFault (game_tree (view self.now.tree)) (view self.now.tree)) }
+        requires { are_payments ≡ is_cost (description_of (view self.now.game.tree.now)) }
+        ensures { MatchResult result (IsProposal (view self.now.game.tree.now) (view self.now.tree.now))
+            (IsProposalFault (view self.now.game.tree.now) (view self.now.tree.now)) }
     {
-        if !has_shares_for(self.players(), &self.tree) {
+        if !has_shares_for(self.game.players(), self.tree) {
             return Err(TextFault::Refused(Refusal::Proposal));
         }
-        let Some(shares) = shares_as_worth(self.alloc, &self.tree, self.scale, are_payments)? else {
+        let scale = self.game.scale();
+        let Some(shares) = shares_as_worth(self.alloc, self.tree, scale, are_payments)? else {
             return Err(TextFault::Refused(Refusal::TooFine));
         };
         Ok(shares)
@@ -261,12 +260,10 @@ impl Reading {
 
     /// The shares that the command needs.
     fn needed_shares(&self, are_payments: bool) -> Result<Option<Shares>, TextFault>
-        requires sizes { HasSizes (game_tree (view self.now.tree)) }
-        requires scale { self.now.scale ≡ scale_of (game_tree (view self.now.tree)) }
-        requires sign { are_payments ≡ is_cost (description_of (game_tree (view self.now.tree))) }
+        requires { are_payments ≡ is_cost (description_of (view self.now.game.tree.now)) }
         ensures { MatchResult result
-            (IsShareReading self.now.command (game_tree (view self.now.tree)) (view self.now.tree))
-            (IsShareFault self.now.command (game_tree (view self.now.tree)) (view self.now.tree)) }
+            (IsShareReading self.now.command (view self.now.game.tree.now) (view self.now.tree.now))
+            (IsShareFault self.now.command (view self.now.game.tree.now) (view self.now.tree.now)) }
     {
         if !self.command.needs().shares {
             return Ok(None);
@@ -279,31 +276,25 @@ impl Reading {
 
     /// The certificate for the players of the game, where it has its form.
     fn right_certificate(&self) -> Result<Option<Certificate>, OutOfMemory>
-        requires sizes { HasSizes (game_tree (view self.now.tree)) }
-        ensures { IfOk result (λ o. o
-            ≡ (if passes (has_form self.now.scale (players (game_tree (view self.now.tree))))
-            (get (codes "certificate") (view self.now.tree))
-            then Some (certificate_of self.now.scale (players (game_tree (view self.now.tree)))
-            (certificate_tree (view self.now.tree))) else None)) }
+        ensures { IfOk result (λ o. let game = view self.now.game.tree.now in o
+            ≡ (if passes (has_form (scale_of game) (players game)) (get (codes "certificate") (view self.now.tree.now))
+            then Some (certificate_of (scale_of game) (players game) (certificate_tree (view self.now.tree.now)))
+            else None)) }
     {
         match self.tree.get("certificate") {
-            Some(certificate) => certificate_of(
-                self.alloc,
-                self.players() as u32,
-                certificate,
-                self.scale,
-            ),
+            Some(tree) => {
+                let players = self.game.players() as u32;
+                certificate_of(self.alloc, players, tree, self.game.scale())
+            }
             None => Ok(None),
         }
     }
 
     /// The certificate that the command needs, where it has its form.
     fn needed_certificate(&self) -> Result<Option<Certificate>, TextFault>
-        requires sizes { HasSizes (game_tree (view self.now.tree)) }
-        requires scale { self.now.scale ≡ scale_of (game_tree (view self.now.tree)) }
         ensures { MatchResult result
-            (IsCertificateReading self.now.command (game_tree (view self.now.tree)) (view self.now.tree))
-            (IsCertificateFault self.now.command (game_tree (view self.now.tree)) (view self.now.tree)) }
+            (IsCertificateReading self.now.command (view self.now.game.tree.now) (view self.now.tree.now))
+            (IsCertificateFault self.now.command (view self.now.game.tree.now) (view self.now.tree.now)) }
     {
         if !self.command.needs().certificate {
             return Ok(None);

@@ -1,15 +1,19 @@
 //! The kinds, keys and words of a document.
-ghost use Rattle.std.specs.Prelude.{◌≡◌, codes, Some, None, if◌then◌else◌};
+ghost use Rattle.std.specs.Prelude.{◌≡◌, codes, true, false, Some, None, IfSome, IfNone, if◌then◌else◌};
 ghost use Rattle.std.specs.Str.{bytes_eq};
+ghost use Rattle.serde_json.specs.Find.{get};
 ghost use Rattle.serde_json.specs.View.{view};
-ghost use Rattle.game_text.specs.Shape.{class_named, class_of, is_shaped_as, has_shares, has_needed, is_shaped};
+ghost use Rattle.game_text.specs.Shape.{class_named, class_of, is_shaped_as, is_game_shaped};
+ghost use Rattle.game_text.specs.Shape.{has_shares, has_needed, is_shaped};
+ghost use Rattle.game_text.specs.Documents.{game_tree};
 ghost use Rattle.game_text.specs.declared.class.Class.TheVariants.{Tree, Assignment, Market, Voting};
 
 use crate::class::{Class, by_class};
 use crate::command::Command;
+use crate::shaped::ShapedGame;
 use certificate_texts::{CertificateShape, family_of};
 use document_parts::{MeasureWord, VersionNumber};
-use json_trees::{ArrayOf, Form, Member, Text, has, has_if_there, has_only_keys};
+use json_trees::{ArrayOf, Member, Text, has, has_if_there, has_only_keys};
 use serde_json::Value;
 
 /// The class that a word names, of the classes from the tree game on.
@@ -49,34 +53,28 @@ fn class_named(word: &str) -> Option<Class>
 }
 
 /// The class that a game names.
-pub(crate) fn class_of(game: &Value) -> Option<Class>
+fn class_of(game: &Value) -> Option<Class>
     ensures { result ≡ class_of (view game.now) }
 {
     let word = game.get("class").and_then(Value::as_str)?;
     class_named(word)
 }
 
-fn is_shaped_as(class: Option<Class>, game: &Value) -> bool
-    ensures { result ≡ is_shaped_as class (view game.now) }
+fn is_shaped_as(class: Class, game: &Value) -> bool
+    ensures { result ≡ is_shaped_as (Some class) (view game.now) }
 {
-    by_class!(class, is_shaped(game), none: false)
+    by_class!(class, is_shaped(game))
 }
 
-/// A game with the keys and kinds of its class.
-#[derive(Clone, Copy, Debug)]
-struct GameShape;
-
-impl Form for GameShape {
-    ghost use Rattle.game_text.specs.Shape.{is_game_shaped};
-
-    ghost form = { λ _. is_game_shaped };
-
-    fn fits(&self, game: &Value) -> bool {
-        has_if_there(game, "names", &ArrayOf(Text))
-            && has_if_there(game, "excess", &MeasureWord)
-            && has_if_there(game, "version", &VersionNumber)
-            && is_shaped_as(class_of(game), game)
-    }
+/// Whether a game that names the class has the keys and kinds of it.
+fn is_game_shaped(class: Class, game: &Value) -> bool
+    requires { class_of (view game.now) ≡ Some class }
+    ensures { result ≡ is_game_shaped (view game.now) }
+{
+    has_if_there(game, "names", &ArrayOf(Text))
+        && has_if_there(game, "excess", &MeasureWord)
+        && has_if_there(game, "version", &VersionNumber)
+        && is_shaped_as(class, game)
 }
 
 fn has_shares(tree: &Value) -> bool
@@ -94,11 +92,32 @@ fn has_needed(command: Command, tree: &Value) -> bool
         && (!needs.certificate || has(tree, "certificate", &CertificateShape))
 }
 
-/// Whether a document has the kinds, keys and words that the command needs.
-pub(crate) fn is_shaped(command: Command, tree: &Value) -> bool
+/// Whether a document has the kinds, keys and words that the command needs, where its game names the class.
+fn is_shaped(command: Command, tree: &Value, class: Class, game: &Value) -> bool
+    requires there { get (codes "game") (view tree.now) ≡ Some (view game.now) }
+    requires class { class_of (view game.now) ≡ Some class }
     ensures { result ≡ is_shaped command (view tree.now) }
 {
     has_only_keys(&["answer", "certificate", "game", "shares"], tree)
-        && has(tree, "game", &GameShape)
+        && is_game_shaped(class, game)
         && has_needed(command, tree)
+}
+
+/// The game of a document that has the kinds, keys and words that the command needs.
+pub(crate) fn shaped_game(command: Command, tree: &Value) -> Option<ShapedGame<'_>>
+    ensures none { IfNone result (is_shaped command (view tree.now) ≡ false) }
+    ensures some { IfSome result
+        (λ g. (is_shaped command (view tree.now) ≡ true) × (view g.tree.now ≡ game_tree (view tree.now))) }
+{
+    let Some(game) = tree.get("game") else {
+        return None;
+    };
+    let Some(class) = class_of(game) else {
+        return None;
+    };
+    if is_shaped(command, tree, class, game) {
+        Some(ShapedGame { class, tree: game })
+    } else {
+        None
+    }
 }

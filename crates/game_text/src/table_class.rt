@@ -1,5 +1,5 @@
 //! Tables of worths and of costs: a number for each coalition, all listed or some in pairs.
-ghost use Rattle.std.specs.Prelude.{◌≡◌, Some, None, IfOk, IfSome, if◌then◌else◌};
+ghost use Rattle.std.specs.Prelude.{◌≡◌, Some, None, MatchResult, IfSome, if◌then◌else◌};
 ghost use Rattle.std.specs.Prelude.{◌^◌, ◌<◌, ◌≤◌, codes, length, unwrap_or};
 ghost use Rattle.serde_json.specs.Find.{get};
 ghost use Rattle.serde_json.specs.View.{view};
@@ -12,21 +12,24 @@ ghost use Rattle.document_parts.specs.Names.{names_of};
 ghost use Rattle.game_text.specs.Coalitions.{masks};
 ghost use Rattle.document_parts.specs.Members.{are_coalitions};
 ghost use Rattle.game_text.specs.Descriptions.{table_numbers};
-ghost use Rattle.game_text.specs.Readings.{HasSizes, IsTableClass};
+ghost use Rattle.game_text.specs.Readings.{HasSizes, IsTableClass, IsBuilt, IsBuildFault};
 ghost use Rattle.game_text.specs.TableClass.{is_table_shaped, is_sparse_pair, lists_worths, lists_coalitions};
 ghost use Rattle.game_text.specs.TableClass.{players_at, table_players, has_items, has_worths_for};
 ghost use Rattle.game_text.specs.TableClass.{has_table_players, has_table_numbers};
+ghost use Rattle.game_text.specs.declared.class.Class.TheVariants.{Table, Cost};
+ghost use Rattle.game_text.specs.declared.fault.TextFault.TheVariants.{Memory};
 
-use crate::limits;
+use crate::fault::TextFault;
+use crate::game::Game;
 use document_parts::{Names, has_texts, small_number, table_numbers};
-use fractions::OutOfMemory;
 use json_trees::{
     ArrayOf, Form, Member, Number, Numeric, PairOf, SecondOf, each_at, has, has_if_there,
     has_only_keys, integer, parts,
 };
+use kinds::Refusal;
 use serde_json::Value;
 use std::alloc::Global;
-use worth_tables::{TableFault, TableGame};
+use worth_tables::{CostGame, TableFault, TableGame};
 
 fn lists_worths(game: &Value) -> bool
     ensures { result ≡ lists_worths (view game.now) }
@@ -91,13 +94,6 @@ fn players_at(game: &Value) -> Option<u32>
     table_players(n)
 }
 
-/// The number of players of a table that has as many as it may.
-pub(crate) fn players(game: &Value) -> usize
-    ensures { result ≡ unwrap_or (players_at (view game.now)) 0 }
-{
-    players_at(game).unwrap_or(0) as usize
-}
-
 fn has_items(value: &Value, n: usize) -> bool
     requires { n < 2 ^ 20 }
     ensures { result ≡ has_items n (view value.now) }
@@ -105,25 +101,28 @@ fn has_items(value: &Value, n: usize) -> bool
     parts(value).len() + 1 == n
 }
 
-fn has_worths_for(game: &Value, players: Option<u32>) -> bool
-    requires { IfSome players (λ n. n ≤ 16) }
-    ensures { result ≡ has_worths_for (view game.now) players }
+/// Whether there is a number for each coalition of `n` players where all are listed.
+fn has_worths_for(game: &Value, n: u32) -> bool
+    requires { n ≤ 16 }
+    ensures { result ≡ has_worths_for (view game.now) (Some n) }
 {
-    let Some(n) = players else {
-        return false;
-    };
     match game.get("worths") {
         Some(worths) => has_items(worths, 1 << n),
         None => true,
     }
 }
 
-/// Whether there are 1 to 16 players, and a number for each coalition where all are listed.
-pub(crate) fn has_players(game: &Value) -> bool
-    ensures { result ≡ has_table_players (view game.now) }
+/// The number of players, where there are 1 to 16, and a number for each coalition where all are listed.
+pub(crate) fn players(game: &Value) -> Option<usize>
+    ensures { result
+        ≡ (if has_table_players (view game.now) then Some (unwrap_or (players_at (view game.now)) 0) else None) }
 {
-    let players = players_at(game);
-    has_worths_for(game, players)
+    let n = players_at(game)?;
+    if has_worths_for(game, n) {
+        Some(n as usize)
+    } else {
+        None
+    }
 }
 
 /// A number that times the scale is below 2^40 in size.
@@ -150,28 +149,78 @@ pub(crate) fn has_numbers(game: &Value, scale: u32) -> bool
 }
 
 /// The table, its numbers times the scale. None where a pair of a sparse table has no coalition, or two have the same.
-pub(crate) fn table_of(
+fn table_of(
     alloc: Global,
     game: &Value,
+    count: usize,
     names: &Names,
     scale: u32,
-) -> Result<Option<TableGame>, OutOfMemory>
+) -> Result<Option<TableGame>, TextFault>
     requires class { IsTableClass (class_of (view game.now)) }
     requires sizes { HasSizes (view game.now) }
+    requires count { count ≡ players (view game.now) }
     requires named { length names.now ≤ players (view game.now) }
     requires names { names.now ≡ names_of (view game.now) }
     requires scale { scale ≡ scale_of (view game.now) }
-    ensures { IfOk result (λ o. o ≡ (if are_coalitions (masks (view game.now))
-        then Some (table (players (view game.now)) (table_numbers scale (view game.now))) else None)) }
+    ensures { MatchResult result
+        (λ o. o ≡ (if are_coalitions (masks (view game.now))
+        then Some (table (players (view game.now)) (table_numbers scale (view game.now))) else None))
+        (λ e. e ≡ Memory) }
 {
-    let count = limits::players(game) as u32;
+    let count = count as u32;
     let Some(worths) = table_numbers(alloc, game, count, names, scale)? else {
         return Ok(None);
     };
     match TableGame::new(alloc, count, worths) {
         Ok(table) => Ok(Some(table)),
-        Err(TableFault::Memory) => Err(OutOfMemory),
-        Err(TableFault::Players) => unreachable!(),
-        Err(TableFault::Number) => unreachable!(),
+        Err(TableFault::Players) => Err(TextFault::Refused(Refusal::Players)),
+        Err(TableFault::Number) => Err(TextFault::Refused(Refusal::Number)),
+        Err(TableFault::Memory) => Err(TextFault::Memory),
+    }
+}
+
+/// The game of a table of worths. It is refused where a pair of a sparse table has no coalition, or two have the same.
+pub(crate) fn worths_of(
+    alloc: Global,
+    game: &Value,
+    count: usize,
+    names: &Names,
+    scale: u32,
+) -> Result<Game, TextFault>
+    requires class { class_of (view game.now) ≡ Some Table }
+    requires sizes { HasSizes (view game.now) }
+    requires count { count ≡ players (view game.now) }
+    requires named { length names.now ≤ players (view game.now) }
+    requires names { names.now ≡ names_of (view game.now) }
+    requires scale { scale ≡ scale_of (view game.now) }
+    ensures { MatchResult result (IsBuilt (view game.now)) (IsBuildFault (view game.now)) }
+{
+    match table_of(alloc, game, count, names, scale) {
+        Ok(Some(worths)) => Ok(Game::Table(worths)),
+        Ok(None) => Err(TextFault::Refused(Refusal::Coalition)),
+        Err(e) => Err(e),
+    }
+}
+
+/// The same of a table of costs.
+pub(crate) fn costs_of(
+    alloc: Global,
+    game: &Value,
+    count: usize,
+    names: &Names,
+    scale: u32,
+) -> Result<Game, TextFault>
+    requires class { class_of (view game.now) ≡ Some Cost }
+    requires sizes { HasSizes (view game.now) }
+    requires count { count ≡ players (view game.now) }
+    requires named { length names.now ≤ players (view game.now) }
+    requires names { names.now ≡ names_of (view game.now) }
+    requires scale { scale ≡ scale_of (view game.now) }
+    ensures { MatchResult result (IsBuilt (view game.now)) (IsBuildFault (view game.now)) }
+{
+    match table_of(alloc, game, count, names, scale) {
+        Ok(Some(costs)) => Ok(Game::Cost(CostGame::new(costs))),
+        Ok(None) => Err(TextFault::Refused(Refusal::Coalition)),
+        Err(e) => Err(e),
     }
 }

@@ -1,17 +1,17 @@
 //! Weighted voting games: a quota, and a weight for each player. They are integers in both versions, so the scale is 1.
-ghost use Rattle.std.specs.Prelude.{◌≡◌, codes, IfOk, Some, None, unsigned_abs, if◌then◌else◌};
+ghost use Rattle.std.specs.Prelude.{◌≡◌, MatchResult, Some, None, if◌then◌else◌};
 ghost use Rattle.serde_json.specs.View.{view};
-ghost use Rattle.voting.specs.Voting.{voting};
-ghost use Rattle.document_parts.specs.ScaledNumbers.{number_at, costs_at};
 ghost use Rattle.document_parts.specs.Sizes.{is_short_list_size};
 ghost use Rattle.game_text.specs.Shape.{class_of};
-ghost use Rattle.game_text.specs.VotingClass.{is_voting_shaped, voting_players, has_voting_numbers, is_quota};
-ghost use Rattle.game_text.specs.Readings.{HasSizes};
+ghost use Rattle.game_text.specs.VotingClass.{is_voting_shaped, voting_players, has_voting_numbers};
+ghost use Rattle.game_text.specs.Readings.{HasSizes, IsBuilt, IsBuildFault};
 ghost use Rattle.game_text.specs.declared.class.Class.TheVariants.{Voting};
 
+use crate::fault::TextFault;
+use crate::game::Game;
 use document_parts::{SmallCost, is_short_list_size, number_at, numbers_at};
-use fractions::OutOfMemory;
 use json_trees::{ArrayOf, Number, each_at, has, has_only_keys, parts_at};
+use kinds::Refusal;
 use serde_json::Value;
 use std::alloc::Global;
 use voting::{VotingFault, VotingGame};
@@ -27,18 +27,12 @@ pub(crate) fn is_shaped(game: &Value) -> bool
         && has(game, "weights", &ArrayOf(Number))
 }
 
-/// The number of players: one for each weight.
-pub(crate) fn players(game: &Value) -> usize
-    ensures { result ≡ voting_players (view game.now) }
+/// The number of players, one for each weight, where there are 1 to 32.
+pub(crate) fn players(game: &Value) -> Option<usize>
+    ensures { let n = voting_players (view game.now) in result ≡ (if is_short_list_size n then Some n else None) }
 {
-    parts_at(game, "weights").len()
-}
-
-/// Whether there are 1 to 32 players.
-pub(crate) fn has_players(game: &Value) -> bool
-    ensures { result ≡ is_short_list_size (voting_players (view game.now)) }
-{
-    is_short_list_size(players(game))
+    let n = parts_at(game, "weights").len();
+    if is_short_list_size(n) { Some(n) } else { None }
 }
 
 /// Whether the quota and each weight are integers within their limits, whatever the scale.
@@ -48,14 +42,12 @@ pub(crate) fn has_numbers(game: &Value, _: u32) -> bool
     has(game, "quota", &SmallCost(1)) && each_at(game, "weights", &SmallCost(1))
 }
 
-/// The game that is described. None for weights of above 1,000 in all, and for a quota below 1 or above their sum.
-pub(crate) fn voting_of(alloc: Global, game: &Value) -> Result<Option<VotingGame>, OutOfMemory>
+/// The game that is described. It is refused for weights of above 1,000 in all, and for a quota below 1 or above their
+/// sum.
+pub(crate) fn voting_of(alloc: Global, game: &Value) -> Result<Game, TextFault>
     requires class { class_of (view game.now) ≡ Some Voting }
     requires sizes { HasSizes (view game.now) }
-    ensures { IfOk result (λ o.
-        let quota = unsigned_abs (number_at 1 (codes "quota") (view game.now)) in
-        let weights = costs_at 1 (codes "weights") (view game.now) in
-        o ≡ (if is_quota quota weights then Some (voting quota weights) else None)) }
+    ensures { MatchResult result (IsBuilt (view game.now)) (IsBuildFault (view game.now)) }
 {
     let quota = number_at(game, "quota", 1);
     let weights = numbers_at(alloc, game, "weights", 1)?;
@@ -63,11 +55,11 @@ pub(crate) fn voting_of(alloc: Global, game: &Value) -> Result<Option<VotingGame
         Ok(game) => {
             // Its laws say that the weights reach the quota, and are few enough together.
             game.quota();
-            Ok(Some(game))
+            Ok(Game::Voting(game))
         }
-        Err(VotingFault::Quota) => Ok(None),
-        Err(VotingFault::Memory) => Err(OutOfMemory),
-        Err(VotingFault::Players) => unreachable!(),
-        Err(VotingFault::Number) => unreachable!(),
+        Err(VotingFault::Players) => Err(TextFault::Refused(Refusal::Players)),
+        Err(VotingFault::Number) => Err(TextFault::Refused(Refusal::Number)),
+        Err(VotingFault::Quota) => Err(TextFault::Refused(Refusal::Quota)),
+        Err(VotingFault::Memory) => Err(TextFault::Memory),
     }
 }

@@ -1,0 +1,54 @@
+//! A game behind the tests of a document, as far as they have come.
+ghost use Rattle.std.specs.Prelude.{◌≡◌, ◌≤◌, true, Some};
+ghost use Rattle.serde_json.specs.View.{view};
+ghost use Rattle.document_parts.specs.Scales.{scale_of};
+ghost use Rattle.game_text.specs.Shape.{class_of, is_game_shaped};
+ghost use Rattle.game_text.specs.Limits.{players};
+ghost use Rattle.game_text.specs.Readings.{HasSizes};
+
+use crate::class::Class;
+use serde_json::Value;
+
+/// A game with the keys and kinds of its class.
+#[derive(Clone, Copy, Debug)]
+pub(crate) struct ShapedGame<'a> {
+    /// Its class.
+    pub(crate) class: Class,
+    /// Its tree.
+    pub(crate) tree: &'a Value,
+    ghost named: { class_of (view tree.now) ≡ Some class },
+    ghost shaped: { is_game_shaped (view tree.now) ≡ true },
+}
+
+/// A game with the keys and kinds of its class, as many players as it allows, and numbers within its limits.
+#[derive(Clone, Copy, Debug)]
+pub(crate) struct SizedGame<'a> {
+    /// Its class.
+    pub(crate) class: Class,
+    /// Its tree.
+    pub(crate) tree: &'a Value,
+    pub(crate) count: usize,
+    pub(crate) scale: u32,
+    ghost named: { class_of (view tree.now) ≡ Some class },
+    ghost sizes: { HasSizes (view tree.now) },
+    ghost count_is: { count ≡ players (view tree.now) },
+    ghost scale_is: { scale ≡ scale_of (view tree.now) },
+}
+
+impl SizedGame<'_> {
+    /// The number of players.
+    pub(crate) fn players(&self) -> usize
+        ensures value { result ≡ players (view self.now.tree.now) }
+        ensures some { 1 ≤ result }
+        ensures few { result ≤ 64 }
+    {
+        self.count
+    }
+
+    /// The scale.
+    pub(crate) fn scale(&self) -> u32
+        ensures { result ≡ scale_of (view self.now.tree.now) }
+    {
+        self.scale
+    }
+}
