@@ -16,8 +16,10 @@ impl Form for VersionNumber {
     ghost form = { λ _. is_version };
 
     fn fits(&self, value: &Value) -> bool {
-        let version = integer(value).unwrap_or(0);
-        version == 1 || version == 2
+        match integer(value) {
+            Some(version) => version == 1 || version == 2,
+            None => false,
+        }
     }
 }
 
@@ -31,7 +33,7 @@ impl Form for SecondVersion {
     ghost form = { λ _. is_second_version };
 
     fn fits(&self, value: &Value) -> bool {
-        integer(value).unwrap_or(0) == 2
+        integer(value) == Some(2)
     }
 }
 
