@@ -13,10 +13,10 @@ from typing import Iterable, Optional, Union
 from .errors import BadInput
 
 Amount = Union[int, str, Fraction, Decimal, float]
-"""What may be given for a number: "12", "12.50" and "25/2" are texts of numbers."""
+"""What may be given for a number: "12", "12.50", "1e-05" and "25/2" are texts of numbers."""
 
 MOST_SCALE, LIMIT = 65536, 2**40
-NUMBER = re.compile(r"-?([0-9]{1,40}(\.[0-9]{1,40})?|[0-9]{1,40}/0*[1-9][0-9]{0,39})")
+NUMBER = re.compile(r"-?([0-9]{1,40}(\.[0-9]{1,40})?([eE][-+]?[0-9]{1,2})?|[0-9]{1,40}/0*[1-9][0-9]{0,39})")
 
 
 def fraction_of(value: Amount, digits: Optional[int] = None) -> Fraction:
@@ -26,7 +26,7 @@ def fraction_of(value: Amount, digits: Optional[int] = None) -> Fraction:
     if isinstance(value, float) and digits is None:
         raise BadInput(f"{value!r} is a float: name a number of digits to round to, or give a text, {str(value)!r}")
     if isinstance(value, str) and not NUMBER.fullmatch(value.strip()):
-        raise BadInput(f"{value[:40]!r} is no number; write 12, 12.50 or 25/2")
+        raise BadInput(f"{value[:40]!r} is no number; write 12, 12.50, 1e-05 or 25/2")
     try:
         exact = Fraction(value.strip() if isinstance(value, str) else value)
     except (ValueError, OverflowError):

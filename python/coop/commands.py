@@ -11,6 +11,7 @@ from .amounts import MOST_SCALE
 from .errors import BadInput, CoopError
 from .game import Game
 from .names import visible, warning
+from .sheets import MARKS, SEPARATORS, Layout, notes
 from .styles import MOST_PLACES, Style
 
 Output = Union[str, tuple[str, int]]
@@ -57,6 +58,25 @@ class Options(argparse.ArgumentParser):
         """To how many decimals numbers of a file are rounded."""
         told = "round each number to N decimals (else all are exact)"
         self.add_argument("--digits", type=digits, metavar="N", help=told)
+
+    def add_layout(self) -> None:
+        """What a file of rows doesn't show of itself."""
+        self.add_argument("--head", action="store_true", help="the first row has headings")
+        told = "which mark stands in front of decimals (else as the numbers show)"
+        self.add_argument("--decimal", choices=list(MARKS), help=told)
+        told = "what stands between cells (else what the file has: tabs, semicolons, commas)"
+        self.add_argument("--sep", choices=list(SEPARATORS), help=told)
+
+
+def layout_of(chosen: Any) -> Layout:
+    """The layout that the words name."""
+    return Layout(chosen.sep, chosen.decimal, chosen.head, getattr(chosen, "skip", 0))
+
+
+def say_notes(text: str, columns: int, layout: Layout) -> None:
+    """Says on standard error what of a file may have been meant otherwise."""
+    for sentence in notes(text, columns, layout):
+        say(sentence)
 
 
 def digits(text: str) -> int:
@@ -126,5 +146,5 @@ def documents_of(games: Iterable[Game], may_scale: bool) -> str:
     if len(factors) > 1:
         raise BadInput("the games would be multiplied by different numbers: name a number of digits, as --digits 9")
     for factor in factors - {1}:
-        say(f"numbers were multiplied by {factor}: divide what comes out, by scripts/shares --over {factor}")
+        say(f"numbers were multiplied by {factor}: divide what comes out, by --over {factor} of the scripts")
     return "".join(lines)

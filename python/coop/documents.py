@@ -3,6 +3,7 @@ from __future__ import annotations
 
 import json
 import os
+from codecs import BOM_UTF8
 from dataclasses import dataclass
 from fractions import Fraction
 from typing import Any, Iterable, Optional, Sequence
@@ -31,11 +32,13 @@ class Document:
 
 @dataclass(frozen=True)
 class Point:
-    """Shares as they are written, under a name; for costs they are payments. `game` is that of their document."""
+    """Shares as they are written, under a name; for costs they are payments. `game` is that of their document. Of a
+    change `between` has the shares before and after."""
 
     name: str
     shares: list[Fraction]
     game: Optional[Game] = None
+    between: Optional[tuple[list[Fraction], list[Fraction]]] = None
 
 
 # ---- Reading
@@ -54,9 +57,14 @@ def read_bytes(path: str) -> tuple[bytes, str]:
     return data, where
 
 
-def read_text(path: str) -> tuple[str, str]:
-    """The text of a file, or of standard input, and the name to call it by."""
+def read_text(path: str, may_be_marked: bool = True) -> tuple[str, str]:
+    """The text of a file, or of standard input, and the name to call it by. It may begin with a byte order mark, but
+    where the program would refuse that."""
     data, where = read_bytes(path)
+    if data.startswith(BOM_UTF8) and not may_be_marked:
+        raise BadInput(
+            f"{where} begins with a byte order mark, which bin/coop and check-anew refuse: save it as UTF-8 without one"
+        )
     try:
         return data.decode("utf-8-sig"), where
     except UnicodeError:
@@ -90,11 +98,11 @@ def parse(text: str, where: str) -> list[Any]:
     return trees
 
 
-def read_documents(paths: Sequence[str]) -> list[Document]:
+def read_documents(paths: Sequence[str], may_be_marked: bool = True) -> list[Document]:
     """The documents and lines of files, or of standard input."""
     found = []
     for path in paths or ["-"]:
-        text, where = read_text(path)
+        text, where = read_text(path, may_be_marked)
         found += [Document(where, object_of(tree, where)) for tree in parse(text, where)]
     return found
 
@@ -116,22 +124,34 @@ def without_measure(game: Game) -> dict[str, Any]:
     return {key: value for key, value in game.tree.items() if key != "excess"}
 
 
-def games_in(documents: Iterable[Document]) -> list[tuple[Document, Game]]:
-    """The games of the documents. All have the same players; they may differ in their numbers and their measure."""
+def games_in(documents: Iterable[Document], may_leave: bool = False) -> list[tuple[Document, Game]]:
+    """The games of the documents. All have the same players, unless some with names may have left; they may differ in
+    their numbers and their measure."""
     games = [(document, Game(document.tree["game"])) for document in documents if "game" in document.tree]
     for document, game in games:
         first = games[0]
-        if game.names != first[1].names or game.costs != first[1].costs:
-            raise BadInput(f"{document.where}: other players than those of {first[0].where}, or costs beside worths")
+        named = may_leave and game.named and first[1].named
+        if game.names != first[1].names and not named or game.costs != first[1].costs:
+            raise BadInput(f"{document.where}: {unlike(game, first[1], named)} {first[0].where}")
     return games
+
+
+def unlike(game: Game, first: Game, may_differ: bool) -> str:
+    """In what a game of other players, unless they may differ, or of costs beside worths, isn't like a first one."""
+    if game.n == first.n and game.named != first.named:
+        return "the players have " + ("names, and none" if game.named else "no names, and some") + " in"
+    if game.names != first.names and not may_differ:
+        return "other players than those of"
+    return ("costs, beside worths" if game.costs else "worths, beside costs") + " of"
 
 
 # ---- Shares
 
 
-def points_in(documents: Sequence[Document]) -> list[Point]:
-    """The shares of the documents, as they are written there. Of several games each point is named by its game too."""
-    games = games_in(documents)
+def points_in(documents: Sequence[Document], may_leave: bool = False) -> list[Point]:
+    """The shares of the documents, as they are written there. Of several games each point is named by its game too.
+    Where some may have left, the players of the games may differ, if they have names."""
+    games = games_in(documents, may_leave)
     points = []
     for document in documents:
         own = next((game for other, game in games if other is document), None)
@@ -140,8 +160,8 @@ def points_in(documents: Sequence[Document]) -> list[Point]:
             points.append((document, Point(name, shares, game)))
     if not points:
         raise BadInput("no shares: give a line that has them, or a document with a proposal")
-    players = games[0][1].n if games else len(points[0][1].shares)
     for _, point in points:
+        players = point.game.n if point.game else len(points[0][1].shares)
         if len(point.shares) != players:
             raise BadInput(f"{point.name}: {len(point.shares)} shares for {players} players")
     return numbered(labelled(points))
@@ -165,20 +185,23 @@ def only_game(document: Document, games: list[tuple[Document, Game]]) -> Optiona
 
 
 def labelled(points: list[tuple[Document, Point]]) -> list[Point]:
-    """The points; where games differ, with the measure and the file behind the name."""
+    """The points, a nucleolus per head under that name; where games differ, with the file behind the name."""
     games = [point.game for _, point in points if point.game]
-    heads = len({game.per_head for game in games}) > 1
     several = any(without_measure(game) != without_measure(games[0]) for game in games)
     short = short_names({document.where for document, _ in points})
     result = []
     for document, point in points:
-        name, game = point.name, point.game
-        if heads and game and game.per_head and name in ("nucleolus", "prenucleolus"):
-            name += " per head"
+        game = point.game
+        name = rule_of(point.name, game) if game else point.name
         if several and len(short) > 1:
             name += f", {safe(short[document.where])}"
         result.append(Point(name, point.shares, game))
     return result
+
+
+def rule_of(answer: str, game: Game) -> str:
+    """The name of a rule: that of a nucleolus by excess per head says so."""
+    return f"{answer} per head" if game.per_head and answer in ("nucleolus", "prenucleolus") else answer
 
 
 def short_names(paths: Iterable[str]) -> dict[str, str]:

@@ -76,10 +76,15 @@ class Comparison:
     # ---- In words
 
     def told(self, everything: bool = False) -> str:
-        """The lists side by side to the first difference, or whole, and what follows."""
+        """The lists side by side to the first difference, or whole, and what follows; per head under a heading."""
         faults = [sentence for point in self.points for sentence in self.faults_of(point)]
         sentences = [filled(sentence) for sentence in [*faults, *self.verdict()]]
-        return "\n".join([self.table(everything), *sentences]) + "\n"
+        head = f"By {self.measure()}:\n" if self.game.per_head else ""
+        return head + "\n".join([self.table(everything), *sentences]) + "\n"
+
+    def measure(self) -> str:
+        """What the excesses are."""
+        return "excess per head" if self.game.per_head else "plain excess"
 
     def faults_of(self, point: Point) -> list[str]:
         """Why shares are no division at all, or no imputation."""
@@ -108,7 +113,8 @@ class Comparison:
         group = next(entry.group for entry in self.lists[own] if excess(self.game, better.shares, entry.group) < e)
         return [
             f"Place {self.place + 1} is the first that differs: {self.say(less)} by {better.name}, {self.say(e)} by "
-            f"{worse.name}. The lesser is better, so {better.name} treats the worst-off groups better. "
+            f"{worse.name}. The lesser is better, so {better.name} treats the worst-off groups better"
+            f"{', by excess per head' if self.game.per_head else ''}. "
             f"Worse off by {worse.name}: {self.namer.group(group)}. {self.compared(group, worse, better)}"
         ]
 
@@ -146,15 +152,15 @@ class Comparison:
             cells += [self.namer.group(some[place].group), self.say(some[place].excess)]
         return cells
 
-    def csv(self) -> str:
-        """Both lists, whole, as CSV."""
+    def rows(self) -> list[list[str]]:
+        """Both lists, whole, as rows below a head."""
         head = ["place", f"group of {self.points[0].name}", self.points[0].name]
         head += [f"group of {self.points[1].name}", self.points[1].name]
-        return csv_text([head, *(self.row(place) for place in range(len(self.lists[0])))])
+        return [head, *(self.row(place) for place in range(len(self.lists[0])))]
 
 
-def compare(points: Sequence[Point], say: Style = EXACT) -> Comparison:
-    """The comparison of two points of one game, by the measure of the first."""
+def comparisons(points: Sequence[Point], say: Style = EXACT) -> list[Comparison]:
+    """The comparisons of two points of one game, one by each measure that their lines have, plain excess first."""
     if len(points) != 2:
         raise BadInput(f"{len(points)} divisions are given, and two are compared")
     games = [point.game for point in points if point.game]
@@ -162,4 +168,28 @@ def compare(points: Sequence[Point], say: Style = EXACT) -> Comparison:
         raise BadInput("no game: give the document beside the lines")
     if any(without_measure(game) != without_measure(games[0]) for game in games):
         raise BadInput("the two are divisions of different games")
-    return Comparison(games[0], points[0], points[1], say)
+    by_measure = {game.per_head: game for game in games}
+    return [Comparison(by_measure[measure], points[0], points[1], say) for measure in sorted(by_measure)]
+
+
+def compare(points: Sequence[Point], say: Style = EXACT) -> Comparison:
+    """The comparison of two points of one game, whose lines have one measure."""
+    found = comparisons(points, say)
+    if len(found) > 1:
+        raise BadInput("one goes by plain excess, and the other by excess per head: `comparisons` has both")
+    return found[0]
+
+
+def told(found: Sequence[Comparison], everything: bool = False) -> str:
+    """The comparisons in words. Where there are two, the one by plain excess has a heading too."""
+    if len(found) == 1:
+        return found[0].told(everything)
+    first = filled("One of the two goes by plain excess, and the other by excess per head. So both are told.")
+    plain, per_head = (comparison.told(everything) for comparison in found)
+    return f"{first}\n\nBy plain excess:\n{plain}\n{per_head}"
+
+
+def csv(found: Sequence[Comparison]) -> str:
+    """The lists, whole, as CSV; of two comparisons one below the other, by a last column with the measure."""
+    rows = [[*row, *([one.measure()] * (len(found) > 1))] for one in found for row in one.rows()[1:]]
+    return csv_text([[*found[0].rows()[0], *(["measure"] * (len(found) > 1))], *rows])

@@ -1,7 +1,9 @@
 """Groups that were never costed: each filled in by its cheapest split into groups that were.
 
-No nucleolus by plain excess changes by it where the core isn't empty (Huberman 1980: such a group decides nothing
-there). Shapley shares and those per head do depend on what is filled in.
+That takes for granted that no such group could build cheaper together than apart. Where that holds and the core isn't
+empty, the nucleolus by plain excess is the one that true costs would give (Huberman 1980: a group that gains nothing by
+being one decides nothing there). Where such a group could build cheaper, that nucleolus changes too. Shapley shares and
+those per head depend on what is filled in, anyway.
 """
 from __future__ import annotations
 
@@ -14,7 +16,8 @@ from .styles import Style
 
 WARNING = (
     "what stands there for them is a bound and no estimate: Shapley shares, and all shares per head, depend on it; the "
-    "nucleolus by plain excess doesn't, where the core isn't empty"
+    "nucleolus by plain excess doesn't, as long as none of these groups could build cheaper together than apart, and "
+    "the core isn't empty; if one could, its shares change, too"
 )
 
 
@@ -36,6 +39,16 @@ def cheapest(amounts: dict[int, Fraction], missing: Sequence[int]) -> list[Fille
         parts = [part for part in by_lowest[group & -group] if part & ~group == 0]
         best[group] = min((amounts[part] + best[group ^ part][0], part) for part in parts)
     return [Filled(group, best[group][0], split(group, best)) for group in missing]
+
+
+def above_larger(amounts: Sequence[Fraction]) -> int:
+    """How many groups cost more than a larger one that contains them, by the costs of all groups by masks."""
+    least = list(amounts)  # of the group and all that contain it
+    for bit in (1 << i for i in range(len(amounts).bit_length() - 1)):
+        for group in range(len(amounts)):
+            if not group & bit:
+                least[group] = min(least[group], least[group | bit])
+    return sum(least[group] < amounts[group] for group in range(1, len(amounts)))
 
 
 def split(group: int, best: dict[int, tuple[Fraction, int]]) -> list[int]:

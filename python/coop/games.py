@@ -26,12 +26,13 @@ def table(
     worths: Table,
     names: Optional[Sequence[str]] = None,
     *,
-    order: str = "mask",
+    order: Optional[str] = None,
     default: Optional[Amount] = None,
     digits: Optional[int] = None,
     per_head: bool = False,
 ) -> Game:
-    """A game by what each group is worth: a mapping from groups, or a vector in an order of `vectors.ORDERS`.
+    """A game by what each group is worth: a mapping from groups, or a vector in an order of `vectors.ORDERS`, which
+    has to be named, since the length tells nothing.
 
     A group is a tuple or a set of names, or of numbers from 1; a name or a number alone; or a text, "Ann+Bob". The
     empty group may stand there with 0. Each other group has to be there, unless a default is named.
@@ -60,7 +61,7 @@ def cost_table(
     costs: Table,
     names: Optional[Sequence[str]] = None,
     *,
-    order: str = "mask",
+    order: Optional[str] = None,
     default: Optional[Amount] = None,
     digits: Optional[int] = None,
     per_head: bool = False,
@@ -93,7 +94,8 @@ def landings(rows: Iterable[tuple[str, Amount, int]], *, digits: Optional[int] =
         names += [f"{name} {i + 1}" for i in range(count)]
         costs += [cost] * count
         if len(names) > 64:
-            raise BadInput("more than 64 landings: an airport has at most 64 players")
+            way = "coop.runways works out more, by both rules (docs/examples.md)"
+            raise BadInput(f"more than 64 landings: an airport has at most 64 players; {way}")
     return airport(costs, names, digits=digits, per_head=per_head)
 
 
@@ -234,7 +236,7 @@ def listed(
     kind: str,
     amounts: Table,
     names: Optional[Sequence[str]],
-    order: str,
+    order: Optional[str],
     default: Optional[Amount],
     digits: Optional[int],
     per_head: bool,
@@ -248,7 +250,7 @@ def listed(
         if names is not None and len(names) != players:
             raise BadInput(f"{len(names)} names for {players} players")
         return made(kind, {"players": players, "worths": vector}, names, per_head, digits)
-    if order != "mask":
+    if order is not None:
         raise BadInput("only a vector has an order")
     groups = [(members_of(group), fraction_of(amount, digits)) for group, amount in amounts.items()]
     empty = [amount for group, amount in groups if not group]

@@ -1,8 +1,14 @@
-"""Names that can't forge: what isn't seen is shown as an escape, and names that look alike are told."""
+"""Names that can't forge: what isn't seen is shown as an escape, and names that look alike are told.
+
+Alike are names that differ by what isn't seen, by blanks or by how a letter is coded; by a letter of the Cyrillic or
+Greek alphabet that looks like a Latin one; or by 1, I, l and |, by 0 and O, by rn and m. Other letters that look alike
+aren't known here.
+"""
 from __future__ import annotations
 
+import re
 import unicodedata
-from typing import Iterable, Optional, Sequence
+from typing import Callable, Iterable, Optional, Sequence
 
 # Letters and marks that take no room, beside those of the categories Cc and Cf.
 UNSEEN = frozenset(
@@ -21,6 +27,14 @@ UNSEEN = frozenset(
     ]
     + list(range(0xE0100, 0xE01F0))
 )
+
+
+# Letters that look like Latin ones, each above its twin; of 1, I, l and | the twin is l, and of 0 it is O.
+CYRILLIC = "АВЕКМНОРСТУХІЅЈԚԜҮаеорсухіѕјԁһѵԛԝү", "ABEKMHOPCTYXISJQWYaeopcyxisjdhvqwy"
+GREEK = "ΑΒΕΖΗΙΚΜΝΟΡΤΥΧοανρικ", "ABEZHIKMNOPTYXoavpik"
+LATIN = "1I|0", "lllO"
+TWINS = str.maketrans(CYRILLIC[0] + GREEK[0] + LATIN[0], (CYRILLIC[1] + GREEK[1]).replace("I", "l") + LATIN[1])
+ALPHABETS = ("LATIN", "CYRILLIC", "GREEK")
 
 
 def is_unseen(letter: str) -> bool:
@@ -47,26 +61,37 @@ def escape(letter: str) -> str:
 def looks(text: str) -> str:
     """What a name looks like: names of the same look can't be told apart by most readers."""
     seen = "".join(letter for letter in text if not is_unseen(letter))
-    return " ".join(unicodedata.normalize("NFKC", seen).split())
+    return " ".join(unicodedata.normalize("NFKC", seen).translate(TWINS).replace("rn", "m").split())
 
 
-def alike(names: Iterable[str]) -> list[list[str]]:
+def alike(names: Iterable[str], look: Callable[[str], str] = looks) -> list[list[str]]:
     """The names that look alike: lists of two or more."""
     by_look: dict[str, list[str]] = {}
     for name in names:
-        by_look.setdefault(looks(name), []).append(name)
+        by_look.setdefault(look(name), []).append(name)
     return [some for some in by_look.values() if len(some) > 1]
+
+
+def is_mixed(name: str) -> bool:
+    """Whether letters of two alphabets stand in one word."""
+    if name.isascii():
+        return False
+    words = ({unicodedata.name(letter, "").split(" ")[0] for letter in word} for word in re.findall(r"\w+", name))
+    return any(len(found.intersection(ALPHABETS)) > 1 for found in words)
 
 
 def warning(names: Sequence[str]) -> Optional[str]:
     """A sentence on names that look alike or that hide something, or None."""
-    if all(name.isascii() and name.isprintable() and name == name.strip() for name in names):
-        return None
-    sentences = [f"{len(some)} names look alike: {', '.join(shown(name) for name in some)}" for some in alike(names)]
+    sentences = [f"{len(some)} names look alike: {', '.join(map(shown, some))}" for some in alike(names)]
     told = {name for some in alike(names) for name in some}
+    for some in alike([name for name in names if name not in told], str.casefold):
+        sentences.append(f"{len(some)} names differ in capitals alone: {', '.join(map(safe, some))}")
     hidden = [name for name in names if name not in told and any(map(is_unseen, name))]
     if hidden:
         sentences.append(f"characters that aren't seen are shown as escapes in {', '.join(map(safe, hidden))}")
+    mixed = [name for name in names if name not in told and is_mixed(name)]
+    if mixed:
+        sentences.append(f"letters of two alphabets stand in one word: {', '.join(map(shown, mixed))}")
     return "; ".join(sentences) or None
 
 

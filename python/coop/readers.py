@@ -1,63 +1,19 @@
-"""Games from CSV: a line for each group, a game a row, a line for each claim, a line for each airline."""
+"""Games from CSV: a line for each group, a game a row, a line for each claim, a line for each airline.
+
+Cells stand between commas, semicolons or tabs; a `layout` says what the file doesn't show (`sheets`).
+"""
 from __future__ import annotations
 
-import csv
 import re
 from fractions import Fraction
-from itertools import islice
 from typing import Any, Iterator, NamedTuple, Optional, Sequence
 
 from . import filling, games
-from .amounts import fraction_of
 from .errors import BadInput
 from .game import MOST_IN_A_TABLE, Game
 from .masks import mask_of, members
+from .sheets import AS_SEEN, HEAD, Layout, Row, amount_of, fixed_rows, rows_of_numbers
 from .vectors import in_mask_order
-
-
-class Row(NamedTuple):
-    """A row of a file, with its line's number."""
-
-    line: int
-    cells: list[str]
-
-
-def rows_of(text: str, columns: int, example: str) -> list[Row]:
-    """The rows of a text, each of so many cells, as the example has them; empty ones are left out."""
-    rows = []
-    for row in all_rows(text):
-        if len(row.cells) != columns:
-            semicolon = " has a semicolon:" if any(";" in cell for cell in row.cells) else ""
-            count = "1 column" if len(row.cells) == 1 else f"{len(row.cells)} columns"
-            fault = semicolon or f" has {count}, and not {columns}:"
-            raise BadInput(f"line {row.line}{fault} write {example}, with commas between, and points in numbers")
-        if re.search(r";\s*-?[0-9]+$", row.cells[0]):
-            raise BadInput(
-                f"line {row.line} has a semicolon: write {example}, with commas between, and points in numbers"
-            )
-        rows.append(row)
-    if not rows:
-        raise BadInput("there is no line")
-    return rows
-
-
-def all_rows(text: str) -> Iterator[Row]:
-    """The rows of a text that aren't empty."""
-    reader = csv.reader(text.splitlines())
-    try:
-        for cells in reader:
-            if cells:
-                yield Row(reader.line_num, [cell.strip() for cell in cells])
-    except csv.Error as fault:
-        raise BadInput(f"line {reader.line_num}: {fault}") from None
-
-
-def amount_of(row: Row, place: int, digits: Optional[int]) -> Fraction:
-    """The number of a cell."""
-    try:
-        return fraction_of(row.cells[place], digits)
-    except BadInput as fault:
-        raise BadInput(f"line {row.line}: {fault}") from None
 
 
 # ---- A line for each group
@@ -70,10 +26,18 @@ class Costed(NamedTuple):
     filled: list[filling.Filled]
 
 
-def groups(text: str, *, kind: str = "cost-table", fill: bool = False, digits: Optional[int] = None) -> Costed:
+def groups(
+    text: str,
+    *,
+    kind: str = "cost-table",
+    fill: bool = False,
+    digits: Optional[int] = None,
+    layout: Layout = AS_SEEN,
+) -> Costed:
     """A table from lines of a group, its members with + between them, and its number: Sales+Ops,12.50. Each group
     stands once; with `fill`, one that doesn't costs what its cheapest split into groups that do costs."""
-    rows = [(row, members_of(row), amount_of(row, 1, digits)) for row in rows_of(text, 2, "Sales+Ops,12.50")]
+    found = fixed_rows(text, 2, "Sales+Ops,12.50", layout)
+    rows = [(row, members_of(row), amount_of(row, 1, digits, HEAD * (row is found[0]))) for row in found]
     names = names_of([(row, group) for row, group, _ in rows])
     amounts = once_each(rows, names)
     filled = missing_groups(amounts, names, fill)
@@ -141,13 +105,13 @@ def vectors(
     names: Optional[Sequence[str]] = None,
     digits: Optional[int] = None,
     per_head: bool = False,
-    has_head: bool = False,
+    layout: Layout = AS_SEEN,
 ) -> Iterator[Game]:
-    """A game from each row of numbers, in an order of `vectors.ORDERS`, but for a first row of headings."""
-    found = False
-    for row in islice(all_rows(text), int(has_head), None):
-        found = True
-        amounts = [amount_of(row, place, digits) for place in range(len(row.cells))]
+    """A game from each row of numbers, in an order of `vectors.ORDERS`; blanks may stand between them, too. A head and
+    a first column of names are left out, where the head has no word above that column."""
+    rows, _ = rows_of_numbers(text, layout)
+    for row in rows:
+        amounts = [amount_of(row, i, digits, HEAD * (row is rows[0])) for i in range(len(row.cells))]
         try:
             vector = in_mask_order(amounts, order)
             players = len(vector).bit_length()
@@ -155,28 +119,39 @@ def vectors(
                 raise BadInput(f"{len(names)} names for {players} players")
             yield games.made(kind, {"players": players, "worths": vector}, names, per_head, digits)
         except BadInput as fault:
-            raise BadInput(f"line {row.line}: {fault}") from None
-    if not found:
-        raise BadInput("there is no line")
+            hint = "; a first column of names is left out by --skip 1" * ("empty group first" in str(fault))
+            raise BadInput(f"line {row.line}: {fault}{hint}") from None
+
+
+def left_out(text: str, layout: Layout) -> list[str]:
+    """What `vectors` leaves out of a text unasked, or takes for a game and may be a head."""
+    rows, found = rows_of_numbers(text, layout)
+    if found != layout:
+        return ["the first row and the first column, which have names, are left out"]
+    if len(rows) > 1 and rows[0].cells == [str(i) for i in range(len(rows[0].cells))]:
+        return ["the first row is 0, 1, 2, ..: it is taken for a game; if it has headings, say --head"]
+    return []
 
 
 # ---- Claims and landings
 
 
-def claims(text: str, estate: Any, *, digits: Optional[int] = None) -> Game:
+def claims(text: str, estate: Any, *, digits: Optional[int] = None, layout: Layout = AS_SEEN) -> Game:
     """An estate from lines of a name and a claim."""
-    rows = rows_of(text, 2, "Adler,1200.50")
-    return games.bankruptcy(estate, [amount_of(row, 1, digits) for row in rows], named_once(rows), digits=digits)
+    rows = fixed_rows(text, 2, "Adler,1200.50", layout)
+    amounts = [amount_of(row, 1, digits, HEAD * (row is rows[0])) for row in rows]
+    return games.bankruptcy(estate, amounts, named_once(rows), digits=digits)
 
 
-def landings(text: str, *, digits: Optional[int] = None) -> Game:
+def landings(text: str, *, digits: Optional[int] = None, layout: Layout = AS_SEEN) -> Game:
     """An airport from lines of an airline, what a landing of it needs alone, and how many landings."""
-    rows = rows_of(text, 3, "Aer,20.50,3")
+    rows = fixed_rows(text, 3, "Aer,20.50,3", layout)
+    amounts = [amount_of(row, 1, digits, HEAD * (row is rows[0])) for row in rows]
     named_once(rows)
     for row in rows:
         if not re.fullmatch("[0-9]{1,9}", row.cells[2]):
             raise BadInput(f"line {row.line}: {row.cells[2]} is no number of landings")
-    triples = [(row.cells[0], amount_of(row, 1, digits), int(row.cells[2])) for row in rows]
+    triples = [(row.cells[0], amount, int(row.cells[2])) for row, amount in zip(rows, amounts)]
     return games.landings(triples, digits=digits)
 
 

@@ -10,6 +10,7 @@ from .documents import once
 from .errors import BadInput
 from .failures import failure
 from .game import Game, numbers
+from .over import divided
 from .prose import filled
 from .sentences import Teller
 from .slips import NAMES, NEEDS, slip_in
@@ -19,16 +20,18 @@ CHECKED = ("nucleolus", "prenucleolus")
 
 
 def reasons(
-    line: bytes, document: Optional[bytes] = None, say: Style = EXACT, where: str = "the line"
+    line: bytes, document: Optional[bytes] = None, say: Style = EXACT, where: str = "the line", over: int = 1
 ) -> tuple[str, int]:
     """The sentences of a line, and 1 where they tell that a certificate fails, else 0. The document that was asked
-    about gives names and numbers where the line has no game; and where it was refused, the place of the slip."""
+    about gives names and numbers where the line has no game; and where it was refused, the place of the slip. All
+    amounts are told over a number."""
     tree = read(line, where)
     if "refused" in tree:
         return refusal(tree, document) + "\n", 0
     if tree.get("answer") in CHECKED:
-        return certificate(line, tree, say)
-    beside = read(document, "the document") if document is not None else tree
+        return certificate(line, tree, say, over)
+    tree = divided(tree, over)
+    beside = divided(read(document, "the document"), over) if document is not None else tree
     if tree.get("answer") == "no":
         return failure(tree, beside if beside is not tree else None, say) + "\n", 0
     game = Game(beside["game"]) if "game" in beside else None
@@ -36,6 +39,18 @@ def reasons(
     if game and shares is not None and len(shares) != game.n:
         raise BadInput(f"{len(shares)} shares for {game.n} players")
     return Teller(game, shares, say).told(tree) + "\n", 0
+
+
+def names_in(line: bytes, document: Optional[bytes] = None) -> list[str]:
+    """The names of the players in a line, or else in the document beside it; none where neither has any."""
+    for data in (line, document):
+        try:
+            found = Game(read(data, "the line")["game"]) if data is not None else None
+        except (BadInput, KeyError):
+            continue
+        if found and found.named:
+            return found.names
+    return []
 
 
 def read(data: bytes, where: str) -> dict[str, Any]:
@@ -64,11 +79,12 @@ def checked(line: bytes, where: str) -> dict[str, Any]:
     return tree
 
 
-def certificate(line: bytes, tree: dict[str, Any], say: Style) -> tuple[str, int]:
-    """A certificate, once it was checked; or the condition that it fails."""
+def certificate(line: bytes, tree: dict[str, Any], say: Style, over: int) -> tuple[str, int]:
+    """A certificate, once it was checked; or the condition that it fails. Amounts are told over a number."""
     if "certificate" not in tree:
         raise BadInput("the line has no certificate to explain")
     verdict = checking.verdict(line)
+    tree = divided(tree, over)
     if verdict["answer"] == "no":
         return failure(verdict, tree, say) + "\n", 1
     return "\n\n".join(Explainer(tree, say).paragraphs()) + "\n", 0

@@ -1,4 +1,4 @@
-"""One page of HTML to print: who gets how much, the picture, the reasons, and how to check."""
+"""A paper of HTML to print: who gets how much, the picture, the reasons, and how to check."""
 from __future__ import annotations
 
 import hashlib
@@ -8,9 +8,10 @@ from fractions import Fraction
 from typing import Any
 
 from .certificates import Explainer
-from .documents import Point
+from .documents import Point, rule_of
 from .game import KINDS, Game
 from .names import is_unseen, safe
+from .over import divided
 from .pictures import picture
 from .styles import Style, column
 
@@ -28,31 +29,36 @@ p, ul { margin: 0.4em 0; }
 pre { white-space: pre-wrap; overflow-wrap: anywhere; font-size: 8pt; border: 1px solid #bbb; padding: 0.5em; }
 @media print { body { margin: 0; max-width: none; } }
 """.strip()
-MOST_PRINTED = 8000  # characters
+MOST_PRINTED = 3000  # characters: half a sheet
 CHECK = """
 <p>The line below is the whole answer: the game, the shares as exact fractions, and a certificate that shows that they
 are the {answer}. Anyone can check it, with Python alone: take <code>check-anew</code> from the project and not from
 whoever sent this page, save the line as a file, and call <code>python3 check-anew FILE</code>; it says yes or no, and
 why not. That the game in it is the one that was agreed on, <code>scripts/same-game FILE AGREED</code> says. By hand it
-goes too, by the project's page <code>docs/certificates.md</code>.</p>
+goes too, by the project's page <code>docs/certificates.md</code>.{over}</p>
 """.strip()
+OVER = " Above all amounts are divided by {over}: in the line they are so many times as great."
 
 
-def report(document: dict[str, Any], title: str, style: Style) -> str:
-    """The page of a line with a certificate, which has to be one that was checked."""
-    game = Game(document["game"])
-    point = Point(document["answer"], [Fraction(share) for share in document["shares"]], game)
+def report(document: dict[str, Any], title: str, style: Style, note: str = "", over: int = 1) -> str:
+    """The page of a line with a certificate, which has to be one that was checked; with a note below the title. All
+    amounts but those of the line are told over a number."""
+    told = divided(document, over)
+    game = Game(told["game"])
+    rule = rule_of(told["answer"], game)
+    point = Point(rule, [Fraction(share) for share in told["shares"]], game)
     name = title or f"{KINDS[game.kind].capitalize()}: who {'pays' if game.costs else 'gets'} how much"
     parts = [
         f"<h1>{text(name)}</h1>",
-        f"<p>By the {text(document['answer'])}{', excess per head' if game.per_head else ''}.</p>",
+        f"<p>By the {text(rule)}.</p>",
+        *([f"<p><strong>{text(note)}</strong></p>"] * bool(note)),
         table(game, point, style),
         "<h2>The picture</h2>",
         picture([point], title=name, style=style),
         "<h2>Why</h2>",
-        *(paragraph(part) for part in Explainer(document, style).paragraphs()),
+        *(paragraph(part) for part in Explainer(told, style).paragraphs()),
         "<h2>How to check</h2>",
-        CHECK.format(answer=text(document["answer"])),
+        CHECK.format(answer=text(rule), over=OVER.format(over=f"{over:,}") * (over > 1)),
         the_line(document),
     ]
     head = f'<meta charset="utf-8"><title>{text(name)}</title>\n<style>\n{STYLE}\n</style>'
@@ -86,13 +92,17 @@ def table(game: Game, point: Point, style: Style) -> str:
     """Who gets how much: decimals that add to the rounded sum, and the exact fractions."""
     numbers = column(point.shares, Style(2 if style.places is None else style.places))
     amount = f"{'pays' if game.costs else 'gets'}" + (f", {text(style.unit)}" if style.unit else "")
-    alone = "would cost alone" if game.costs else "is worth alone"
+    estate = game.kind == "bankruptcy"
+    alone = "claims" if estate else "would cost alone" if game.costs else "is worth alone"
+    plain = Style(style.places)
     rows = [f"<tr><th></th><th>{amount}</th><th>exactly</th><th>{alone}</th></tr>"]
     for i, name in enumerate(game.names):
-        cells = text(name), numbers[i], str(point.shares[i]), style(game.alone(i))
+        last = game.amounts[i] if estate else game.alone(i)
+        cells = text(name), numbers[i], str(point.shares[i]), plain(last)
         rows.append("<tr>" + "".join(f"<td>{cell}</td>" for cell in cells) + "</tr>")
     total = str(sum(point.shares, Fraction(0)))
-    rows.append(f'<tr class="all"><td>together</td><td>{numbers[-1]}</td><td>{total}</td><td></td></tr>')
+    claimed = plain(sum(game.amounts, Fraction(0))) if estate else ""
+    rows.append(f'<tr class="all"><td>together</td><td>{numbers[-1]}</td><td>{total}</td><td>{claimed}</td></tr>')
     note = "<p>Decimals are rounded so that they add up.</p>"
     return "<table>\n" + "\n".join(rows) + f"\n</table>\n{note}"
 

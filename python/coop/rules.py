@@ -142,6 +142,7 @@ def estate_rule(game: Game, shares: Sequence[Fraction], namer: Namer, say: Style
         + f"{'more' if lacking else 'no more'} than that. So each {verb} half of its claim"
         + f", but at most {say(t)}" * bool(capped)
         + f": together {f'the {say(amount)} that the estate lacks' if lacking else say(amount)}."
+        + by_proportion(game, shares, say)
     )
     items = [first]
     uncut = [i for i in range(game.n) if i not in capped]
@@ -149,7 +150,25 @@ def estate_rule(game: Game, shares: Sequence[Fraction], namer: Namer, say: Style
         if ids:
             claimants = [claimant(namer.names[i], claims[i], halves[i], lacking, say) for i in ids]
             items.append(f"{what}: {'; '.join(claimants)}.")
-    return items
+    others = sum((halves[i] for i in uncut), Fraction(0))
+    return items + [whence(t, amount, others, len(capped), say)] * (len(capped) > 1 or bool(capped and others))
+
+
+def whence(t: Fraction, amount: Fraction, others: Fraction, count: int, say: Style) -> str:
+    """Where t comes from: what the halves of the others leave of the amount, in equal parts."""
+    rest = f" - {say(others)} = {say(amount - others)}, which these halves leave" if others else ""
+    return f"where {say(t)} comes from: {say(amount)}{rest}" + f", in {count} equal parts" * (count > 1) + "."
+
+
+def by_proportion(game: Game, shares: Sequence[Fraction], say: Style) -> str:
+    """That the division isn't the one in proportion, where it isn't."""
+    total = sum(game.amounts, Fraction(0))
+    if all(share * total == game.single * claim for share, claim in zip(shares, game.amounts)):
+        return ""
+    part = game.single / total
+    told = str(part) if say.places is None else f"{Style(2)(100 * part)} %"
+    claim = "whole claim" if max(game.amounts) > game.single else "claim"
+    return f" That isn't the division in proportion to the claims, by which each would get {told} of its {claim}."
 
 
 def claimant(name: str, claim: Fraction, part: Fraction, lacking: bool, say: Style) -> str:

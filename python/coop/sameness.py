@@ -1,17 +1,28 @@
-"""Whether two files have the same game, key by key, in which no key stands twice."""
+"""Whether two files have the same game, in which no key stands twice: each number, by its player or its group.
+
+What counts is what the program reads. So a table is the same by `worths` and by `sparse`, and a number as 6 and as "6";
+such games are the same, and it is told that they are written otherwise.
+"""
 from __future__ import annotations
 
 import json
-from typing import Any, Iterator, NamedTuple, Optional
+from fractions import Fraction
+from typing import Any, Iterator, NamedTuple, Optional, Sequence
 
 from .documents import read_documents
 from .errors import BadInput
-from .game import KINDS, Game
-from .names import safe
+from .game import KINDS, LISTS, SINGLE, Game
+from .groups import Namer
+from .masks import members
+from .names import looks, safe, shown
+
+SPELLINGS = {"version", "excess", "players", "worths", "sparse", "default"}  # which may differ where the game doesn't
+MOST_TOLD = 10  # differences
+MOST_ROWS = 255  # groups of a table
 
 
 class Difference(NamedTuple):
-    """The first place that differs, and what stands there in the one and the other."""
+    """A place that differs, and what stands there in the one and the other."""
 
     place: str
     first: str
@@ -19,13 +30,16 @@ class Difference(NamedTuple):
 
 
 def game_of(path: str) -> Game:
-    """The game of the one document of a file."""
-    documents = read_documents([path])
+    """The game of the one document of a file, which has no byte order mark."""
+    documents = read_documents([path], may_be_marked=False)
     if len(documents) != 1:
         raise BadInput(f"{path} has {len(documents)} documents, and not one")
     if "game" not in documents[0].tree:
         raise BadInput(f"{documents[0].where} has no game")
     return Game(documents[0].tree["game"])
+
+
+# ---- As they are written
 
 
 def brief(tree: Any) -> str:
@@ -35,7 +49,7 @@ def brief(tree: Any) -> str:
 
 
 def difference(first: Any, second: Any, place: str = "game") -> Optional[Difference]:
-    """The first place at which two trees differ, where 1, 1.0 and true are three values."""
+    """The first place at which two trees differ, where 1, 1.0 and true are three values. Items count from 1."""
     if type(first) is not type(second):
         return Difference(place, brief(first), brief(second))
     if type(first) is dict:
@@ -47,20 +61,128 @@ def difference(first: Any, second: Any, place: str = "game") -> Optional[Differe
     elif type(first) is list:
         if len(first) != len(second):
             return Difference(place, f"{len(first)} items", f"{len(second)} items")
-        pairs = ((f"{place}[{i}]", a, b) for i, (a, b) in enumerate(zip(first, second)))
+        pairs = ((f"{place}, item {i + 1}", a, b) for i, (a, b) in enumerate(zip(first, second)))
     else:
         return None if first == second else Difference(place, brief(first), brief(second))
     return next((found for where, a, b in pairs if (found := difference(a, b, where))), None)
 
 
+# ---- As the program reads them
+
+
+def differences(first: Game, second: Game) -> Iterator[Difference]:
+    """All in which two games differ, each number by its player or its group."""
+    if first.kind != second.kind:
+        yield Difference("the class", first.kind, second.kind)
+    elif first.n != second.n or first.kind == "assignment" and len(first.rows) != len(second.rows):
+        yield Difference("the players", shape(first), shape(second))
+    else:
+        yield from other_keys(first, second)
+        if first.per_head != second.per_head:
+            words = {False: "plain", True: "per head"}
+            yield Difference("the excess", words[first.per_head], words[second.per_head])
+        yield from other_names(first, second)
+        for (place, a), (_, b) in zip(numbers_of(second, first), numbers_of(second, second)):
+            if a != b:
+                yield Difference(place, str(a), str(b))
+
+
+def shape(game: Game) -> str:
+    """How many players there are."""
+    sides = f" ({len(game.rows)} buyers)" if game.kind in ("assignment", "market") else ""
+    return f"{game.n}{sides}"
+
+
+def other_keys(first: Game, second: Game) -> Iterator[Difference]:
+    """Keys that only one of the two has, and that aren't another spelling of the same."""
+    has = "a key that is there", "not there"
+    for key in sorted((first.tree.keys() ^ second.tree.keys()) - SPELLINGS - {"names"}):
+        yield Difference(f"game.{key}", *(has if key in first.tree else has[::-1]))
+
+
+def other_names(first: Game, second: Game) -> Iterator[Difference]:
+    """Names that differ. Where they look alike they are written with escapes."""
+    if first.named != second.named:
+        words = {False: "none", True: "there"}
+        yield Difference("the names", words[first.named], words[second.named])
+        return
+    for i, (a, b) in enumerate(zip(first.names, second.names)):
+        if a != b and looks(a) == looks(b):
+            yield Difference(f"the name of player {i + 1}, which looks alike", shown(a), shown(b))
+        elif a != b:
+            yield Difference(f"the name of player {i + 1}", safe(a), safe(b))
+
+
+def numbers_of(named: Game, game: Game) -> Iterator[tuple[str, Fraction]]:
+    """Each number of a game with its place, by the names of a game that has as many players."""
+    namer = Namer(named)
+    if game.is_table:
+        what = "cost" if game.costs else "worth"
+        for group in range(1, game.everyone + 1):
+            yield f"the {what} of {namer.group(group)}", game.amounts[group]
+    elif game.kind in LISTS:
+        what = {"airport": "cost", "bankruptcy": "claim", "voting": "weight"}[game.kind]
+        if game.kind in SINGLE:
+            yield f"the {SINGLE[game.kind]}", game.single
+        for i, amount in enumerate(game.amounts):
+            yield f"the {what} of {namer.names[i]}" + f" (item {i + 1})" * named.named, amount
+    else:
+        points = ["the source", *namer.names] if game.kind == "tree" else namer.names[len(game.rows) :]
+        rows = points if game.kind == "tree" else namer.names
+        for i, row in enumerate(game.rows):
+            for j, amount in enumerate(row):
+                yield f"the entry of {rows[i]} and {points[j]} (row {i + 1}, column {j + 1})", amount
+
+
+def in_another_order(first: Game, second: Game) -> bool:
+    """Whether the same players have the same numbers in lists, in another order."""
+    if first.kind != second.kind or first.kind not in LISTS or not (first.named and second.named):
+        return False
+    single = [game.single if game.kind in SINGLE else None for game in (first, second)]
+    pairs = [dict(zip(game.names, game.amounts)) for game in (first, second)]
+    return first.names != second.names and pairs[0] == pairs[1] and single[0] == single[1]
+
+
+def verdict(line: Game, agreed: Game) -> tuple[str, bool]:
+    """The sentences on a line's game and the agreed one, and whether they are the same."""
+    found = list(differences(line, agreed))
+    if not found:
+        spelling = difference(line.tree, agreed.tree)
+        how = f", though written otherwise (at {spelling.place})" if spelling else ""
+        return f"the same game{how}:\n{told(agreed)}", True
+    head = f"another game, by {len(found)} differences:\n" if len(found) > 1 else "another game:\n"
+    if in_another_order(line, agreed):
+        head = "the same numbers by name, but the players stand in another order:\n"
+    lines = [f"  {one.place}: {one.first} in the line, {one.second} in the agreed document" for one in found]
+    more = [f"  and {len(lines) - MOST_TOLD} more"] * (len(lines) > MOST_TOLD)
+    return head + "".join(f"{text}\n" for text in [*lines[:MOST_TOLD], *more]), False
+
+
+# ---- What was compared
+
+
 def told(game: Game) -> str:
-    """What was compared: the class, the players, and all that stands in the game."""
-    lines = [f"class: {game.kind} ({KINDS[game.kind]}), {game.n} players"]
-    lines += [f"{key}: {in_words(value)}" for key, value in sorted(game.tree.items()) if key != "class"]
+    """What was compared: the class, the measure, the players, and a row for each number."""
+    per_head = ", excess per head" * game.per_head
+    lines = [f"class: {game.kind} ({KINDS[game.kind]}), {game.n} players{per_head}"]
+    if game.kind in SINGLE:
+        lines.append(f"{SINGLE[game.kind]}: {game.single}")
+    names = [safe(name) for name in game.names]
+    if game.is_table:
+        lines += groups_told(game, names)
+    elif game.kind in LISTS:
+        lines += [f"{LISTS[game.kind]}:", *(f"  {name}: {amount}" for name, amount in zip(names, game.amounts))]
+    else:
+        rows = ["source", *names] if game.kind == "tree" else names
+        lines += ["matrix:", *(f"  {rows[i]}: {', '.join(map(str, row))}" for i, row in enumerate(game.rows))]
+        lines += [f"sellers: {', '.join(names[len(game.rows):])}"] * (game.kind != "tree")
     return "".join(f"  {line}\n" for line in lines)
 
 
-def in_words(tree: Any) -> str:
-    """A value of a game, names with escapes."""
-    items = tree if type(tree) is list else [tree]
-    return ", ".join(safe(item) if type(item) is str else safe(json.dumps(item, ensure_ascii=False)) for item in items)
+def groups_told(game: Game, names: Sequence[str]) -> list[str]:
+    """The groups of a table with their numbers; of a large one in mask order, in one line."""
+    key = "costs" if game.costs else "worths"
+    if game.everyone <= MOST_ROWS:
+        groups = range(1, game.everyone + 1)
+        return [f"{key}:", *(f"  {'+'.join(names[i] for i in members(s))}: {game.amounts[s]}" for s in groups)]
+    return [f"names: {', '.join(names)}", f"{key}, in mask order: {', '.join(map(str, game.amounts[1:]))}"]

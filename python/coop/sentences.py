@@ -17,6 +17,10 @@ USAGES = {
     "players": "The command doesn't serve so many players.",
     "words": "The words aren't those of a command: a command is one word, and the document comes on standard input.",
 }
+NO_ANSWER = (
+    "there are shares, and no answer of the program: bin/coop propose and kernel judge shares, and scripts/compare "
+    "sets them beside a nucleolus"
+)
 MOST_PLAYERS = 16
 
 
@@ -91,7 +95,7 @@ class Teller:
             return filled(USAGES.get(tree["usage"], USAGES["words"]))
         tell = TELLERS.get(str(tree.get("answer", "gen" if "verdict" in tree else "")))
         if tell is None:
-            raise BadInput("this is no answer of the program")
+            raise BadInput(NO_ANSWER if "shares" in tree else "this is no answer of the program")
         try:
             return tell(self, tree)
         except (KeyError, TypeError, ValueError, IndexError) as fault:
@@ -178,6 +182,8 @@ class Teller:
             )
         else:
             first = f"What each {adds} those in front of it, on average over all orders in which the players may join."
+        if self.game is None:
+            first += " (The line has no names, nor whether these are costs: give the document beside it.)"
         return with_items(first, self.all_shares(tree["shares"]))
 
     def bird(self, tree: dict[str, Any]) -> str:

@@ -11,7 +11,7 @@ from typing import Collection, Optional, Sequence
 from .documents import Point
 from .errors import BadInput
 from .names import safe
-from .styles import Style, decimal, rounded
+from .styles import Style, decimal, rounded, steps_of
 
 DECIMALS = 2
 
@@ -34,11 +34,28 @@ def longest(texts: Sequence[str]) -> int:
 def column_of(point: Point, style: Style) -> list[str]:
     """The column of one point: its name, a row for each player, and the sum."""
     places = DECIMALS if style.places is None else style.places
-    steps = rounded(point.shares, places)
+    steps = steps_for(point, places)
     exact = [str(share) for share in point.shares + [sum(point.shares, Fraction(0))]]
     decimals = [decimal(step, places) + style.behind for step in steps + [sum(steps)]]
     rows = [f"{e:>{longest(exact)}}  {d:>{longest(decimals)}}" for e, d in zip(exact, decimals)]
     return [point.name] + rows
+
+
+def steps_for(point: Point, places: int) -> list[int]:
+    """The shares in steps of the last place, so that they add up; of a change the differences of those beside it."""
+    if point.between is None:
+        return rounded(point.shares, places)
+    before, after = (rounded(shares, places) for shares in point.between)
+    return [last - first for first, last in zip(before, after)]
+
+
+def note_on(points: Sequence[Point], style: Style) -> str:
+    """A sentence where a decimal isn't the nearest one, since all have to add up; else nothing."""
+    places = DECIMALS if style.places is None else style.places
+    pairs = (pair for point in points for pair in zip(steps_for(point, places), point.shares))
+    if all(step == steps_of(share, places) for step, share in pairs):
+        return ""
+    return "Decimals are rounded so that they add up: a last place may be one off, and equals may differ.\n"
 
 
 def aligned(columns: Sequence[Sequence[str]], left: Collection[int] = (0,)) -> str:
@@ -55,8 +72,8 @@ def aligned(columns: Sequence[Sequence[str]], left: Collection[int] = (0,)) -> s
 
 def shares_table(names: Sequence[str], points: Sequence[Point], style: Style) -> str:
     """A table of the shares of some points."""
-    first = ["", *map(safe, names), "together"]
-    return aligned([first, *(column_of(point, style) for point in points)])
+    first = ["", *map(safe, names), "all together" if "together" in names else "together"]
+    return aligned([first, *(column_of(point, style) for point in points)]) + note_on(points, style)
 
 
 def shares_csv(names: Sequence[str], points: Sequence[Point], style: Style) -> str:
@@ -66,7 +83,7 @@ def shares_csv(names: Sequence[str], points: Sequence[Point], style: Style) -> s
     for point in points:
         head += [point.name, f"{point.name} rounded" + (f", {style.unit}" if style.unit else "")]
         columns.append([str(share) for share in point.shares])
-        columns.append([decimal(step, places, "") for step in rounded(point.shares, places)])
+        columns.append([decimal(step, places, "") for step in steps_for(point, places)])
     return csv_text([head, *zip(map(safe, names), *columns)])
 
 
@@ -79,7 +96,7 @@ def csv_text(rows: Sequence[Sequence[str]]) -> str:
 
 def plain(cell: str) -> str:
     """A cell that no spreadsheet runs."""
-    is_number = re.fullmatch(r"-?[0-9]+([./][0-9]+)?", cell)
+    is_number = cell == "-" or re.fullmatch(r"-?[0-9]+([./][0-9]+)?", cell)
     return "'" + cell if cell[:1] in ("=", "+", "-", "@") and not is_number else cell
 
 
@@ -96,12 +113,30 @@ def put_together(names: Sequence[str], points: Sequence[Point]) -> tuple[list[st
     return owners, result
 
 
+def of_those_who_stay(points: Sequence[Point]) -> tuple[list[str], list[Point], list[str]]:
+    """The names of those whom all games have, with their shares; and the names of the others. Players without names
+    are the same in all, and are called by their numbers."""
+    lists = [point.game.names for point in points if point.game]
+    if not lists:
+        return [str(i + 1) for i in range(len(points[0].shares))], list(points), []
+    stay = [name for name in lists[0] if all(name in names for names in lists)]
+    others = dict.fromkeys(name for names in lists for name in names if name not in stay)
+    if not stay:
+        raise BadInput("no player is in all the games")
+    result = []
+    for point in points:
+        names = point.game.names if point.game else lists[0]
+        shares = [point.shares[names.index(name)] for name in stay]
+        result.append(Point(point.name, shares, point.game))
+    return stay, result, list(others)
+
+
 def change(points: Sequence[Point]) -> Point:
     """What each gets more by the last point than by the first."""
     if len(points) < 2:
         raise BadInput("a change is that between two divisions, and there is one")
     shares = [last - first for first, last in zip(points[0].shares, points[-1].shares)]
-    return Point("change", shares, points[-1].game)
+    return Point("change", shares, points[-1].game, (points[0].shares, points[-1].shares))
 
 
 def divided(points: Sequence[Point], by: Optional[int]) -> list[Point]:

@@ -6,7 +6,7 @@ from typing import Any, Collection
 
 from .amounts import Amount, fraction_of
 from .errors import BadInput
-from .game import LISTS, Game
+from .game import LISTS, MOST_IN_A_TABLE, Game
 from .games import made
 from .masks import mask_of, members
 
@@ -50,10 +50,20 @@ def single_of(game: Game, stay: list[int]) -> dict[str, Any]:
     return {}
 
 
+def table_of_game(game: Game) -> Game:
+    """The table of what each group is worth, or costs, in a game of any class, of at most 16 players."""
+    if game.n > MOST_IN_A_TABLE:
+        raise BadInput(f"{game.n} players: a table has at most {MOST_IN_A_TABLE}")
+    sign, names = -1 if game.costs else 1, game.names if game.named else None
+    worths = [sign * game.worth(group) for group in range(1, game.everyone + 1)]
+    parts = {"players": game.n, "worths": worths}
+    return made("cost-table" if game.costs else "table", parts, names, game.per_head)
+
+
 def overrun(game: Game, amount: Amount, per_head: bool = False) -> Game:
-    """A table of which all together cost, or are worth, so much more, and every smaller group what it was."""
-    if not game.is_table:
-        raise BadInput("an overrun is that of a table: of another class all groups change with a number")
-    worths = [*game.amounts[1:-1], game.amounts[-1] + fraction_of(amount)]
+    """A table of which all together cost, or are worth, so much more, and every smaller group what it was. Of another
+    class it is that of its groups, of which the rule of the class says no more what all together cost."""
+    table = game if game.is_table else table_of_game(game)
+    worths = [*table.amounts[1:-1], table.amounts[-1] + fraction_of(amount)]
     names = game.names if game.named else None
-    return made(game.kind, {"players": game.n, "worths": worths}, names, per_head or game.per_head)
+    return made(table.kind, {"players": game.n, "worths": worths}, names, per_head or game.per_head)

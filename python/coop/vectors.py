@@ -2,12 +2,12 @@
 
 `mask` is the order of documents, and of MatTuGames: 1, 2, 12, 3, 13, 23, 123. `size` is that of CoopGame and of TUGlab:
 1, 2, 3, 12, 13, 23, 123. (Of these tools from memory.) Both have one number less than there are groups, so neither can
-be told from the other by its length: the order has to be named.
+be told from the other by its length: the order has to be named. (Of two players both are 1, 2, 12.)
 """
 from __future__ import annotations
 
 from fractions import Fraction
-from typing import Callable, Sequence
+from typing import Callable, Optional, Sequence
 
 from .errors import BadInput
 from .masks import by_mask, by_size
@@ -29,16 +29,20 @@ def players_of(length: int) -> int:
     return players
 
 
-def in_mask_order(vector: Sequence[Fraction], order: str = "mask") -> list[Fraction]:
-    """The vector in mask order, without the empty group, which may stand first with 0."""
-    if order not in ORDERS:
+def in_mask_order(vector: Sequence[Fraction], order: Optional[str]) -> list[Fraction]:
+    """The vector in mask order, without the empty group, which may stand first with 0. From three players on the order
+    has to be named."""
+    if order is not None and order not in ORDERS:
         raise BadInput(f"{order!r} is no order: {', '.join(ORDERS)}")
     numbers = list(vector)
     if len(numbers) > 1 and len(numbers) & len(numbers) - 1 == 0:
         if numbers[0]:
             raise BadInput(f"a vector of {len(numbers)} numbers has that of the empty group first, and it isn't 0")
         del numbers[0]
-    groups = ORDERS[order](players_of(len(numbers)))
+    players = players_of(len(numbers))
+    if order is None and players > 2:
+        raise BadInput("name the order of the vector: size is 1, 2, 3, 12, 13, .., and mask is 1, 2, 12, 3, 13, ..")
+    groups = ORDERS[order or "mask"](players)
     place = dict(zip(groups, numbers))
     return [place[group] for group in range(1, len(numbers) + 1)]
 

@@ -14,6 +14,9 @@ class Amounts(unittest.TestCase):
             (3, "3"),
             ("12.50", "25/2"),
             (" 25/2 ", "25/2"),
+            ("1e-05", "1/100000"),  # as R and Python write small and great numbers
+            ("1e+05", "100000"),
+            ("-2.76198e-05", "-276198/10000000000"),
             ("-0.1", "-1/10"),
             (Decimal("0.1"), "1/10"),
         ]
@@ -27,7 +30,8 @@ class Amounts(unittest.TestCase):
         self.assertEqual(fraction_of(0.2875775201, 9), Fraction(287577520, 10**9))
 
     def test_what_is_no_number(self) -> None:
-        for value in ("", "1,200.50", "1e3", "1/0", "ten", "1.", ".5", "NaN", True, None, Decimal("NaN"), float("inf")):
+        others = True, None, Decimal("NaN"), float("inf")
+        for value in ("", "1,200.50", "e3", "1e", "1e999", "1e2/3", "1/0", "ten", "1.", ".5", "NaN", *others):
             with self.assertRaises(BadInput, msg=value):
                 fraction_of(value, 3)  # type: ignore[arg-type]
 

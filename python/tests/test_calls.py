@@ -13,7 +13,7 @@ from .asking import Answering, needs_program
 
 AIRPORT = coop.airport({"light": 2, "medium": 4, "heavy": 6})
 TRIO = coop.table({"s": 20, "p": 30, "s+p": 80, "d": 0, "s+d": 50, "p+d": 65, "s+p+d": 120})
-MAJORITY = coop.table([0, 0, 1, 0, 1, 1, 1])
+MAJORITY = coop.table([0, 0, 1, 0, 1, 1, 1], order="mask")
 
 
 def fractions(text: str) -> list[Fraction]:

@@ -7,6 +7,7 @@ import subprocess
 import sys
 import tempfile
 import unittest
+from fractions import Fraction
 from typing import Any
 
 from coop.program import TOP
@@ -83,6 +84,28 @@ class Scripts(unittest.TestCase):
         game = json.loads(script("from-landings", text="Aer,20,2\nBee,40,1\n")[1])["game"]
         self.assertEqual((game["costs"], game["names"]), ([20, 20, 40], ["Aer 1", "Aer 2", "Bee 1"]))
         self.refused(script("from-landings", text="Aer,20\n"), "line 1 has 2 columns")
+        self.refused(script("from-landings", text="Aer,20,65\n"), "at most 64 players", "coop.runways")
+
+    def test_files_of_spreadsheets(self) -> None:
+        """Semicolons and decimal commas are read, and what may be meant otherwise is told or refused."""
+        text = "Hartmann KG;480.000,50\nWeber Bank;900.000,75\n"
+        game = json.loads(script("from-claims", "--estate", "100", text=text)[1])["game"]
+        self.assertEqual((game["names"], game["claims"]), (["Hartmann KG", "Weber Bank"], ["960001/2", "3600003/4"]))
+        status, _, errors = script("from-claims", "--estate", "100", text="A,480.000\nB,900\n")
+        self.assertEqual((status, "480.000 is read as 480" in errors), (0, True))
+        self.refused(script("from-claims", "--estate", "9", text="A;480.000\n"), "480 or 480000", "--decimal")
+        found = script("from-claims", "--estate", "9", "--decimal", "comma", "--head", text="Name;Claim\nA;480.000\n")
+        self.assertEqual(json.loads(found[1])["game"]["claims"], [480000])
+        game = json.loads(script("from-costs", "--head", text="Group\tkEUR\na\t3387,4\n")[1])["game"]
+        self.assertEqual(game["sparse"], [[["a"], "16937/5"]])
+        game = json.loads(script("from-landings", text="Aer;20,50;1\n")[1])["game"]
+        self.assertEqual(game["costs"], ["41/2"])
+        saved = '"";"V1";"V2";"V3"\n"1";0,5;1e-04;2\n'
+        status, text, errors = script("from-vector", "--order", "size", text=saved)
+        self.assertEqual((status, json.loads(text)["game"]["worths"]), (0, ["1/2", "1/10000", 2]))
+        self.assertIn("have names, are left out", errors)
+        named = script("from-vector", "--order", "size", "--skip", "1", text="1,1,2,4\n")[1]
+        self.assertEqual(json.loads(named)["game"]["worths"], [1, 2, 4])
 
     def test_shares(self) -> None:
         game = {"class": "airport", "costs": [2, 2, 4], "names": ["Aer 1", "Aer 2", "Bee 1"]}
@@ -92,27 +115,66 @@ class Scripts(unittest.TestCase):
         over = script("shares", "--csv", "--over", "10", text=text)[1].splitlines()
         self.assertEqual(over[1:], ["Aer 1,1/10,0.10", "Aer 2,1/20,0.05", "Bee 1,150,150.00"])
         self.assertIn("1,500.00 EUR", script("shares", "--unit", "EUR", text=text)[1])
+        thirds = '{"shares":["1/3","1/3","1/3"]}'
+        for words in ((), ("--csv",)):
+            status, text, errors = script("shares", *words, text=thirds)
+            told = errors if words else text
+            self.assertEqual((status, told.count("Decimals are rounded so that they add up")), (0, 1))
+            self.assertNotIn("Decimals", "".join(script("shares", *words, text='{"shares":["1/4","1/3"]}')[1:]))
+        after = '{"shares":["2/3","2/3","2/3"]}'
+        rows = [row.split()[1:] for row in script("shares", "--change", text=thirds + after)[1].splitlines()[1:4]]
+        wanted = [["0.34", "0.67", "0.33"], ["0.33", "0.67", "0.34"], ["0.33", "0.66", "0.33"]]
+        self.assertEqual([row[1::2] for row in rows], wanted)
+        both = script("shares", text='{"game":{"class":"airport","costs":[1],"names":["together"]},"shares":[1]}')[1]
+        self.assertIn("\nall together", both)
         self.refused(script("shares", "--over", "0", text=text), "no number from 1 on")
 
     def test_overrun_without_and_change(self) -> None:
         table = '{"game":{"class":"cost-table","names":["a","b"],"players":2,"worths":[2,3,4]}}'
         worths = [json.loads(script("overrun", "-", by, text=table)[1])["game"]["worths"] for by in ("12.50", "-1")]
         self.assertEqual(worths, [[2, 3, "33/2"], [2, 3, 3]])
-        self.refused(script("overrun", PROPOSAL, "1"), "that of a table")
+        runway = json.loads(script("overrun", PROPOSAL, "1")[1])["game"]
+        self.assertEqual((runway["class"], runway["worths"]), ("cost-table", [2, 4, 4, 6, 6, 6, 7]))
         game = json.loads(script("without", PROPOSAL, "light")[1])["game"]
         self.assertEqual(game, {"class": "airport", "costs": [4, 6], "names": ["medium", "heavy"]})
         self.refused(script("without", PROPOSAL, "bright"), "bright is no player")
+        dear = '{"game":{"class":"cost-table","names":["a","b","c"],"players":3,"worths":[3,4,7,5,5,9,6]}}'
+        status, text, errors = script("without", "-", "c", text=dear)
+        self.assertEqual((status, json.loads(text)["game"]["worths"]), (0, [3, 4, 7]))
+        self.assertIn("those who stay cost 7, and all together cost 6", errors)
+        self.assertEqual(script("without", "-", "b", text=dear)[2], "")
         lines = '{"shares":[1,2]} {"shares":[3,7]} {"shares":["3/2",1]}'
         rows = script("shares", "--change", "--csv", text=lines)[1].splitlines()
         self.assertEqual(rows[0].split(",")[-2:], ["change", "change rounded"])
         self.assertEqual([row.split(",")[-2:] for row in rows[1:]], [["1/2", "0.50"], ["-1", "-1.00"]])
         self.refused(script("shares", "--change", text='{"shares":[1,2]}'), "there is one")
 
+    def test_change_where_one_has_left(self) -> None:
+        """Those who stay stand by their names, whatever their places; names are needed, and somebody who stays."""
+        three = '{"game":{"class":"airport","costs":[2,4,6],"names":["a","b","c"]},"shares":[1,"3/2","7/2"]}'
+        two = '{"game":{"class":"airport","costs":[6,2],"names":["c","a"]},"shares":[5,1]}'
+        status, text, errors = script("shares", "--change", text=three + two)
+        rows = [row.split() for row in text.splitlines()[1:]]
+        wanted = [["a", "1", "1", "0"], ["c", "7/2", "5", "3/2"], ["together", "9/2", "6", "3/2"]]
+        self.assertEqual((status, [row[:1] + row[1::2] for row in rows]), (0, wanted))
+        self.assertIn("left out: b\n", errors)
+        self.refused(script("shares", text=three + two), "other players than those of")
+        nobody = two.replace('"c","a"', '"d","e"')
+        self.refused(script("shares", "--change", text=three + nobody), "no player is in all the games")
+        gains = two.replace('"airport","costs"', '"voting","quota":2,"weights"')
+        self.refused(script("shares", "--change", text=three + gains), "worths, beside costs")
+        unnamed = '{"game":{"class":"airport","costs":[2,4]},"shares":[1,3]}'
+        self.refused(script("shares", "--change", text=three + unnamed), "other players")
+
     def test_from_costs_fills(self) -> None:
         costs = "a,3\nb,4\nc,5\na+b,6\na+b+c,9\n"
         status, text, errors = script("from-costs", "--fill", text=costs)
         self.assertEqual((status, json.loads(text)["game"]["sparse"][-2:]), (0, [[["a", "c"], 8], [["b", "c"], 9]]))
         self.assertIn("2 groups were filled in", errors)
+        self.assertIn("as long as none of these groups could build cheaper together than apart", errors)
+        self.assertNotIn("a larger group", errors)
+        dear = script("from-costs", "--fill", text="a,3\nb,4\nc,5\na+b+c,6\n")[2]
+        self.assertIn("3 groups cost more than a larger group that contains them", dear)
         self.assertIn("from-costs: a+c: 8 = a | c\nfrom-costs: b+c: 9 = b | c\n", errors)
         self.refused(script("from-costs", text=costs), "a+c has no line, and 1 more groups", "--fill")
         gains = json.loads(script("from-costs", "--gains", text="a,1\n")[1])["game"]
@@ -134,9 +196,15 @@ class Scripts(unittest.TestCase):
             self.assertEqual(script("same-game", line, agreed)[::2], (0, ""))
             self.assertEqual(
                 script("same-game", "-", agreed, text=json.dumps({"game": other}))[:2],
-                (1, "another game, at game.costs[2]: 7 in the line, 6 in the agreed document\n"),
+                (1, "another game:\n  the cost of heavy (item 3): 7 in the line, 6 in the agreed document\n"),
             )
             self.refused(script("same-game", line, twice), 'the key "costs" stands twice')
+            marked = "\ufeff" + json.dumps({"game": AIRPORT})
+            self.refused(script("same-game", "-", agreed, text=marked), "standard input begins with a byte order mark")
+            with open(twice, "w", encoding="utf-8") as file:
+                file.write(marked)
+            self.refused(script("same-game", line, twice), "without one")
+            self.assertEqual(script("shares", line, twice)[0], 0)
             self.refused(script("same-game", line), "AGREED")
 
     def test_slip(self) -> None:
@@ -160,8 +228,39 @@ class Scripts(unittest.TestCase):
     def test_report(self) -> None:
         status, text, errors = script("report", "--title", "A runway", text=json.dumps(solved()))
         self.assertEqual((status, errors, text[:15], text.count("A runway</h1>")), (0, "", "<!DOCTYPE html>", 1))
+        noted = script("report", "--note", "215 groups were filled in.", text=json.dumps(solved()))[1]
+        self.assertEqual((noted.count("215 groups were filled in."), "215 groups" in text), (1, False))
         self.refused(script("report", text=json.dumps(solved(shares=[3, 1, 2]))), "condition 2")
         self.refused(script("report", text='{"answer":"core"}'), "no line of nucleolus")
+
+    def test_over(self) -> None:
+        """A line that was multiplied is told as one that wasn't, but for the line on the report."""
+        whole = solved(game={**AIRPORT, "costs": [20, 40, 60]}, shares=[10, 15, 35])
+        for level in whole["certificate"]["levels"]:
+            level["excess"] = str(Fraction(level["excess"]) * 10)
+        small, great = json.dumps(solved()), json.dumps(whole)
+        other, others = ('{"shares":["2/3","5/3","11/3"]}', '{"shares":["20/3","50/3","110/3"]}')
+        blocked = '{"answer":"blocked","coalition":[1],"excess":"%d"}'
+        cases: list[tuple[str, list[str], str, str]] = [
+            ("explain", [], small, great),
+            ("explain", ["-"], blocked % 1, blocked % 10),
+            ("compare", [], small + other, great + others),
+            ("picture", [], small, great),
+            ("picture", ["--bars", "--places", "2"], small, great),
+        ]
+        for name, words, one, ten in cases:
+            self.assertEqual(script(name, "--over", "10", *words, text=ten), script(name, *words, text=one), name)
+        paper = script("report", "--over", "10", "--places", "2", text=great)[1]
+        plain = script("report", "--places", "2", text=small)[1]
+        self.assertEqual(paper.split("How to check")[0], plain.split("How to check")[0])
+        self.assertIn("in the line they are so many times as great", paper)
+        self.assertIn("&quot;costs&quot;:[20,40,60]", paper)
+        self.assertNotIn("so many times", plain)
+        false = great.replace('"-10"', '"-20"')
+        self.assertIn("the excess -2, and light alone has\n-1.", script("explain", "--over", "10", text=false)[1])
+        vote = '{"answer":"shapley","shares":["1"],"game":{"class":"voting","quota":1,"weights":[1]}}'
+        self.refused(script("explain", "--over", "10", text=vote), "a vote has no amounts")
+        self.refused(script("picture", "--over", "10", text='{"shares":[1],"game":{"class":"table"}}'), "1 to 64")
 
     def test_explain_beside_a_document(self) -> None:
         line = '{"answer":"blocked","coalition":[1],"excess":"1"}'
@@ -169,6 +268,12 @@ class Scripts(unittest.TestCase):
             "It pays 3, where by itself it would cost 2.",
             " ".join(script("explain", "-", PROPOSAL, text=line)[1].split()),
         )
+
+    def test_explain_names_who_judges_shares(self) -> None:
+        self.refused(script("explain", PROPOSAL), "bin/coop propose", "scripts/compare")
+        line, asked = '{"answer":"shapley","shares":["2/3","5/3","11/3"]}', "give the document beside it"
+        self.assertIn(asked, " ".join(script("explain", text=line)[1].split()))
+        self.assertNotIn(asked, " ".join(script("explain", "-", PROPOSAL, text=line)[1].split()))
 
     def test_names_that_forge(self) -> None:
         names = ["light  9.00\nheavy", "medium", "medium\u200b"]
@@ -178,8 +283,7 @@ class Scripts(unittest.TestCase):
             self.assertEqual(status, 0, errors)
             self.assertNotIn("\u200b", found + errors)
             self.assertIn("\\u000aheavy", found)
-            if name != "explain":
-                self.assertIn("2 names look alike: medium, medium\\u200b", errors)
+            self.assertIn("2 names look alike: medium, medium\\u200b", errors)
         self.assertIn("\\u000aheavy", script("shares", "--csv", text=text)[1])
 
     @needs_program
@@ -204,13 +308,30 @@ class Scripts(unittest.TestCase):
             (
                 0,
                 (
-                    "status,document,command,player 1,player 2,player 3\n"
-                    "0,standard input:1,nucleolus,1,3/2,7/2\n0,standard input:2,nucleolus,1\n"
+                    "status,document,command,player 1,player 2,player 3,reason\n"
+                    "0,standard input:1,nucleolus,1,3/2,7/2,\n0,standard input:2,nucleolus,1,,,\n"
                 ),
             ),
         )
         mixed = script("many", "nucleolus", "--places", "1", "--csv", PROPOSAL, "--over", "10")[1]
-        self.assertEqual(mixed.splitlines()[1], f"0,{PROPOSAL},nucleolus,0.1,0.2,0.4")
+        self.assertEqual(mixed.splitlines()[1], f"0,{PROPOSAL},nucleolus,0.1,0.2,0.4,")
+        self.refusals_have_reasons()
+        rules = "nucleolus,nucleolus-per-head,core"
+        wide = script("many", rules, "--wide", PROPOSAL, majority, "lost.json")[1]
+        shares = [f"{word} {i}" for word in rules.split(",") for i in ("status", 1, 2, 3)]
+        self.assertEqual(
+            wide.splitlines(),
+            [
+                ",".join(["document", *shares, "reason"]),
+                f"{PROPOSAL},0,1,3/2,7/2,0,4/3,4/3,10/3,0,1,3/2,7/2,",
+                f"{majority},0,1/3,1/3,1/3,0,1/3,1/3,1/3,1,,,,core: empty core",
+                "lost.json,-,,,,-,,,,-,,,,nucleolus: not read; nucleolus-per-head: not read; core: not read",
+            ],
+        )
+        self.assertEqual(script("many", "nucleolus-per-head", text="{}")[0], 1)
+        great = '{"game":{"class":"airport","costs":[4000000]}}'
+        row = script("many", "nucleolus", "--csv", "--places", "2", "--unit", "EUR", text=great)[1].splitlines()[1]
+        self.assertEqual(row, "0,standard input,nucleolus,4000000.00,")
         self.refused(script("many", "core", "--over", "0", majority), "no number from 1 on")
         self.refused(script("many", "core,sharply", majority), "'sharply' is none of")
         game = script("proposal", PROPOSAL, "heavy=2", "light=0.50", "medium=7/2")
@@ -219,6 +340,16 @@ class Scripts(unittest.TestCase):
         self.assertEqual(json.loads(script("proposal", PROPOSAL, text='{"shares":[1,2,3]}')[1])["shares"], [1, 2, 3])
         self.refused(script("proposal", PROPOSAL, "1", "2"), "2 shares for 3 players")
         self.refused(script("proposal", PROPOSAL, "light=1", "light=2", "heavy=3"), "each once")
+
+    def refusals_have_reasons(self) -> None:
+        """Each row without shares says why there are none."""
+        game = '{"class":"airport","costs":[2]}'
+        lines = ['{"game":%s}' % game, '{"game":1}', "", '{"game":{"class":"table","players":2,"worths":[1,1,1]}}']
+        status, text, _ = script("many", "--csv", "bird,nucleolus,kernel", text="\n".join(lines))
+        reasons = [row[-1] for row in csv.reader(io.StringIO(text))][1:]
+        refused = ["3 Shape"] * 3 + ["2 NotJson"] * 3
+        last = ["usage class", "no imputation", "3 Shape"]
+        self.assertEqual((status, reasons), (1, ["usage class", "", "3 Shape", *refused, *last]))
 
 
 if __name__ == "__main__":

@@ -8,12 +8,13 @@ import xml.etree.ElementTree as ElementTree
 from html.parser import HTMLParser
 from typing import Any
 
+import coop
 from coop import BadInput
 from coop.documents import Point, points_in, read_documents, short_names
 from coop.pictures import picture
 from coop.reasons import checked
 from coop.report import report
-from coop.sameness import difference, game_of, told
+from coop.sameness import difference, game_of, told, verdict
 from coop.styles import Style
 
 from .test_reasons import AIRPORT, solved
@@ -49,6 +50,13 @@ class Points(Files):
         lines = self.file("lines", solved(), solved(game={**AIRPORT, "excess": "per-head"}), {"shares": [1, 2, 3]})
         self.assertEqual([point.name for point in self.points(lines)], ["nucleolus", "nucleolus per head", "proposal"])
 
+    def test_per_head_is_named_alone_too(self) -> None:
+        line = self.file("line", solved(game={**AIRPORT, "excess": "per-head"}))
+        self.assertEqual([point.name for point in self.points(line)], ["nucleolus per head"])
+        page = Page(report(solved(game={**AIRPORT, "excess": "per-head"}), "", Style()))
+        self.assertIn("By the nucleolus per head.", page.texts)
+        self.assertIn("nucleolus per head", page.texts)
+
     def test_before_and_after(self) -> None:
         before, after = self.file("before", solved()), self.file("after", solved(game={**AIRPORT, "costs": [2, 4, 9]}))
         points = self.points(before, after)
@@ -62,6 +70,12 @@ class Points(Files):
         others = self.file("others", solved(game={**AIRPORT, "names": ["a", "b", "c"]}))
         with self.assertRaisesRegex(BadInput, "other players"):
             self.points(self.file("line", solved()), others)
+        for game, sentence in (
+            ({key: AIRPORT[key] for key in ("class", "costs")}, "no names, and some in .*line"),
+            ({"class": "bankruptcy", "claims": [2, 4, 6], "estate": 6, "names": AIRPORT["names"]}, "beside costs"),
+        ):
+            with self.assertRaisesRegex(BadInput, sentence):
+                self.points(self.file("line", solved()), self.file("other", solved(game=game)))
         twice = self.file("twice", '{"game":{"class":"airport","costs":[1],"costs":[2]},"shares":[1]}')
         with self.assertRaisesRegex(BadInput, 'twice: the key "costs" stands twice'):
             self.points(twice)
@@ -72,11 +86,11 @@ class Points(Files):
 class Sameness(Files):
     def test_differences(self) -> None:
         cases: list[tuple[Any, str]] = [
-            ({**AIRPORT, "costs": [2, 4, 7]}, "game.costs[2]"),
-            ({**AIRPORT, "costs": [2, 4, 6.0]}, "game.costs[2]"),
-            ({**AIRPORT, "costs": [2, 4, "6"]}, "game.costs[2]"),
+            ({**AIRPORT, "costs": [2, 4, 7]}, "game.costs, item 3"),
+            ({**AIRPORT, "costs": [2, 4, 6.0]}, "game.costs, item 3"),
+            ({**AIRPORT, "costs": [2, 4, "6"]}, "game.costs, item 3"),
             ({**AIRPORT, "costs": [2, 4]}, "game.costs"),
-            ({**AIRPORT, "names": ["light", "medium", "heavy\u200b"]}, "game.names[2]"),
+            ({**AIRPORT, "names": ["light", "medium", "heavy\u200b"]}, "game.names, item 3"),
             ({**AIRPORT, "excess": "per-head"}, "game.excess"),
             ({key: value for key, value in AIRPORT.items() if key != "names"}, "game.names"),
         ]
@@ -87,10 +101,58 @@ class Sameness(Files):
         self.assertIsNone(difference(AIRPORT, dict(reversed(list(AIRPORT.items())))))
         self.assertEqual(difference({"version": True}, {"version": 1}), ("game.version", "true", "1"))
 
+    def test_what_differs_is_told_by_names(self) -> None:
+        """All of it, and not only the first slip; where names look alike, with escapes."""
+        first = coop.bankruptcy(100, {"Adler": 90, "Br\u00fcnn KG": 80, "Chopra": 70})
+        second = coop.bankruptcy(120, {"Adler": 91, "Bru\u0308nn KG": 80, "Chopra": 17}, per_head=True)
+        self.assertEqual(
+            verdict(first, second),
+            (
+                "another game, by 5 differences:\n"
+                "  the excess: plain in the line, per head in the agreed document\n"
+                "  the name of player 2, which looks alike: Br\\xfcnn KG in the line,"
+                " Bru\\u0308nn KG in the agreed document\n"
+                "  the estate: 100 in the line, 120 in the agreed document\n"
+                "  the claim of Adler (item 1): 90 in the line, 91 in the agreed document\n"
+                "  the claim of Chopra (item 3): 70 in the line, 17 in the agreed document\n",
+                False,
+            ),
+        )
+        table = [coop.table([k] * 15, order="mask") for k in (1, 2)]
+        self.assertIn("\n  and 5 more\n", verdict(*table)[0])
+        self.assertIn("the worth of player 1 alone: 1 in the line, 2 in", verdict(*table)[0])
+        tree = [coop.tree([[0, k], [k, 0]], ["a"]) for k in (1, 2)]
+        self.assertIn("the entry of the source and a (row 1, column 2): 1 in the line, 2 in", verdict(*tree)[0])
+        self.assertIn("another game:\n  the class: tree", verdict(tree[0], first)[0])
+        self.assertIn("the players: 1 in the line, 3 in", verdict(coop.bankruptcy(1, {"a": 1}), first)[0])
+        swapped = coop.bankruptcy(100, {"Br\u00fcnn KG": 80, "Adler": 90, "Chopra": 70})
+        text, is_same = verdict(first, swapped)
+        self.assertIn("the same numbers by name, but the players stand in another order:\n", text)
+        self.assertFalse(is_same)
+
+    def test_the_same_written_otherwise(self) -> None:
+        """By worths or by items, by version and measure; and the keys of a game that no program takes stay told."""
+        table = {"class": "cost-table", "players": 2, "names": ["a", "b"]}
+        one = coop.Game({**table, "worths": [1, "5/2", 3], "version": 2})
+        sparse = {"sparse": [[["b"], "5/2"], [["a", "b"], 3]], "version": 2}
+        two = coop.Game({**table, **sparse, "default": 1, "excess": "plain"})
+        text, is_same = verdict(one, two)
+        self.assertTrue(is_same)
+        self.assertIn("the same game, though written otherwise (at game.worths):", text)
+        self.assertIn("\n    a: 1\n    b: 5/2\n    a+b: 3\n", text)
+        other = coop.Game({**table, **sparse})
+        self.assertIn("the cost of a alone: 1 in the line, 0 in", verdict(one, other)[0])
+        extra = coop.Game({**AIRPORT, "note": 1})
+        self.assertIn("game.note: a key that is there in the line, not there in", verdict(extra, coop.Game(AIRPORT))[0])
+        self.assertEqual(verdict(coop.Game(AIRPORT), coop.Game(AIRPORT))[0][:15], "the same game:\n")
+        market = told(coop.assignment([[5, 8], [7, 6]], ["Ann", "Ben", "house", "flat"]))
+        self.assertIn("\n    Ann: 5, 8\n    Ben: 7, 6\n  sellers: house, flat\n", market)
+
     def test_files(self) -> None:
         game = game_of(self.file("line", solved()))
         self.assertEqual(
-            told(game), "  class: airport (an airport), 3 players\n  costs: 2, 4, 6\n  names: light, medium, heavy\n"
+            told(game),
+            "  class: airport (an airport), 3 players\n  costs:\n    light: 2\n    medium: 4\n    heavy: 6\n",
         )
         twice = self.file("agreed", '{"game":{"class":"bankruptcy","estate":4,"claims":[1,2],"claims":[2,9]}}')
         with self.assertRaisesRegex(BadInput, 'the key "claims" stands twice'):
@@ -155,6 +217,15 @@ class Reports(unittest.TestCase):
         document = solved(game={**AIRPORT, "names": ["a" * 9000, "b", "c"]})
         line = json.dumps(document, ensure_ascii=False, separators=(",", ":"), sort_keys=True) + "\n"
         self.assertIn(hashlib.sha256(line.encode()).hexdigest(), Page(report(document, "", Style())).texts)
+
+    def test_an_estate_has_its_claims(self) -> None:
+        game = {"class": "bankruptcy", "claims": [1000, 200], "estate": 200, "names": ["a", "b"]}
+        level = {"excess": "-100", "coalitions": [[[1], 1], [[2], 1]], "earlier": [], "bounds": [], "total": 1}
+        document = solved(game=game, shares=[100, 100], certificate={"mode": "players", "levels": [level]})
+        page = Page(report(document, "", Style(2, "EUR"), "One claim < is disputed."))
+        for wanted in ("claims", "1,000.00", "1,200.00", "One claim < is disputed."):
+            self.assertIn(wanted, page.texts)
+        self.assertEqual(page.texts.count("is worth alone"), 1)  # in the picture
 
     def test_lists_are_whole(self) -> None:
         document = solved()

@@ -7,7 +7,7 @@ from typing import Sequence
 
 import coop
 from coop.documents import Point
-from coop.excesses import Comparison, Entry, compare, excess, excess_list, first_difference
+from coop.excesses import Comparison, Entry, compare, comparisons, csv, excess, excess_list, first_difference, told
 from coop.tables import csv_text, put_together, shares_csv
 from coop.styles import Style
 
@@ -36,7 +36,7 @@ class Excesses(unittest.TestCase):
         self.assertEqual(excesses, ["-1", "-5/2", "-3/2", "-5/2", "-3/2", "-1"])
         listed = [(str(entry.excess), entry.group) for entry in excess_list(AIRPORT, NUCLEOLUS.shares)]
         self.assertEqual(listed, [("-1", 1), ("-1", 6), ("-3/2", 3), ("-3/2", 5), ("-5/2", 2), ("-5/2", 4)])
-        per_head = coop.table([0, 0, 6, 0, 2, 2, 12], per_head=True)
+        per_head = coop.table([0, 0, 6, 0, 2, 2, 12], order="mask", per_head=True)
         self.assertEqual(excess(per_head, [Fraction(5), Fraction(5), Fraction(2)], 3), -2)
 
     def test_lists_are_those_of_the_groups(self) -> None:
@@ -61,9 +61,29 @@ class Excesses(unittest.TestCase):
             compare([NUCLEOLUS, point("proposal", "3 1 3")]).told(),
         )
 
+    def test_two_measures(self) -> None:
+        """Each is better by its own measure, in whatever order they stand, and both are told."""
+        per_head = coop.airport({"light": 2, "medium": 4, "heavy": 6}, per_head=True)
+        other = point("nucleolus per head", "4/3 4/3 10/3", per_head)
+        for points in ([NUCLEOLUS, other], [other, NUCLEOLUS]):
+            found = comparisons(points)
+            self.assertEqual([one.better() for one in found], [NUCLEOLUS, other])
+            text = " ".join(told(found).split())
+            self.assertIn("By plain excess: place", text)
+            self.assertIn("so nucleolus treats the worst-off groups better. Worse off by nucleolus per head", text)
+            self.assertIn("By excess per head: place", text)
+            self.assertIn("so nucleolus per head treats the worst-off groups better, by excess per head.", text)
+            rows = csv(found).splitlines()
+            self.assertEqual((len(rows), rows[1][-13:], rows[-1][-16:]), (13, ",plain excess", ",excess per head"))
+            with self.assertRaisesRegex(coop.BadInput, "one goes by plain excess"):
+                compare(points)
+        alone = compare([other, point("proposal", "1 3/2 7/2", per_head)]).told()
+        self.assertTrue(alone.startswith("By excess per head:\nplace"), alone)
+        self.assertEqual(told([compare([NUCLEOLUS, SHAPLEY])]), TOLD)
+
     def test_the_better_one_is_less_in_the_order_of_lists(self) -> None:
         """Over all pairs of divisions of 4 among three, in whole numbers, against sorted lists."""
-        game = coop.table([0, 1, 2, 0, 3, 1, 4])
+        game = coop.table([0, 1, 2, 0, 3, 1, 4], order="mask")
         every = [shares for shares in product(range(-1, 6), repeat=3) if sum(shares) == 4]
         for a, b in product(every, repeat=2):
             first, second = (Point(name, [Fraction(x) for x in shares], game) for name, shares in (("a", a), ("b", b)))
@@ -93,8 +113,8 @@ def drawn_games(draw: random.Random) -> list[coop.Game]:
     games = []
     for per_head in (False, True):
         games += [
-            coop.table(some[:31], per_head=per_head),
-            coop.cost_table(some[:15], per_head=per_head),
+            coop.table(some[:31], order="mask", per_head=per_head),
+            coop.cost_table(some[:15], order="mask", per_head=per_head),
             coop.airport(some[:4], per_head=per_head),
             coop.bankruptcy(some[0], some[1:6], per_head=per_head),
             coop.tree(links, per_head=per_head),

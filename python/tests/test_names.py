@@ -3,6 +3,7 @@ import unittest
 
 from coop.names import alike, looks, safe, visible, warning
 
+CAPITALS = "2 names differ in capitals alone: HARTMANN KG, Hartmann KG"
 ZERO_WIDTH, OVERRIDE, ESCAPE = "\u200b", "\u202e", "\x1b"
 
 
@@ -30,6 +31,25 @@ class Names(unittest.TestCase):
             self.assertEqual(looks(other), "Adler", other)
         self.assertEqual(alike(["é", "e\u0301"]), [["é", "e\u0301"]])
         self.assertEqual(alike(["bob", "Bob", "Zoë", "Zoe"]), [])
+
+    def test_twins_of_other_alphabets(self) -> None:
+        """Cyrillic and Greek letters, digits for letters, and rn for m."""
+        for name, other in (
+            ("Hartmann", "H\u0430rtmann"),
+            ("HOLM", "\u041dOLM"),
+            ("Holm", "Ho1m"),
+            ("Holm", "HoIm"),
+            ("Olm", "0lm"),
+            ("Io", "I\u03bf"),
+            ("Bern", "Bem"),
+        ):
+            self.assertEqual(alike([name, "Brandt", other]), [[name, other]])
+            self.assertIn(f"2 names look alike: {name}, ", warning([name, "Brandt", other]) or "")
+        self.assertIn("H\\u0430rtmann", warning(["H\u0430rtmann", "Hartmann"]) or "")
+        self.assertIn("two alphabets stand in one word: H\\u0430rtmann", warning(["H\u0430rtmann KG"]) or "")
+        own_alphabets = ["\u0418\u0432\u0430\u043d", "\u039d\u03af\u03ba\u03b7"]
+        self.assertIsNone(warning([*own_alphabets, "M\u00fcller 1", "M\u00fcller 2"]))
+        self.assertEqual(warning(["HARTMANN KG", "Hartmann KG"]), CAPITALS)
 
     def test_warnings(self) -> None:
         self.assertIsNone(warning(["Adler", "Brandt", "Müller"]))

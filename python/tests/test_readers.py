@@ -7,7 +7,8 @@ from typing import Callable
 
 from coop import BadInput
 from coop.filling import cheapest, told
-from coop.readers import claims, groups, landings, vectors
+from coop.readers import claims, groups, landings, left_out, vectors
+from coop.sheets import Layout, notes
 from coop.styles import EXACT
 
 COSTS = "a,3\nb,4\nc,5\na+b,6\na+b+c,9\n"
@@ -54,7 +55,7 @@ class Readers(unittest.TestCase):
         games = list(vectors("0,0,0,6,2,2,12\n1,2,3,4,5,6,7\n", "size", names=["a", "b", "c"]))
         self.assertEqual([game.tree["worths"] for game in games], [[0, 0, 6, 0, 2, 2, 12], [1, 2, 4, 3, 5, 6, 7]])
         self.assertEqual(games[0].names, ["a", "b", "c"])
-        with_head = vectors('"V1","V2","V3"\n1,2,4\n', "size", has_head=True)
+        with_head = vectors('"V1","V2","V3"\n1,2,4\n', "size", layout=Layout(has_head=True))
         self.assertEqual([game.tree["worths"] for game in with_head], [[1, 2, 4]])
         self.assertEqual(next(vectors("0.25,1,1", "mask", digits=1, kind="cost-table")).tree["worths"], ["1/5", 1, 1])
 
@@ -72,7 +73,8 @@ class Readers(unittest.TestCase):
 
     def test_what_is_refused(self) -> None:
         cases: list[tuple[str, Callable[[], object]]] = [
-            ("line 1 has a semicolon", lambda: groups("Sales;7,50\n")),
+            ("line 1 has a semicolon", lambda: groups("Sales;7,50\nOps,8\n")),
+            ("line 1: 'cost' is no number.*; a line of headings", lambda: groups("group,cost\na,1\n")),
             ("line 2 has 3 columns", lambda: groups("a,1\nb,1,5\n")),
             ("line 2: 'x' is no number", lambda: groups("a,1\nb,x\n")),
             ("line 2: b is|line 2: there is no line for b", lambda: groups("a,1\na+b,2\n")),
@@ -89,6 +91,76 @@ class Readers(unittest.TestCase):
         for sentence, read in cases:
             with self.assertRaisesRegex(BadInput, sentence):
                 read()
+
+
+class Sheets(unittest.TestCase):
+    """Files as spreadsheets, R and pandas save them."""
+
+    GERMAN = "Hartmann KG;480.000,50\nWeber Bank;900.000,75\nKr\u00fcger AG;150.000\n"
+
+    def claims(self, text: str, layout: Layout = Layout()) -> dict[str, object]:
+        """The claims of a text by names."""
+        tree = claims(text, 1, layout=layout).tree
+        return dict(zip(tree["names"], tree["claims"]))
+
+    def test_semicolons_and_decimal_commas(self) -> None:
+        german = {"Hartmann KG": "960001/2", "Weber Bank": "3600003/4", "Kr\u00fcger AG": 150000}
+        self.assertEqual(self.claims(self.GERMAN), german)
+        self.assertEqual(self.claims(self.GERMAN.replace(";", "\t")), german)
+        self.assertEqual(self.claims('A,"1,200.50"\nB,"7"\n'), {"A": "2401/2", "B": 7})
+        self.assertEqual(self.claims('A,"7,50"\nB,"0,001"\n'), {"A": "15/2", "B": "1/1000"})
+        self.assertEqual(self.claims("A;480.000\nB;900\n", Layout(decimal="comma")), {"A": 480000, "B": 900})
+        self.assertEqual(self.claims("A;480.000\nB;900\n", Layout(decimal="point")), {"A": 480, "B": 900})
+        self.assertEqual(self.claims("A;1.234.567\nB;1e-01\n"), {"A": 1234567, "B": "1/10"})
+        self.assertEqual(self.claims("Name\tClaim\n\t\nA+B\t3387,4\n", Layout(has_head=True)), {"A+B": "16937/5"})
+        self.assertEqual(groups("a\t1,5\nb\t2\na+b\t3\n").game.tree["sparse"][0], [["a"], "3/2"])
+        self.assertEqual(landings("Aer;20,5;2\n").tree["costs"], ["41/2", "41/2"])
+
+    def test_numbers_that_may_be_two(self) -> None:
+        for text, sentence in (
+            ("A;480.000\nB;900\n", "line 1: 480.000 may be 480 or 480000"),
+            ("A\t3,387\n", "line 1: 3,387 may be 3.387 or 3387"),
+            ("A;3387,4\nB;12.5\n", "3387,4 in line 1 and 12.5 in line 2 have two marks"),
+            ('A,"3,387"\n', "may be"),
+        ):
+            with self.assertRaisesRegex(BadInput, sentence):
+                self.claims(text)
+        with self.assertRaisesRegex(BadInput, "'12.5' is no number with a comma"):
+            self.claims("A;12.5\n", Layout(decimal="comma"))
+
+    def test_notes(self) -> None:
+        self.assertEqual(
+            notes("A,480.000\nB,900\n", 2, Layout()),
+            ["480.000 is read as 480: a point stands in front of decimals"],
+        )
+        for text in ("A,480.000\nB,900.5\n", "A,0.125\n", "A,480\n", self.GERMAN):
+            self.assertEqual(notes(text, 2, Layout()), [])
+        self.assertEqual(notes("A,480.000\n", 2, Layout(decimal="point")), [])
+        self.assertIn("Sum has the sum of all others", notes("A,1\nB,2\nSum,3\n", 2, Layout())[0])
+        self.assertEqual(notes("A,1\nB,2\nA+B,3\n", 2, Layout()), [])
+
+    def test_vectors_of_r_and_pandas(self) -> None:
+        """write.csv, write.table, write.csv2, and to_csv; with names of rows and without."""
+        rows = ["0.5,2,3,4,5,6,1e+05", "1,2,3,4,5,6,7"]
+        head = ",".join(f'"V{i + 1}"' for i in range(7))
+        named = [f'"{i + 1}",{row}' for i, row in enumerate(rows)]
+        wanted = [["1/2", 2, 4, 3, 5, 6, 100000], [1, 2, 4, 3, 5, 6, 7]]
+        tables: list[tuple[str, Layout]] = [
+            ("\n".join(['"",' + head, *named]), Layout()),
+            ("\n".join([head, *named]).replace(",", " "), Layout()),
+            ("\n".join(['"",' + head, *named]).replace(",", ";").replace(".", ","), Layout()),
+            ("\n".join(rows).replace(",", "   "), Layout()),
+            ("\n".join([head, *rows]), Layout(has_head=True)),
+            ("\n".join(named), Layout(skip=1)),
+            ("\n".join([",0,1,2,3,4,5,6", "0," + rows[0], "1," + rows[1]]), Layout()),
+        ]
+        for text, layout in tables:
+            self.assertEqual([game.tree["worths"] for game in vectors(text, "size", layout=layout)], wanted, text)
+        self.assertIn("have names, are left out", left_out(tables[0][0], Layout())[0])
+        self.assertIn("the first row is 0, 1, 2", left_out("0,1,2,3,4,5,6\n" + rows[1], Layout())[0])
+        self.assertEqual(left_out("\n".join(rows), Layout()), [])
+        with self.assertRaisesRegex(BadInput, "it isn't 0; a first column of names is left out by --skip 1"):
+            list(vectors("\n".join(named), "size"))
 
 
 def is_split(parts: tuple[int, ...]) -> bool:

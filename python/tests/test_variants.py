@@ -4,7 +4,7 @@ import unittest
 
 import coop
 from coop.masks import mask_of, members
-from coop.variants import overrun, without
+from coop.variants import overrun, table_of_game, without
 
 from .test_excesses import drawn_games
 
@@ -41,8 +41,21 @@ class Variants(unittest.TestCase):
         self.assertEqual(overrun(game, "0.5").tree["worths"], [2, 3, "9/2"])
         self.assertEqual(overrun(game, -1, per_head=True).tree["excess"], "per-head")
         self.assertEqual(overrun(game, 0).tree, game.tree)
-        with self.assertRaisesRegex(coop.BadInput, "that of a table"):
-            overrun(coop.airport([1, 2]), 1)
+        runway = overrun(coop.airport({"a": 1, "b": 2}), 1)
+        self.assertEqual(
+            runway.tree, {"class": "cost-table", "players": 2, "names": ["a", "b"], "worths": [1, 2, 3]}
+        )
+        with self.assertRaisesRegex(coop.BadInput, "17 players: a table has at most 16"):
+            overrun(coop.airport([1] * 17), 1)
+
+    def test_the_table_of_a_game(self) -> None:
+        for game in drawn_games(random.Random(9)):
+            table = table_of_game(game)
+            self.assertEqual((table.costs, table.per_head), (game.costs, game.per_head))
+            self.assertEqual(
+                [table.worth(s) for s in range(1, game.everyone + 1)],
+                [game.worth(s) for s in range(1, game.everyone + 1)],
+            )
 
 
 if __name__ == "__main__":

@@ -41,10 +41,20 @@ class Orders(unittest.TestCase):
             masks = sorted(worths, key=lambda group: mask_of(i - 1 for i in group))
             by_dict = coop.table(worths)
             self.assertEqual(coop.table([worths[group] for group in groups], order="size").tree, by_dict.tree)
-            self.assertEqual(coop.table([worths[group] for group in masks]).tree, by_dict.tree)
+            self.assertEqual(coop.table([worths[group] for group in masks], order="mask").tree, by_dict.tree)
             shuffled = list(worths.items())
             draw.shuffle(shuffled)
             self.assertEqual(coop.table(dict(shuffled)).tree, by_dict.tree)
+
+    def test_the_order_has_to_be_named(self) -> None:
+        """The numbers of savings-per-head.json, by size: of the two orders only one is that game."""
+        for make in (coop.table, coop.cost_table):
+            with self.assertRaisesRegex(BadInput, "name the order"):
+                make([0, 0, 0, 6, 2, 2, 12])
+            with self.assertRaisesRegex(BadInput, "only a vector has an order"):
+                make({1: 1}, order="mask")
+            two = [make([1, 2, 4], order=order).tree["worths"] for order in (None, "mask", "size")]
+            self.assertEqual(two, [[1, 2, 4]] * 3)
 
     def test_lengths(self) -> None:
         self.assertEqual([players_of(2**n - 1) for n in range(1, 17)], list(range(1, 17)))

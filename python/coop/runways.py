@@ -1,0 +1,78 @@
+"""Runways with any number of landings, by the two rules that are proved for any number: Littlechild's payments, which
+are the nucleolus (`payments_are_the_nucleolus`), and equal parts of each step of the costs, which are the Shapley
+shares (`shapley_is_by_step`).
+
+The program takes 64 landings. What stands here is worked out in Python, which nobody has proved; up to there it is
+tried against the program. Landings are rows as those of `games.landings`: a name, what a landing needs alone, and how
+many landings; here a name may have several rows. Each name pays the sum for all its landings.
+"""
+from __future__ import annotations
+
+from fractions import Fraction
+from typing import Iterable
+
+from .amounts import Amount, fraction_of
+from .errors import BadInput
+
+Rows = Iterable[tuple[str, Amount, int]]
+
+
+def nucleolus(rows: Rows) -> dict[str, Fraction]:
+    """Littlechild's payments. Of landings that cost the same only the last place is looked at."""
+    read = list(read_rows(rows))
+    places = places_of(read)
+    everyone = places[-1][1]
+    payments: dict[Fraction, Fraction] = {}
+    done, placed, paid = 0, 0, Fraction(0)
+    while done < len(places):
+        parts = [(cost - paid) / (place - placed + (place < everyone)) for cost, place in places[done:]]
+        part = min(parts)
+        last = max(k for k, other in enumerate(parts) if other == part) + done
+        payments.update((cost, part) for cost, _ in places[done : last + 1])
+        paid += part * (places[last][1] - placed)
+        done, placed = last + 1, places[last][1]
+    return by_name(read, payments)
+
+
+def shapley(rows: Rows) -> dict[str, Fraction]:
+    """Shapley shares: what each cost is above the one before is borne alike by all landings that need so much."""
+    read = list(read_rows(rows))
+    places = places_of(read)
+    everyone = places[-1][1]
+    payments: dict[Fraction, Fraction] = {}
+    before, placed, part = Fraction(0), 0, Fraction(0)
+    for cost, place in places:
+        part += (cost - before) / (everyone - placed)
+        payments[cost] = part
+        before, placed = cost, place
+    return by_name(read, payments)
+
+
+def read_rows(rows: Rows) -> Iterable[tuple[str, Fraction, int]]:
+    """The rows with exact costs."""
+    for name, cost, count in rows:
+        if type(count) is not int or count < 1:
+            raise BadInput(f"{name}: {count!r} is no number of landings")
+        exact = fraction_of(cost)
+        if exact < 0:
+            raise BadInput(f"{exact} is below 0")
+        yield name, exact, count
+
+
+def places_of(rows: Iterable[tuple[str, Fraction, int]]) -> list[tuple[Fraction, int]]:
+    """Each cost, from the least, with the last place of the landings that have it."""
+    counts: dict[Fraction, int] = {}
+    for _, cost, count in rows:
+        counts[cost] = counts.get(cost, 0) + count
+    if not counts:
+        raise BadInput("there is no landing")
+    costs = sorted(counts)
+    return [(cost, sum(counts[other] for other in costs[: k + 1])) for k, cost in enumerate(costs)]
+
+
+def by_name(rows: Iterable[tuple[str, Fraction, int]], payments: dict[Fraction, Fraction]) -> dict[str, Fraction]:
+    """What each name pays for all its landings."""
+    sums: dict[str, Fraction] = {}
+    for name, cost, count in rows:
+        sums[name] = sums.get(name, Fraction(0)) + payments[cost] * count
+    return sums
