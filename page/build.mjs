@@ -57,9 +57,14 @@ function nameOf(path) {
   return `module_${relative(SRC, path).replace(/\W/g, "_")}`;
 }
 
+/** Code without the comments that stand in lines of their own: they are for the readers of the sources. */
+function withoutComments(code) {
+  return code.replace(/^ *\/\*\*[\s\S]*?\*\/\n/gm, "").replace(/^ *\/\/.*\n/gm, "");
+}
+
 function moduleOf(path, places, importing) {
   const exported = [];
-  let code = readFileSync(path, "utf8");
+  let code = withoutComments(readFileSync(path, "utf8"));
   code = code.replace(/^import \{([^}]*)\} from "([^"]+)";$/gm, (_, names, from) => {
     return `const {${names.replace(/ as /g, ": ")}} = ${importing(resolve(dirname(path), from))};`;
   });

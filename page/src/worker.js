@@ -7,6 +7,7 @@ import { Game } from "./game/game.js";
 import { explain } from "./tell/explain.js";
 import { answer } from "./work/answers.js";
 import { openDocument, readCase, readCells, readList } from "./work/cases.js";
+import { coarser } from "./work/coarser.js";
 import { compare } from "./work/compare.js";
 import { convexity } from "./work/convexity.js";
 import { warmUp } from "./work/engine.js";
@@ -14,10 +15,11 @@ import { lookAtLine } from "./work/lines.js";
 import { costsOfNetwork, fillLinks } from "./work/networks.js";
 import { estates, overrun } from "./work/others.js";
 import { fillSplits } from "./work/splits.js";
+import { standardText } from "./work/standard.js";
 
 const TASKS = {
   warmUp, readCase, readCells, readList, openDocument, lookAtLine, fillLinks, costsOfNetwork, fillSplits,
-  estates, overrun, compare, convexity,
+  estates, overrun, compare, convexity, coarser, standardText,
   solve: ({ word, document }) => answer(word, document),
   explain: ({ line }) => explained(parseJson(line)),
   checkAnew: ({ document }) => anew(document),

@@ -139,9 +139,10 @@ async function lawyer(page, expect, line, agreed) {
   await put(page, 0, line.replace('"-1"', '"-2"'));
   expect("spoilt", await said(page), /says no. At level 1: light alone hasn’t the excess[\s\S]*own checker says no/);
   await put(page, 0, line.replace("[2,4,6]", "[2,4,7]"));
-  expect("other game", await said(page), /No. They differ at game, costs, item 3: the line has 7, the agreed file 6/);
+  expect("other game", await said(page), /No. What heavy needs \(item 3\): the line has 7, the agreed file 6/);
   await put(page, 0, '{"game":');
-  expect("no json", await said(page), /It is no JSON text: it ends too early, in line 1, column 9/);
+  const unread = /^This line can’t be read[\s\S]*It is no JSON text: it ends too early, in line 1, column 9/;
+  expect("no json", await said(page), unread);
   await put(page, 0, '{"answer":"shapley","shares":["1"]}');
   await page.until("document.querySelector('#verify .answers .notice')");
   expect("no certificate", await page.text("#verify .answers"), /no game and no certificate/);

@@ -1,11 +1,13 @@
 // What the page works out by itself to help with cells, against plain slow searches on small cases by a fixed seed:
 // ways and costs of a network whose links are partly missing, and groups that are filled by their best split.
 import { shortText } from "../src/exact/decimals.js";
-import { parseJson } from "../src/exact/json.js";
+import { parseJson, writeJson } from "../src/exact/json.js";
 import { Rational } from "../src/exact/rational.js";
+import { runway } from "../src/cases/lists.js";
 import { packed, unpacked } from "../src/cases/tables.js";
 import { Game } from "../src/game/game.js";
 import { membersOf } from "../src/game/groups.js";
+import { missingText } from "../src/page/questions.js";
 import { compare } from "../src/work/compare.js";
 import { costsOfNetwork, fillLinks } from "../src/work/networks.js";
 import { fillSplits } from "../src/work/splits.js";
@@ -94,7 +96,8 @@ function trySplits(n, costs) {
   const known = numbers.flatMap((text, mask) => (text ? [[mask, Number(text)]] : []));
   const { state: sent } = fillSplits({ typed: packed({ names: Array(n).fill(""), numbers }), mark: ".", costs });
   unpacked(sent).numbers.forEach((text, mask) => {
-    const wanted = numbers[mask] ? Number(numbers[mask]) : bestSum(mask, known, isBetter);
+    const isAll = mask === 2 ** n - 1; // what is divided is never filled
+    const wanted = numbers[mask] ? Number(numbers[mask]) : isAll ? null : bestSum(mask, known, isBetter);
     if (mask) expect(`group ${mask} of ${JSON.stringify(numbers)}`, text === "" ? null : Number(text), wanted);
   });
 }
@@ -125,7 +128,48 @@ function tryComparison(n, name, excess) {
   }));
 }
 
+// ---- Runways
+
+const gameOf = (rows) => new Game(runway.read({ rows }, ".").tree);
+const rowsText = (rows) => rows.map(({ name, cost, count }) => `${name} ${cost}x${count}`).join("; ");
+
+/** Rows of some airlines come back from the document that they make, each to its airline. */
+function tryRunway() {
+  const rows = Array.from({ length: 1 + draw(5) }, () => ({
+    name: ["Aer", "Bee", "Boeing 737", ""][draw(4)], cost: String(10 * (1 + draw(3))), count: String(1 + draw(3)),
+  })).filter(({ name, cost }, r, all) => !r || all[r - 1].name !== name || (name && all[r - 1].cost !== cost));
+  const [game, again] = [gameOf(rows), gameOf(runway.fromGame(gameOf(rows)).rows)];
+  expect(`the document of ${rowsText(rows)}`, writeJson(again.tree), writeJson(game.tree));
+  const named = rows.map((row, r) => ({ ...row, name: row.name || `Airline ${r + 1}` }));
+  const isOne = new Set(named.map(({ name }) => name)).size === 1 && named.length > 1;
+  if (!isOne) expect("opened again", rowsText(runway.fromGame(game).rows), rowsText(named));
+}
+
+function tryNames(names, costs, wanted) {
+  const found = rowsText(runway.fromGame(new Game({ class: "airport", costs, names })).rows);
+  expect(`rows of ${names}`, found, wanted);
+}
+
+tryNames(["Aer 1", "Aer 2", "Aer 3", "Aer 4", "Bee"], [20, 20, 40, 60, 60], "Aer 20x2; Aer 40x1; Aer 60x1; Bee 60x1");
+tryNames(["Aer 1", "Bee", "Aer 2"], [20, 30, 60], "Aer 20x1; Bee 30x1; Aer 60x1");
+tryNames(["Boeing 737", "Boeing 747", "Bee"], [20, 20, 60], "Boeing 737 20x1; Boeing 747 20x1; Bee 60x1");
+tryNames(["Airline 1", "Airline 2", "Bee"], [20, 20, 60], "Airline 1 20x1; Airline 2 20x1; Bee 60x1");
+tryNames(["Flight 1", "Flight 2"], [20, 60], "Flight 1 20x1; Flight 2 60x1");
+tryNames(["Aer 1", "Aer 2"], [20, 20], "Aer 20x2");
+
+const many = runway.read({ rows: ["9000", "18000"].map((count) => ({ name: "", cost: "9", count })) });
+expect("faults of many landings", many.reading.count, 1);
+expect("what to do with many landings", /^These are 27000 landings, and the program takes 64\. .*by hand.*Don’t scale/
+  .test(many.reading.faults[0].sentence), true);
+const MISSING = [[8, false], [12, "head up to 8."], [32, "hold, up to 12."], [33, "Shapley shares up to 32."]];
+for (const [n, wanted] of MISSING) {
+  const found = missingText({ kind: "airport", n });
+  expect(`what is missing for ${n} landings: ${found}`, found && found.endsWith(wanted), Boolean(wanted));
+}
+expect("nothing of an estate", missingText({ kind: "bankruptcy", n: 40 }), false);
+
 for (let k = 0; k < 40; k++) {
+  tryRunway();
   tryNetwork(1 + (k % 4));
   tryComparison(2 + (k % 3), k % 2 ? "table" : "cost-table", k % 5 ? "plain" : "per-head");
   trySplits(2 + (k % 4), k % 2 === 0);

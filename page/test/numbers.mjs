@@ -1,5 +1,9 @@
-// Numbers as people type them, or spreadsheets give them: what they are read as, by the decimal mark.
-import { readNumber } from "../src/exact/decimals.js";
+// Numbers and lists as people type them, or other programs give them: what they are read as.
+import { readNumber, typedText } from "../src/exact/decimals.js";
+import { runway } from "../src/cases/lists.js";
+import { cellsOf, columnsFor, headingsOf, pastedText } from "../src/cases/pasting.js";
+import { tableOf } from "../src/cases/tables.js";
+import { Rational } from "../src/exact/rational.js";
 
 const CASES = [
   ["12", ".", "12"], ["12.50", ".", "25/2"], ["12,50", ".", "25/2"], ["12,50", ",", "25/2"], ["1,234", ".", "1234"],
@@ -9,7 +13,11 @@ const CASES = [
   ["50/4", ".", "25/2"], ["1/0", ".", null], ["-3", ".", "-3"], ["−3.5", ".", "-7/2"], ["(3.50)", ".", "-7/2"],
   ["€ 12.50", ".", "25/2"], ["12,50 €", ",", "25/2"], ["$1,234", ".", "1234"], ["0,125", ".", "1/8"],
   ["0.125", ",", "1/8"], [".5", ".", "1/2"], ["5.", ".", "5"], ["abc", ".", null], ["", ".", null],
-  ["1e5", ".", null], ["12 %", ".", null], ["0,500", ",", "1/2"], ["1.2.3", ".", null], ["--1", ".", null],
+  ["1e5", ".", "100000"], ["1e-05", ".", "1/100000"], ["2.5E+3", ",", "2500"], ["-1,25e-1", ".", "-1/8"],
+  ["1e99", ".", null], ["e5", ".", null],
+  ["1.5e", ".", null], ["5 3 2 10", ".", null], ["5 300", ".", "5300"],
+  ["12 345 67", ".", null], ["1 000 000,50 €", ",", "2000001/2"], ["0.94 0.25", ".", null],
+  ["12 %", ".", null], ["0,500", ",", "1/2"], ["1.2.3", ".", null], ["--1", ".", null],
   ["1,234,56", ".", null], ["12.345.67", ",", null], ["007", ".", "7"], ["1\u00a0234", ".", "1234"],
   ["1,5/2", ".", null], [".", ".", null], ["-", ".", null],
 ];
@@ -21,5 +29,64 @@ for (const [text, mark, wanted] of CASES) {
   faults += 1;
   console.log(`${JSON.stringify(text)} with ${mark} is read as ${found ?? fault}, and not ${wanted}`);
 }
-console.log(`${CASES.length} numbers as people type them, ${faults} faults`);
+
+// what is written for a value is read as that value by either mark
+const VALUES = ["1708/1000", "-1708/1000", "999999/1000", "1/8", "12", "1234", "1/3", "17081/10000", "5/2", "1001"];
+for (const text of VALUES) {
+  for (const [mark, other] of [[".", ","], [",", "."], [".", "."], [",", ","]]) {
+    const written = typedText(Rational.of(text), mark), { value, doubt } = readNumber(written, other);
+    if (value.equals(Rational.of(text)) && !doubt) continue;
+    faults += 1;
+    console.log(`${text} is written as ${written}, and read with ${other} as ${value}`);
+  }
+}
+// lists of a whole table: the numbers in the order of the masks, or a part of the refusal
+const LISTS = [
+  ["5 3 2 10 9 6 16", "5 3 10 2 9 6 16"], ["5,3,2,10,9,6,16", "5 3 10 2 9 6 16"], ["5;3;9", "5 3 9"],
+  ["5\t3\t2\t10\t9\t6\t16", "5 3 10 2 9 6 16"], ["c(0.94, 0.5, 1e-3)", "0.94 0.5 1e-3"], ["0 5 3 9", "5 3 9"],
+  ["[1] 5 3 2 10\n[5] 9 6 16", "5 3 10 2 9 6 16"], ["0,5;0;2,25", "0,5 0 2,25"], ["1,5\n2,5\n4,5", "1,5 2,5 4,5"],
+  ["1 234,50\n3\n2 000", "1 234,50 3 2 000"], ["(3.50)\n4\n-1", "(3.50) 4 -1"], ["A;3\nB;4\nA+B;5", "3 4 5"],
+  ["Group\tCost\nA\t3\nB\t4\nA+B\t5", "3 4 5"], ["1,2,3\n4,5,6", /2 rows of 3 numbers/], ["1 2 3 4", /4 numbers alone/],
+  ["A\t3\t7\nB\t4\t7", /one number, and here one has more/], ["NA\n2\n3", /“NA” is no number/],
+  ["[".repeat(100000) + "1", "1"], ["[(3.50), [4], -1]", "3.50 4 -1"],
+];
+for (const [text, wanted] of LISTS) {
+  const { state, fault } = tableOf(text), found = fault ?? state.numbers.slice(1).join(" ");
+  if (wanted instanceof RegExp ? wanted.test(found) : wanted === found) continue;
+  faults += 1;
+  console.log(`the list ${JSON.stringify(text.slice(0, 80))} is read as ${found}, and not ${wanted}`);
+}
+
+// rows that are pasted into a runway: the columns of the first row by their keys where it is one of headings, and else
+// nothing; and what is told of them
+const AS_HEADINGS = "The first row was taken as headings: “Airline” is “Airline”, ";
+const PASTED = [
+  ["Airline\tCost\tLandings\nAer\t20.50\t3", "name cost count", /“Cost” is “A landing needs alone”, “Landings” is/],
+  ["Airline,Landings,Cost\nAer,3,20.50", "name count cost", `${AS_HEADINGS}“Landings” is “Landings”, `
+    + "“Cost” is “A landing needs alone”."],
+  ["Airline\tA landing needs alone\tLandings\nAer\t20\t3", "name cost count", /^The first/],
+  ["Airline\tCost per landing\tNumber of landings\nAer\t20\t3", "name cost count", /^The first/],
+  ["Airline\tType\tLandings\t€\nAer\tA320\t3\t20.50", "name - count cost", /“Type” was left out/],
+  ["Who\tEUR\tHow often\nAer\t20\t3", "name cost count", /“Who” is “Airline”, “EUR” is “A landing needs alone”/],
+  ...["", "20.5 EUR", "20,5,0", "12O", "n/a", "NaN", "#REF!", "#N/A", "-", "x"].flatMap((cost) => [
+    [`Aer\t${cost}\t3\nBee\t40\t2\nCargo\t60\t1`, "", ""],
+    ...(cost === "x" ? [] : [[`Aer\t${cost}\nBee\t40\nCargo\t60`, "", ""]]),
+  ]),
+  ["Aer\tx\nBee\t40", "name cost", "The first row was taken as headings: “Aer” is “Airline”, “x” is “A landing needs "
+    + "alone”."],
+  ["Aer\t20\t3\tA320\nBee\t40\t2\t", "", "Of each row only the first 3 cells were taken."],
+  ["Aer\t20\t3\t\nBee\t40\t2\t", "", ""], ["Aer\nBee", "", ""], ["Aer\tx\nBee\ty", "", ""],
+];
+for (const [text, wanted, told] of PASTED) {
+  const rows = cellsOf(text), headings = headingsOf(rows, 1, ".");
+  const targets = headings ? columnsFor(runway.columns, headings) : runway.columns;
+  const found = headings ? targets.map((column) => column?.key ?? "-").join(" ") : "";
+  const said = pastedText(rows, headings, targets);
+  if (found === wanted && (told instanceof RegExp ? told.test(said) : told === said)) continue;
+  faults += 1;
+  console.log(`${JSON.stringify(text)}: headings ${JSON.stringify(found)}, and it is told: ${said}`);
+}
+
+const tried = CASES.length + VALUES.length + LISTS.length + PASTED.length;
+console.log(`${tried} numbers and lists as people type them, ${faults} faults`);
 process.exit(faults || !CASES.length ? 1 : 0);

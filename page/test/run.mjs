@@ -6,11 +6,14 @@ import { join, resolve } from "node:path";
 import { pathToFileURL } from "node:url";
 import { bothWays } from "./both-ways.mjs";
 import { casesTyped, otherCases, tables } from "./cases.mjs";
+import { checks } from "./checks.mjs";
 import { checking, documents } from "./documents.mjs";
+import { entering } from "./entering.mjs";
 import { failing } from "./failing.mjs";
 import { Harness } from "./harness.mjs";
 import { access, large, looks } from "./looks.mjs";
 import { monkey } from "./monkey.mjs";
+import { saying } from "./saying.mjs";
 
 const words = process.argv.slice(2), [page, top] = words.map((word) => resolve(word));
 const option = (name, byDefault) => (words.includes(name) ? words[words.indexOf(name) + 1] : byDefault);
@@ -19,8 +22,8 @@ const slack = Number(option("--slack", "1")), told = [];
 const harness = new Harness(pathToFileURL(page).href, option("--only", ""), slack);
 const program = resolve(option("--program", join(top, "crates", "coop_program", "out", "coop_program")));
 harness.add(large(slack, told));
-for (const some of [bothWays, casesTyped, tables, otherCases, documents(top, program), checking(top),
-  failing(page, top), looks, access]) {
+for (const some of [entering, saying, bothWays, casesTyped, tables, otherCases, documents(top, program),
+  checking(top), checks(top), failing(page, top), looks, access]) {
   harness.add(some);
 }
 harness.add(monkey(Number(option("--seed", "1")), Number(option("--steps", "60"))));

@@ -13,7 +13,9 @@ export class Reading {
     this.faults = []; // {cell, sentence}
     this.count = 0; // of faults
     this.empty = { count: 0, first: null }; // cells that are empty and may not be
-    this.doubts = []; // numbers that the decimal mark decides
+    this.doubts = []; // numbers that the decimal mark decides, the first ones
+    this.doubted = 0;
+    this.shown = new Map(); // marks that stand in front of decimals beyond doubt, each with a text that shows it
     this.notes = []; // what was changed for the program, and what is remarkable
     this.numbers = [];
     this.texts = new Map();
@@ -33,8 +35,9 @@ export class Reading {
 
   /** The value of a cell, or null. */
   number(cell, typed, what, { canBeNegative = false } = {}) {
-    const { value, fault, doubt } = this.known(typed);
-    if (doubt && !this.doubts.length) this.doubts.push({ cell, typed, value: String(value) });
+    const { value, fault, doubt, by } = this.known(typed);
+    if (doubt) this.doubt(cell, typed, value);
+    if (by && !this.shown.has(by)) this.shown.set(by, typed);
     if (fault === "is empty") {
       this.empty.count += 1;
       this.empty.first ??= cell;
@@ -47,6 +50,16 @@ export class Reading {
     if (value.isNegative() && !canBeNegative) return this.fault(cell, `${what} can’t be negative.`);
     this.numbers.push({ cell, value, what });
     return value;
+  }
+
+  doubt(cell, typed, value) {
+    this.doubted += 1;
+    if (!this.doubts.length) this.doubts.push({ cell, typed, value: String(value) });
+  }
+
+  /** The one mark that all other numbers show; null where none does, or both stand there. */
+  settles() {
+    return this.shown.size === 1 ? [...this.shown.keys()][0] : null;
   }
 
   whole(cell, typed, what, low, high) {
@@ -81,6 +94,7 @@ export class Reading {
     for (const { cell, value, what } of this.numbers) {
       if (scale % value.den) scale = lcm(scale, value.den);
       if (scale > MOST_SCALE) {
+        this.isTooFine = true;
         return this.fault(cell, `${what} is too fine: with the others it needs a common denominator above 65,536. `
           + "Up to four decimals always fit.");
       }
@@ -101,10 +115,4 @@ export class Reading {
 
 export function bytesOf(text) {
   return new TextEncoder().encode(text).length;
-}
-
-/** Of pasted rows those behind a line of headings: one whose number isn't a number, where the next row has one. */
-export function withoutHeadings(rows, column, mark) {
-  const isNumber = (row) => !readNumber(row?.[column] ?? "", mark).fault;
-  return rows.length > 1 && !isNumber(rows[0]) && isNumber(rows[1]) ? rows.slice(1) : rows;
 }

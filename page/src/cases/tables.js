@@ -1,9 +1,11 @@
 // Cases that are a table: a cost or a gain of each group of at most 16 players.
-import { typedText } from "../exact/decimals.js";
+import { readNumber, typedText } from "../exact/decimals.js";
 import { maskOf, masksBySize, membersOf } from "../game/groups.js";
 import { withEscapes } from "../game/names.js";
 import { rowsOf } from "./lists.js";
+import { cellsOf } from "./pasting.js";
 import { Reading } from "./reading.js";
+import { numbersIn, vectorOf } from "./vectors.js";
 
 const MOST_BY_NAME = 6; // above, the document lists numbers alone: it would be too long by names
 const MOST_PLAYERS = 16;
@@ -86,43 +88,83 @@ export function withPlayer(state) {
   return { names: [...state.names, ""], numbers };
 }
 
-/** The table without a player: the numbers of groups with it go. */
+/** The table without a player: the numbers of groups with it go, and those that were filled are so still. */
 export function withoutPlayer(state, player) {
   const names = state.names.filter((_, i) => i !== player), low = 2 ** player - 1;
   const numbers = Array.from({ length: 2 ** names.length }, (_, mask) => {
     return state.numbers[(mask & low) | ((mask & ~low) << 1)] ?? "";
   });
-  return { names, numbers };
+  const kept = (state.filled ?? []).filter((mask) => !((mask >> player) & 1));
+  return { names, numbers, filled: kept.map((mask) => (mask & low) | ((mask >> 1) & ~low)) };
 }
 
-/** A table from pasted rows of a group, with + between its members, and a number; or of numbers alone, in the order of
- * the masks or by size: {state}, or {fault} in words. */
-export function tableOf(rows, names = [], order = "size") {
-  const kept = rows.filter((row) => row.some(Boolean));
-  if (!kept.length) return { fault: "There is nothing in this list." };
-  return kept.every((row) => row.length === 1) ? vectorOf(kept.flat(), names, order) : listOf(kept);
+/** A table from a pasted text: lines of a group, with + between its members, and its number; or numbers alone, in the
+ * order of the masks or by size: {state}, or {fault} in words. `told` says how it was read. */
+export function tableOf(text, names = [], order = "size", mark = ".") {
+  const numbers = numbersIn(text);
+  if (numbers) return ofNumbers(numbers, names, order, mark);
+  const kept = cellsOf(text).filter((row) => row.some(Boolean));
+  return kept.length ? listOf(kept) : { fault: "There is nothing in this list." };
 }
 
-/** A vector of all groups but the empty one, as other programs have it. */
-function vectorOf(numbers, named, order) {
-  const n = Math.log2(numbers.length + 1);
-  if (!Number.isInteger(n) || n > MOST_PLAYERS) {
-    return { fault: `These are ${numbers.length} numbers alone. A list of all groups of two to sixteen players has `
-      + "3, 7, 15, 31 and so on; the group of nobody isn’t listed." };
+/** A table of numbers alone, as other programs have it. */
+function ofNumbers(rows, named, order, mark) {
+  const { numbers, n, fault } = vectorOf(rows);
+  if (fault) return { fault };
+  const names = Array.from({ length: n }, (_, i) => named[i] ?? "");
+  const numbersBy = (masks) => masks.reduce((placed, mask, k) => {
+    placed[mask] = numbers[k];
+    return placed;
+  }, Array(2 ** n).fill(""));
+  const orders = { size: masksBySize(n), mask: numbers.map((_, k) => k + 1) }, masks = orders[order];
+  const state = { names, numbers: numbersBy(masks) }, other = order === "size" ? "mask" : "size";
+  const values = (texts) => texts.map((one) => readNumber(one, mark).value?.toNumber() ?? 0);
+  const told = { order, place: 0, number: "", mask: 0 };
+  const place = n > 2 ? masks.findIndex((mask) => mask & (mask - 1)) : -1;
+  if (place >= 0) Object.assign(told, { place: place + 1, number: numbers[place], mask: masks[place] });
+  const isOdd = place >= 0 && drops(values(state.numbers)) > 0 && drops(values(numbersBy(orders[other]))) === 0;
+  return { state, told, isOdd };
+}
+
+/** How many groups have a lesser number than the same group without a member. */
+function drops(values) {
+  let count = 0;
+  for (let mask = 1; mask < values.length; mask++) {
+    for (let bit = 1; bit < values.length; bit *= 2) if (mask & bit && values[mask] < values[mask & ~bit]) count += 1;
   }
-  const names = Array.from({ length: n }, (_, i) => named[i] ?? ""), placed = Array(2 ** n).fill("");
-  const masks = order === "mask" ? numbers.map((_, k) => k + 1) : masksBySize(n);
-  masks.forEach((mask, k) => (placed[mask] = numbers[k]));
-  return { state: { names, numbers: placed } };
+  return count;
 }
 
-function listOf(rows) {
+/** A heading: a first line whose number is none, where the next one has one. */
+function withoutHeading(rows) {
+  const isNumber = (row) => !readNumber(row?.[1] ?? "").fault;
+  return rows.length > 1 && rows[0][1] && !isNumber(rows[0]) && isNumber(rows[1]) ? rows.slice(1) : rows;
+}
+
+function listOf(all) {
+  const rows = withoutHeading(all), long = rows.find((row) => row.slice(2).some(Boolean));
+  if (long) {
+    return { fault: `A line has a group and one number, and here one has more: “${withEscapes(long.join("; "))
+      .slice(0, 60)}”. Members of a group have + between them.` };
+  }
+  const isNumber = ([group]) => !readNumber(group).fault;
+  if (rows.some(isNumber) && rows.every((row) => !row[1])) {
+    const [other] = rows.find(([group]) => readNumber(group).fault);
+    return { fault: `“${withEscapes(other.slice(0, 40))}” is no number, and the others have no group beside them.` };
+  }
   const read = rows.map(([group, number = ""]) => {
     return { members: group.normalize("NFC").split("+").map((member) => member.trim()), number };
   });
   const names = [...new Set(read.filter(({ members }) => members.length === 1).map(({ members }) => members[0]))];
-  if (!names.length) return { fault: "There is no line of a player alone." };
-  if (names.length > MOST_PLAYERS) return { fault: `These are ${names.length} players, and a table has at most 16.` };
+  if (!names.length) return { fault: "There is no line of a player alone. A group is its members with + between." };
+  if (names.length > MOST_PLAYERS) {
+    return { fault: `These are ${names.length} players, and a table has at most 16. A group of several is its members `
+      + "with + between, as Sales+Ops." };
+  }
+  return placedList(read, names);
+}
+
+function placedList(read, names) {
   const numbers = Array(2 ** names.length).fill(""), places = new Map(names.map((name, i) => [name, i]));
   for (const { members, number } of read) {
     const stranger = members.find((member) => !places.has(member)), group = withEscapes(members.join(" + "));

@@ -21,7 +21,8 @@ export function dealsOf(game, matching, solution) {
     const [buyer, seller] = pair.map((player) => Number(player) - 1);
     const worth = game.rows[buyer][seller - game.rows.length], fair = solution?.shares[seller];
     const who = `${game.shown[buyer]} – ${game.shown[seller]}`;
-    return { pair: [buyer, seller], who, worth, low: buyers[seller], high: sellers[seller], fair };
+    const rule = solution?.title.toLowerCase();
+    return { pair: [buyer, seller], who, worth, low: buyers[seller], high: sellers[seller], fair, rule };
   });
 }
 
@@ -35,7 +36,7 @@ export function tradesTable(deals, format) {
     el("th", { scope: "row" }, deal.who), el("td", { class: "number" }, format.show(deal.worth)),
     el("td", { class: "number" }, price(deal).replaceAll(" ", "\u00a0")),
     hasFair && el("td", { class: "number" }, format.show(deal.fair))));
-  return tableOf("trades", ["Who trades", "Gain", "Price", ...(hasFair ? ["By the nucleolus"] : [])], rows);
+  return tableOf("trades", ["Who trades", "Gain", "Price", ...(hasFair ? [`By the ${deals[0].rule}`] : [])], rows);
 }
 
 export function trades(game, matching, { solution, wide, ...format }) {
@@ -56,7 +57,7 @@ export function pricesPicture(deals, price, show, wide) {
     high: Math.max(...deals.map(({ worth }) => worth.toNumber())) || 1,
     legend: [
       { kind: "span", title: "prices by which no buyer and seller do better together" },
-      ...(hasFair ? [{ kind: "adds", title: "by the nucleolus" }] : []),
+      ...(hasFair ? [{ kind: "adds", title: `by the ${deals[0].rule}` }] : []),
     ],
     rows: deals.map((deal) => ({
       label: deal.who, told: `${deal.who}: gain ${show(deal.worth)}, price ${price(deal)}`,
@@ -69,6 +70,7 @@ export function pricesPicture(deals, price, show, wide) {
 // ---- Votes
 
 const HUNDRED = Rational.of(100);
+const NARROW = 520;
 
 function remarkOn(i, share, ballots) {
   const without = ({ votes }) => Rational.sum(votes.filter((_, j) => j !== i));
@@ -80,6 +82,7 @@ function remarkOn(i, share, ballots) {
 /** `ballots` have the votes and the quota of each of one or two ballots. */
 export function power(game, shares, { mark, wide }) {
   const { ballots, shown } = game, isDouble = ballots.length > 1;
+  const hasParts = !isDouble || wide >= NARROW; // the power has to be seen without scrolling
   const parts = ballots.map(({ votes }) => votes.map((own) => own.over(Rational.sum(votes))));
   const percent = (value) => `${decimal(value.times(HUNDRED), 1, { mark })}\u202f%`;
   const rows = game.everyone().map((i) => {
@@ -87,11 +90,13 @@ export function power(game, shares, { mark, wide }) {
     return el("tr", {},
       el("th", { scope: "row" }, shown[i], remark && el("small", {}, remark)),
       ballots.map(({ votes }, b) => [
-        el("td", { class: "number" }, String(votes[i])), el("td", { class: "number" }, percent(parts[b][i])),
+        el("td", { class: "number" }, String(votes[i])),
+        hasParts && el("td", { class: "number" }, percent(parts[b][i])),
       ]),
       el("td", { class: "number main" }, percent(shares[i]), exact && el("small", {}, exact)));
   });
-  const heads = ["Voter", "Votes", "of all", ...(isDouble ? ["Second votes", "of all"] : []), "Power"];
+  const all = ["Voter", "Votes", "of all", ...(isDouble ? ["Second votes", "of all"] : []), "Power"];
+  const heads = all.filter((head) => hasParts || head !== "of all");
   const reaches = isDouble ? "reaches both quotas" : "reaches the quota";
   return el("div", {}, tableOf("power", heads, rows),
     el("p", { class: "hint" },

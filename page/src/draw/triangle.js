@@ -3,6 +3,7 @@
 import { ZERO } from "../exact/rational.js";
 import { shortText } from "../exact/decimals.js";
 import { svg } from "../page/dom.js";
+import { listed } from "../tell/words.js";
 import { figure } from "./figure.js";
 import { fitted } from "./measure.js";
 import { Shape } from "./shape.js";
@@ -10,10 +11,11 @@ import { Shape } from "./shape.js";
 const LETTERS = "abcdef";
 const ALONE = [[0], [1], [2]];
 const PAIRS = [[1, 2], [0, 2], [0, 1]];
-const [TOP, LINE, BESIDE] = [44, 24, 660]; // above this width the legend stands beside the triangle
+const MOST_TOLD = 26; // letters of the numbers at a corner
+const [TOP, LINE, BESIDE] = [54, 24, 660]; // above this width the legend stands beside the triangle
 
 const GREY = [
-  "There is no core",
+  "The core is empty",
   "The core is the one point in grey",
   "The core is the grey segment",
   "Grey: the core, where no group could do better",
@@ -23,9 +25,9 @@ const GREY = [
 export function trianglePicture(game, points, { wide }) {
   const isBeside = wide >= BESIDE, width = isBeside ? wide * 0.58 : wide, side = Math.min(430, width - 60);
   const shape = new Shape(game, points, { side, left: (width - side) / 2, top: TOP });
-  const { bounds, hidden } = boundsOf(game, shape), bottom = TOP + shape.high + 42;
+  const { bounds, hidden } = boundsOf(game, shape), bottom = TOP + shape.high + 56;
   const legend = [
-    ...points.map((point) => ({ mark: (x, y) => markOf(point.key, x, y), text: point.title })),
+    ...togetherOf(points).map(({ key, text }) => ({ mark: (x, y) => markOf(key, x, y), text })),
     ...bounds.map(({ letter, text }) => ({ mark: (x, y) => letterAt(letter, x, y + 5), text })),
   ];
   const [x, top] = isBeside ? [width + 8, Math.max(20, (bottom - legend.length * LINE) / 2)] : [14, bottom + 8];
@@ -33,20 +35,42 @@ export function trianglePicture(game, points, { wide }) {
   const title = `${GREY[Math.min(shape.core.length, 3)]}.`;
   const drawn = svg("svg", {
     class: "picture", viewBox: `0 0 ${wide} ${Math.ceil(high)}`, width: wide, role: "img",
-    "aria-label": `Triangle of the divisions. ${title} ${legend.map(({ text }) => text).join("; ")}`,
+    "aria-label": `Triangle of the divisions. ${title} ${toldOf(game, points)}; ${bounds.map(({ text }) => text)
+      .join("; ")}`,
   }, coreOf(shape), framesOf(shape), bounds.map((bound) => bound.drawn), cornersOf(game, shape, width),
   points.map((point, k) => markOf(point.key, ...shape.place(shape.shares[k]))),
   legend.map(({ mark, text }, k) => [
     mark(x + 8, top + k * LINE),
     svg("text", { x: x + 26, y: top + k * LINE + 5 }, fitted(text, wide - x - 30)),
   ]));
-  return { drawn, title, hidden };
+  return { drawn, title, hidden, isImputations: shape.isImputations };
+}
+
+/** The points, those at one place together: the mark is that of the last, which lies above the others. */
+function togetherOf(points) {
+  const places = new Map();
+  for (const { key, title, shares } of points) {
+    const place = shares.join(), { titles = [] } = places.get(place) ?? {};
+    places.set(place, { key, titles: [...titles, title] });
+  }
+  return [...places.values()].map(({ key, titles }) => {
+    return { key, text: titles.length > 1 ? `${listed(titles)}: one point` : titles[0] };
+  });
+}
+
+/** Where the points are, for those who don't see them. */
+function toldOf(game, points) {
+  return points.map(({ title, shares }) => {
+    return `${title}: ${shares.map((share, i) => `${game.shown[i]} ${shortText(share)}`).join(", ")}`;
+  }).join("; ");
 }
 
 export function triangle(game, points, settings) {
-  const { drawn, title, hidden } = trianglePicture(game, points, settings);
-  const nearer = game.costs ? "the less it pays" : "the more it gets";
-  return figure("triangle", "triangle", drawn, `${title} The nearer a point is to a player’s corner, ${nearer}.`,
+  const { drawn, title, hidden, isImputations } = trianglePicture(game, points, settings);
+  const [nearer, worse] = game.costs ? ["the less it pays", "pays more"] : ["the more it gets", "gets less"];
+  const all = isImputations ? ` The triangle has all divisions in which nobody ${worse} than alone.` : "";
+  return figure("triangle", "triangle", drawn,
+    `${title}${all} The nearer a point is to a player’s corner, ${nearer}.`,
     hidden.length > 0 && ` Outside of the picture: ${hidden.join("; ")}.`);
 }
 
@@ -64,10 +88,14 @@ function framesOf({ isImputations, spare, path, outer, inner }) {
   return hasInner ? [frame, svg("polygon", { class: "frame", points: path(inner) })] : [frame];
 }
 
-function cornersOf(game, { spots, side }, width) {
+/** The names at the corners, and how much each gets there, in the order of the players. */
+function cornersOf(game, { spots, side, outer, sign, isImputations }, width) {
   return spots.map(([x, y], i) => {
     const text = fitted(game.shown[i], i === 2 ? width - 20 : side / 2, 15, 600);
-    return svg("text", { class: "strong", x, y: y + (i === 2 ? -14 : 26), "text-anchor": "middle" }, text);
+    const [name, numbers] = i === 2 ? [-36, -21] : [26, 42];
+    const told = outer[i].map((share) => shortText(sign(share))).join("; "), isShort = told.length <= MOST_TOLD;
+    return [svg("text", { class: "strong", x, y: y + name, "text-anchor": "middle" }, text),
+      isImputations && isShort && svg("text", { class: "soft", x, y: y + numbers, "text-anchor": "middle" }, told)];
   });
 }
 

@@ -7,6 +7,11 @@ export const spoken = { mark: "." };
 const HALF = new Rational(1n, 2n);
 const NARROW = "\u202f";
 const MOST_LETTERS = 61; // of a number that is typed: a fraction of 30 digits each
+const MOST_POWER = 40; // of ten, in a number as 1e-05
+const BLANKS = "[\\s\u00a0\u202f'’_]";
+const PARTED = new RegExp(`\\d${BLANKS}+\\d`), PARTED_BEHIND = new RegExp(`${BLANKS}\\d`);
+const BY_THREE = new RegExp(`^\\D*\\d{1,3}(?:${BLANKS}\\d{3})+(?!\\d)(\\D.*)?$`, "s");
+const SCIENTIFIC = /^(-?)(\d*)(?:([.,])(\d*))?e([+-]?\d{1,3})$/i;
 
 /** Shares in steps of the last place, which add to the rounded sum: all are rounded down first, and what then lacks
  * goes to those who lost most, among equals to the first. */
@@ -62,44 +67,67 @@ export function placesOf(value) {
   return [0n, 1n, 2n, 3n, 4n].findIndex((places) => 10n ** places % value.den === 0n);
 }
 
-/** A value as one would type it: a decimal where four places do, else a fraction. */
+/** A value as one would type it: a decimal where four places do, else a fraction. It can be read in one way only, so
+ * 1.708 gets a fourth decimal. */
 export function typedText(value, mark = ".") {
   const places = placesOf(value);
   if (places < 0) return value.toString();
-  return decimal(value, places, { mark, grouped: false }).replace("−", "-");
+  const text = (count) => decimal(value, count, { mark, grouped: false }).replace("−", "-");
+  return text(readNumber(text(places)).doubt ? places + 1 : places);
+}
+
+/** A text without blanks, where these part nothing but thousands, and without a sign of money; null for "5 3 2". */
+function joined(typed) {
+  const rest = PARTED.test(typed) ? BY_THREE.exec(typed) : [];
+  if (!rest || PARTED_BEHIND.test(rest[1] ?? "")) return null;
+  return typed.replace(/[\s\u00a0\u202f'’_]/g, "").replace(/^\p{Sc}|\p{Sc}$/gu, "").replace(/^[−–]/, "-");
+}
+
+/** A decimal with a power of ten, as programs print it: 1e-05 is 0.00001. */
+function scientific(text) {
+  const [, sign, whole, by, decimals = "", power] = SCIENTIFIC.exec(text) ?? [];
+  if (power === undefined || !(whole + decimals)) return null;
+  if (Math.abs(Number(power)) > MOST_POWER) return { fault: "is too large or too small" };
+  const value = withDecimals(sign + whole, decimals), ten = new Rational(10n ** BigInt(Math.abs(Number(power))));
+  return { value: Number(power) < 0 ? value.over(ten) : value.times(ten), by };
 }
 
 /** The number that a person typed or a spreadsheet gave: {value}, or {fault} in words. Points and commas may part
  * thousands or stand in front of decimals; where a text can be read both ways, as 1,234, the mark decides, and `doubt`
- * says so. */
+ * says so; `by` is the mark in front of decimals where the text itself shows it. */
 export function readNumber(typed, mark = ".") {
   if (/^\d{1,15}$/.test(typed)) return { value: new Rational(BigInt(typed)) };
-  const text = typed.replace(/[\s\u00a0\u202f'’_]/g, "").replace(/^\p{Sc}|\p{Sc}$/gu, "").replace(/^[−–]/, "-");
+  const text = joined(typed);
   if (text === "") return { fault: "is empty" };
-  if (text.length > MOST_LETTERS) return { fault: "is no number" };
+  if (text === null || text.length > MOST_LETTERS) return { fault: "is no number" };
   if (/^-?\d{1,30}\/\d{1,30}$/.test(text)) {
     const [num, den] = text.split("/").map(BigInt);
     return den ? { value: new Rational(num, den) } : { fault: "is divided by nothing" };
   }
   if (/^\(\d[\d.,]*\)$/.test(text)) return readNumber("-" + text.slice(1, -1), mark);
-  if (!/^-?[\d.,]*\d[\d.,]*$/.test(text)) return { fault: "is no number" };
+  if (!/^-?[\d.,]*\d[\d.,]*$/.test(text)) return scientific(text) ?? { fault: "is no number" };
+  return marked(text, mark);
+}
+
+function marked(text, mark) {
   const marks = text.replace(/[^.,]/g, "");
   const last = marks.at(-1), other = last === "." ? "," : ".";
   if (!marks) return { value: new Rational(BigInt(text)) };
   const thousands = (by) => new RegExp(`^-?[1-9]\\d{0,2}(\\${by}\\d{3})+$`);
   if (marks.length > 1 && marks === last.repeat(marks.length)) {
     if (!thousands(last).test(text)) return { fault: "is no number" };
-    return { value: new Rational(BigInt(text.replaceAll(last, ""))) };
+    return { value: new Rational(BigInt(text.replaceAll(last, ""))), by: other };
   }
   if (marks.length > 1) {
     const [whole, decimals] = text.split(last);
     const isRight = thousands(other).test(whole) && !decimals.includes(other);
-    return isRight ? { value: withDecimals(whole.replaceAll(other, ""), decimals) } : { fault: "is no number" };
+    const read = () => ({ value: withDecimals(whole.replaceAll(other, ""), decimals), by: last });
+    return isRight ? read() : { fault: "is no number" };
   }
   const doubt = thousands(last).test(text);
   if (doubt && last !== mark) return { value: new Rational(BigInt(text.replace(last, ""))), doubt };
   const [whole, decimals] = text.split(last);
-  return { value: withDecimals(whole, decimals), doubt };
+  return { value: withDecimals(whole, decimals), doubt, by: doubt ? undefined : last };
 }
 
 function withDecimals(whole, decimals) {

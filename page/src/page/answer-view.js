@@ -2,6 +2,7 @@
 import { answerParts } from "./answer.js";
 import { button, copy, el, refill } from "./dom.js";
 import { evidenceParts } from "./evidence.js";
+import { filledText } from "./filled.js";
 import { formatOf } from "./format.js";
 import { otherAmounts } from "./other-amounts.js";
 import { paperPart } from "./paper.js";
@@ -29,6 +30,7 @@ export class AnswerView {
   clear() {
     this.typed = {};
     for (const id of ["answer-settings", "answer-body", "answer-more", "why-body", "evidence-body"]) refill(at(id));
+    this.hush();
   }
 
   stale() {
@@ -41,7 +43,7 @@ export class AnswerView {
     for (const id of ["answer", "why", "evidence"]) {
       at(id).hidden = !result || (id !== "answer" && Boolean(result.refusal));
     }
-    if (!result) return;
+    if (!result) return this.hush();
     const { rows } = session.reading, wide = at("answer-body").clientWidth || 640, format = this.format();
     const proposal = {
       ...session.proposal,
@@ -49,14 +51,20 @@ export class AnswerView {
       setAll: (texts) => session.setProposal(texts),
     };
     refill(at("answer-settings"), result.refusal ? [] : this.settings(result));
-    refill(at("answer-body"), answerParts(result, { rows, format, proposal, wide }));
+    const filled = filledText(session);
+    refill(at("answer-body"), answerParts(result, { rows, format, proposal, wide, filled }));
     this.say();
     if (result.refusal) return;
     this.showMore(result, rows, format);
     const why = whyParts(result);
     refill(at("why-body"), why);
     at("why").hidden = !why.length;
-    refill(at("evidence-body"), evidenceParts(result, session.kind.id));
+    refill(at("evidence-body"), evidenceParts(result, session.kind.id, filled));
+  }
+
+  /** An answer that no longer stands isn't said either. */
+  hush() {
+    at("said").textContent = "";
   }
 
   /** Tells those who hear the page what it answers, once for each answer. */
@@ -68,11 +76,13 @@ export class AnswerView {
   /** The parts with fields of their own are kept while answers come, and made anew for another game or other decimals.
    * */
   showMore(result, rows, format) {
+    const { session } = this;
     const key = [result.text, format.places, format.mark].join("\n");
     if (this.shownMore === key && at("answer-more").childElementCount) return;
     this.shownMore = key;
     const settings = {
-      rows, format, mark: format.mark, typed: this.typed, ask: (task, what) => this.session.checker.ask(task, what),
+      rows, format, mark: session.readMark(), typed: this.typed,
+      ask: (task, what) => session.checker.ask(task, what),
     };
     refill(at("answer-more"), otherAmounts(result, settings), paperPart(this.session, this.typed));
   }

@@ -1,29 +1,31 @@
 // The answer: who gets or pays what, by several divisions side by side, with pictures.
 import { Rational } from "../exact/rational.js";
-import { decimalOf, roundedSteps } from "../exact/decimals.js";
 import { bars } from "../draw/bars.js";
 import { plan } from "../draw/plan.js";
 import { power, trades } from "../draw/ranges.js";
 import { triangle } from "../draw/triangle.js";
-import { listed, Namer } from "../tell/words.js";
+import { listed, Namer, times } from "../tell/words.js";
 import { el } from "./dom.js";
 import { totalsOf } from "./format.js";
+import { missingText } from "./questions.js";
 import { sharesTable } from "./shares-table.js";
 
 /** All parts of an answer. `settings` are {rows, format, proposal, wide}. */
 export function answerParts(result, settings) {
-  const { game, points, refusal } = result, { proposal, wide } = settings;
+  const { game, points, refusal } = result, { proposal, wide, filled } = settings;
   if (refusal) return [refused(refusal)];
   const solution = solutionOf(result);
   const own = { key: "proposal", title: "Your proposal", shares: proposal.shares };
   const seen = proposal.shares ? [...points, own] : points, { format } = settings;
-  const pictured = { ...settings, wide: Math.min(wide, 900) };
+  const pictured = { ...settings, wide: Math.min(wide, 900) }, missing = missingText(game);
   return [
     notices(result, format),
+    filled && el("p", { class: "note filled-note" }, filled),
     ...(game.ballots ? votes(result, pictured) : []),
     result.matching && trades(game, result.matching, { ...format, solution, wide: pictured.wide }),
     solution && !game.ballots && !game.isMarket() && lead(result, solution, settings),
     points.length > 0 && (!game.ballots || solution) && sharesTable(result, settings),
+    missing && el("p", { class: "hint missing" }, missing),
     ...(solution && !game.ballots ? pictures(result, seen, pictured) : []),
   ].filter(Boolean);
 }
@@ -76,7 +78,7 @@ function notices({ game, noImputation, core }, { show }) {
 
 /** Why no division satisfies all groups: the groups of the collection, so counted, want more than there is. */
 function emptyCore(game, core, show) {
-  const namer = new Namer(game), k = Number(core.k), often = k === 1 ? "once" : `${k} times`;
+  const namer = new Namer(game), k = Number(core.k), often = times(k);
   const groups = core.collection.map(([players, weight]) => {
     const group = namer.group(players.map((player) => Number(player) - 1));
     return `${group}${weight > 1n ? ` (${weight} times)` : ""}`;
@@ -94,16 +96,15 @@ function emptyCore(game, core, show) {
 
 const MOST_LED = 6;
 
-export function lead({ game }, { shares, key }, { rows, format }) {
+export function lead({ game }, { shares, key, title }, { rows, format }) {
   const who = [...new Set(rows.map((row) => row.sum ?? row.label))];
   if (who.length > MOST_LED) return null;
-  const steps = roundedSteps(totalsOf(rows, shares), format.places), verb = game.costs ? "pays" : "gets";
-  const shown = (some) => decimalOf(some.reduce((sum, step) => sum + step, 0n), format.places, format);
-  const parts = who.map((name) => {
-    const own = rows.map((row, r) => ({ row, r })).filter(({ row }) => (row.sum ?? row.label) === name);
-    const landings = own.reduce((count, { row }) => count + row.players.length, 0);
-    return `${name} ${verb} ${shown(own.map(({ r }) => steps[r]))}${landings > 1 ? ` for ${landings} landings` : ""}`;
+  const owns = who.map((name) => rows.filter((row) => (row.sum ?? row.label) === name));
+  const totals = owns.map((own) => Rational.sum(totalsOf(own, shares))), texts = format.column(totals);
+  const verb = game.costs ? "pays" : "gets", parts = who.map((name, k) => {
+    const landings = owns[k].reduce((count, { players }) => count + players.length, 0);
+    return `${name} ${verb} ${texts[k]}${landings > 1 ? ` for ${landings} landings` : ""}`;
   });
-  return el("p", { class: "lead" }, `${listed(parts)}: together ${shown(steps)}.`,
-    key === "prenucleolus" && " (By the prenucleolus.)");
+  return el("p", { class: "lead" }, `${listed(parts)}: together ${texts.at(-1)}.`,
+    (key === "prenucleolus" || game.perHead) && ` (By the ${title.toLowerCase()}.)`);
 }

@@ -14,29 +14,45 @@ import { tableGrid } from "./table-grid.js";
 const MOST_FAULTS = 6;
 const NAMES = { ".": "point", ",": "comma" };
 
-/** `settings` are {mark, setMark, notes, onReset, onUndo} and what the grids need. */
+/** `settings` are {mark, setEntry, notes, onReset, onUndo} and what the grids need. */
 export function casePanel(kind, typed, settings) {
   const makeGrid = kind.isTable ? tableGrid : kind.isNetwork ? networkGrid : kind.isMarket ? marketGrid : listGrid;
-  const grid = makeGrid(kind, typed, settings), { onReset, onUndo, notes = [] } = settings;
+  const { onReset, notes = [] } = settings;
+  const undo = el("span"), offer = (before) => refill(undo, before && undoButton(before, settings));
+  const remember = (what) => offer({ what, ...settings.snapshot() });
+  const grid = makeGrid(kind, typed, { ...settings, remember });
+  offer(settings.before);
   const faults = el("div", { class: "faults", role: "status" }), made = el("div", { class: "made" });
   const element = el("div", { class: "case" },
     el("p", { class: "help" }, kind.help, el("span", { class: "screen" }, " Paste from a spreadsheet into any cell.")),
     notes.map((note) => el("p", { class: "note" }, note)), grid, faults,
     el("p", { class: "tools bottom" },
-      button("Fill in the worked example", () => onReset(kind.example()), { class: "quiet" }),
-      button("Clear all", () => onReset(kind.empty()), { class: "quiet" }),
-      onUndo && button("Undo", onUndo, { class: "quiet" })),
+      button("Fill in the worked example", () => onReset(kind.example(), "Fill in the worked example"),
+        { class: "quiet" }),
+      button("Clear all", () => onReset(cleared(kind, typed), "Clear all"), { class: "quiet" }), undo),
     made);
 
   /** Shows what the reading of the cells says. */
   function tell(reading) {
     markFaults(grid, reading.faults);
     refill(faults, reading.notes.map((note) => el("p", { class: "note" }, note)),
-      doubts(reading, settings), emptyCells(reading, grid), faultList(reading, grid));
+      doubts(reading, settings), emptyCells(reading, grid), faultList(reading, grid),
+      reading.isTooFine && finenessHelp(settings));
     refill(made, reading.text && documentOf(kind, reading.text));
   }
 
   return { element, tell };
+}
+
+/** A vote by two quotas stays one. */
+function cleared(kind, { secondQuota }) {
+  return { ...kind.empty(), ...(secondQuota === undefined ? {} : { secondQuota: "" }) };
+}
+
+/** Puts what stood there before back; what stands there now is kept, so that this can be undone too. */
+function undoButton(before, { onUndo }) {
+  const title = `${before.isBack ? "Redo" : "Undo"} “${before.what}”`;
+  return button(title, () => onUndo(before), { class: "quiet" });
 }
 
 function faultList({ faults, count }, grid) {
@@ -45,6 +61,14 @@ function faultList({ faults, count }, grid) {
     return el("li", {}, button(sentence, () => cellOf(grid, cell)?.focus(), { class: "fault" }));
   });
   return el("ul", {}, items, count > MOST_FAULTS && el("li", {}, `and ${count - MOST_FAULTS} more`));
+}
+
+/** Two ways for numbers with too many decimals, as other programs give them. */
+function finenessHelp({ coarsen }) {
+  const said = el("span", { role: "status" });
+  const way = (title, how) => button(title, async () => refill(said, (await coarsen(how)) ?? ""), { class: "quiet" });
+  return el("p", { class: "tools" }, way("Round all to four decimals", "round"),
+    way("All times a power of ten, as whole numbers", "whole"), said);
 }
 
 function emptyCells({ empty: { count, first } }, grid) {
@@ -57,13 +81,15 @@ function emptyCells({ empty: { count, first } }, grid) {
   return count > 0 && button(said, goTo, { class: "fault gentle" });
 }
 
-/** Where a number can be read both ways the page says how it reads it. */
-function doubts({ doubts: [doubt] }, { mark, setMark }) {
+/** Where numbers can be read both ways the page says how it reads them all; the button turns it, and turns it back. */
+function doubts({ doubts: [doubt], doubted, mark: own }, { setEntry }) {
   if (!doubt) return null;
-  const own = mark(), other = own === "." ? "," : ".", value = typedText(Rational.of(doubt.value), own);
+  const other = own === "." ? "," : ".", value = Rational.of(doubt.value), typed = withEscapes(doubt.typed.trim());
+  const how = value.isWhole() ? `the whole number ${value}` : `${typedText(value, own)}, with decimals`;
+  const more = doubted > 1 ? ` So are the ${doubted} numbers here that can be read in two ways.` : "";
   return el("p", { class: "note" },
-    `“${withEscapes(doubt.typed.trim())}” is read as ${value}: the ${NAMES[own]} stands in front of decimals. `,
-    button(`Let the ${NAMES[other]} do so`, () => setMark(other), { class: "quiet" }));
+    `“${typed}” is read as ${how}: the ${NAMES[own]} stands in front of decimals.${more} `,
+    button(`Let the ${NAMES[other]} do so`, () => setEntry(other), { class: "quiet" }));
 }
 
 function documentOf(kind, text) {

@@ -4,10 +4,20 @@ import { el, refill } from "./dom.js";
 import { Helper } from "./helper.js";
 import { textOfFile, textPlace } from "./text-place.js";
 
+const OF_A_LINE = "This is the game of a line, and all below is worked out anew. Whether the line’s own shares are "
+  + "right is said at the end, under “Check a line that you got”.";
+
+/** What is said above the case of a line: where it is checked, and that it has other shares than the page finds. */
+function notesOf({ other }, isLine) {
+  const told = other && `The line says of its game: ${other} The page finds other shares, which stand below. `
+    + "Somebody has changed the line, or it is of another game.";
+  return [isLine && OF_A_LINE, told].filter(Boolean);
+}
+
 export class Documents {
-  /** `onOpen(kind, typed, settings)` opens a case; `mark()` is the decimal mark. */
-  constructor({ mark, onOpen }) {
-    Object.assign(this, { mark, onOpen, turn: 0 });
+  /** `onOpen(kind, typed, settings)` opens a case; `onLine(text)` has a line checked; `mark()` is the decimal mark. */
+  constructor({ mark, onOpen, onLine }) {
+    Object.assign(this, { mark, onOpen, onLine, turn: 0 });
     this.helper = new Helper();
     this.message = document.getElementById("document-message");
     refill(document.getElementById("document-body"), textPlace({
@@ -16,8 +26,9 @@ export class Documents {
     }));
   }
 
-  /** Opens a document as a case, or tells why it can't be. */
-  async open(text) {
+  /** Opens a document as a case, or tells why it can't be. `doubt` is why its game isn't taken for the agreed one; a
+   * text that `isChecked` isn't handed on to be. */
+  async open(text, { doubt = "", isChecked = false } = {}) {
     const mine = (this.turn += 1);
     this.helper.stop();
     refill(this.message);
@@ -26,15 +37,17 @@ export class Documents {
       const found = await this.helper.ask("openDocument", { text, mark: this.mark() });
       if (mine !== this.turn) return;
       if (found.refusal) this.tell(found.refusal);
-      else this.openCase(caseNamed(found.id), found);
+      else this.openCase(caseNamed(found.id), found, { text, doubt, isChecked });
     } catch (fault) {
       if (fault.message === "stopped") return;
       this.tell({ sentence: `The document couldn’t be opened: ${fault.message}.` });
     }
   }
 
-  openCase(kind, found) {
-    this.onOpen(kind, kind.unpack?.(found.typed) ?? found.typed, found);
+  openCase(kind, found, { text, doubt, isChecked }) {
+    const isLine = !isChecked && /"certificate"\s*:/.test(text), notes = isChecked ? [] : notesOf(found, isLine);
+    this.onOpen(kind, kind.unpack?.(found.typed) ?? found.typed, { ...found, doubt, notes });
+    if (isLine) this.onLine(text);
   }
 
   tell({ sentence, place }) {

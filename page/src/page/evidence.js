@@ -1,5 +1,6 @@
 // The evidence: what was checked, by whom, what a yes means, and the files to hand on.
 import { failureText } from "../tell/failures.js";
+import { ruleFile } from "../tell/rule-names.js";
 import { el } from "./dom.js";
 import { fileButtons, fingerprint, shown } from "./files.js";
 import { meaning } from "./trust.js";
@@ -30,28 +31,32 @@ function wordOf(tree, game) {
   return { isYes: false, sentence: `says no. ${sentence} (condition ${condition})` };
 }
 
-export function wordLine({ title, isYes, sentence }) {
-  const state = isYes === undefined ? "busy" : isYes ? "good" : "bad";
-  return el("li", { class: `word ${state}` }, el("b", {}, title), ` ${sentence}`);
+/** Without an `isYes` it is asked still; where that is null, nobody can say. */
+export function wordLine({ title, isYes, sentence, items = [] }) {
+  const state = isYes === undefined ? "busy" : isYes === null ? "unsure" : isYes ? "good" : "bad";
+  return el("li", { class: `word ${state}` }, el("b", {}, title), ` ${sentence}`,
+    items.length > 0 && el("ul", { class: "differences" }, items.map((item) => el("li", {}, item))));
 }
 
-/** `name` is the case, by which files are named. */
-export function evidenceParts(result, name) {
+/** `name` is the case, by which files are named; `filled` says what the page filled in. */
+export function evidenceParts(result, name, filled) {
   if (!result.line) return withoutCertificate(result, name);
-  const { program, anew } = result.checks, { line, game, answer } = result, text = `${result.text}\n`;
+  const { program, anew } = result.checks, { line, game, answer, rule } = result, text = `${result.text}\n`;
+  const file = `${name}-${ruleFile(answer, game.perHead)}.json`;
   return [
     el("ul", { class: "words", role: "status" }, wordLine(programWord(program, game)), wordLine(anewWord(anew, game))),
-    result.points.length > 1 && el("p", { class: "after" }, `The certificate is of the ${answer} alone. The other `,
+    result.points.length > 1 && el("p", { class: "after" }, `The certificate is of the ${rule} alone. The other `,
       "columns come from the same program, but carry no evidence with them."),
     el("h3", {}, "Hand it on"),
     el("ol", { class: "steps" },
       el("li", {}, "Agree on the game’s file first, before anyone knows an answer. ",
-        fileButtons(text, `${name}-game.json`), fingerprint(text)),
-      el("li", {}, "Send the line: the answer with its evidence. ", fileButtons(line, `${name}-${answer}.json`)),
+        fileButtons(text, `${name}-game.json`), fingerprint(text),
+        filled && el("p", { class: "hint" }, `${filled} The file doesn’t say which.`)),
+      el("li", {}, "Send the line: the answer with its evidence. ", fileButtons(line, file)),
       el("li", {}, "Whoever gets it opens this page, taken from where the project has it and not from you, and checks ",
         "below: is it the agreed game, and does the certificate hold?")),
     shown("The game’s file", result.text), shown("The line with its evidence", line.trim()),
-    meaning(answer),
+    meaning(answer, game.perHead),
   ];
 }
 

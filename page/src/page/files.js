@@ -17,23 +17,26 @@ export function shown(title, text) {
       isLong ? `${text.slice(0, MOST_SHOWN)} …` : text));
 }
 
-const known = { text: null, digest: null }; // the last text whose SHA-256 was worked out
+const MOST_KNOWN = 8;
+const known = new Map(); // the last texts whose SHA-256 was worked out
 
 /** The SHA-256 of a text, by which people see that they have the same file; null where the browser has none. */
 async function digestOf(text) {
   const bytes = await globalThis.crypto?.subtle?.digest("SHA-256", new TextEncoder().encode(text));
   const digest = bytes ? [...new Uint8Array(bytes)].map((byte) => byte.toString(16).padStart(2, "0")).join("") : null;
-  Object.assign(known, { text, digest });
+  known.delete(text);
+  known.set(text, digest);
+  if (known.size > MOST_KNOWN) known.delete(known.keys().next().value);
   return digest;
 }
 
-export function fingerprint(text) {
+export function fingerprint(text, lead = "SHA-256 of the file: ") {
   const place = el("small", { class: "fingerprint" });
-  digestOf(text).then((digest) => (place.textContent = digest ? `SHA-256 of the file: ${digest}` : ""));
+  digestOf(text).then((digest) => (place.textContent = digest ? `${lead}${digest}` : ""));
   return place;
 }
 
-/** The SHA-256 of the text whose fingerprint was shown last; paper can't wait for one. */
+/** The SHA-256 of a text whose fingerprint was shown lately; paper can't wait for one. */
 export function knownDigest(text) {
-  return known.text === text ? known.digest : null;
+  return known.get(text) ?? null;
 }

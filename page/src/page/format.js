@@ -13,12 +13,16 @@ export function formatOf(places, mark) {
       const steps = roundedSteps(values, places);
       return [...steps, steps.reduce((sum, step) => sum + step, 0n)].map(text);
     },
+    /** Whether some decimals of a column are moved by a step of the last place, so that all add up. */
+    isMoved: (values) => roundedSteps(values, places).some((step, k) => step !== stepsOf(values[k], places)),
     isExact: (value) => {
       const needed = placesOf(value);
       return needed >= 0 && needed <= places;
     },
   };
 }
+
+export const MOVED = "Rounded so that they add up, so equal shares may differ by one in the last place.";
 
 /** The totals of the rows by a point: of a row of landings what they pay together. */
 export function totalsOf(rows, shares) {

@@ -1,5 +1,6 @@
 // The grid of a list: a runway, an estate, a vote. A row is added while the last one is filled.
-import { withoutHeadings } from "../cases/reading.js";
+import { columnsFor, headingsOf, pastedText } from "../cases/pasting.js";
+import { withEscapes } from "../game/names.js";
 import { cellInput, moveByKeys, pasteCells } from "./cells.js";
 import { button, cellOf, el, refill } from "./dom.js";
 
@@ -14,7 +15,8 @@ class ListGrid {
     this.tools = el("div", { class: "singles" });
     this.keys = [...kind.columns, ...(kind.second ? [kind.second.column] : [])].map(({ key }) => key);
     const table = el("table", { class: "grid list" }, this.head, this.body);
-    this.element = el("div", {}, this.tools, el("div", { class: "scroll" }, table));
+    this.said = el("div", { class: "hint pasted", role: "status" });
+    this.element = el("div", {}, this.tools, el("div", { class: "scroll" }, table), this.said);
     moveByKeys(table, (cell, step) => {
       const [, r, key] = cell.split(".");
       return `rows.${Number(r) + step}.${key}`;
@@ -73,12 +75,14 @@ class ListGrid {
   fill(cell, pasted) {
     const [, r, key] = cell.split("."), columns = this.columns(), first = columns.findIndex((one) => one.key === key);
     if (first < 0) return;
-    const numbers = columns.findIndex(({ number }) => number);
-    const rows = withoutHeadings(pasted, Math.max(0, numbers - first), this.mark());
-    rows.filter((row) => row.some(Boolean)).slice(0, this.kind.most * 4).forEach((row, k) => {
+    const numbers = columns.findIndex(({ number }) => number), rows = pasted.filter((row) => row.some(Boolean));
+    const own = columns.slice(first), headings = headingsOf(rows, Math.max(0, numbers - first), this.mark());
+    const targets = headings ? columnsFor(own, headings) : own;
+    rows.slice(headings ? 1 : 0).slice(0, this.kind.most * 4).forEach((row, k) => {
       const target = (this.typed.rows[Number(r) + k] ??= this.blank());
-      row.slice(0, columns.length - first).forEach((text, c) => (target[columns[first + c].key] = text));
+      row.forEach((text, c) => targets[c] && (target[targets[c].key] = text));
     });
+    this.said.textContent = withEscapes(pastedText(rows, headings, targets));
     this.show();
     this.onChange();
   }

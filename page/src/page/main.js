@@ -5,13 +5,14 @@ import { AnswerView } from "./answer-view.js";
 import { casePanel } from "./case-panel.js";
 import { Documents } from "./documents.js";
 import { el, refill } from "./dom.js";
+import { Paper } from "./paper.js";
 import { Session } from "./session.js";
-import { showSheet } from "./sheet.js";
 import { startCards } from "./start.js";
 import { verifyPanel } from "./verify.js";
 import { showView, viewOfAddress } from "./views.js";
 
 const at = (id) => document.getElementById(id);
+const WAYS = { round: "Round all to four decimals", whole: "All times a power of ten" };
 const kept = new Map(); // what was typed in cases that aren't shown
 
 let panel = null, isUnsaved = false;
@@ -24,31 +25,55 @@ const session = new Session({
   fault: (fault) => view.fault(fault),
 });
 const view = new AnswerView(session);
+const paper = new Paper(session, view);
 
 // ---- Cases
 
 /** Opens a case. `before` is what an undo brings back, `notes` are said above the grid. */
-function openCase(kind, typed, { measure, texts, before = null, notes = [] } = {}) {
-  const now = session.kind && { typed: session.typed, measure: session.measure, texts: session.texts };
+function openCase(kind, typed, { measure, texts, entry, before = null, notes = [], doubt = "" } = {}) {
+  const now = session.kind && nowTyped();
   if (now) kept.set(session.kind, now);
-  session.open(kind, typed, { measure, texts });
+  session.open(kind, typed, { measure, texts, entry, doubt });
   view.clear();
   panel = casePanel(kind, typed, {
-    mark: () => session.mark, setMark: (mark) => session.setMark(mark), notes,
-    onChange: () => {
+    mark: () => session.readMark(), setEntry: (mark) => session.setEntry(mark), before,
+    notes: doubt ? [doubt, ...notes] : notes,
+    onChange: (wait) => {
       isUnsaved = true;
-      session.changed();
+      session.changed(wait);
     },
-    onReset: (next) => openCase(kind, next, { before: kept.get(kind) ?? { typed, measure, texts } }),
-    onUndo: before && (() => openCase(kind, before.typed, before)),
-    readList: (text, names, order) => session.reader.ask("readList", { text, names, order }),
+    onReset: (next, what) => openCase(kind, next, { before: { what, ...nowTyped() } }),
+    onUndo: (back) => {
+      const { what, isBack } = back;
+      openCase(kind, back.typed, { ...back, before: { ...nowTyped(), what, isBack: !isBack } });
+    },
+    snapshot: () => structuredClone(nowTyped()),
+    readList: (what) => session.reader.ask("readList", { ...what, mark: session.readMark() }),
     readCells: (text) => session.reader.ask("readCells", { text }),
     help: (task, what) => session.reader.ask(task, what),
-    asTable: (table, said) => openCase(costs, table, { notes: said }),
+    coarsen: (how) => coarsen(kind, how),
+    asTable: (table, said) => openCase(costs, table, { notes: said, doubt }),
   });
   at("case-title").textContent = kind.title;
   refill(at("case-body"), panel.element);
   showView(kind.id);
+}
+
+/** Makes the numbers of a case coarser, as the user chose, or gives a fault in words. */
+async function coarsen(kind, how) {
+  const before = nowTyped(), { typed, measure, entry, doubt } = before;
+  const what = { id: kind.id, typed: kind.pack?.(typed) ?? typed, mark: session.readMark(), how };
+  const { typed: changed, notes, fault } = await session.reader.ask("coarser", what);
+  if (fault || session.typed !== typed) return fault;
+  const next = { ...typed, ...(kind.unpack?.(changed) ?? changed) };
+  openCase(kind, next, { measure, entry, notes, doubt, before: { ...before, what: WAYS[how] } });
+  return undefined;
+}
+
+/** What stands in the cells of the case that is shown. */
+function nowTyped() {
+  const { typed, measure, texts, entry, doubt } = session;
+  return { typed, measure, texts, entry, doubt };
 }
 
 /** Shows a part of the page; a case as it was left. */
@@ -84,18 +109,10 @@ function listen() {
     if (innerWidth !== width && session.result) view.show();
     width = innerWidth;
   });
-  addEventListener("beforeprint", beforePrint);
-  addEventListener("afterprint", () => delete document.body.dataset.print);
+  addEventListener("beforeprint", () => paper.before());
+  addEventListener("afterprint", () => paper.after());
   addEventListener("popstate", () => show(viewOfAddress()));
   addEventListener("beforeunload", (event) => isUnsaved && event.preventDefault());
-}
-
-/** Without a choice of what is printed it is the one page, where there is an answer. */
-function beforePrint() {
-  if (document.body.dataset.print === "all") return;
-  showSheet(session, view.typed);
-  const isReady = document.body.dataset.view === "case" && at("sheet").childElementCount > 0;
-  document.body.dataset.print = isReady ? "sheet" : "all";
 }
 
 function begin() {
@@ -103,8 +120,13 @@ function begin() {
   refill(at("cards"), startCards({
     onCase: (kind) => show(kind.id), onDocument: () => show("document"), onCheck: () => show("verify"),
   }));
-  const documents = new Documents({ mark: () => session.mark, onOpen: openCase });
-  const verify = verifyPanel({ format: () => view.format(), onOpen: (line) => documents.open(line) });
+  const documents = new Documents({
+    mark: () => session.mark, onOpen: openCase, onLine: (text) => verify.setLine(text),
+  });
+  const verify = verifyPanel({
+    format: () => view.format(), onOpen: (text, doubt) => documents.open(text, { doubt, isChecked: true }),
+    onPrint: () => paper.print("check"),
+  });
   refill(at("verify-body"), verify.element);
   documents.takeDrops({ show, onLine: verify.setLine });
   listen();

@@ -1,9 +1,9 @@
 // What the divisions and the questions of the table mean, in a sentence or two.
 import { el } from "./dom.js";
 
-export const SUBTITLES = {
+const SUBTITLES = {
   nucleolus: "treats those worst off best",
-  prenucleolus: "the same, where some do worse than alone",
+  prenucleolus: "the same, of all divisions: some may do worse than alone",
   shapley: "the mean over all orders of joining",
   core: "one of many, and no proposal",
   bird: "each pays its own link",
@@ -12,11 +12,16 @@ export const SUBTITLES = {
   proposal: "to be judged",
 };
 
+/** What stands below the title of a column. */
+export function subtitleOf(key, { perHead }) {
+  return key === "nucleolus" && perHead ? "treats those worst off best, per member" : SUBTITLES[key];
+}
+
 const MEANINGS = {
   nucleolus: "The nucleolus looks at the group that gains least by joining, and treats it as well as can be; then at "
     + "the next, and so on. There is just one. If any division satisfies all groups, this one does (Schmeidler 1969).",
   prenucleolus: "The prenucleolus is the same, among all divisions of the whole: it doesn’t ask that each does at "
-    + "least as well as alone.",
+    + "least as well as alone. Where some division satisfies all groups, the two are the same.",
   shapley: "Shapley shares let the players join one by one. Each gets what it adds, on average over all orders. "
     + "No other rule is efficient, symmetric and additive, and gives nothing for nothing (Shapley 1953). Some group "
     + "may do better by itself.",
@@ -27,15 +32,25 @@ const MEANINGS = {
     + "together (Shapley and Shubik 1971).",
 };
 
+const PER_HEAD = {
+  nucleolus: "The nucleolus per head counts what a group gains or lacks per member, since a larger group shares it. "
+    + "It looks at the group that gains least per member by joining, and treats it as well as can be; then at the "
+    + "next, and so on. There is just one. If any division satisfies all groups, this one does (Grotte 1970).",
+  prenucleolus: "The prenucleolus per head is the same, among all divisions of the whole: it doesn’t ask that each "
+    + "does at least as well as alone. What a group gains or lacks is counted per member (Grotte 1970).",
+};
+
 const GROUPS = "A group does better by itself where it is worth more than its members get together (or costs less than "
   + "they pay). Shares by which none does are in the core.";
 const HOLDS = "Of two players one has the stronger hold where the best group with it and without the other has the "
-  + "more to gain by leaving, or the less to lose. Where no two differ, the division is in the prekernel; the "
-  + "nucleolus is, wherever some division satisfies all groups.";
+  + "more to gain by leaving, or the less to lose. Where no two differ, the division is in the prekernel";
+const PLAIN_IS_EVEN = "; the nucleolus is, wherever some division satisfies all groups.";
+const PER_HEAD_ISNT = ". That is counted by the group as a whole, so a division per head need not be there.";
 
-export function meanings(points, hasHolds) {
-  const texts = points.map(({ key }) => MEANINGS[key]).filter(Boolean);
+export function meanings(points, hasHolds, { perHead }) {
+  const texts = points.map(({ key }) => (perHead && PER_HEAD[key]) || MEANINGS[key]).filter(Boolean);
+  const holds = HOLDS + (perHead ? PER_HEAD_ISNT : PLAIN_IS_EVEN);
   return el("details", { class: "meanings screen" },
     el("summary", {}, "What the columns and the questions mean"),
-    [...texts, GROUPS, ...(hasHolds ? [HOLDS] : [])].map((text) => el("p", {}, text)));
+    [...texts, GROUPS, ...(hasHolds ? [holds] : [])].map((text) => el("p", {}, text)));
 }

@@ -1,8 +1,12 @@
 // The grid of a network: what a link between each two places costs.
+import { readNumber } from "../exact/decimals.js";
 import { withEscapes } from "../game/names.js";
 import { cellInput, moveByKeys, pasteCells } from "./cells.js";
 import { button, cellOf, el, refill } from "./dom.js";
 import { noLinkHelp } from "./no-link.js";
+
+const WAIT = 150; // milliseconds between the last key and filling anew
+const REFILL = 60000; // the question waits for what is filled anew
 
 /** `asTable(typed, notes)` opens a table of costs that was made of the network; `help(task, what)` asks a worker. */
 export function networkGrid(kind, typed, settings) {
@@ -10,19 +14,20 @@ export function networkGrid(kind, typed, settings) {
 }
 
 class NetworkGrid {
-  constructor(kind, typed, { mark, onChange, readCells, help, asTable }) {
-    Object.assign(this, { kind, typed, onChange });
+  constructor(kind, typed, { mark, onChange, readCells, help, asTable, remember }) {
+    Object.assign(this, { kind, typed, onChange, remember });
     this.holder = el("div", { class: "scroll" });
     this.tools = el("p", { class: "tools" });
-    const setLinks = (links) => this.change(() => (typed.links = links));
-    this.element = el("div", {}, this.holder, this.tools, noLinkHelp(typed, { mark, help, setLinks, asTable }));
+    const setLinks = (links, filled) => this.change(() => Object.assign(typed, { links, filled }));
+    this.help = noLinkHelp(typed, { mark, help, remember, setLinks, asTable });
+    this.element = el("div", {}, this.holder, this.tools, this.help);
     moveByKeys(this.holder, (cell, step) => {
       const [what, place] = cell.split(".");
       if (what === "names") return `names.${Number(place) + step}`;
       const [i, j] = place.split("-").map(Number);
       return `links.${i}-${j + step}`;
     });
-    pasteCells(this.holder, (cell, rows) => this.change(() => pasteLinks(kind, typed, cell, rows)), readCells);
+    pasteCells(this.holder, (cell, rows) => this.pasted(cell, rows), readCells);
     this.show();
   }
 
@@ -57,18 +62,44 @@ class NetworkGrid {
   }
 
   linkInput(i, j, label) {
-    const key = `${i}-${j}`;
-    return cellInput({
-      cell: `links.${key}`, value: this.typed.links[key] ?? "", isNumber: true, label,
+    const key = `${i}-${j}`, how = this.typed.filled?.[key];
+    const input = cellInput({
+      cell: `links.${key}`, value: this.typed.links[key] ?? "", isNumber: true,
+      label: `${label}${how ? ", filled by the page" : ""}`,
       onInput: (text) => {
         this.typed.links[key] = text;
-        this.onChange();
+        input.classList.remove("filled");
+        this.typedInto(key);
       },
     });
+    input.classList.toggle("filled", Boolean(how));
+    return input;
+  }
+
+  /** Ways that were filled follow the links that are typed. */
+  typedInto(key) {
+    const { [key]: own, ...filled } = this.typed.filled ?? {};
+    if (own) this.typed.filled = filled;
+    if (!Object.values(filled).includes("way")) return this.onChange();
+    this.onChange(REFILL);
+    clearTimeout(this.refilling);
+    this.refilling = setTimeout(() => this.help.again().then(() => this.onChange(0)), WAIT);
+    return undefined;
+  }
+
+  pasted(cell, rows) {
+    this.remember("Paste");
+    this.change(() => pasteLinks(this.kind, this.typed, cell, rows));
+    if (Object.values(this.typed.filled ?? {}).includes("way")) this.help.again();
   }
 
   removal(k, name) {
-    return button("×", () => this.change(() => this.remove(k)), { class: "remove", "aria-label": `Remove ${name}` });
+    const remove = () => {
+      this.remember(`Remove ${name}`);
+      this.change(() => this.remove(k));
+      if (Object.values(this.typed.filled ?? {}).includes("way")) this.help.again();
+    };
+    return button("×", remove, { class: "remove", "aria-label": `Remove ${name}` });
   }
 
   add() {
@@ -77,31 +108,47 @@ class NetworkGrid {
   }
 
   remove(k) {
-    const links = {}, point = k + 1, moved = (i) => (i > point ? i - 1 : i);
-    for (const [key, cost] of Object.entries(this.typed.links)) {
+    const point = k + 1, moved = (i) => (i > point ? i - 1 : i);
+    const without = (entries) => Object.fromEntries(Object.entries(entries).flatMap(([key, value]) => {
       const [i, j] = key.split("-").map(Number);
-      if (i !== point && j !== point) links[`${moved(i)}-${moved(j)}`] = cost;
-    }
-    this.typed.links = links;
+      return i === point || j === point ? [] : [[`${moved(i)}-${moved(j)}`, value]];
+    }));
+    this.typed.links = without(this.typed.links);
+    this.typed.filled = without(this.typed.filled ?? {});
     this.typed.names.splice(k, 1);
   }
 }
 
-/** A block of numbers: a triangle or a square, whose other half is the same links again. */
+const NONE = /^[-–—x]?$/i; // of a link that can't be built
+
+/** A block of numbers: a triangle or a square, whose other half is the same links again; with names in front where it
+ * is pasted over one, and with a heading or without. */
 function pasteLinks(kind, typed, cell, pasted) {
-  const [what, place] = cell.split(".");
-  let rows = pasted;
-  if (what === "names") {
-    rows.forEach((row, k) => (typed.names[Number(place) + k] = row[0]));
-    typed.names.length = Math.min(typed.names.length, kind.most);
-    rows = rows.map((row) => row.slice(1));
-  }
-  const [i0, j0] = what === "links" ? place.split("-").map(Number) : [0, Number(place) + 1];
-  const isSquare = rows.length > 1 && rows.every((row) => row.length === rows.length) && /^0?$/.test(rows[0][0].trim());
+  const [what, place] = cell.split("."), isNamed = what === "names";
+  let rows = withoutHeading(pasted);
+  let names = isNamed ? rows.map(([name]) => name) : [];
+  if (isNamed) rows = rows.map((row) => row.slice(1));
+  const isSquare = rows.length > 1 && rows.every((row, k) => {
+    return row.length === rows.length && /^(0?|[-–—x])$/i.test((row[k] ?? "").trim());
+  });
+  if (isSquare) names = names.slice(1); // the first point is the source
+  names.forEach((name, k) => (typed.names[Number(place) + k] = name));
+  typed.names.length = Math.min(typed.names.length, kind.most);
+  const [i0, j0] = isNamed ? [0, Number(place) + 1] : place.split("-").map(Number);
   const top = isSquare ? 0 : j0, left = isSquare ? 0 : i0;
   while (typed.names.length < Math.min(kind.most, top + rows.length - 1)) typed.names.push("");
   rows.forEach((row, r) => row.forEach((text, c) => {
-    const [i, j] = [left + c, top + r].sort((a, b) => a - b);
-    if (i < j && j <= typed.names.length && text) typed.links[`${i}-${j}`] = text;
+    const [i, j] = [left + c, top + r].sort((a, b) => a - b), key = `${i}-${j}`;
+    if (i >= j || j > typed.names.length || !text) return;
+    typed.links[key] = NONE.test(text.trim()) ? "" : text;
+    if (typed.filled) delete typed.filled[key];
   }));
+}
+
+/** The rows behind a line that has names where all other lines have numbers. */
+function withoutHeading(rows) {
+  const isNumber = (text) => !readNumber(text).fault, cells = (row) => row.slice(1).filter((text) => text.trim());
+  const isHeading = rows.length > 1 && cells(rows[0]).length > 0 && !cells(rows[0]).some(isNumber)
+    && rows.slice(1).some((row) => row.some(isNumber));
+  return isHeading && !cells(rows[0]).every((text) => NONE.test(text.trim())) ? rows.slice(1) : rows;
 }

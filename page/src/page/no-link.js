@@ -2,30 +2,44 @@
 import { button, el, refill } from "./dom.js";
 
 const HINT = "Leave it empty, and say what a group would do that needs it. The answer depends on it.";
+const EACH = "It counts for each such link: a group that lacks two of them pays it twice. These links are marked.";
 const REWARD = "A place that spares others such a link is rewarded for it: the more, the larger the number is.";
 
-/** Ways to fill what stands empty. `setLinks` takes the links, `asTable` a table of costs with its notes. */
-export function noLinkHelp(typed, { mark, help, setLinks, asTable }) {
+/** Ways to fill what stands empty. `setLinks(links, filled)` takes the links, and which were filled, how; `asTable` a
+ * table of costs with its notes. `element.again()` fills anew the ways that were filled before. */
+export function noLinkHelp(typed, { mark, help, remember, setLinks, asTable }) {
   const said = el("div", { "aria-live": "polite" });
   const tell = (notes) => refill(said, notes.map((note) => el("p", { class: "note" }, note)));
-  const ask = (task, use) => async () => {
-    const found = await help(task, { names: [...typed.names], links: { ...typed.links }, mark: mark() });
+  const ask = (task, use) => async (only = null) => {
+    const { names, links } = typed, before = JSON.stringify(links);
+    const found = await help(task, { names: [...names], links: given(typed, task), mark: mark(), only });
+    if (JSON.stringify(typed.links) !== before) return; // somebody types on
     if (found.fault) tell([found.fault]);
     else use(found);
   };
-  const fillWays = ask("fillLinks", ({ links, notes }) => {
-    setLinks(links);
+  const fill = ask("fillLinks", ({ links, ways, notes }) => {
+    setLinks(links, { ...numbersOf(typed), ...Object.fromEntries(ways.map((key) => [key, "way"])) });
     tell(notes);
   });
-  const makeTable = ask("costsOfNetwork", ({ typed: table, notes }) => asTable(table, notes));
+  const fillWays = () => {
+    remember("Fill in the cheapest ways");
+    return fill();
+  };
+  const again = () => fill(Object.keys(typed.filled ?? {}).filter((key) => typed.filled[key] === "way"));
+  const fillWith = (number) => {
+    remember("Fill it in");
+    setLinks(...withNumber(typed, number));
+    tell([REWARD, EACH]);
+  };
+  const asked = ask("costsOfNetwork", ({ typed: table, notes }) => asTable(table, notes)), makeTable = () => asked();
+  return Object.assign(waysPart({ fillWays, makeTable, fillWith, said }), { again });
+}
+
+function waysPart({ fillWays, makeTable, fillWith, said }) {
   const amount = el("input", {
     type: "text", class: "number", "aria-label": "What it costs to do without a link", "data-cell": "without",
     inputmode: "decimal", autocomplete: "off", maxlength: 200,
   });
-  const fillWith = () => {
-    setLinks(withNumber(typed, amount.value));
-    tell([REWARD]);
-  };
   return el("details", { class: "inline no-link screen" },
     el("summary", {}, "A link that can’t be built"), el("p", { class: "hint" }, HINT),
     el("ul", { class: "ways" },
@@ -35,17 +49,29 @@ export function noLinkHelp(typed, { mark, help, setLinks, asTable }) {
         button("make a table of costs of it", makeTable),
         ": each group then costs the cheapest network that joins it."),
       el("li", {}, el("b", {}, "It can’t build at all. "), "Give what it costs to do without: ", amount, " ",
-        button("Fill it in", fillWith))),
+        button("Fill it in", () => fillWith(amount.value)))),
     said);
 }
 
-/** The links, those that are empty with a number. */
-function withNumber({ names, links }, number) {
-  const filled = { ...links };
+/** The links that were typed: ways are filled anew, and no table is made of any link that was filled. */
+function given({ links, filled = {} }, task) {
+  const isOut = (key) => (task === "fillLinks" ? filled[key] === "way" : key in filled);
+  return Object.fromEntries(Object.entries(links).filter(([key]) => !isOut(key)));
+}
+
+function numbersOf({ filled = {} }) {
+  return Object.fromEntries(Object.entries(filled).filter(([, how]) => how === "number"));
+}
+
+/** The links, those that are empty with a number, and which were filled. */
+function withNumber({ names, links, filled: before }, number) {
+  const all = { ...links }, filled = { ...before };
   for (let i = 0; i <= names.length; i++) {
     for (let j = i + 1; j <= names.length; j++) {
-      if (!(filled[`${i}-${j}`] ?? "").trim()) filled[`${i}-${j}`] = number;
+      if ((all[`${i}-${j}`] ?? "").trim()) continue;
+      all[`${i}-${j}`] = number;
+      filled[`${i}-${j}`] = "number";
     }
   }
-  return filled;
+  return [all, filled];
 }

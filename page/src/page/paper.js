@@ -1,6 +1,13 @@
-// What is printed: one page for a council or a court, or everything.
-import { el, button } from "./dom.js";
-import { showSheet } from "./sheet.js";
+// What is printed: one page for a council or a court, the check of a line, or everything.
+import { groupLabel } from "../cases/tables.js";
+import { masksBySize } from "../game/groups.js";
+import { button, el, refill } from "./dom.js";
+import { dayText, showSheet } from "./sheet.js";
+
+const MOST_GROUPS = 1023; // that are printed, all groups of ten players
+const ON_SCREEN = 63; // of the groups, those that stand in the grid
+
+const at = (id) => document.getElementById(id);
 
 /** The choice of what is printed, and the heading of the page. */
 export function paperPart(session, typed) {
@@ -9,17 +16,72 @@ export function paperPart(session, typed) {
       type: "text", value: typed[key] ?? value, "data-cell": `paper.${key}`, maxlength: 200, class: wide ? "wide" : "",
       autocomplete: "off", on: { input: (event) => { typed[key] = event.target.value; } },
     }));
-  const printed = (what) => () => printAs(what, session, typed);
+  const own = el("input", {
+    type: "checkbox", checked: Boolean(typed.withProposal), "data-cell": "paper.withProposal",
+    on: { change: (event) => { typed.withProposal = event.target.checked; } },
+  });
+  const printed = (what) => () => printAs(what);
   return el("details", { class: "other paper-part" }, el("summary", {}, "On paper"),
     el("p", { class: "hint" }, "One page for a council or a court: who, how much, a picture, the reasons, what is ",
-      "agreed on, and how to check it. Or all that stands here."),
+      "agreed on, and how to check it. Or all that stands here, with the amounts and the check that were worked out."),
     field("heading", "Heading", session.kind.title, true), field("unit", "Unit of money", "", false),
+    el("label", { class: "single" }, own, " With “Your proposal” and the other columns, on the one page too"),
     el("p", { class: "tools" },
       button("Print one page", printed("sheet")), button("Print everything", printed("all"))));
 }
 
-function printAs(what, session, typed) {
+function printAs(what) {
   document.body.dataset.print = what;
-  if (what === "sheet") showSheet(session, typed);
   print();
+}
+
+/** Fills what stands on paper alone, as soon as the browser begins to print: paper can't wait. */
+export class Paper {
+  /** `view.typed` has the heading and the unit. */
+  constructor(session, view) {
+    Object.assign(this, { session, view });
+  }
+
+  print(what) {
+    printAs(what);
+  }
+
+  before() {
+    const { session, view } = this, { dataset } = document.body, isCase = dataset.view === "case";
+    let what = dataset.print ?? (isCase ? "sheet" : dataset.view === "verify" ? "check" : "all");
+    if (what === "sheet") showSheet(session, view.typed);
+    if (what === "sheet" && !(isCase && at("sheet").childElementCount)) what = "all";
+    dataset.print = what;
+    refill(at("paper-head"), what === "sheet" ? [] : this.head(what, isCase));
+    refill(at("paper-groups"), what === "all" && isCase && this.groups());
+  }
+
+  after() {
+    delete document.body.dataset.print;
+    for (const id of ["paper-head", "paper-groups"]) refill(at(id));
+  }
+
+  /** The heading, the day and the unit of what isn't the one page. */
+  head(what, isCase) {
+    const { heading, unit } = this.view.typed;
+    const own = what === "check" ? "The check of a line" : (isCase && heading?.trim()) || "";
+    return [
+      el("p", {}, own && el("b", {}, own), own && " – ", dayText()),
+      what === "all" && unit?.trim() && el("p", {}, `All amounts are in ${unit.trim()}.`),
+    ];
+  }
+
+  /** All groups of a table with their numbers, where the grid shows a part of them. */
+  groups() {
+    const { kind, typed } = this.session, names = typed?.names ?? [], count = 2 ** names.length - 1;
+    const filled = new Set(typed?.filled), remark = (mask) => (filled.has(mask) ? ", filled by the page" : "");
+    if (!kind?.isTable || count <= ON_SCREEN) return null;
+    const all = count.toLocaleString("en");
+    if (count > MOST_GROUPS) {
+      return el("p", { class: "hint" }, `Of ${all} groups the first ${ON_SCREEN} are printed; the file has all.`);
+    }
+    return [el("h3", {}, `All ${all} groups`), el("ol", {}, masksBySize(names.length).map((mask) => {
+      return el("li", {}, `${groupLabel(names, mask)}: ${typed.numbers[mask] || "–"}${remark(mask)}`);
+    }))];
+  }
 }

@@ -1,6 +1,6 @@
 // The column of the user's proposal: its cells, its sum, and ways to fill it.
 import { Rational, ZERO } from "../exact/rational.js";
-import { decimalOf, fractionText, roundedSteps } from "../exact/decimals.js";
+import { decimal, fractionText, placesOf, readNumber, roundedSteps, typedText } from "../exact/decimals.js";
 import { button, el } from "./dom.js";
 import { totalsOf } from "./format.js";
 
@@ -34,9 +34,11 @@ function ways({ game, points }, rows) {
   const whole = game.whole(), own = game.kind === "bankruptcy" ? game.amounts : game.own;
   const weights = rows.map(({ players: [i] }, r) => own[i].times(counts[r])), sum = Rational.sum(weights);
   const canWeigh = ZERO.less(sum) && !weights.some((weight) => weight.isNegative());
+  const others = points.filter(({ key }) => ["shapley", "core", "bird"].includes(key));
   const [first] = points, what = game.kind === "bankruptcy" ? "the claims" : game.costs ? "costs alone" : "worth alone";
   return [
     first && { title: `${first.title.toLowerCase()}, rounded`, totals: () => totalsOf(rows, first.shares) },
+    ...others.map(({ title, shares }) => ({ title: title.replace(/^A /, "a "), totals: () => totalsOf(rows, shares) })),
     { title: "equal parts", totals: () => counts.map((count) => whole.times(count).over(all)) },
     canWeigh && {
       title: `in proportion to ${what}`,
@@ -45,11 +47,21 @@ function ways({ game, points }, rows) {
   ].filter(Boolean);
 }
 
+/** Rounded totals as texts that add to the whole: with as many decimals as it has, or the greatest takes the rest. */
+function wholeTexts(totals, whole, { places, mark }) {
+  const count = Math.max(places, placesOf(whole)), unit = new Rational(10n ** BigInt(count));
+  const values = roundedSteps(totals, count).map((step) => new Rational(step).over(unit));
+  const rest = whole.minus(Rational.sum(values)), most = values.indexOf(Rational.max(values));
+  values[most] = values[most].plus(rest);
+  return values.map((value) => {
+    if (placesOf(value) < 0) return typedText(value, mark);
+    const text = decimal(value, count, { mark, grouped: false }).replace("−", "-");
+    return readNumber(text).doubt ? typedText(value, mark) : text;
+  });
+}
+
 export function proposalTools(result, { rows, proposal, format }) {
-  const fill = (totals) => {
-    const typed = (step) => decimalOf(step, format.places, { mark: format.mark, grouped: false }).replace("−", "-");
-    proposal.setAll(roundedSteps(totals, format.places).map(typed));
-  };
+  const fill = (totals) => proposal.setAll(wholeTexts(totals, result.game.whole(), format));
   return el("p", { class: "tools fill" }, el("span", {}, "Fill your proposal with "),
     ways(result, rows).map(({ title, totals }) => button(title, () => fill(totals()), { class: "quiet" })),
     proposal.texts.some(Boolean) && button("clear", () => proposal.setAll([]), { class: "quiet" }));

@@ -2,6 +2,8 @@
 import { Rational } from "../exact/rational.js";
 import { writeJson } from "../exact/json.js";
 import { Facts } from "../game/facts.js";
+import { ruleName } from "../tell/rule-names.js";
+import { capital } from "../tell/words.js";
 
 /** The greatest numbers of players that the commands take, by class; README.md of the program has them all. */
 const LIMITS = {
@@ -11,10 +13,18 @@ const LIMITS = {
   convex: { market: 0 },
   kernel: { market: 0 },
 };
-const MOST_PER_HEAD = 8;
+const MOST_PER_HEAD = 8, MOST_HELD = 12;
 
 export function takes(question, game) {
   return game.n <= (LIMITS[question][game.kind] ?? 16);
+}
+
+/** What isn't there of a runway of many landings, and up to how many it is. */
+export function missingText({ kind, n }) {
+  const limits = [["shares per head", MOST_PER_HEAD], ["an overrun, and who has the stronger hold,", MOST_HELD],
+    ["Shapley shares", LIMITS.shapley.airport]];
+  const parts = limits.filter(([, most]) => n > most).map(([what, most]) => `${what} up to ${most}`);
+  return kind === "airport" && parts.length > 0 && `Worked out for fewer landings only: ${parts.join("; ")}.`;
 }
 
 /** Whether a game may be asked about with excess per head, too. */
@@ -81,7 +91,8 @@ async function askSolution(result, ask) {
   }
   result.line = answer.line;
   result.answer = answer.tree.answer;
-  addPoint(result, result.answer, result.answer === "nucleolus" ? "Nucleolus" : "Prenucleolus", answer.tree.shares);
+  result.rule = ruleName(result.answer, result.game.perHead);
+  addPoint(result, result.answer, capital(result.rule), answer.tree.shares);
 }
 
 async function askOthers(result, ask) {
@@ -89,6 +100,7 @@ async function askOthers(result, ask) {
   if (takes("shapley", game)) addPoint(result, "shapley", "Shapley shares", (await ask("shapley")).tree.shares);
   if (game.isTable() && !game.ballots) {
     result.core = (await ask("core")).tree;
+    if (result.core.collection && !result.noImputation) await askPrenucleolus(result, ask);
     if (result.core.shares) addPoint(result, "core", "A core point", result.core.shares);
   }
   if (game.kind === "tree") {
@@ -103,6 +115,13 @@ async function askOthers(result, ask) {
   }
 }
 
+/** Where no division satisfies all groups the prenucleolus may be another; elsewhere it is the nucleolus. */
+async function askPrenucleolus(result, ask) {
+  const { tree } = await ask("prenucleolus"), [{ shares: own }] = result.points;
+  if (!tree.shares || tree.shares.every((share, i) => own[i].equals(Rational.of(share)))) return;
+  addPoint(result, "prenucleolus", capital(ruleName("prenucleolus", result.game.perHead)), tree.shares);
+}
+
 function addPoint(result, key, title, shares) {
   result.points.push({ key, title, shares: shares.map(Rational.of) });
 }
@@ -112,7 +131,7 @@ function addPoint(result, key, title, shares) {
 export async function judge({ game, text }, shares, engine) {
   const document = withShares(text, shares), found = { verdict: null, hold: null };
   if (takes("propose", game)) found.verdict = verdictOf(checked(await engine("solve", { word: "propose", document })));
-  const isHeld = takes("kernel", game) && !game.ballots && game.n > 1 && game.n <= 12;
+  const isHeld = takes("kernel", game) && !game.ballots && game.n > 1 && game.n <= MOST_HELD;
   if (isHeld) found.hold = holdOf(checked(await engine("solve", { word: "kernel", document })).tree);
   return found;
 }

@@ -16,7 +16,8 @@ export class Session {
     this.reader = new Helper();
     this.kind = null;
     this.turn = 0;
-    this.mark = new Intl.NumberFormat().format(0.5).includes(",") ? "," : ".";
+    this.mark = new Intl.NumberFormat().format(0.5).includes(",") ? "," : "."; // by which numbers are shown
+    this.own = this.mark; // by which those that are typed are read, where they don't show it themselves
     spoken.mark = this.mark;
   }
 
@@ -25,9 +26,10 @@ export class Session {
     for (const helper of [this.engine, this.checker]) helper.ask("warmUp").catch(() => 0);
   }
 
-  open(kind, typed, { measure = "plain", texts = [] } = {}) {
-    Object.assign(this, { kind, typed, measure, texts, places: kind.places ?? 2 });
-    Object.assign(this, { reading: null, result: null, judged: {}, proposal: proposalOf([], [], this.mark) });
+  /** `doubt` is why the game isn't taken for the agreed one, in words. */
+  open(kind, typed, { measure = "plain", texts = [], entry = this.own, doubt = "" } = {}) {
+    Object.assign(this, { kind, typed, measure, texts, entry, doubt, places: kind.places ?? 2 });
+    Object.assign(this, { reading: null, result: null, judged: {}, proposal: proposalOf([], [], entry) });
     this.changed(0);
   }
 
@@ -39,10 +41,22 @@ export class Session {
     this.timer = setTimeout(() => this.work(), wait);
   }
 
+  /** The mark of what is shown; no number is read anew by it. */
   setMark(mark) {
     this.mark = mark;
     spoken.mark = mark;
     this.changed(0);
+  }
+
+  /** The mark of the numbers of this case that can be read both ways. */
+  setEntry(mark) {
+    this.entry = mark;
+    this.changed(0);
+  }
+
+  /** The mark by which the cells were read. */
+  readMark() {
+    return this.reading?.mark ?? this.entry;
   }
 
   setMeasure(measure) {
@@ -63,7 +77,7 @@ export class Session {
     for (const helper of [this.engine, this.checker]) helper.stopIfSlow();
     const slow = setTimeout(() => isMine() && this.on.busy(true), BUSY), { engine, checker } = this.asking(mine);
     try {
-      const { kind, mark, measure } = this, typed = kind.pack?.(this.typed) ?? this.typed;
+      const { kind, entry: mark, measure } = this, typed = kind.pack?.(this.typed) ?? this.typed;
       const reading = await engine("readCase", { id: kind.id, typed, mark, measure });
       if (!isMine()) return;
       this.reading = reading;
@@ -103,7 +117,7 @@ export class Session {
 
   readProposal() {
     const canBe = this.reading.facts.kind !== "market";
-    this.proposal = { canBe, ...proposalOf(this.texts, this.reading.rows, this.mark), ...this.judged };
+    this.proposal = { canBe, ...proposalOf(this.texts, this.reading.rows, this.readMark()), ...this.judged };
   }
 
   setProposal(texts) {

@@ -1,15 +1,16 @@
 // The table of the answer: a row for each who pays or gets, a column for each division, and what is asked of them.
 import { Rational } from "../exact/rational.js";
-import { decimalOf, fractionText, roundedSteps } from "../exact/decimals.js";
-import { Namer, plural } from "../tell/words.js";
+import { fractionText } from "../exact/decimals.js";
+import { listed, Namer, plural } from "../tell/words.js";
 import { comparisonOf } from "./comparison.js";
 import { el } from "./dom.js";
-import { totalsOf } from "./format.js";
-import { meanings, SUBTITLES } from "./meanings.js";
+import { MOVED, totalsOf } from "./format.js";
+import { meanings, subtitleOf } from "./meanings.js";
 import { proposalInput, proposalSum, proposalTools } from "./proposal-cells.js";
 
 const BRIEF = 20; // rows that are kept on one printed page
 const NARROW = 520;
+const FEW = 3; // landings that are named one by one
 
 export function sharesTable(result, settings) {
   const { game, points } = result, { rows, format, proposal } = settings;
@@ -21,20 +22,30 @@ export function sharesTable(result, settings) {
     el("div", { class: "scroll" }, el("table", { class: kinds.filter(Boolean).join(" ") },
       headOf(view), el("tbody", {}, linesOf(rows).map((line) => (line.of ? sumRow(line, view) : shareRow(line, view)))),
       footOf(view, hasHolds))),
+    columns.some(({ shares }) => format.isMoved(totalsOf(rows, shares)))
+      && el("p", { class: "hint moved" }, `${MOVED} The exact shares stand in small print.`),
     proposal.canBe && proposalTools(result, settings),
-    proposal.comparison && comparisonOf(proposal.comparison, points[0]),
-    meanings(points, hasHolds));
+    proposal.shares && sameAs(points, proposal.shares),
+    proposal.comparison && comparisonOf(proposal.comparison, points[0], game),
+    meanings(points, hasHolds, game));
+}
+
+/** Which division of the table a proposal is. */
+function sameAs(points, shares) {
+  const same = points.filter((point) => point.shares.every((share, i) => share.equals(shares[i])));
+  return same.length > 0 && el("p", { class: "same-as" },
+    `Your proposal is just what stands under ${listed(same.map(({ title }) => `“${title}”`))}.`);
 }
 
 function headOf({ game, context, columns, proposal }) {
   const column = ({ key, title }) => el("th", { scope: "col", class: "number", "data-point": key },
-    title, el("small", {}, SUBTITLES[key]));
+    title, el("small", {}, subtitleOf(key, game)));
   return el("thead", {}, el("tr", {},
     el("th", { scope: "col" }, game.costs ? "Who pays" : "Who gets"),
     context && el("th", { scope: "col", class: "number context" }, context.title),
     columns.map(column),
     proposal.canBe && el("th", { scope: "col", class: "number proposed", "data-point": "proposal" },
-      "Your proposal", el("small", {}, SUBTITLES.proposal))));
+      "Your proposal", el("small", {}, subtitleOf("proposal", game)))));
 }
 
 function shareRow({ row, r }, { context, columns, format, proposal }) {
@@ -47,10 +58,9 @@ function shareRow({ row, r }, { context, columns, format, proposal }) {
 }
 
 function shareCell(text, share, count, format) {
-  const total = share.times(Rational.of(count));
-  const exact = count > 1 ? `${count} × ${fractionText(share)}` : fractionText(total);
-  const isShown = count > 1 || !format.isExact(total);
-  return el("td", { class: "number" }, text, isShown && el("small", { class: "exact" }, exact));
+  const fraction = !format.isExact(share) && fractionText(share);
+  const exact = count > 1 ? `${count} × ${format.show(share)}${fraction ? ` (${fraction})` : ""}` : fraction;
+  return el("td", { class: "number" }, text, exact && el("small", { class: "exact" }, exact));
 }
 
 /** The rows, and behind the last row of an airline with several rows its sum. */
@@ -65,10 +75,8 @@ function linesOf(rows) {
 
 function sumRow({ sum, of }, { rows, context, columns, format, proposal }) {
   const cells = columns.map(({ shares }) => {
-    const steps = roundedSteps(totalsOf(rows, shares), format.places);
-    const rounded = of.reduce((total, r) => total + steps[r], 0n);
     const exact = Rational.sum(totalsOf(of.map((r) => rows[r]), shares));
-    return shareCell(decimalOf(rounded, format.places, format), exact, 1, format);
+    return shareCell(format.show(exact), exact, 1, format);
   });
   return el("tr", { class: "subtotal" }, el("th", { scope: "row" }, `${sum}, together`),
     context && el("td", { class: "context" }), cells, proposal.canBe && el("td", { class: "proposed" }));
@@ -109,8 +117,17 @@ function verdictText(game, verdict, { show }) {
   if (verdict.refusal) return verdict.refusal.sentence;
   if (verdict.isCore) return el("span", { class: "good" }, "No");
   if (verdict.sum) return el("span", { class: "bad" }, "doesn’t add up");
-  const who = new Namer(game).group(verdict.group).replace(/ (alone|together)$/, "");
+  const who = needingAtMost(game, verdict.group, show)
+    ?? new Namer(game).group(verdict.group).replace(/ (alone|together)$/, "");
   return el("span", { class: "bad" }, `Yes: ${who}, by ${show(verdict.excess)}`);
+}
+
+/** Of a runway the groups of all landings up to an amount, as a sentence names them; null for other groups. */
+function needingAtMost({ kind, amounts, n }, group, show) {
+  if (kind !== "airport" || group.length < FEW) return null;
+  const most = Rational.max(group.map((i) => amounts[i]));
+  const isAll = amounts.every((amount, i) => most.less(amount) || group.includes(i));
+  return isAll && group.length < n ? `all landings that need at most ${show(most)}` : null;
 }
 
 function holdText(game, hold, { show }) {
@@ -126,7 +143,7 @@ export function tableText({ points }, { rows, format }) {
   const columns = points.flatMap(({ title, shares }) => {
     const totals = totalsOf(rows, shares);
     return [
-      [title, ...format.column(totals)],
+      [format.isMoved(totals) ? `${title}, rounded to add up` : title, ...format.column(totals)],
       [`${title}, exact`, ...totals.map(String), String(Rational.sum(totals))],
     ];
   });

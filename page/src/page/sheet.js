@@ -5,18 +5,26 @@ import { planPicture } from "../draw/plan.js";
 import { dealsOf, powerPicture, priceOf, pricesPicture, tradesTable } from "../draw/ranges.js";
 import { trianglePicture } from "../draw/triangle.js";
 import { Rational } from "../exact/rational.js";
+import { sourceOf } from "../tell/rule-names.js";
+import { Namer } from "../tell/words.js";
 import { lead, solutionOf } from "./answer.js";
 import { el, refill } from "./dom.js";
 import { knownDigest } from "./files.js";
-import { formatOf, totalsOf } from "./format.js";
+import { filledText } from "./filled.js";
+import { formatOf, MOVED, totalsOf } from "./format.js";
 
 const WIDE = 700;
 const MOST_PICTURED = 10; // rows whose bars leave room for the rest
 const MOST_ROWS = 18; // of one table; more stand in two, side by side
+const MANY_ROWS = 5; // above, letters are smaller, and a picture is lower
+const LONG = 900; // characters of the reasons above which they are, too
 const MOST_TOLD = 800; // characters of the first reason that are printed in full
+const MOST_LEVELS = 1100; // characters of what the levels behind the first settle
 const MOST_DOCUMENT = 420; // characters of the game's document that are printed
+const MOST_ALONE = 900; // the same where there is no picture
 
 const OPEN = "Open the page coop.html of the project";
+const AREA = "The dark area, where there is one: the divisions by which no group does better by itself.";
 const POWER = "Power is in what part of all orders of joining a voter is the one by whom the votes suffice (Shapley "
   + "and Shubik 1954).";
 const PRICES = "By the pairs that gain most together, and the prices at which no other pair does better.";
@@ -28,13 +36,20 @@ export function showSheet(session, typed = {}) {
     refill(sheet);
     return;
   }
-  const view = { ...session, ...typed, result, rows: reading.rows, format: formatOf(session.places, session.mark) };
-  refill(sheet, headOf(view), answerOf(view), pictureOf(view), reasonsOf(view), agreedOf(view), checkOf(view));
+  const { rows } = reading, format = formatOf(session.places, session.mark), { heading, unit, withProposal } = typed;
+  const view = { ...session, heading, unit, withProposal, result, rows, format };
+  const reasons = reasonsOf(view), isLong = rows.length > MANY_ROWS || reasons.textContent.length > LONG;
+  const isTight = isLong || Boolean(withProposal);
+  sheet.classList.toggle("tight", isTight);
+  refill(sheet, headOf(view), answerOf(view), pictureOf(view), reasons, agreedOf(view), checkOf(view));
 }
 
 function headOf({ heading, kind }) {
-  const day = new Date().toLocaleDateString("en-GB", { dateStyle: "long" });
-  return el("header", {}, el("h1", {}, heading?.trim() || kind.title), el("p", { class: "hint" }, day));
+  return el("header", {}, el("h1", {}, heading?.trim() || kind.title), el("p", { class: "hint day" }, dayText()));
+}
+
+export function dayText() {
+  return new Date().toLocaleDateString("en-GB", { dateStyle: "long" });
 }
 
 // ---- Who, and how much
@@ -50,18 +65,51 @@ function answerOf(view) {
   const title = game.ballots ? "Power" : point.title, totals = totalsOf(rows, point.shares);
   const context = contextOf(game, rows, format), texts = format.column(totals);
   const hasExact = totals.some((total) => !format.isExact(total)), who = game.costs ? "Who pays" : "Who gets";
-  const heads = [game.ballots ? "Who votes" : who, context?.title, title, hasExact ? "exactly" : undefined];
+  const others = othersOf(view, point);
+  const heads = [game.ballots ? "Who votes" : who, context?.title, title, hasExact ? "exactly" : undefined,
+    ...others.map((other) => other.title)];
   const line = (r) => el("tr", {},
     el("th", { scope: "row" }, rows[r].label, rows[r].players.length > 1 && ` (${rows[r].players.length} landings)`),
     context && el("td", { class: "number" }, context.texts[r]),
     el("td", { class: "number strong" }, texts[r]),
-    hasExact && el("td", { class: "number" }, format.isExact(totals[r]) ? "" : fractionText(totals[r])));
+    hasExact && el("td", { class: "number" }, format.isExact(totals[r]) ? "" : fractionText(totals[r])),
+    others.map((other) => el("td", { class: "number" }, other.texts[r])));
   const sum = el("tr", { class: "sum" }, el("th", { scope: "row" }, "together"), context && el("td"),
-    el("td", { class: "number strong" }, texts.at(-1)), hasExact && el("td"));
+    el("td", { class: "number strong" }, texts.at(-1)), hasExact && el("td"),
+    others.map((other) => el("td", { class: "number" }, other.texts.at(-1))));
   return el("section", {},
     !game.ballots && !game.isMarket() && lead(result, point, { rows, format }),
     unit?.trim() && el("p", { class: "hint" }, `All amounts are in ${unit.trim()}.`),
-    halves(rows.length, heads.filter((head) => head !== undefined), line, sum));
+    halves(rows.length, heads.filter((head) => head !== undefined), line, sum),
+    format.isMoved(totals) && el("p", { class: "hint" }, `${MOVED} The fractions are exact.`),
+    others.map((other) => other.said && el("p", { class: "hint" }, `${other.title}: ${other.said}`)));
+}
+
+/** The other columns, and the user's proposal, where these are wanted: {title, texts, said}. */
+function othersOf({ result, rows, format, withProposal, proposal, judged }, shown) {
+  if (!withProposal || result.game.ballots) return [];
+  const { game, points } = result, own = proposal?.totals && { title: "Your proposal", ...proposal, ...judged };
+  return [...points.filter((point) => point !== shown), own].filter(Boolean).map((point) => {
+    const texts = format.column(point.totals ?? totalsOf(rows, point.shares));
+    return { title: point.title, texts, said: saidOf(game, point, format) };
+  });
+}
+
+/** Whether a group does better by itself, and, of a proposal, how it stands beside the solution. */
+function saidOf(game, { verdict, comparison }, { show }) {
+  const parts = [];
+  if (verdict?.isCore) parts.push("no group does better by itself.");
+  if (verdict?.group) {
+    const who = new Namer(game).group(verdict.group).replace(/ (alone|together)$/, "");
+    parts.push(`a group does better by itself: ${who}, by ${show(verdict.excess)}.`);
+  }
+  if (verdict?.sum) parts.push(`it adds to ${show(verdict.sum)}, and not to ${show(verdict.total)}.`);
+  if (comparison && comparison.better !== "same") {
+    const k = comparison.differs - comparison.first, [mine, theirs] = comparison.lists.map((list) => list[k]);
+    parts.push(`Of what each group could gain by leaving, the greatest first, place ${comparison.differs} is the first `
+      + `that differs: ${mine.excess} (${mine.group}) here, ${theirs.excess} (${theirs.group}) by the division above.`);
+  }
+  return parts.join(" ");
 }
 
 /** One table; of many rows two, side by side, with the sum below the second. */
@@ -91,7 +139,8 @@ function contextOf(game, rows, { show }) {
 
 function pictureOf({ result, rows, format }) {
   const { game, points, bird } = result, solution = solutionOf(result), few = rows.length <= MOST_PICTURED;
-  const settings = { ...format, wide: WIDE }, holder = (drawn) => el("figure", {}, drawn);
+  const settings = { ...format, wide: WIDE };
+  const holder = (drawn, said) => el("figure", {}, drawn, said && el("figcaption", { class: "hint" }, said));
   if (game.ballots) return few ? holder(powerOf(game, points, format)) : null;
   if (result.matching) {
     const deals = dealsOf(game, result.matching, solution);
@@ -99,7 +148,7 @@ function pictureOf({ result, rows, format }) {
   }
   if (!solution) return null;
   if (bird && few) return holder(planPicture(game, bird.tree, settings));
-  if (game.n === 3) return holder(trianglePicture(game, [solution], settings).drawn);
+  if (game.n === 3) return holder(trianglePicture(game, [solution], settings).drawn, AREA);
   return few ? holder(barsPicture(game, rows, [solution], settings)) : null;
 }
 
@@ -113,18 +162,34 @@ function powerOf(game, points, { show }) {
 // ---- The reasons
 
 function reasonsOf({ result }) {
-  const { reasons, answer, game, points } = result;
+  const { reasons, answer, rule, game, points } = result;
   if (game.ballots || !reasons) {
     return el("section", {}, el("h2", {}, "How it was found"), el("p", {}, game.ballots ? POWER : PRICES));
   }
   const [principle, next] = reasons, levels = reasons.filter(({ isLevel }) => isLevel).length;
-  const sentences = [...principle.sentences, ...(next ? toldOf(next) : [])];
-  if (next?.isLevel && levels > 1) sentences.push(`So the first of ${levels} levels; the certificate has them all.`);
+  const sentences = [...principle.sentences, ...(next ? toldOf(next) : [])], behind = levelsBehind(reasons, next);
+  if (next?.isLevel && levels > 1 && !behind.length) {
+    sentences.push(`So the first of ${levels} levels; the certificate has them all.`);
+  }
   const isCore = points.find(({ key }) => key === answer)?.verdict?.isCore;
-  return el("section", {}, el("h2", {}, `Why: the ${answer}`),
+  return el("section", {}, el("h2", {}, `Why: the ${rule}`),
     el("p", {}, sentences.join(" ")),
-    isCore && el("p", {}, "By these shares no group does better by itself."),
-    el("p", {}, `No other division meets the principle: there is just one ${answer} (Schmeidler 1969).`));
+    behind.length > 0 && el("ul", { class: "levels" }, behind.map((text) => el("li", {}, text))),
+    el("p", {}, isCore && "By these shares no group does better by itself. ",
+      `No other division meets the principle: there is just one ${rule} (${sourceOf(game.perHead)}).`));
+}
+
+/** What the levels behind the first say: who is worst off, and what is settled, or that alone, as there is room. */
+function levelsBehind(reasons, next) {
+  if (!next?.isLevel) return [];
+  const others = reasons.slice(2).filter(({ isLevel }) => isLevel);
+  const short = others.map(({ title, brief }) => `${title}: ${brief}`);
+  const long = others.map(({ title, sentences, brief, items }) => {
+    return items.length ? [`${title}:`, ...items.map(({ label }) => label)].join(" ")
+      : `${title}: ${[sentences[0], sentences[1], brief].join(" ")}`;
+  });
+  const isShort = (some) => some.join(" ").length <= MOST_LEVELS;
+  return isShort(long) ? long : isShort(short) ? short : [];
 }
 
 /** The first reason: with its items, or without, or its first sentences and the last one, as there is room. */
@@ -137,21 +202,27 @@ function toldOf({ sentences, items, last = "" }) {
 
 // ---- What is agreed on, and how to check it
 
-function agreedOf({ result: { text } }) {
-  const isShort = text.length <= MOST_DOCUMENT, digest = knownDigest(`${text}\n`) ?? "(this browser works out none)";
-  return el("section", {}, el("h2", {}, "What is agreed on"),
-    el("p", {}, "The numbers of the game, as they stand in its file. Its SHA-256 is ",
-      el("span", { class: "digest" }, digest), "."),
-    isShort && el("p", { class: "document" }, text),
-    el("p", { class: "sign" }, "Agreed on by", el("span"), "on", el("span", { class: "short" })));
+function agreedOf({ result: { text }, rows, kind, typed, doubt }) {
+  const isShort = text.length <= (rows.length > MOST_PICTURED ? MOST_ALONE : MOST_DOCUMENT);
+  const digest = knownDigest(`${text}\n`) ?? "(this browser works out none)", filled = filledText({ kind, typed });
+  const file = `${kind.id}-game.json`, sum = el("span", { class: "digest" }, digest);
+  const what = el("p", {}, `The numbers of the game, as they stand in ${file}. As this page writes that file, its `,
+    "SHA-256 is ", sum, ".", filled && ` ${filled}`);
+  return el("section", {}, el("h2", {}, doubt ? "Not agreed on" : "What is agreed on"),
+    doubt && el("p", {}, doubt), what,
+    isShort ? el("p", { class: "document" }, text)
+      : el("p", { class: "hint" }, `The file has ${text.length.toLocaleString("en")} characters, and isn’t printed. `
+        + "Keep it with this page."),
+    !doubt && el("p", { class: "sign" }, "Agreed on by", el("span"), "on", el("span", { class: "short" })));
 }
 
-function checkOf({ result: { answer, line, game } }) {
+function checkOf({ result: { rule, line, game }, doubt }) {
   const foot = document.querySelector("footer p").textContent;
+  if (doubt) return el("section", {}, el("p", { class: "hint" }, foot));
   const steps = line && !game.ballots
     ? `${OPEN}, choose “I got an answer and doubt it”, and give it the agreed file and the line with the certificate. `
-      + `Two checkers, apart from each other, say whether these shares are the ${answer} of the agreed game. `
-      + "It goes by hand, too (docs/certificates.md)."
+      + `Two checkers, apart from each other, say whether these shares are the ${rule} of the agreed game. `
+      + "It goes by hand, too: the page lists the eight conditions under “What a yes means”."
     : `${OPEN}, choose “Open or paste a document”, and give it the agreed file: it works the answer out anew.`;
   return el("section", {}, el("h2", {}, "How to check it"), el("p", {}, steps), el("p", { class: "hint" }, foot));
 }

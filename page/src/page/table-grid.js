@@ -4,21 +4,25 @@ import { masksBySize, membersOf } from "../game/groups.js";
 import { withEscapes } from "../game/names.js";
 import { cellInput, moveByKeys, pasteCells } from "./cells.js";
 import { button, cellOf, copy, el, refill } from "./dom.js";
+import { numbersIn } from "../cases/vectors.js";
+import { plural } from "../tell/words.js";
 import { pasteBox } from "./paste-box.js";
 
 const PAGE = 63; // all groups of six players
+const WAIT = 150; // milliseconds between the last key and filling anew
+const REFILL = 60000; // the question waits for what is filled anew
 const SIZES = ["", "Alone", "Two together", "Three together", "Four together", "Five together", "Six together"];
 
-/** `readList(text, names, order)` reads a pasted list, beside the page. */
+/** `readList({text, names, order})` reads a pasted list, beside the page; `remember(what)` offers to undo it. */
 export function tableGrid(kind, typed, settings) {
   return new TableGrid(kind, typed, settings).element;
 }
 
 class TableGrid {
-  constructor(kind, typed, { onChange, readList, readCells, help, mark }) {
-    Object.assign(this, { kind, typed, onChange, readList, help, mark });
+  constructor(kind, typed, { onChange, readList, readCells, help, mark, remember }) {
+    Object.assign(this, { kind, typed, onChange, readList, help, mark, remember });
     const [players, tools, list] = ["players", "tools", "groups"].map((name) => el("div", { class: name }));
-    this.message = el("p", { class: "note", role: "status" });
+    this.message = el("div", { class: "note", role: "status" });
     Object.assign(this, { players, tools, list, start: 0, wanted: "" });
     this.element = el("div", {}, players, tools, list, this.message);
     this.order = masksBySize(typed.names.length);
@@ -65,11 +69,19 @@ class TableGrid {
         this.onChange();
       },
     });
-    const remove = this.typed.names.length > 1 && button("×", () => this.change(withoutPlayer(this.typed, i)), {
+    const remove = this.typed.names.length > 1 && button("×", () => this.remove(i), {
       class: "remove", "aria-label": `Remove ${withEscapes(name) || `player ${i + 1}`}`,
       title: "Remove this player, with all its groups",
     });
     return el("span", { class: "player" }, input, remove);
+  }
+
+  /** The rest of the table stays. What all who stay cost was filled mostly, so it has to be typed. */
+  remove(i) {
+    this.remember(`Remove ${withEscapes(this.typed.names[i].trim()) || `player ${i + 1}`}`);
+    this.change(withoutPlayer(this.typed, i));
+    this.say();
+    if (this.typed.filled.length) this.fillSplits(true);
   }
 
   // ---- Groups
@@ -98,25 +110,56 @@ class TableGrid {
   }
 
   groupRow(mask) {
-    const label = groupLabel(this.typed.names, mask);
-    return el("li", {}, el("span", { class: "group" }, label), cellInput({
+    const label = groupLabel(this.typed.names, mask), isFilled = this.typed.filled?.includes(mask);
+    const input = cellInput({
       cell: `numbers.${mask}`, value: this.typed.numbers[mask] ?? "", isNumber: true,
-      label: `${this.kind.what} of ${label}`,
+      label: `${this.kind.what} of ${label}${isFilled ? ", filled by the page" : ""}`,
       onInput: (text) => {
         this.typed.numbers[mask] = text;
-        this.onChange();
+        input.classList.remove("filled");
+        this.typedInto(mask);
       },
-    }));
+    });
+    input.classList.toggle("filled", Boolean(isFilled));
+    return el("li", {}, el("span", { class: "group" }, label), input);
   }
 
+  /** Numbers that were filled follow those that are typed. */
+  typedInto(mask) {
+    const { filled = [] } = this.typed;
+    this.filling = (this.filling ?? 0) + 1;
+    this.typed.filled = filled.filter((other) => other !== mask);
+    if (!filled.length) return this.onChange();
+    this.onChange(REFILL);
+    clearTimeout(this.refilling);
+    this.refilling = setTimeout(() => this.fillSplits(true), WAIT);
+    return undefined;
+  }
+
+  /** A column of numbers fills the cells below; a list of groups, or a row of numbers, is one of the whole table. */
   paste(cell, rows, text) {
     if (rows.every((row) => row.length > 1 && /[^\d.,\s-]/.test(row[0]))) return this.takeList(text);
-    const place = this.placeOf(cell);
-    rows.slice(0, this.order.length - place).forEach((row, k) => {
-      this.typed.numbers[this.order[place + k]] = row.at(-1);
-    });
+    const place = this.placeOf(cell), numbers = numbersIn(text);
+    if (place === 0 && numbers?.length === 1 && numbers[0].length > 2) return this.takeList(text);
+    if (rows.some((row) => row.slice(numbers ? 1 : 2).some(Boolean))) {
+      return this.say("A cell takes one number, and this text has several in a line, so nothing was pasted. Give a "
+        + "column of numbers, or lines of a group and its number.");
+    }
+    this.remember("Paste");
+    if (place === 0 && rows.length >= this.order.length) this.forgetExample();
+    const masks = this.order.slice(place, place + rows.length);
+    masks.forEach((mask, k) => (this.typed.numbers[mask] = rows[k].at(-1)));
+    const { filled = [] } = this.typed;
+    this.typed.filled = filled.filter((mask) => !masks.includes(mask));
     this.showGroups();
-    return this.onChange();
+    return filled.length ? this.fillSplits(true) : this.onChange();
+  }
+
+  /** Names of the worked example don't stay with numbers that are pasted over all of it. */
+  forgetExample() {
+    if (this.ownNames().length) return;
+    this.typed.names = this.typed.names.map(() => "");
+    this.showPlayers();
   }
 
   // ---- Tools
@@ -130,11 +173,17 @@ class TableGrid {
       pasteBox((text, order) => this.takeList(text, order)));
   }
 
-  async fillSplits() {
-    const what = { typed: packed(this.typed), mark: this.mark(), costs: Boolean(this.kind.isCost) };
-    const { state, notes, fault } = await this.help("fillSplits", what);
-    if (state) this.change(unpacked(state));
-    this.message.textContent = fault ?? notes.join(" ");
+  /** Fills the empty groups; `again` those that were filled before. */
+  async fillSplits(again = false) {
+    const mine = (this.filling = (this.filling ?? 0) + 1), { filled } = this.typed;
+    const what = { typed: packed(this.typed), mark: this.mark(), costs: Boolean(this.kind.isCost), filled, again };
+    const { state, filled: fresh, notes, fault } = await this.help("fillSplits", what);
+    if (mine !== this.filling) return;
+    if (state && !again) this.remember("Fill the empty ones");
+    if (state) Object.assign(this.typed, unpacked(state), { filled: fresh });
+    this.showGroups();
+    this.say(fault ?? notes.join(" "));
+    this.onChange(0);
   }
 
   pager() {
@@ -165,7 +214,7 @@ class TableGrid {
 
   firstEmpty() {
     const place = this.order.findIndex((mask) => !(this.typed.numbers[mask] ?? "").trim());
-    if (place < 0) return void (this.message.textContent = "No group is empty.");
+    if (place < 0) return this.say("No group is empty.");
     this.wanted = "";
     this.go(Math.floor(place / PAGE) * PAGE);
     return cellOf(this.list, `numbers.${this.order[place]}`)?.focus();
@@ -177,14 +226,39 @@ class TableGrid {
   }
 
   async takeList(text, order = "size") {
-    this.message.textContent = "Reading the list …";
-    const { state, fault } = await this.readList(text, this.typed.names, order);
-    this.message.textContent = fault ?? "";
-    if (!state) return;
-    this.change(unpacked(state));
+    this.say("Reading the list …");
+    const { state, fault, told, isOdd } = await this.readList({ text, names: this.ownNames(), order });
+    if (!state) return this.say(fault);
+    this.remember("Use this list");
+    this.change({ ...unpacked(state), filled: undefined });
     const { names, numbers } = this.typed, lacking = this.order.filter((mask) => !numbers[mask]).length;
     const read = this.order.length - lacking;
-    const rest = lacking ? `; ${lacking} groups have no line and are empty` : "";
-    this.message.textContent = `Read: ${names.length} players, ${read} groups${rest}.`;
+    const empty = lacking === 1 ? "is empty" : "are empty";
+    const rest = lacking ? `; ${plural(lacking, "group has", "groups have")} no line and ${empty}` : "";
+    return this.say(`Read${told ? { size: " by size", mask: " by masks" }[told.order] : ""}: `
+      + `${plural(names.length, "player")}, ${plural(read, "group")}${rest}.${told ? placeOf(told, names) : ""}`,
+    isOdd && this.otherOrder(text, told.order));
   }
+
+  /** A hint that the list may stand in the other order. */
+  otherOrder(text, order) {
+    const [other, title] = order === "size" ? ["mask", "by masks"] : ["size", "by size"];
+    return [" So read, some group has a lesser number than a smaller one within it; in the other order none has. ",
+      button(`Read it ${title}`, () => this.takeList(text, other), { class: "quiet" })];
+  }
+
+  /** The names, but for those of the worked example, which are nobody's. */
+  ownNames() {
+    const { names } = this.typed, given = this.kind.example().names;
+    return names.join("\n") === given.join("\n") ? [] : names;
+  }
+
+  say(...parts) {
+    refill(this.message, parts);
+  }
+}
+
+/** Which group a number was read as, where the orders differ. */
+function placeOf({ place, number, mask }, names) {
+  return place ? ` Number ${place}, ${withEscapes(number)}, is that of ${groupLabel(names, mask)}.` : "";
 }

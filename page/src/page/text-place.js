@@ -42,8 +42,9 @@ class TextPlace {
         this.take(event.dataTransfer.files[0]);
       },
     } }, el("p", { class: "field" }, title), el("p", { class: "hint" }, hint), this.area,
-    el("p", {}, button("Choose a file", () => this.chooser.click(), { class: "quiet" }), " or drop it here. ",
-      this.name),
+    el("p", {}, button("Choose a file", () => this.chooser.click(), {
+      class: "quiet", "aria-label": `Choose a file: ${title}`,
+    }), " or drop it here. ", this.name),
     this.chooser);
     this.element.setText = (text) => this.setText(text);
   }

@@ -1,28 +1,39 @@
 // Checking a line that came from others: the agreed game, the program's checker, and the page's own.
 import { Rational } from "../exact/rational.js";
 import { Facts } from "../game/facts.js";
-import { plural } from "../tell/words.js";
+import { ruleName } from "../tell/rule-names.js";
 import { button, el, refill } from "./dom.js";
 import { anewWord, programWord, wordLine } from "./evidence.js";
+import { fingerprint } from "./files.js";
 import { Helper } from "./helper.js";
+import { lineTable } from "./line-table.js";
 import { settled } from "./questions.js";
 import { textPlace } from "./text-place.js";
 import { meaning } from "./trust.js";
+import { bareText, conclusion, disagreement, nameRemarks, twice, unreadable } from "./verdict.js";
 
 const NO_FILE = "No file of the game is given, so nobody can say. A certificate shows that shares are right for its "
   + "own game.";
+const NOT_AGREED = "This game came with a line, and isn’t the agreed game. Nothing on this page is agreed on.";
+const NOT_RIGHT = "This game came with a line that doesn’t show that its shares are right. The shares below are worked "
+  + "out anew.";
+const ASKED = ["nucleolus", "prenucleolus", "shapley", "bird"]; // what the program can find anew
 
-/** `onOpen(line)` opens the game of a line as a case; `format()` says how numbers are shown. */
-export function verifyPanel({ format, onOpen }) {
-  const panel = new VerifyPanel(format, onOpen);
-  return { element: panel.element, setLine: (text) => panel.ofLine.setText(text) };
+/** `onOpen(text, doubt)` opens a game as a case; `format()` says how numbers are shown; `onPrint()` prints all this. */
+export function verifyPanel({ format, onOpen, onPrint }) {
+  const panel = new VerifyPanel(format, onOpen, onPrint);
+  return {
+    element: panel.element,
+    setLine: (text) => panel.line !== text && panel.ofLine.setText(text),
+  };
 }
 
 class VerifyPanel {
-  constructor(format, onOpen) {
-    Object.assign(this, { format, onOpen, line: "", agreed: "", turn: 0 });
+  constructor(format, onOpen, onPrint) {
+    Object.assign(this, { format, onOpen, onPrint, line: "", agreed: "", turn: 0 });
     this.helpers = [new Helper(), new Helper()];
     this.answers = el("div", { class: "answers", "aria-live": "polite" });
+    this.means = el("div", {}, meaning());
     this.ofLine = textPlace({
       title: "The line to check", hint: "What the program printed, or this page saved: an answer with its certificate.",
       onText: (text) => this.check({ line: text }),
@@ -32,8 +43,8 @@ class VerifyPanel {
       hint: "The file that all agreed on before anyone knew an answer. It may be left out.",
       onText: (text) => this.check({ agreed: text }),
     });
-    const places = el("div", { class: "places" }, this.ofLine, this.ofGame);
-    this.element = el("div", {}, places, this.answers, meaning());
+    const places = el("div", { class: "places screen" }, this.ofLine, this.ofGame);
+    this.element = el("div", {}, places, this.answers, this.means);
   }
 
   async check(given) {
@@ -45,9 +56,10 @@ class VerifyPanel {
     try {
       const seen = await this.helpers[0].ask("lookAtLine", { line, agreed });
       if (!isMine()) return undefined;
-      const game = seen.facts ? new Facts(seen.facts) : null;
-      if (!seen.fault && !seen.hasCertificate) return this.showBare(seen, game);
-      const found = {};
+      this.sums = agreed.trim() ? this.sumsOf(agreed, seen, isMine) : null;
+      const game = seen.facts ? new Facts(seen.facts) : null, found = {};
+      refill(this.means, meaning(seen.answer, game?.perHead));
+      if (!seen.fault && !seen.hasCertificate) return await this.askBare(seen, game, isMine);
       this.show(seen, game, found);
       return seen.fault ? undefined : await this.ask(seen, game, found, isMine);
     } catch (fault) {
@@ -69,27 +81,102 @@ class VerifyPanel {
     ]);
   }
 
+  /** Without a certificate the program is asked for the answer anew, where the game and the question are known. */
+  async askBare(seen, game, isMine) {
+    const { bare, answer } = seen, canAsk = bare && ASKED.includes(answer);
+    this.showBare(seen, game, canAsk ? {} : null);
+    if (!canAsk) return;
+    const [engine] = this.helpers, document = bare.text;
+    const found = await settled(engine.ask("solve", { word: answer, document }).then(ended));
+    if (isMine()) this.showBare(seen, game, found);
+  }
+
+  /** By which sum the agreed file can be compared: that of what was given, and that which the page's paper names. */
+  sumsOf(agreed, { file }, isMine) {
+    const place = el("div", {}, fingerprint(agreed, "The agreed file, as it was given, has the SHA-256 "));
+    const made = file?.isGame ? this.helpers[1].ask("standardText", { text: agreed }) : Promise.resolve(null);
+    made.then((text) => {
+      if (!isMine() || !text || text === agreed) return;
+      place.append(fingerprint(text, "Written as this page writes and prints it, the same game has the SHA-256 "));
+    }, () => 0);
+    return place;
+  }
+
   tell(fault) {
     const sentence = `The line couldn’t be checked: ${fault.message}.`;
     refill(this.answers, el("p", { class: "notice bad", role: "alert" }, sentence));
   }
 
-  show(seen, game, found) {
-    const same = { title: "Is it the agreed game?", ...(seen.same ?? { sentence: NO_FILE }) };
-    const words = [same, ...(seen.fault ? [{ title: "The line", isYes: false, sentence: seen.fault }]
-      : [programWord(found.program, game), anewWord(found.anew, game)])];
-    refill(this.answers, conclusion(words, seen), el("ul", { class: "words" }, words.map(wordLine)),
-      disagreement(found), twice(seen), summary(seen, game, this.format()),
-      game && found.program && el("p", { class: "tools" },
-        button("Open this game here, with the reasons", () => this.onOpen(this.line), { class: "quiet" })));
+  sameWord({ same }) {
+    const title = "Is it the agreed game?";
+    return same ? { title, ...same, isGiven: true } : { title, isYes: null, sentence: NO_FILE };
   }
 
-  showBare(seen, game) {
-    const what = game
-      ? "It has no certificate, so there is nothing to check: only the lines of the nucleolus and the prenucleolus "
-        + "have one."
-      : "It has no game and no certificate.";
-    refill(this.answers, el("p", { class: "notice" }, what), twice(seen), summary(seen, game, this.format()));
+  show(seen, game, found) {
+    const same = this.sameWord(seen);
+    const words = [same, ...(seen.fault ? [] : [programWord(found.program, game), anewWord(found.anew, game)])];
+    refill(this.answers, conclusion(words, seen, game), twice(seen),
+      seen.fault && unreadable(seen, (text) => this.ofLine.setText(text)),
+      (!seen.fault || same.isGiven) && el("ul", { class: "words" }, words.map(wordLine)),
+      disagreement(found), nameRemarks(seen), lineTable(seen, game, this.format()), this.sums,
+      this.tools(seen, game, same, words));
+  }
+
+  agreedButton({ file }, { isYes }) {
+    return file?.isGame && button("Open the agreed game, with the reasons", () => this.onOpen(this.agreed), {
+      class: isYes === false ? "" : "quiet",
+    });
+  }
+
+  tools(seen, game, same, words) {
+    const isRight = words.slice(1).every(({ isYes }) => isYes);
+    const doubt = same.isYes === false ? NOT_AGREED : isRight ? "" : NOT_RIGHT;
+    if (words.slice(1).some(({ isYes }) => isYes === undefined)) return null;
+    return el("p", { class: "tools" },
+      this.agreedButton(seen, same),
+      game && !same.isYes && button("Open the game of this line", () => this.onOpen(this.line, doubt), {
+        class: "quiet",
+      }),
+      button("Print this check", this.onPrint, { class: "quiet" }));
+  }
+
+  showBare(seen, game, found) {
+    const same = this.sameWord(seen), { bare, file, answer } = seen, isTurned = file?.isLine;
+    const words = [same.isGiven && game && same, found && this.anewShares(found, bare, answer)].filter(Boolean);
+    const open = answer === "shares" ? "Open this game: its shares are judged there, as “Your proposal”"
+      : "Open this game here, with the reasons";
+    refill(this.answers,
+      el("p", { class: "notice" }, isTurned ? "The other file has the certificate: are the two in each other’s place?"
+        : bareText(seen, game, bare)),
+      isTurned && el("p", { class: "tools" }, button("Let them change places", () => this.turnRound())),
+      twice(seen), el("ul", { class: "words" }, words.map(wordLine)), nameRemarks(seen),
+      lineTable(seen, game, this.format()), this.sums,
+      el("p", { class: "tools" }, game && button(open, () => {
+        this.onOpen(this.line, same.isYes === false ? NOT_AGREED : "");
+      }, { class: "quiet" }), !isTurned && this.agreedButton(seen, same)));
+  }
+
+  turnRound() {
+    const { line, agreed } = this;
+    this.agreed = line;
+    this.ofGame.setText(line);
+    this.ofLine.setText(agreed);
+  }
+
+  /** What the program finds anew for the question of a line without a certificate. */
+  anewShares(found, { shares, isOwn, facts }, answer) {
+    const name = ruleName(answer, facts.perHead), game = isOwn ? "its game" : "the agreed game";
+    const title = `The program, asked anew for the ${name} of ${game},`;
+    if (!found.tree && !found.fault) return { title, sentence: "is at work …" };
+    if (found.fault || found.refusal || !found.tree.shares) {
+      return { title, isYes: null, sentence: found.fault ?? found.refusal?.sentence ?? "finds that there is none." };
+    }
+    const [mine, theirs] = [shares, found.tree.shares].map((list) => list.map(Rational.of));
+    const k = mine.findIndex((share, i) => !share.equals(theirs[i]));
+    if (k < 0) return { title, isYes: true, sentence: "finds these shares." };
+    const format = this.format(), verb = facts.costs ? "pays" : "gets";
+    return { title, isYes: false, sentence: `finds other shares: ${facts.shown[k]} ${verb} ${format.show(theirs[k])} `
+      + `(${theirs[k]}), and not ${format.show(mine[k])} (${mine[k]}).` };
   }
 }
 
@@ -97,42 +184,4 @@ function ended(answer) {
   if (answer.status <= 3) return answer;
   const why = answer.status === 7 ? "it found no memory" : `it ended with status ${answer.status}`;
   throw new Error(why);
-}
-
-/** What the words come to, in a sentence. */
-function conclusion([same, ...checks], { answer }) {
-  const lead = (sentence) => el("p", { class: "lead" }, sentence);
-  if (checks.some(({ isYes }) => isYes === undefined)) return null;
-  if (checks.some(({ isYes }) => !isYes)) return lead("No: this line doesn’t show that its shares are right.");
-  if (same.isYes) return lead(`Yes: these shares are the ${answer} of the agreed game.`);
-  return lead(same.isYes === false
-    ? `The shares are the ${answer} of the game in the line. But that isn’t the agreed game.`
-    : `The shares are the ${answer} of the game in the line. See that it is the game you mean.`);
-}
-
-function twice({ doubles = [] }) {
-  return doubles.length > 0 && el("p", { class: "notice" },
-    `In this text a key stands twice: ${doubles.join(", ")}. The last one counts, for the checkers and for what is `,
-    "shown here. Don’t go by the text itself.");
-}
-
-/** The two checkers never disagree, as far as anybody knows; if they do, somebody should hear of it. */
-function disagreement({ program, anew }) {
-  if (!program || !anew || program.fault || anew.fault) return null;
-  const one = program.refusal ? "refused" : program.tree.answer, other = anew.refused ? "refused" : anew.tree.answer;
-  return one !== other && el("p", { class: "notice bad" },
-    "The two checkers disagree. One of them is wrong: please keep this line, and tell the makers of the program.");
-}
-
-function summary({ answer, shares: texts }, game, format) {
-  if (!game || !texts) return null;
-  const shares = texts.map(Rational.of), column = format.column(shares);
-  const exact = (share) => !format.isExact(share) && el("small", { class: "exact" }, String(share));
-  const row = (name, ...cells) => [el("th", { scope: "row" }, name), el("td", { class: "number" }, cells)];
-  const rows = shares.map((share, i) => el("tr", {}, row(game.shown[i], column[i], exact(share))));
-  const all = el("tr", { class: "sum" }, row("together", column.at(-1)));
-  return el("div", {},
-    el("p", {}, `The line says: the ${answer} of ${plural(game.n, "player")}, and they ${game.costs ? "pay" : "get"}`),
-    el("div", { class: "scroll" },
-      el("table", { class: "shares small" }, el("tbody", {}, rows), el("tfoot", {}, all))));
 }

@@ -56,7 +56,8 @@ class Explainer {
     const worse = this.game.costs ? "pays more" : "gets less";
     const sentences = [WHOLE[this.game.kind].replace("#", shortText(this.game.whole()))];
     if (!this.isAnyDivision) sentences.push(`Only divisions count in which nobody ${worse} than alone.`);
-    sentences.push("Of these, look at the groups that gain least by joining.");
+    const those = this.isAnyDivision ? "Of all divisions of it" : "Of these";
+    sentences.push(`${those}, look at the groups that gain least by joining.`);
     sentences.push("Treat them as well as can be, then the next.");
     if (this.game.perHead) sentences.push("What a group gains or lacks is counted per member.");
     return { title: "The principle", sentences, items: [] };

@@ -1,7 +1,7 @@
 // The rules that give the nucleolus of a runway and of an estate, told with the numbers of a game. A rule is worked out
 // anew, and told only where its shares are those of the answer.
 import { Rational, ZERO } from "../exact/rational.js";
-import { fullText, shortText } from "../exact/decimals.js";
+import { decimal, fullText, shortText, spoken } from "../exact/decimals.js";
 
 /** The rule as {title, sentences, items}; null where the class has none. */
 export function ruleOf(game, shares, namer) {
@@ -104,6 +104,7 @@ function estateRule(game, shares, namer) {
     `The claims add to ${shortText(total)}, and half of that is ${shortText(half)}.`,
     `The estate of ${shortText(estate)} is ${isLacking ? "more" : "no more"} than that.`,
     `So each ${verb} half of its claim${isCapped.includes(true) ? `, but at most ${shortText(t)}` : ""}.`,
+    ...greatestText(parts, isCapped, t, amount),
     `Together that is ${isLacking ? `the ${shortText(amount)} that the estate lacks` : shortText(amount)}.`,
   ];
   const items = claims.map((claim, i) => {
@@ -112,5 +113,28 @@ function estateRule(game, shares, namer) {
     const left = isLacking ? ` ${shortText(claim)} less ${shortText(parts[i])} is ${shortText(shares[i])}.` : "";
     return { label: `${namer.names[i]} gets ${fullText(shares[i])}.`, text: `${halfOf}${cut}.${left}` };
   });
-  return { title: "The rule (the Talmud’s; Aumann and Maschler 1985)", sentences, items };
+  const last = inProportion(game, shares, isLacking, isCut);
+  return { title: "The rule (the Talmud’s; Aumann and Maschler 1985)", sentences, items, last };
+}
+
+/** Where the most that one gets, or loses, comes from: what the halves below it leave, in equal parts. */
+function greatestText(parts, isCapped, t, amount) {
+  const many = isCapped.filter(Boolean).length, few = parts.length - many, equal = `in ${many} equal parts`;
+  if (!many) return [];
+  if (!few) return [`No half is below that: ${shortText(amount)} ${equal}.`];
+  const halves = Rational.sum(parts.filter((_, i) => !isCapped[i])), left = shortText(amount.minus(halves));
+  const those = few === 1 ? "The one half that isn’t above it is" : `The ${few} halves that aren’t above it come to`;
+  const each = many > 1 ? `; ${equal} that is ${fullText(t)} each` : "";
+  return [`${those} ${shortText(halves)}, of ${shortText(amount)}. That leaves ${left}${each}.`];
+}
+
+/** That it isn't the division in proportion, and who gets more by which; "" where the two are the same. */
+function inProportion({ single, amounts }, shares, isLacking, isCut) {
+  const part = single.over(Rational.sum(amounts));
+  if (amounts.every((claim, i) => claim.times(part).equals(shares[i]))) return "";
+  const percent = `${decimal(part.times(Rational.of(100)), 2, spoken)}\u202f%`;
+  const [more, less] = isLacking ? ["greater", "smaller"] : ["smaller", "greater"];
+  const who = isLacking && isCut ? "" : ` Here the ${more} claims get more than that, and the ${less} ones less.`;
+  return `This isn’t the division in proportion to the claims, by which each would get ${percent} of its claim.${who} `
+    + "A court may be bound to another rule: insolvency law commonly divides in proportion.";
 }

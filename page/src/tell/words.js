@@ -18,6 +18,10 @@ export function plural(count, one, several = one + "s") {
   return `${count} ${count === 1 ? one : several}`;
 }
 
+export function capital(text) {
+  return text.replace(/^./u, (letter) => letter.toUpperCase());
+}
+
 export function isOrAre(list) {
   return list.length === 1 ? "is" : "are";
 }

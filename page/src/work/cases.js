@@ -7,22 +7,36 @@ import { cellsOf } from "../cases/pasting.js";
 import { packed, tableOf } from "../cases/tables.js";
 import { factsOf } from "../game/facts.js";
 import { Game } from "../game/game.js";
+import { withEscapes } from "../game/names.js";
+import { ruleName } from "../tell/rule-names.js";
 import { slipsOf } from "../tell/slips.js";
 import { answer } from "./answers.js";
 
 const MOST_PER_HEAD = 8;
+const ANSWERS = ["nucleolus", "prenucleolus", "shapley"];
 const MOST_BYTES = 2097152;
 
 /** What the cells say: the rows of the answer, what is wrong, and, where nothing is, the document and its facts. */
 export function readCase({ id, typed, mark, measure }) {
-  const { reading, rows, tree, ballots } = caseNamed(id).read(typed, mark);
-  const { faults, count, empty, doubts, notes } = reading;
-  const read = { rows, faults, count, empty, doubts, notes, isRight: reading.isRight() };
+  const { reading, rows, tree, ballots } = readByOneMark(caseNamed(id), typed, mark);
+  const { faults, count, empty, doubts, doubted, notes, isTooFine = false } = reading;
+  const read = {
+    rows, faults, count, empty, doubts, doubted, notes, isTooFine, mark: reading.mark, isRight: reading.isRight(),
+  };
   if (!read.isRight) return read;
   const players = rows.reduce((sum, row) => sum + row.players.length, 0), isMeasured = measure === "per-head";
   const { class: name, ...others } = tree, canBe = players <= MOST_PER_HEAD && name !== "market";
   const game = isMeasured && canBe ? { class: name, excess: "per-head", ...others } : tree;
   return { ...read, text: writeJson({ game }), facts: factsOf(new Game(game), ballots) };
+}
+
+/** All cells are read by one mark: where some show which, that one settles those that can be read both ways. */
+function readByOneMark(kind, typed, mark) {
+  const first = kind.read(typed, mark), settled = first.reading.settles();
+  if (!first.reading.doubted || settled === null) return first;
+  const read = settled === mark ? first : kind.read(typed, settled);
+  Object.assign(read.reading, { doubts: [], doubted: 0 });
+  return read;
 }
 
 /** The rows of what was pasted. */
@@ -31,9 +45,9 @@ export function readCells({ text }) {
 }
 
 /** A table from a pasted list. */
-export function readList({ text, names, order }) {
-  const { state, fault } = tableOf(cellsOf(text), names, order);
-  return state ? { state: packed(state) } : { fault };
+export function readList({ text, names, order, mark }) {
+  const { state, fault, told, isOdd } = tableOf(text, names, order, mark);
+  return state ? { state: packed(state), told, isOdd } : { fault };
 }
 
 /** A document as a case with what a person would have typed, or what is wrong with it. */
@@ -51,8 +65,20 @@ export function openDocument({ text, mark }) {
   const { rows } = kind.read(typed, ".");
   return {
     id: kind.id, typed: kind.pack?.(typed) ?? typed, measure: game.perHead ? "per-head" : "plain",
-    texts: isProposal ? textsOf(rows, tree.shares, mark) : [],
+    texts: isProposal ? textsOf(rows, tree.shares, mark) : [], other: otherShares(tree, game),
   };
+}
+
+/** The shares of a line, in a sentence, where the program finds others for its game; null where it finds the same. */
+function otherShares({ answer: word, shares, game: tree }, game) {
+  if (!ANSWERS.includes(word) || !Array.isArray(shares) || shares.length !== game.n) return null;
+  const { status, tree: found } = answer(word, writeJson({ game: tree }));
+  if (status > 1) return null;
+  const differs = shares.findIndex((share, i) => String(share) !== String(found.shares?.[i]));
+  if (differs < 0) return null;
+  const verb = game.costs ? "pays" : "gets";
+  const rule = ruleName(word, game.perHead), theirs = withEscapes(String(shares[differs]));
+  return `by the ${rule} ${game.shown[differs]} ${verb} ${theirs}.`;
 }
 
 /** A line with a long certificate may be above what the program takes for other questions; its game isn't. */

@@ -20,8 +20,9 @@ function placeName(names, i) {
   return i ? withEscapes(names[i - 1].trim()) || `Place ${i}` : "Source";
 }
 
-/** Fills each empty cell by the cheapest way over links that exist: {links, notes}, or {fault}. */
-export function fillLinks({ names, links, mark }) {
+/** Fills each empty cell by the cheapest way over links that exist, or of them those with the keys `only`: {links,
+ * ways, notes}, or {fault}. */
+export function fillLinks({ names, links, mark, only = null }) {
   const { n, cost, fault } = linksOf({ names, links, mark });
   if (fault) return { fault };
   const ways = Array.from({ length: n + 1 }, (_, i) => Array.from({ length: n + 1 }, (_, j) => {
@@ -36,19 +37,20 @@ export function fillLinks({ names, links, mark }) {
       }
     }
   }
-  const filled = { ...links }, told = [], lacking = [];
+  const filled = { ...links }, told = [], lacking = [], made = [];
   for (let i = 0; i <= n; i++) {
     for (let j = i + 1; j <= n; j++) {
-      if (cost(i, j)) continue;
+      if (cost(i, j) || (only && !only.includes(`${i}-${j}`))) continue;
       const which = `${placeName(names, i)} – ${placeName(names, j)}`;
       if (!ways[i][j]) lacking.push(which);
       else {
         filled[`${i}-${j}`] = typedText(ways[i][j], mark);
+        made.push(`${i}-${j}`);
         told.push(`${which} ${shortText(ways[i][j])}`);
       }
     }
   }
-  return { links: filled, notes: notesOf(told, lacking) };
+  return { links: filled, ways: made, notes: notesOf(told, lacking) };
 }
 
 function notesOf(told, lacking) {
@@ -56,7 +58,8 @@ function notesOf(told, lacking) {
   if (told.length) {
     notes.push(`Filled by the cheapest way through the others: ${told.join("; ")}. `
       + "Where several of a group’s ways share a stretch, this counts the stretch more than once, and rewards the "
-      + "place that it leads through. Then make a table of costs.");
+      + "place that it leads through. Then make a table of costs. These links are marked, and follow when another "
+      + "number changes.");
   }
   if (lacking.length) notes.push(`No way leads there: ${lacking.join("; ")}.`);
   return notes.length ? notes : ["No link is empty."];

@@ -6,18 +6,36 @@ import { plural } from "../tell/words.js";
 
 const MOST_SCALE = 65536n;
 
-/** Fills the empty groups of a table: {state, notes}, or {fault}. Costs take the cheapest split, gains the best. */
-export function fillSplits({ typed, mark, costs }) {
-  const { names, numbers } = unpacked(typed), { values, scale, fault } = scaledValues(numbers, mark);
+/** Fills the empty groups of a table, and anew those that were `filled` before (`again` only these, so that a cell may
+ * be emptied): {state, filled, notes}, or {fault}.
+ * Costs take the cheapest split, gains the best. What all together cost or gain is never filled: it is divided. */
+export function fillSplits({ typed, mark, costs, filled = [], again = false }) {
+  const { names, numbers: given } = unpacked(typed), old = new Set(filled), all = given.length - 1;
+  const numbers = given.map((text, mask) => (old.has(mask) ? "" : text));
+  const { values, scale, fault } = scaledValues(numbers, mark);
   if (fault) return { fault };
-  const filled = bestSplits(values, costs), fresh = [];
+  const best = bestSplits(values, costs), fresh = [], hasWhole = values[all] !== null;
   const texts = numbers.map((text, mask) => {
-    if (!mask || values[mask] !== null || filled[mask] === null) return text;
+    if (!mask || mask === all || values[mask] !== null || best[mask] === null || (again && !old.has(mask))) return text;
     fresh.push(mask);
-    return typedText(new Rational(BigInt(filled[mask]), scale), mark);
+    return typedText(new Rational(BigInt(best[mask]), scale), mark);
   });
-  const lacking = filled.filter((value, mask) => mask && value === null).length;
-  return { state: packed({ names, numbers: texts }), notes: notesOf(fresh.length, lacking, costs) };
+  const lacking = texts.filter((text, mask) => mask && mask !== all && !text.trim()).length;
+  const above = countAbove(hasWhole ? best : [...best.slice(0, -1), null], fresh);
+  const notes = notesOf(fresh.length, lacking, hasWhole, above, costs);
+  return { state: packed({ names, numbers: texts }), filled: fresh, notes };
+}
+
+/** How many of the filled groups cost more (gain more) than a larger group that holds them. */
+function countAbove(values, fresh) {
+  const least = [...values];
+  for (let bit = 1; bit < least.length; bit *= 2) {
+    for (let mask = least.length - 1; mask > 0; mask--) {
+      const other = mask & bit ? null : least[mask | bit] ?? null;
+      if (other !== null && (least[mask] === null || other < least[mask])) least[mask] = other;
+    }
+  }
+  return fresh.filter((mask) => least[mask] < values[mask]).length;
 }
 
 /** What was typed as whole numbers over a scale; null where nothing was. */
@@ -50,14 +68,22 @@ function bestSplits(values, costs) {
   return best;
 }
 
-function notesOf(count, lacking, costs) {
-  if (!count && !lacking) return ["No group is empty."];
-  const split = costs ? "its cheapest split" : "its best split", notes = [];
+function notesOf(count, lacking, hasWhole, above, costs) {
+  if (!count && !lacking && hasWhole) return ["No group is empty."];
+  const split = costs ? "cheapest split" : "best split", notes = [];
+  const [cost, less] = costs ? ["cost", "less"] : ["gain", "more"];
   if (count) {
-    notes.push(`${plural(count, "group was", "groups were")} filled, each by ${split} into groups that have a number. `
-      + "That says: together they would do no more than apart. The Shapley shares and those per head depend on it; the "
-      + "nucleolus often doesn’t.");
+    notes.push(`${plural(count, "group was", "groups were")} filled, each by its ${split} into groups that have a `
+      + "number. They are marked, and follow when another number changes. "
+      + `That says: together they would ${cost} no ${less} than apart. Where a group could, the shares may `
+      + "change, those of the nucleolus too.");
   }
-  if (lacking) notes.push(`${plural(lacking, "group is", "groups are")} still empty: no split of theirs has numbers.`);
+  if (above) {
+    notes.push(`${above} of them ${cost} more than a larger group that holds them.${costs
+      ? " A group that could use the larger one’s plan would cost less." : ""}`);
+  }
+  const still = plural(lacking, "group is", "groups are");
+  if (lacking) notes.push(`${still} still empty.`);
+  if (!hasWhole) notes.push(`What all together ${cost} has to be typed: it is what is divided, so it isn’t filled.`);
   return notes;
 }

@@ -1,0 +1,53 @@
+// A list of numbers alone, as other programs print it: a line each, a row of a spreadsheet, c(1, 2), or R's [1] 1 2.
+import { readNumber } from "../exact/decimals.js";
+
+const MOST_PLAYERS = 16;
+
+/** The rows of numbers of a text in which nothing else stands; null for any other text. */
+export function numbersIn(text) {
+  const plain = text.replace(/\r\n?/g, "\n").replace(/^[ \t]*\[\d+\](?=\s)/gm, "")
+    .replace(/\b(?:c|(?:np\.)?array)\s*\(/g, " ")
+    .replace(/[^\s;]+/g, (word) => (isMinus(word) ? word : word.replace(/[[\](){}]/g, " ")));
+  const lines = plain.split("\n").map((line) => line.trim()).filter(Boolean), part = separatorOf(lines);
+  const rows = lines.map((line) => line.split(part).map((token) => token.trim()).filter(Boolean));
+  const tokens = rows.flat();
+  const isList = tokens.length > 0 && tokens.every((token) => isNumber(token));
+  return isList ? rows.filter((row) => row.length) : null;
+}
+
+/** Brackets around one number say minus: (3.50). */
+function isMinus(word) {
+  return /^\([\d.,]+\)$/.test(word);
+}
+
+function isNumber(token) {
+  return !readNumber(token).fault;
+}
+
+/** What parts the numbers of a line. A comma does where it can't stand in front of decimals. */
+function separatorOf(lines) {
+  const has = (mark) => lines.some((line) => mark.test(line));
+  if (has(/\t/)) return /\t/;
+  if (has(/;/)) return /;/;
+  if (has(/,\s|,$/)) return /,\s*/;
+  if (lines.every(isNumber)) return /$^/;
+  return has(/\d\s+[-−.\d]/) ? /\s+/ : /,/;
+}
+
+/** The numbers of all groups in a row, without the group of nobody: {numbers, n}, or {fault}. */
+export function vectorOf(rows) {
+  const isTable = rows.length > 1 && rows.every((row) => row.length === rows[0].length && row.length > 1);
+  if (isTable && Number.isInteger(Math.log2(rows[0].length + 1))) {
+    const [count, wide] = [rows.length, rows[0].length];
+    return { fault: `These are ${count} rows of ${wide} numbers, so ${count} games. Paste one row.` };
+  }
+  const all = rows.flat(), hasNobody = all.length > 2 && Number.isInteger(Math.log2(all.length)) && isZero(all[0]);
+  const numbers = hasNobody ? all.slice(1) : all, n = Math.log2(numbers.length + 1);
+  if (Number.isInteger(n) && n > 0 && n <= MOST_PLAYERS) return { numbers, n };
+  return { fault: `These are ${all.length} numbers alone. A list of all groups of two to sixteen players has `
+    + "3, 7, 15, 31 and so on; the group of nobody isn’t listed." };
+}
+
+function isZero(token) {
+  return readNumber(token).value?.isZero() ?? false;
+}

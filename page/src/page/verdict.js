@@ -1,0 +1,57 @@
+// What the words of the checkers come to, and what is told of a line beside them.
+import { ruleName } from "../tell/rule-names.js";
+import { button, el } from "./dom.js";
+
+const lead = (sentence) => el("p", { class: "lead" }, sentence);
+
+/** What the words come to, in a sentence; null while they are asked. */
+export function conclusion([same, ...checks], { answer, doubles = [], fault }, game) {
+  if (fault) return lead("This line can’t be read, so nothing of it is checked.");
+  if (checks.some(({ isYes }) => isYes === undefined)) return null;
+  if (checks.some(({ isYes }) => !isYes)) return lead("No: this line doesn’t show that its shares are right.");
+  const name = ruleName(answer, game?.perHead);
+  if (doubles.length) {
+    return lead("Don’t take this line: a key stands twice in it, so its text can be read in two ways. By the last of "
+      + `each, its shares are the ${name} of ${same.isYes ? "the agreed game" : "its own game"}.`);
+  }
+  if (same.isYes) return lead(`Yes: these shares are the ${name} of the agreed game.`);
+  const own = `The shares are the ${name} of the game in the line.`;
+  if (same.isYes === false) return lead(`${own} But that isn’t the agreed game.`);
+  return lead(same.isGiven ? `${own} But nobody can say whether it is the agreed one.`
+    : `${own} See that it is the game you mean.`);
+}
+
+export function twice({ doubles = [] }) {
+  return doubles.length > 0 && el("p", { class: "notice" },
+    `In this text a key stands twice: ${doubles.join(", ")}. The last one counts, for the checkers and for what is `,
+    "shown here. Don’t go by the text itself, and ask for one in which each key stands once.");
+}
+
+/** What has to be told of the names. */
+export function nameRemarks({ remarks = [] }) {
+  return remarks.length > 0 && el("div", { class: "notice" }, remarks.slice(0, 12).map((one) => el("p", {}, one)));
+}
+
+/** The two checkers never disagree, as far as anybody knows; if they do, somebody should hear of it. */
+export function disagreement({ program, anew }) {
+  if (!program || !anew || program.fault || anew.fault) return null;
+  const one = program.refusal ? "refused" : program.tree.answer, other = anew.refused ? "refused" : anew.tree.answer;
+  return one !== other && el("p", { class: "notice bad" },
+    "The two checkers disagree. One of them is wrong: please keep this line, and tell the makers of the program.");
+}
+
+/** Why a text is no line, and what may help. */
+export function unreadable({ fault, help = [], mended }, onMend) {
+  return el("div", { class: "notice bad" }, el("p", {}, fault), help.map((sentence) => el("p", {}, sentence)),
+    mended && el("p", { class: "tools" }, button("Read it without what the mail program added", () => onMend(mended))));
+}
+
+/** What is missing in a line without a certificate, and what to ask for. */
+export function bareText({ answer, isRefusal }, game, bare) {
+  if (isRefusal) return "This is no answer: the program refused a document, and says why in this line.";
+  const ask = "Ask for the whole line that the program printed, or that this page saved under “Hand it on”.";
+  const kind = ["nucleolus", "prenucleolus", "shares"].includes(answer) ? ""
+    : " Only those of the nucleolus and the prenucleolus have one.";
+  const missing = game ? "It has no certificate" : "It has no game and no certificate";
+  return `${missing}, so there is no evidence to check.${kind} ${bare ? "" : ask}`.trim();
+}

@@ -1,0 +1,58 @@
+// A line that came by mail and can’t be read: what has happened to it, and the line without that.
+import { parseJson } from "../exact/json.js";
+
+const MARKS = /[\ufeff\u200b\u200e\u200f\u2060]/g; // that programs put in front, or between, and nobody sees
+const QUOTES = /[\u201c-\u201f\u00ab\u00bb\u2033]/g;
+const MOST_READ = 2000000; // letters of a text that is looked through
+
+const COPY = "Copy it from the first { to the last }, or choose the file that was attached.";
+
+/** Each thing that mail programs do to a text, as a pattern and in words. */
+const DONE = [
+  [/^[\ufeff\u200b\u200e\u200f\u2060]/, "In front of it stands a mark that nobody sees (a byte order mark, or a "
+    + "blank without width)."],
+  [/\}\s*\{"(answer|game|refused|usage)"/, "More than one line stands in it: give one at a time."],
+  [/^\s*>/m, "Its lines begin with “>”, as in the answer to a mail."],
+  [/=3D|=\r?\n/, "It is written as mail programs pack texts (“quoted-printable”), with “=” at the ends of lines."],
+  [/^\s*[^{\s>\ufeff\u200b]/, "Other words stand in front of the first {."],
+  [/\}[^{}]*[^\s{}][^{}]*$/, "Other words stand behind the last }."],
+  [/[\u201c\u201d\u201e]\s*[:,\]}]/, "It has typographic quote marks (“ ”) where plain ones (\") belong."],
+  [/[^,{}[\]:\s"]\r?\n[^\s]/, "It was broken into lines in the middle of a word."],
+];
+
+/** What a person may do about a text that is no JSON, in sentences. */
+export function unreadable(text) {
+  if (text.length > MOST_READ || !/[{}]/.test(text)) return [];
+  return [...DONE.filter(([pattern]) => pattern.test(text)).map(([, sentence]) => sentence), COPY];
+}
+
+/** The text without what a mail program did to it; null where that is no JSON either, or nothing was done. */
+export function mended(text) {
+  if (text.length > MOST_READ) return null;
+  const plain = text.replace(MARKS, "").replace(/^[ \t]*(>[ \t]?)+/gm, "");
+  const from = plain.indexOf("{"), to = plain.lastIndexOf("}");
+  if (from < 0 || to < from) return null;
+  const inside = plain.slice(from, to + 1), unbroken = inside.replace(/\r?\n/g, "");
+  const ways = [inside, unbroken, unpacked(inside), unbroken.replace(QUOTES, '"'), inside.replace(QUOTES, '"')];
+  return ways.find((way) => way && way !== text && isJson(way)) ?? null;
+}
+
+/** Quoted-printable, undone. */
+function unpacked(text) {
+  const bytes = [], joined = text.replace(/=\r?\n/g, "");
+  for (let k = 0; k < joined.length; k++) {
+    const [, digits] = /^=([0-9A-F]{2})/i.exec(joined.slice(k, k + 3)) ?? [];
+    if (digits) [k] = [k + 2, bytes.push(parseInt(digits, 16))];
+    else bytes.push(...new TextEncoder().encode(joined[k]));
+  }
+  return new TextDecoder().decode(new Uint8Array(bytes));
+}
+
+function isJson(text) {
+  try {
+    parseJson(text);
+    return true;
+  } catch {
+    return false;
+  }
+}

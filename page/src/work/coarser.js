@@ -1,0 +1,62 @@
+// Numbers that are too fine for a document: all rounded to four decimals, or all times a power of ten.
+import { Rational } from "../exact/rational.js";
+import { placesOf, readNumber, stepsOf, typedText } from "../exact/decimals.js";
+import { caseNamed } from "../cases/cases.js";
+import { plural } from "../tell/words.js";
+
+const PLACES = 4;
+const MOST = 2n ** 40n;
+const MOST_POWER = 12;
+
+/** The cells of a case with coarser numbers: {typed, notes}, or {fault}. `how` is "round" or "whole". */
+export function coarser({ id, typed: sent, mark, how }) {
+  const kind = caseNamed(id), typed = kind.unpack?.(sent) ?? sent, texts = [];
+  mapNumbers(kind, typed, (text) => (texts.push(text), text));
+  const values = texts.map((text) => readNumber(text, mark).value).filter(Boolean);
+  const { change, notes, fault } = how === "round" ? rounding(values, mark) : scaling(values, mark);
+  if (fault) return { fault };
+  const changed = mapNumbers(kind, typed, (text) => {
+    const { value } = readNumber(text, mark);
+    return value ? change(value, text) : text;
+  });
+  return { typed: kind.pack?.(changed) ?? changed, notes };
+}
+
+function rounding(values, mark) {
+  const isLong = (value) => placesOf(value) < 0, count = values.filter(isLong).length;
+  const rounded = (value) => new Rational(stepsOf(value, PLACES), 10n ** BigInt(PLACES));
+  return {
+    change: (value, text) => (isLong(value) ? typedText(rounded(value), mark) : text),
+    notes: [`${plural(count, "number was", "numbers were")} rounded to four decimals. The answer is that of the `
+      + "rounded numbers."],
+  };
+}
+
+function scaling(values, mark) {
+  const powers = Array.from({ length: MOST_POWER + 1 }, (_, k) => 10n ** BigInt(k));
+  const power = powers.findIndex((ten) => values.every(({ den }) => ten % den === 0n));
+  if (power < 0) {
+    return { fault: "Some of these numbers have no end as decimals, or more than twelve of them, so no power of ten "
+      + "makes all whole. Round them." };
+  }
+  const ten = Rational.of(powers[power]), isLarge = values.some((value) => value.times(ten).abs().num >= MOST);
+  if (isLarge) return { fault: `Times ${powers[power]} some number gets more than twelve digits. Round them.` };
+  return {
+    change: (value) => typedText(value.times(ten), mark),
+    notes: [`All numbers stand here times ${powers[power]}, so that they are whole, and exact. So are the shares: `
+      + `divide them by ${powers[power]}.`],
+  };
+}
+
+/** What was typed with each number changed. */
+function mapNumbers(kind, typed, change) {
+  if (kind.isTable) return { ...typed, numbers: typed.numbers.map((text, mask) => (mask ? change(text) : text)) };
+  if (kind.isMarket) return { ...typed, values: typed.values.map((row) => row.map(change)) };
+  if (kind.isNetwork) {
+    const links = Object.entries(typed.links).map(([key, text]) => [key, change(text)]);
+    return { ...typed, links: Object.fromEntries(links) };
+  }
+  const keys = kind.columns.filter(({ number, fallback }) => number && !fallback).map(({ key }) => key);
+  const rows = typed.rows.map((row) => ({ ...row, ...Object.fromEntries(keys.map((key) => [key, change(row[key])])) }));
+  return { ...typed, rows, ...(kind.single ? { [kind.single.key]: change(typed[kind.single.key]) } : {}) };
+}

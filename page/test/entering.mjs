@@ -1,0 +1,239 @@
+// Scenarios: numbers and lists as people and other programs have them, and what the page fills in by itself.
+import { settle } from "./harness.mjs";
+
+const value = (page, cell) => page.run(`document.querySelector('[data-cell="${cell}"]').value`);
+const made = (page) => page.run("document.querySelector('.made pre').textContent");
+const notes = (page) => page.text("#case .faults");
+const message = (page) => page.text("#case .note[role=status]");
+
+async function useList(page, text, order = "size") {
+  if (!(await page.run("document.querySelector('details.inline').open"))) await page.click("Paste a whole list");
+  await page.fill("details.inline textarea", text);
+  await page.run(`document.querySelector("details.inline select").value = "${order}"`);
+  await page.click("Use this list");
+  await page.until("!document.querySelector('#case .note[role=status]').textContent.startsWith('Reading')");
+}
+
+async function chooseMark(page, mark) {
+  await page.run(`(() => {
+    const marks = document.querySelectorAll("#answer-settings select")[1];
+    marks.value = "${mark}";
+    marks.dispatchEvent(new Event("change"));
+  })()`);
+  await settle(page);
+}
+
+const marks = [
+  ["one number of a list settles the decimal mark of all", "gains", async (page, expect) => {
+    await useList(page, "0.1754\n3.922\n1.5\n26.4614\n12.125\n8\n40");
+    await settle(page);
+    expect("read", await made(page), /"1961\/500"[\s\S]*"97\/8"|3\.922/);
+    expect("nobody asks", await notes(page), "");
+    await useList(page, "3.922\n1.234\n5\n6\n7\n8\n40.000");
+    await settle(page);
+    expect("told", await notes(page), /“3.922” is read as 3.9220, with decimals[\s\S]*So are the 3 numbers/);
+    const before = await made(page);
+    await page.click("Let the comma do so");
+    await settle(page);
+    expect("by the other", await notes(page), /“3.922” is read as the whole number 3922/);
+    await page.click("Let the point do so");
+    await settle(page);
+    expect("and back", await made(page), before);
+  }],
+
+  ["the decimal mark of what is shown changes no number", "gains", async (page, expect) => {
+    await useList(page, "3.922\n1.234\n5\n6\n7\n8\n40");
+    await settle(page);
+    const before = await made(page);
+    await chooseMark(page, ",");
+    expect("shown", await page.text(".shares tbody"), /\d,\d\d/);
+    expect("the same game", await made(page), before);
+  }],
+
+  ["an opened document is read in one way only", "document", async (page, expect) => {
+    const game = '{"version":2,"class":"table","players":2,"worths":["427/250",2,"9999/1000"]}';
+    await page.fill("#document textarea", `{"game":${game}}`);
+    await page.until("document.querySelector('.made pre')");
+    await settle(page);
+    const before = await made(page);
+    expect("cells", await value(page, "numbers.1"), "1.7080");
+    await chooseMark(page, ",");
+    expect("the same game", await made(page), before);
+    expect("no doubt", await notes(page), "");
+  }],
+];
+
+const ROWS = ["5 3 2 10 9 6 16", "5,3,2,10,9,6,16", "5, 3, 2, 10, 9, 6, 16", "5\t3\t2\t10\t9\t6\t16", "5;3;2;10;9;6;16",
+  "[1] 5 3 2 10\n[5] 9 6 16", "c(5, 3, 2, 10, 9, 6, 16)", "0 5 3 2 10 9 6 16"];
+
+const lists = [
+  ["a row of numbers is a list of groups", "gains", async (page, expect) => {
+    for (const text of ROWS) {
+      await useList(page, text);
+      await settle(page);
+      expect(text, await page.text(".lead"), /Player 1 gets .*Player 2 gets .*Player 3 gets .*together 16.00/);
+      const said = "Read by size: 3 players, 7 groups. Number 4, 10, is that of Player 1 + Player 2.";
+      expect(text, await message(page), said);
+    }
+    await useList(page, "1\t2\t3\n4\t5\t6");
+    expect("two rows", await message(page), /2 rows of 3 numbers, so 2 games/);
+    await useList(page, "A\t5\t7\nB\t3\t7\nA+B\t9\t7");
+    expect("three columns", await message(page), /a group and one number, and here one has more: “A; 5; 7”/);
+    expect("and nothing changed", await page.text(".lead"), /together 16.00/);
+  }],
+
+  ["a row of numbers, pasted into a cell", "gains", async (page, expect) => {
+    await page.paste('[data-cell="numbers.1"]', "5\t3\t2\t10\t9\t6\t16");
+    await page.until("document.querySelector('.lead')?.textContent.includes('together 16')");
+    await page.paste('[data-cell="numbers.2"]', "5\t3\t2");
+    expect("refused", await message(page), /A cell takes one number[\s\S]*nothing was pasted/);
+    expect("kept", await value(page, "numbers.2"), "3");
+  }],
+
+  ["a list in the wrong order", "gains", async (page, expect) => {
+    await useList(page, "0\n0\n0\n6\n2\n2\n12", "mask");
+    await settle(page);
+    expect("a hint", await message(page), /Read by masks[\s\S]*in the other order none has/);
+    await page.click("Read it by size");
+    await settle(page);
+    expect("by size", await message(page), /Read by size[\s\S]*Number 4, 6, is that of Player 1 \+ Player 2/);
+    expect("answer", await page.text(".lead"), /4.50, .*4.50 .*3.00/);
+    await page.click("Undo “Use this list”");
+    await settle(page);
+    expect("undone", await page.text(".lead"), /2.00, .*2.00 .*8.00/);
+  }],
+
+  ["names of the worked example don't stay with other numbers", "gains", async (page, expect) => {
+    await page.paste('[data-cell="numbers.1"]', "1\n2\n3\n4\n5\n6\n9");
+    await settle(page);
+    expect("names", await page.text(".lead"), /Player 1 gets/);
+    await page.type("names.0", "Ann");
+    await page.paste('[data-cell="numbers.1"]', "1\n2\n3\n4\n5\n6\n9");
+    await settle(page);
+    expect("but those that were typed do", await page.text(".lead"), /Ann gets/);
+  }],
+
+  ["headings of a list are told, and a row with a bad number is none", "runway", async (page, expect) => {
+    await page.click("Clear all");
+    await page.paste('[data-cell="rows.0.name"]', "Aer\t\t3\nBee\t40\t2\nCargo\t60\t1");
+    await page.until("document.querySelector('.fault.gentle')");
+    expect("kept", `${await value(page, "rows.0.name")} ${await value(page, "rows.0.count")}`, "Aer 3");
+    expect("nothing told", await page.text("#case .pasted"), "");
+    await page.click("Clear all");
+    const sheet = "Airline\tType\tLandings\tCost\nAer\tA320\t3\t20.50\nBee\tB737\t2\t40\nCargo\tA300\t1\t60";
+    await page.paste('[data-cell="rows.0.name"]', sheet);
+    await settle(page);
+    expect("by its headings", `${await value(page, "rows.0.cost")} ${await value(page, "rows.0.count")}`, "20.50 3");
+    const told = "The first row was taken as headings: “Airline” is “Airline”, “Landings” is “Landings”, “Cost” is "
+      + "“A landing needs alone”. “Type” was left out.";
+    expect("told", await page.text("#case .pasted"), told);
+  }],
+
+  ["numbers that are too fine, and in scientific notation", "gains", async (page, expect) => {
+    await useList(page, "1e-05\n0.94786536\n2E0\n3.123456\n4\n5\n6.5");
+    await page.until("document.querySelector('#case .faults li')");
+    expect("told", await notes(page), /too fine/);
+    await page.click("All times a power of ten");
+    await page.until("document.querySelector('#case .note')?.textContent.includes('times 100000000')");
+    await settle(page);
+    expect("exact", await value(page, "numbers.2"), "94786536");
+    await page.click("Undo “All times a power of ten”");
+    await page.until("document.querySelector('#case .faults li')");
+    await page.click("Round all to four decimals");
+    await settle(page);
+    expect("rounded", await value(page, "numbers.2"), "0.9479");
+    expect("told", await page.text("#case .note"), /3 numbers were rounded to four decimals/);
+  }],
+];
+
+const fills = [
+  ["filled groups follow what is typed", "costs", async (page, expect) => {
+    await page.type("numbers.3", "");
+    await page.until("document.querySelector('.fault.gentle')");
+    await page.click("Fill the empty ones");
+    await settle(page);
+    expect("filled", await value(page, "numbers.3"), "15.5");
+    await page.type("numbers.1", "6");
+    await page.until(`document.querySelector('[data-cell="numbers.3"]').value === "13.5"`);
+    await settle(page);
+    expect("document", await made(page), /\[\["Sales","Ops"\],"27\/2"\]/);
+    const marked = await page.run(`document.querySelector('[data-cell="numbers.3"]').classList.contains("filled")`);
+    expect("marked", marked, true);
+    const told = /Of the 7 numbers 1 wasn’t given: the page took each group’s cheapest split/;
+    expect("told with the answer", await page.text("#answer-body"), told);
+    expect("told with the evidence", await page.text("#evidence"), told);
+    await page.run("dispatchEvent(new Event('beforeprint'))");
+    expect("told on paper", await page.run("document.getElementById('sheet').textContent"), told);
+    await page.type("numbers.3", "12");
+    await settle(page);
+    expect("typed over", await page.run("document.querySelectorAll('.filled').length"), 0);
+    expect("no longer told", told.test(await page.text("#answer-body")), false);
+  }],
+
+  ["what is divided is never filled", "costs", async (page, expect) => {
+    await page.type("numbers.7", "");
+    await page.until("document.querySelector('.fault.gentle')");
+    await page.click("Fill the empty ones");
+    await page.until("document.querySelector('#case .note[role=status]').textContent.includes('all together')");
+    expect("told", await message(page), /What all together cost has to be typed/);
+    expect("empty", await value(page, "numbers.7"), "");
+    await page.type("numbers.7", "12");
+    await page.type("numbers.3", "");
+    await page.click("Fill the empty ones");
+    await settle(page);
+    await page.run(`document.querySelector('[aria-label="Remove Legal"]').click()`);
+    await page.until("document.querySelector('.fault.gentle')");
+    expect("a player leaves", await value(page, "numbers.3"), "");
+    expect("asked for", await message(page), /What all together cost has to be typed/);
+    await page.click("Undo “Remove Legal”");
+    await settle(page);
+    expect("undone", await value(page, "numbers.3"), "15.5");
+  }],
+
+  ["filled links follow what is typed", "network", async (page, expect) => {
+    await page.click("Clear all");
+    await page.click("Add a place");
+    for (const [cell, text] of [["0-1", "5"], ["1-2", "3"], ["1-3", "4"]]) await page.type(`links.${cell}`, text);
+    await page.click("A link that can’t be built");
+    await page.click("Fill in the cheapest ways");
+    await settle(page);
+    expect("a way", await value(page, "links.2-3"), "7");
+    await page.type("links.1-2", "9000");
+    await page.until(`document.querySelector('[data-cell="links.2-3"]').value === "9004"`);
+    await settle(page);
+    expect("told", await page.text("#answer-body"), /Of the 6 links 3 can’t be built[\s\S]*3 by the cheapest way/);
+    await page.click("make a table of costs of it");
+    await page.until("location.hash === '#costs'");
+    await settle(page);
+    expect("of real links alone", await value(page, "numbers.6"), "9009");
+  }],
+
+  ["a network with headings, and links that don't exist", "network", async (page, expect) => {
+    await page.click("Clear all");
+    await page.paste('[data-cell="names.0"]', "Town\tSource\tAston\nAston\t10\t\nBray\t-\t1");
+    await page.until("document.querySelector('.fault.gentle')");
+    expect("names", `${await value(page, "names.0")} ${await value(page, "names.1")}`, "Aston Bray");
+    expect("links", `${await value(page, "links.0-1")} ${await value(page, "links.1-2")}`, "10 1");
+    expect("one is empty", await notes(page), /1 cell is still empty/);
+    await page.click("Clear all");
+    await page.paste('[data-cell="names.0"]', "x\tSource\tA\tB\nSource\t0\t5\t8\nA\t5\t0\t2\nB\t8\t2\t0");
+    await settle(page);
+    expect("a square", await page.text(".lead"), /A pays .*B pays .*together 7.00/);
+  }],
+];
+
+export const entering = [...marks, ...lists, ...fills,
+  ["what was typed comes back by Undo", "estate", async (page, expect) => {
+    await page.click("Clear all");
+    await page.type("estate", "200");
+    await page.type("rows.0.claim", "300");
+    await page.click("Fill in the worked example");
+    await settle(page);
+    await page.click("Undo “Fill in the worked example”");
+    await settle(page);
+    expect("the last step", `${await value(page, "estate")} ${await value(page, "rows.0.claim")}`, "200 300");
+    await page.click("Redo “Fill in the worked example”");
+    await settle(page);
+    expect("and again", await value(page, "estate"), "2000");
+  }],
+];

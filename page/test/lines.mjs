@@ -1,0 +1,143 @@
+// Lines that came from others, without a browser: whether the game is the agreed one and where it differs, names that
+// look alike, texts that mail programs have changed, amounts as people list them, and the reasons of an estate.
+import { parseJson } from "../src/exact/json.js";
+import { Game } from "../src/game/game.js";
+import { remarksOf } from "../src/game/names.js";
+import { mended, unreadable } from "../src/tell/mail.js";
+import { ruleFile, ruleName } from "../src/tell/rule-names.js";
+import { ruleOf } from "../src/tell/rules.js";
+import { Namer } from "../src/tell/words.js";
+import { Rational } from "../src/exact/rational.js";
+import { lookAtLine } from "../src/work/lines.js";
+import { amountsIn } from "../src/work/others.js";
+
+let tried = 0, faults = 0;
+
+function expect(what, found, wanted) {
+  tried += 1;
+  if (wanted instanceof RegExp ? wanted.test(found) : found === wanted) return;
+  faults += 1;
+  console.log(`${what}: found ${JSON.stringify(found)}, wanted ${wanted}`);
+}
+
+// ---- Is it the agreed game?
+
+const names = '"names":["Adler","Brandt","Chopra"]';
+const estate = (rest) => `{"game":{"class":"bankruptcy",${rest}}}`;
+const agreed = estate(`"estate":200,"claims":[100,200,300],${names}`);
+
+/** The line, the agreed file, whether it is the same, and the sentence with the places. */
+const SAME = [
+  ["entry for entry", agreed, agreed, true, /entry for entry/],
+  ["spaces", agreed.replaceAll(",", ", "), agreed, true, /entry for entry/],
+  ["version 2", agreed.replace('"class"', '"version":2,"class"'), agreed, true, /written differently \(version\)/],
+  ["the measure", agreed.replace('"class"', '"excess":"plain","class"'), agreed, true, /differently \(excess\)/],
+  ["decimals", agreed, agreed.replace("200,", "200.00,"), true, /written differently/],
+  ["an exponent", agreed, agreed.replace(":200", ":2e2"), true, /written differently/],
+  ["numbers in quotes", agreed, agreed.replace("[100", '["100"'), true, /written differently/],
+  ["a half", agreed.replace("[100", '["201/2"'), agreed.replace("[100", "[100.5"), true, /written differently/],
+  ["the game alone", agreed, agreed.slice(8, -1), true, /the game alone, without/],
+  ["another order", agreed, estate('"estate":200,"claims":[300,100,200],"names":["Chopra","Adler","Brandt"]'), true,
+    /same names and numbers, in another order/],
+  ["claims that changed places", agreed.replace("[100,200", "[200,100"), agreed, false,
+    /claim of Adler \(item 1\): the line has 200, the agreed file 100[\s\S]*claim of Brandt \(item 2\)/],
+  ["all differences", agreed.replace(":200", ":250").replace("[100", "[101").replace("300]", "90]"), agreed, false,
+    /the estate: the line has 250, the agreed file 200[\s\S]*claim of Adler[\s\S]*Chopra \(item 3\): .* 90, .*300/],
+  ["per head", agreed.replace('"class"', '"excess":"per-head","class"'), agreed, false,
+    /How a group’s loss counts: the line has “per head”, the agreed file “as a whole”/],
+  ["a no-break space", agreed.replace("Adler", "Ad\u00a0ler"), agreed.replace("Adler", "Ad ler"), false,
+    /look alike, but at letter 3 the line has a no-break space \(\\u00a0\), and the agreed file a blank/],
+  ["a Cyrillic letter", agreed.replace("Brandt", "Br\u0430ndt"), agreed, false, /“\u0430” \(Cyrillic, \\u0430\)/],
+  ["two ways to write an accent", agreed.replace("Adler", "A\u0308dler"), agreed.replace("Adler", "\u00c4dler"), false,
+    /“A” and an accent by itself \(\\u0308\), and the agreed file “Ä”/],
+  ["a claim above the estate", agreed.replace("300]", "250]"), agreed, true,
+    /each group is worth the same.\nthe claim of Chopra \(item 3\): the line has 250, the agreed file 300/],
+  ["no names", agreed.replace(`,${names}`, ""), agreed, false, /The names: the line has none/],
+  ["a text that is none", agreed, "Adler;100", null, /Nobody can say: the agreed file can’t be read/],
+  ["no game", agreed, "{}", null, /the agreed file has no game/],
+  ["a key twice", agreed, agreed.replace('"claims"', '"claims":[1],"claims"'), null, /a key stands twice: claims/],
+  ["nonsense", agreed, '{"game":{"class":{},"names":[[]],"excess":{}}}', null, /hasn’t the form of a game/],
+];
+
+for (const [name, line, file, isYes, wanted] of SAME) {
+  const { same } = lookAtLine({ line, agreed: file });
+  expect(name, same.isYes, isYes);
+  expect(`${name}, told`, [same.sentence, ...(same.items ?? [])].join("\n"), wanted);
+}
+
+const links = (cost) => `{"game":{"class":"tree","matrix":[[0,5,8],[5,0,${cost}],[8,${cost},0]]}}`;
+expect("a link once", lookAtLine({ line: links(3), agreed: links(4) }).same.sentence,
+  /^No. The link from player 1 to player 2: the line has 3, the agreed file 4.$/);
+const table = (rest) => `{"game":{"class":"table","players":3,"names":["a","b","c"],${rest}}}`;
+const byName = table('"sparse":[[["a","b"],4],[["a","b","c"],6]]'), byMask = table('"worths":[0,0,4,0,0,0,6]');
+expect("a table by names and by masks", lookAtLine({ line: byName, agreed: byMask }).same.isYes, true);
+expect("a group by its names", lookAtLine({ line: byName, agreed: byMask.replace("4", "5") }).same.sentence,
+  /^No. The group a \+ b: the line has 4, the agreed file 5.$/);
+const many = `{"game":{"class":"airport","costs":[${Array.from({ length: 30 }, (_, k) => k)}]}}`;
+const others = `{"game":{"class":"airport","costs":[${Array.from({ length: 30 }, (_, k) => k + 1)}]}}`;
+expect("ten places, and how many more", lookAtLine({ line: many, agreed: others }).same.items.join(), /20 more places/);
+
+// ---- Names
+
+/** Names, and what is told of them; "" where nothing is. */
+const NAMES = [
+  [["Holm", "H\u043elm"], /“\u043e” \(Cyrillic, \\u043e\)[\s\S]*Names 1 and 2 look alike, as “Holm”/],
+  [["Holm", "Ho1m"], /Names 1 and 2 look alike/], [["Bo", "B0"], /look alike/],
+  [["Holm KG", "HOLM KG"], /differ by capitals alone/], [["Ann", "Ann "], /look alike/],
+  [["Ann", "\u3164"], /\\u3164[\s\S]*looks empty/], [["Ann", " "], /Name 2 looks empty/],
+  [["Ann", "Summe"], /Is it the sum of the others/], [["Ann", "together"], /Is it the sum/],
+  [["\u039fslo", "Oslo"], /Greek[\s\S]*look alike/], [["Kr\u00fcger", "Kru\u0308ger"], /look alike/],
+  [["Holm", "Holme"], ""], [["Krüger", "Kruger"], ""],
+  [["Ann", "Ben"], ""], [["Player 1", "Player 2", "Player 12"], ""], [["Группа", "Δήμος"], ""],
+  [["Müller", "Yıldız", "Strauß & Söhne"], ""], [["Team α", "Team β"], ""],
+];
+for (const [some, wanted] of NAMES) expect(some.join(" | "), remarksOf(some).join("\n"), wanted);
+
+// ---- Mail
+
+const plain = '{"a":"one two","b":[1,2]}', read = (text) => mended(text) ?? "";
+for (const [name, text, told] of [
+  ["a mark in front", `\ufeff${plain}`, /nobody sees/],
+  ["an answer", `> ${plain.replace(",", ",\n> ")}`, /begin with “>”/],
+  ["a letter around it", `Dear all,\n${plain}\nYours`, /in front of the first \{[\s\S]*behind the last \}/],
+  ["broken lines", plain.replace("tw", "t\nw"), /broken into lines/],
+  ["packed", plain.replaceAll(",", "=2C").replace("one", "o=\nne"), /quoted-printable/],
+  ["quote marks", plain.replace(/"(\w)/g, "“$1").replace(/"/g, "”"), /typographic/],
+]) {
+  expect(name, JSON.stringify(JSON.parse(read(text).replace(/\n/g, "") || "0")), plain);
+  expect(`${name}, told`, unreadable(text).join("\n"), told);
+}
+expect("nothing to mend", mended('{"a":'), null);
+
+// ---- Amounts, names of rules, and the reasons of an estate
+
+/** What is typed, and the amounts with what is told of them. */
+const AMOUNTS = [
+  ["1 000 000; 2 000 000", "1000000 2000000"], ["1\u202f200\u202f000", "1200000"], ["500; 1000", "500 1000"],
+  ["500 1000", "500 1000"], ["EUR 1000000", "1000000"], ["€ 500; 700 EUR", "500 700"], ["100\n200", "100 200"],
+  ["1\u00a0000\u00a0000;5", "1000000 5"], ["x; 5", "“x” is no number. 5"],
+];
+for (const [typed, wanted] of AMOUNTS) {
+  expect(typed, amountsIn(typed, ".").map(({ value, fault }) => String(value ?? fault)).join(" "), wanted);
+}
+expect("one amount", amountsIn("1 200 000", ".")[0].note, /read as one amount/);
+expect("settled by another", amountsIn("1,200; 900,50", ".").map(({ value, note }) => `${value} ${note}`).join(),
+  "6/5 undefined,1801/2 undefined");
+expect("a doubt", amountsIn("1.200; 1,200", ".").map(({ note }) => note).join(), /1.200” is read as 1.2:.*1,200” is/);
+
+expect("per head", ruleName("prenucleolus", true), "prenucleolus per head");
+expect("as a whole", ruleName("nucleolus", false), "nucleolus");
+expect("Shapley", ruleName("shapley", true), "Shapley shares");
+expect("a file", ruleFile("nucleolus", true), "nucleolus-per-head");
+
+function reasons(document, shares) {
+  const game = new Game(parseJson(document).game), rule = ruleOf(game, shares.map(Rational.of), new Namer(game));
+  return [...rule.sentences, rule.last].join(" ");
+}
+expect("where the most comes from", reasons(agreed, ["50", "75", "75"]),
+  /The one half that isn’t above it is 50, of 200. That leaves 150; in 2 equal parts that is 75 each/);
+expect("not in proportion", reasons(agreed, ["50", "75", "75"]), /by which each would get 33.33\u202f% of its claim/);
+expect("just in proportion", /proportion/.test(reasons(agreed.replace(":200", ":300"), ["50", "100", "150"])), false);
+
+console.log(`lines and names: ${tried} expectations, ${faults} faults`);
+process.exit(faults ? 1 : 0);

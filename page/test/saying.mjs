@@ -1,0 +1,156 @@
+// Scenarios: what has to be said where it counts: by which measure, how it is rounded, what a proposal is.
+import { settle } from "./harness.mjs";
+
+const sheetOf = async (page) => {
+  await page.run("dispatchEvent(new Event('beforeprint'))");
+  return page.run("document.getElementById('sheet').textContent");
+};
+
+async function savedNames(page) {
+  return page.run("[...document.querySelectorAll('#evidence .files button')].map((one) => one.textContent).join()");
+}
+
+export const saying = [
+  ["per head is said wherever the rule is named", "gains", async (page, expect) => {
+    await page.click("per head");
+    await settle(page);
+    expect("column", await page.text(".shares thead"), /Nucleolus per head\s+treats those worst off best, per member/);
+    expect("pictures", await page.run("document.querySelector('.bars svg').textContent"), /Nucleolus per head/);
+    expect("triangle", await page.run("document.querySelector('.triangle svg').textContent"), /Nucleolus per head/);
+    expect("files", await savedNames(page), /gains-nucleolus-per-head\.json/);
+    expect("in a sentence", await page.text(".lead"), /By the nucleolus per head/);
+    await page.run("document.querySelector('.shares + * ~ .meanings, .meanings').open = true");
+    expect("meaning", await page.text("#answer .meanings"), /The nucleolus per head counts[\s\S]*Grotte 1970/);
+    expect("no false sentence", /; the nucleolus is, wherever/.test(await page.text("#answer .meanings")), false);
+    expect("proposal", await page.text(".fill"), /nucleolus per head, rounded/);
+    const sheet = await sheetOf(page);
+    expect("paper", sheet, /Why: the nucleolus per head[\s\S]*one nucleolus per head \(Grotte 1970\)/);
+    expect("not by another's name", /nucleolus(?! per head)/i.test(sheet), false);
+    expect("what a yes means", await page.run("document.querySelector('#evidence .meanings').textContent"),
+      /shares are the nucleolus per head of/);
+    const line = await page.run("[...document.querySelectorAll('#evidence pre')].at(-1).textContent");
+    await page.run("dispatchEvent(new Event('afterprint'))");
+    await page.fill("#verify textarea", line);
+    await page.until("document.querySelector('#verify .lead')");
+    const checked = /The shares are the nucleolus per head of the game in the line/;
+    expect("checked", await page.text("#verify .lead"), checked);
+    expect("and its line", await page.text("#verify .answers"), /The line says: the nucleolus per head of 3 players/);
+  }],
+
+  ["a proposal that the page fills in is whole", "gains", async (page, expect) => {
+    await page.type("numbers.7", "120.0265");
+    await settle(page);
+    for (const way of ["equal parts", "nucleolus, rounded", "Shapley shares", "in proportion"]) {
+      await page.click(way, "document.querySelector('.fill')");
+      await settle(page);
+      expect(way, /missing|too much/.test(await page.text(".shares tfoot")), false);
+    }
+    await page.click("Shapley shares", "document.querySelector('.fill')");
+    await page.type("numbers.7", "361/3");
+    await settle(page);
+    await page.click("equal parts");
+    await settle(page);
+    expect("of a fraction", /missing|too much/.test(await page.text(".shares tfoot")), false);
+  }],
+
+  ["a proposal that is a division of the table", "runway", async (page, expect) => {
+    for (const [r, text] of [["2"], ["4"], ["6"]].entries()) await page.type(`rows.${r}.cost`, text[0]);
+    for (const r of [0, 1, 2]) await page.type(`rows.${r}.count`, "1");
+    for (const [r, text] of ["2/3", "5/3", "11/3"].entries()) await page.type(`proposal.${r}`, text);
+    await settle(page);
+    expect("told", await page.text(".same-as"), "Your proposal is just what stands under “Shapley shares”.");
+    await page.until("document.querySelector('.comparison')");
+    await page.click("Your proposal beside the nucleolus");
+    const told = /Of all divisions in which nobody pays more than alone the nucleolus has the least list: at the first/;
+    expect("compared", await page.text(".comparison"), told);
+  }],
+
+  ["decimals that are moved to add up", "estate", async (page, expect) => {
+    for (const [r, text] of ["100", "200", "300"].entries()) await page.type(`rows.${r}.claim`, text);
+    await page.type("estate", "100");
+    await settle(page);
+    expect("told", await page.text("#answer .moved"), /Rounded so that they add up[\s\S]*small print/);
+    expect("on paper", await sheetOf(page), /Rounded so that they add up/);
+    await page.run("dispatchEvent(new Event('afterprint'))");
+    await page.type("estate", "300");
+    await settle(page);
+    expect("not where none is", await page.run("document.querySelector('#answer .moved')"), null);
+  }],
+
+  ["changes of an overrun are those of the numbers shown", "runway", async (page, expect) => {
+    for (const [r, text] of ["2", "4", "6"].entries()) await page.type(`rows.${r}.cost`, text);
+    for (const r of [0, 1, 2]) await page.type(`rows.${r}.count`, "1");
+    await settle(page);
+    await page.click("If the whole costs more than planned");
+    await page.type("more", "1");
+    await page.click("Work it out", "document.querySelector('.other')");
+    await page.until("document.querySelector('.found table')");
+    const cells = await page.run(`[...document.querySelectorAll(".found tbody tr")].map((row) =>
+      [...row.querySelectorAll("td")].map((cell) => Number(cell.firstChild.textContent.replace("−", "-"))))`);
+    const isWrong = (row) => [0, 3, 6].some((k) => Math.abs(row[k + 1] - row[k] - row[k + 2]) > 1e-9);
+    expect("rows that don't fit", cells.filter(isWrong).length, 0);
+  }],
+
+  ["nobody hears an answer that no longer stands", "costs", async (page, expect) => {
+    expect("said", await page.run("document.getElementById('said').textContent"), /Sales pays/);
+    await page.type("numbers.1", "x");
+    await page.until("document.querySelector('#case .faults li')");
+    expect("silent", await page.run("document.getElementById('said').textContent"), "");
+  }],
+];
+
+const game = (worths, players = 3) => `{"game":{"class":"table","players":${players},"worths":[${worths}]}}`;
+
+saying.push(
+  ["an overrun after which no division satisfies all", "costs", async (page, expect) => {
+    await page.click("If the whole costs more than planned");
+    await page.type("more", "9");
+    await page.click("Work it out", "document.querySelector('.other')");
+    await page.until("document.querySelector('.found table')");
+    const found = await page.text(".found");
+    expect("told", found, /no division satisfies all groups: by any rule some group would pay less by itself/);
+    expect("by each rule", found, /Can a group do better by itself\?\s+No\s+Yes: .*\s+(No|Yes: .*)\s+Yes: /);
+  }],
+
+  ["the prenucleolus, where it is another than the nucleolus", "document", async (page, expect) => {
+    await page.fill("#document textarea", game([0, 0, 8, 0, 8, 0, 9]));
+    await settle(page);
+    expect("the same is not told twice", /Prenucleolus/.test(await page.text(".shares thead")), false);
+    await page.run("location.hash = '#document'");
+    await page.fill("#document textarea", game([0, 0, 10, 0, 10, 10, 1]));
+    await page.until("document.querySelector('[data-cell=\"numbers.7\"]')?.value === '1'");
+    await settle(page);
+    expect("symmetric", /Prenucleolus/.test(await page.text(".shares thead")), false);
+    await page.run("location.hash = '#document'");
+    await page.fill("#document textarea", game([0, 0, 20, 0, 0, 0, 1]));
+    await page.until("document.querySelector('[data-cell=\"numbers.3\"]')?.value === '20'");
+    await settle(page);
+    const heads = await page.text(".shares thead");
+    expect("another", heads, /Nucleolus[\s\S]*Prenucleolus[\s\S]*some may do worse than alone/);
+  }],
+
+  ["points at one place in the triangle, and its corners", "runway", async (page, expect) => {
+    for (const [r, text] of ["2", "4", "6"].entries()) await page.type(`rows.${r}.cost`, text);
+    for (const r of [0, 1, 2]) await page.type(`rows.${r}.count`, "1");
+    for (const [r, text] of ["2/3", "5/3", "11/3"].entries()) await page.type(`proposal.${r}`, text);
+    await settle(page);
+    const drawn = await page.run("document.querySelector('.triangle svg').textContent");
+    expect("together", drawn, /Shapley shares and Your proposal: one point/);
+    expect("corners", drawn, /Aer−4; 4; 6Bee2; −2; 6/);
+    const told = await page.run("document.querySelector('.triangle svg').getAttribute('aria-label')");
+    expect("told", told, /Nucleolus: Aer 1, Bee 1.5, Cargo 3.5/);
+  }],
+
+  ["eight who share, filled and on one page", "costs", async (page, expect) => {
+    const towns = ["Aston", "Bray", "Colne", "Dale", "Eskham", "Fenby", "Holm", "Holme"];
+    const alone = towns.map((name, k) => `${name}\t${3000.5 + 411.25 * k}`);
+    await page.click("Paste a whole list");
+    await page.fill("details.inline textarea", [...alone, `${towns.join("+")}\t15671.4`].join("\n"));
+    await page.click("Use this list");
+    await page.until("document.querySelector('.fault.gentle')");
+    await page.click("Fill the empty ones");
+    await settle(page);
+    const pages = (await page.pdf()).toString("latin1").match(/\/Type \/Page\b/g) ?? [];
+    expect("pages", pages.length, 1);
+  }],
+);
