@@ -1,6 +1,5 @@
 // Scenarios: each case, typed and pasted, and what its parts answer.
-import { READY, settle } from "./harness.mjs";
-import { pause } from "./browser.mjs";
+import { noted, READY, settle } from "./harness.mjs";
 
 const WORDS = /program’s checker says yes[\s\S]*own checker says yes/;
 
@@ -52,18 +51,15 @@ export const casesTyped = [
     expect("and it is told", await page.text(".missing"), missing);
     expect("words", await page.text(".words"), WORDS);
     await page.type("rows.1.count", "9");
-    await page.until("document.querySelector('#case .faults li')");
-    const fault = /These are 69 landings, and the program takes 64[\s\S]*by hand[\s\S]*Don’t scale/;
-    expect("fault", await page.text("#case .faults"), fault);
+    await noted(page, /These are 69 landings, and the program takes 64[\s\S]*by hand[\s\S]*Don’t scale/);
     expect("no answer", await page.run("document.getElementById('answer').hidden"), true);
   }],
 
   ["an estate above the claims, and a bad number", "estate", async (page, expect) => {
     await page.type("estate", "99999");
-    await page.until("document.querySelector('#case .faults li')");
-    expect("fault", await page.text("#case .faults"), /claims add to less than the estate/);
+    await noted(page, /claims add to less than the estate/);
     await typeAll(page, { estate: "2000", "rows.1.claim": "80O" });
-    await page.until("document.querySelector('#case .faults li')?.textContent.includes('80O')");
+    await noted(page, /“80O”/);
     const invalid = "document.querySelector('[data-cell=\"rows.1.claim\"]').getAttribute('aria-invalid')";
     expect("marked", await page.run(invalid), "true");
     await page.type("rows.1.claim", "800");
@@ -158,9 +154,8 @@ export const tables = [
       "Sales+Ops+Legal+IT;13"];
     await page.fill("details.inline textarea", list.join("\n"));
     await page.click("Use this list");
-    await page.until("document.querySelector('.fault.gentle')");
+    await noted(page, /1 cell is still empty/);
     expect("read", await page.text("#case .note[role=status]"), /4 players, 14 groups; 1 group/);
-    expect("empty", await page.text("#case .faults"), /1 cell is still empty/);
     await page.type("numbers.14", "11");
     await settle(page);
     expect("lead", await page.text(".lead"), /together 13.00/);
@@ -180,7 +175,7 @@ export const tables = [
 
   ["groups that were never costed", "costs", async (page, expect) => {
     await typeAll(page, { "numbers.5": "", "numbers.6": "" });
-    await page.until("document.querySelector('.fault.gentle')?.textContent.startsWith('2 cells')");
+    await noted(page, /2 cells are still empty/);
     await page.click("Fill the empty ones by the cheapest split");
     await settle(page);
     const cell = (mask) => page.run(`document.querySelector('[data-cell="numbers.${mask}"]').value`);
@@ -207,7 +202,7 @@ export const otherCases = [
     await page.click("Clear all");
     await page.click("Add a place");
     await typeAll(page, { "links.0-1": "5", "links.1-2": "3", "links.1-3": "4" });
-    await page.until("document.querySelector('.fault.gentle')?.textContent.startsWith('3 cells')");
+    await noted(page, /3 cells are still empty/);
     await page.click("A link that can’t be built");
     await page.click("make a table of costs of it");
     await page.until("document.body.dataset.view === 'case' && location.hash === '#costs'");
@@ -215,7 +210,7 @@ export const otherCases = [
     expect("a table of costs", await page.text(".lead"), /1 pays 1.67, .* pays 4.66 .*5.67|1.67.*4.67.*5.66/);
     await page.run("history.back()");
     await page.until("location.hash === '#network'");
-    await page.until("document.querySelector('.fault.gentle')");
+    await noted(page, /3 cells are still empty/);
     await page.click("A link that can’t be built");
     await page.click("Fill in the cheapest ways");
     await page.until(READY);
@@ -294,8 +289,7 @@ export const otherCases = [
     await page.click("Votes");
     await page.until(READY);
     await page.run("history.go(-2)");
-    await page.until("location.hash === '#estate'");
-    await pause(100);
+    await page.until("location.hash === '#estate' && document.querySelector('[data-cell=\"estate\"]')");
     expect("estate", await page.run(`document.querySelector('[data-cell="estate"]').value`), "1500");
   }],
 ];

@@ -1,15 +1,13 @@
 // Scenarios: the word that the page says of a line, what it offers then, and what is printed of it.
 import { readFileSync } from "node:fs";
 import { join } from "node:path";
-import { READY, settle } from "./harness.mjs";
+import { giveLine, READY, settle } from "./harness.mjs";
 
 const SAID = "document.querySelector('#verify .answers .word, #verify .answers .notice')"
   + " && ![...document.querySelectorAll('#verify .word.busy')].some((word) => word.textContent.includes('at work'))";
 
 async function give(page, line, agreed) {
-  if (agreed !== undefined) await page.fill("#verify textarea", agreed, 1);
-  await page.run("document.querySelector('#verify .answers').replaceChildren()");
-  await page.fill("#verify textarea", line, 0);
+  await giveLine(page, line, agreed);
   await page.until(SAID, 15000);
   return page.text("#verify .answers");
 }

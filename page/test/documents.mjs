@@ -2,7 +2,7 @@
 import { execFileSync } from "node:child_process";
 import { readdirSync, readFileSync } from "node:fs";
 import { join } from "node:path";
-import { READY } from "./harness.mjs";
+import { READY, told } from "./harness.mjs";
 
 const level = '{"excess":"-1","coalitions":[[[1],1],[[2,3],1]],"earlier":[],"bounds":[],"total":1}';
 const turned = level.replace("[2,3]", "[3,2]");
@@ -89,8 +89,9 @@ const pasted = ["runway", "costs", "network", "market", "votes"].map((id) => [`p
       await page.run("new Promise((resolve) => setTimeout(resolve, 100))");
     }
     await page.click("Fill in the worked example");
-    await page.until(READY, 20000);
-    expect("still works", await page.text("#evidence .words"), /says yes[\s\S]*says yes/);
+    // the last ones may still be read by a worker, and then all is asked once more
+    await told(page, "#evidence .words", /says yes[\s\S]*says yes/);
+    expect("still works", await page.run("document.querySelectorAll('#answer-body table').length > 0"), true);
   }]);
 
 export function documents(top, program) {

@@ -1,10 +1,11 @@
 // Scenarios: numbers and lists as people and other programs have them, and what the page fills in by itself.
-import { settle } from "./harness.mjs";
+import { noted, settle, told } from "./harness.mjs";
 
 const value = (page, cell) => page.run(`document.querySelector('[data-cell="${cell}"]').value`);
 const made = (page) => page.run("document.querySelector('.made pre').textContent");
 const notes = (page) => page.text("#case .faults");
-const message = (page) => page.text("#case .note[role=status]");
+const MESSAGE = "#case .note[role=status]";
+const message = (page) => page.text(MESSAGE);
 
 async function useList(page, text, order = "size") {
   if (!(await page.run("document.querySelector('details.inline').open"))) await page.click("Paste a whole list");
@@ -95,6 +96,7 @@ const lists = [
     await settle(page);
     expect("a hint", await message(page), /Read by masks[\s\S]*in the other order none has/);
     await page.click("Read it by size");
+    await told(page, MESSAGE, /^Read by size/);
     await settle(page);
     expect("by size", await message(page), /Read by size[\s\S]*Number 4, 6, is that of Player 1 \+ Player 2/);
     expect("answer", await page.text(".lead"), /4.50, .*4.50 .*3.00/);
@@ -116,7 +118,7 @@ const lists = [
   ["headings of a list are told, and a row with a bad number is none", "runway", async (page, expect) => {
     await page.click("Clear all");
     await page.paste('[data-cell="rows.0.name"]', "Aer\t\t3\nBee\t40\t2\nCargo\t60\t1");
-    await page.until("document.querySelector('.fault.gentle')");
+    await noted(page, /1 cell is still empty/);
     expect("kept", `${await value(page, "rows.0.name")} ${await value(page, "rows.0.count")}`, "Aer 3");
     expect("nothing told", await page.text("#case .pasted"), "");
     await page.click("Clear all");
@@ -131,14 +133,13 @@ const lists = [
 
   ["numbers that are too fine, and in scientific notation", "gains", async (page, expect) => {
     await useList(page, "1e-05\n0.94786536\n2E0\n3.123456\n4\n5\n6.5");
-    await page.until("document.querySelector('#case .faults li')");
-    expect("told", await notes(page), /too fine/);
+    await noted(page, /too fine/);
     await page.click("All times a power of ten");
     await page.until("document.querySelector('#case .note')?.textContent.includes('times 100000000')");
     await settle(page);
     expect("exact", await value(page, "numbers.2"), "94786536");
     await page.click("Undo “All times a power of ten”");
-    await page.until("document.querySelector('#case .faults li')");
+    await noted(page, /too fine/);
     await page.click("Round all to four decimals");
     await settle(page);
     expect("rounded", await value(page, "numbers.2"), "0.9479");
@@ -149,7 +150,7 @@ const lists = [
 const fills = [
   ["filled groups follow what is typed", "costs", async (page, expect) => {
     await page.type("numbers.3", "");
-    await page.until("document.querySelector('.fault.gentle')");
+    await noted(page, /1 cell is still empty/);
     await page.click("Fill the empty ones");
     await settle(page);
     expect("filled", await value(page, "numbers.3"), "15.5");
@@ -172,19 +173,18 @@ const fills = [
 
   ["what is divided is never filled", "costs", async (page, expect) => {
     await page.type("numbers.7", "");
-    await page.until("document.querySelector('.fault.gentle')");
+    await noted(page, /1 cell is still empty/);
     await page.click("Fill the empty ones");
-    await page.until("document.querySelector('#case .note[role=status]').textContent.includes('all together')");
-    expect("told", await message(page), /What all together cost has to be typed/);
+    await told(page, MESSAGE, /What all together cost has to be typed/);
     expect("empty", await value(page, "numbers.7"), "");
     await page.type("numbers.7", "12");
     await page.type("numbers.3", "");
     await page.click("Fill the empty ones");
     await settle(page);
     await page.run(`document.querySelector('[aria-label="Remove Legal"]').click()`);
-    await page.until("document.querySelector('.fault.gentle')");
+    await noted(page, /1 cell is still empty/);
     expect("a player leaves", await value(page, "numbers.3"), "");
-    expect("asked for", await message(page), /What all together cost has to be typed/);
+    await told(page, MESSAGE, /What all together cost has to be typed/);
     await page.click("Undo “Remove Legal”");
     await settle(page);
     expect("undone", await value(page, "numbers.3"), "15.5");
@@ -211,10 +211,9 @@ const fills = [
   ["a network with headings, and links that don't exist", "network", async (page, expect) => {
     await page.click("Clear all");
     await page.paste('[data-cell="names.0"]', "Town\tSource\tAston\nAston\t10\t\nBray\t-\t1");
-    await page.until("document.querySelector('.fault.gentle')");
+    await noted(page, /1 cell is still empty/);
     expect("names", `${await value(page, "names.0")} ${await value(page, "names.1")}`, "Aston Bray");
     expect("links", `${await value(page, "links.0-1")} ${await value(page, "links.1-2")}`, "10 1");
-    expect("one is empty", await notes(page), /1 cell is still empty/);
     await page.click("Clear all");
     await page.paste('[data-cell="names.0"]', "x\tSource\tA\tB\nSource\t0\t5\t8\nA\t5\t0\t2\nB\t8\t2\t0");
     await settle(page);

@@ -78,7 +78,36 @@ export class Harness {
   }
 }
 
-/** Waits until all that follows a change has been said. */
+/** Waits until the text of an element matches, and gives it. What is told of a change may come later than the change
+ * is seen, from a worker, and until then stands what was told before: so each wait is for what tells the two apart. */
+export async function told(page, selector, pattern) {
+  const text = `(document.querySelector(${JSON.stringify(selector)})?.innerText ?? "")`;
+  try {
+    await page.until(`${pattern}.test(${text})`);
+  } catch {
+    throw new Error(`${selector} never said ${pattern}, but ${JSON.stringify(await page.text(selector))}`);
+  }
+  return page.text(selector);
+}
+
+/** The same of what the page says of the cells. */
+export function noted(page, pattern) {
+  return told(page, "#case .faults", pattern);
+}
+
+/** Gives a line to check, and the agreed file, at once, and forgets what was said of those before: a text that is typed
+ * is read a moment later, and would be checked with the old one of the other. */
+export function giveLine(page, line, agreed) {
+  return page.run(`(() => {
+    const [ofLine, ofGame] = document.querySelectorAll("#verify .drop");
+    ${agreed === undefined ? "" : `ofGame.setText(${JSON.stringify(agreed)});`}
+    ofLine.setText(${JSON.stringify(line)});
+    document.querySelector("#verify .answers").replaceChildren();
+  })()`);
+}
+
+/** Waits until all that follows a change has been said. What a change asks a worker first, as a list does that is read,
+ * has to be waited for before. */
 export async function settle(page) {
   await page.run("new Promise((resolve) => setTimeout(resolve, 260))");
   await page.until(READY);

@@ -1,5 +1,4 @@
 // Scenarios: sizes and times, phone width, dark, on paper, by the keyboard alone, and as a screen reader has it.
-import { pause } from "./browser.mjs";
 import { READY, settle } from "./harness.mjs";
 
 const CASES = ["runway", "estate", "costs", "gains", "network", "market", "votes"];
@@ -183,7 +182,7 @@ const ROLES = ["button", "textbox", "combobox", "searchbox", "link", "checkbox",
 
 /** Each control has a name in the tree that screen readers get, and the tab key goes through all of them. */
 async function controls(page, expect) {
-  await pause(100);
+  await page.run("new Promise((drawn) => requestAnimationFrame(() => requestAnimationFrame(drawn)))");
   const { nodes } = await page.send("Accessibility.getFullAXTree", {});
   const seen = nodes.filter(({ ignored, role }) => !ignored && ROLES.includes(role?.value));
   const nameless = seen.filter(({ name }) => !name?.value?.trim());

@@ -1,5 +1,5 @@
 // Scenarios: what has to be said where it counts: by which measure, how it is rounded, what a proposal is.
-import { settle } from "./harness.mjs";
+import { noted, settle } from "./harness.mjs";
 
 const sheetOf = async (page) => {
   await page.run("dispatchEvent(new Event('beforeprint'))");
@@ -91,10 +91,24 @@ export const saying = [
     expect("rows that don't fit", cells.filter(isWrong).length, 0);
   }],
 
+  ["an answer that no longer fits stays dimmed, whatever is typed into it", "costs", async (page, expect) => {
+    const typed = (cell, text) => `cell = document.querySelector('[data-cell="${cell}"]'), cell.value = "${text}",
+      cell.dispatchEvent(new Event("input", { bubbles: true }))`;
+    const isStale = await page.run(`(() => {
+      let cell;
+      ${typed("numbers.7", "13")};
+      ${typed("proposal.0", "4")};
+      return document.getElementById("answer").classList.contains("stale");
+    })()`);
+    expect("dimmed", isStale, true);
+    await settle(page);
+    expect("answered", await page.text(".lead"), /together 13.00/);
+  }],
+
   ["nobody hears an answer that no longer stands", "costs", async (page, expect) => {
     expect("said", await page.run("document.getElementById('said').textContent"), /Sales pays/);
     await page.type("numbers.1", "x");
-    await page.until("document.querySelector('#case .faults li')");
+    await noted(page, /“x”/);
     expect("silent", await page.run("document.getElementById('said').textContent"), "");
   }],
 ];
@@ -147,7 +161,7 @@ saying.push(
     await page.click("Paste a whole list");
     await page.fill("details.inline textarea", [...alone, `${towns.join("+")}\t15671.4`].join("\n"));
     await page.click("Use this list");
-    await page.until("document.querySelector('.fault.gentle')");
+    await noted(page, /246 cells are still empty/);
     await page.click("Fill the empty ones");
     await settle(page);
     const pages = (await page.pdf()).toString("latin1").match(/\/Type \/Page\b/g) ?? [];

@@ -38,8 +38,9 @@ export class AnswerView {
   }
 
   show() {
-    const { session } = this, { result } = session;
-    at("answer").classList.toggle("stale", !result);
+    const { session } = this, { result, isStale } = session;
+    at("answer").classList.toggle("stale", !result || isStale);
+    if (result && isStale) return; // what stands there is of the old cells; the next answer is drawn anew
     for (const id of ["answer", "why", "evidence"]) {
       at(id).hidden = !result || (id !== "answer" && Boolean(result.refusal));
     }

@@ -16,6 +16,7 @@ export class Session {
     this.reader = new Helper();
     this.kind = null;
     this.turn = 0;
+    this.isStale = false; // whether something was typed that the answer doesn't know yet
     this.mark = new Intl.NumberFormat().format(0.5).includes(",") ? "," : "."; // by which numbers are shown
     this.own = this.mark; // by which those that are typed are read, where they don't show it themselves
     spoken.mark = this.mark;
@@ -36,6 +37,7 @@ export class Session {
   /** Something was typed, or chosen, that changes the game. */
   changed(wait = WAIT) {
     this.turn += 1;
+    this.isStale = true;
     this.on.stale();
     clearTimeout(this.timer);
     this.timer = setTimeout(() => this.work(), wait);
@@ -85,7 +87,7 @@ export class Session {
       this.on.read();
       if (reading.isRight) await this.ask(engine, checker, isMine);
       else this.result = null;
-      if (isMine()) this.on.answer();
+      if (isMine()) this.answered();
     } catch (fault) {
       if (isMine() && fault.message !== "stopped") this.on.fault(fault);
     } finally {
@@ -99,10 +101,15 @@ export class Session {
     const onPart = (result) => {
       if (!isMine()) return;
       this.result = result;
-      this.on.answer();
+      this.answered();
     };
     await askAll(this.reading, { engine, checker, onPart });
     if (isMine()) await this.judge();
+  }
+
+  answered() {
+    this.isStale = false;
+    this.on.answer();
   }
 
   stop() {
@@ -131,7 +138,7 @@ export class Session {
 
   async judge() {
     const { result, turn, texts } = this, { shares } = this.proposal;
-    if (!shares || !result || result.refusal) return;
+    if (!shares || !result || result.refusal || this.isStale) return; // the next answer has it judged
     const isMine = () => this.turn === turn && this.texts === texts, { engine, checker } = this.asking(turn);
     try {
       const judged = await judge(result, shares, engine), [solution] = result.points;
