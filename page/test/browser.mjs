@@ -122,7 +122,7 @@ class Page {
   }
 
   /** Waits until an expression is true, and says how long that took. */
-  async until(expression, limit = 30000) {
+  async until(expression, limit = 60000) {
     const start = Date.now();
     while (!(await this.run(expression).catch(() => false))) {
       const isLate = Date.now() - start > limit * (this.browser.slack ?? 1);

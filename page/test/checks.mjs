@@ -8,7 +8,7 @@ const SAID = "document.querySelector('#verify .answers .word, #verify .answers .
 
 async function give(page, line, agreed) {
   await giveLine(page, line, agreed);
-  await page.until(SAID, 15000);
+  await page.until(SAID);
   return page.text("#verify .answers");
 }
 
@@ -58,7 +58,7 @@ async function anotherGame(page, expect, line, agreed) {
   const forged = line.replace("[2,4,6]", "[2,4,7]").replace('"7/2"', '"9/2"');
   await give(page, forged, agreed);
   await page.click("Open the game of this line");
-  await page.until(READY, 15000);
+  await page.until(READY);
   expect("told above", await page.text("#case .note"), /isn’t the agreed game. Nothing on this page is agreed on/);
   const sheet = await page.run(`${PAPER}; document.getElementById('sheet').textContent`);
   expect("on paper", sheet, /Not agreed on/);
@@ -66,7 +66,7 @@ async function anotherGame(page, expect, line, agreed) {
   await page.run("dispatchEvent(new Event('afterprint')); location.hash = '#verify'");
   await page.click("Open the agreed game, with the reasons");
   await page.until("document.querySelector('[data-cell=\"rows.2.cost\"]')?.value === '6'");
-  await page.until(READY, 15000);
+  await page.until(READY);
   expect("no doubt", /isn’t the agreed game/.test(await page.text("#case")), false);
 }
 
@@ -77,7 +77,7 @@ async function unread(page, expect, line, agreed) {
   const mail = await give(page, `Dear all,\n> ${line.replace(/(.{70})/g, "$1\n> ")}\nYours`, agreed);
   expect("a mail", mail, /This line can’t be read[\s\S]*begin with “>”[\s\S]*from the first \{ to the last \}/);
   await page.click("Read it without what the mail program added");
-  await page.until("document.querySelectorAll('#verify .word.good').length === 3", 15000);
+  await page.until("document.querySelectorAll('#verify .word.good').length === 3");
   expect("mended", await page.text("#verify .lead"), /Yes: these shares are the nucleolus of the agreed game/);
   const twice = await give(page, line.replace('"costs"', '"costs":[1,1,1],"costs"'), agreed);
   expect("a key twice", twice, /^Don’t take this line: a key stands twice in it/);
@@ -94,25 +94,25 @@ async function bare(page, expect, line, agreed) {
   const turned = await give(page, agreed, line);
   expect("turned round", turned, /are the two in each other’s place/);
   await page.click("Let them change places");
-  await page.until("document.querySelectorAll('#verify .word.good').length === 3", 15000);
+  await page.until("document.querySelectorAll('#verify .word.good').length === 3");
   expect("right", await page.text("#verify .lead"), /Yes: these shares/);
   await give(page, `{${own},"shares":["2/3","5/3","11/3"]}`, "");
   await page.click("Open this game: its shares are judged there");
-  await page.until(READY, 15000);
+  await page.until(READY);
   expect("a proposal", await page.run(`document.querySelector('[data-cell="proposal.0"]').value`), "2/3");
 }
 
 async function openedLine(page, expect, line) {
   await page.fill("#document textarea", line.replace('"3/2","7/2"', '"2","3"'));
-  await page.until(READY, 15000);
+  await page.until(READY);
   const notes = await page.text("#case-body");
   expect("told", notes, /the line’s own shares are right is said at the end/);
   expect("other shares", notes, /by the nucleolus medium pays 2. The page finds other shares/);
-  await page.until("document.querySelectorAll('#verify .word.bad').length === 2", 15000);
+  await page.until("document.querySelectorAll('#verify .word.bad').length === 2");
   expect("checked", await page.text("#verify .lead"), /No: this line doesn’t show/);
   await page.run("location.hash = '#document'");
   await page.fill("#document textarea", line);
-  await page.until("document.querySelectorAll('#verify .word.good').length === 2", 15000);
+  await page.until("document.querySelectorAll('#verify .word.good').length === 2");
   expect("its own shares", /other shares/.test(await page.text("#case-body")), false);
 }
 
@@ -168,7 +168,7 @@ async function manyGroups(page, expect) {
   await page.click("Paste a whole list");
   await page.fill("details.inline textarea", list.join("\n"));
   await page.click("Use this list");
-  await page.until(`document.querySelectorAll('.shares tbody tr').length === 7 && ${READY}`, 30000);
+  await page.until(`document.querySelectorAll('.shares tbody tr').length === 7 && ${READY}`);
   await page.run("document.body.dataset.print = 'all'; dispatchEvent(new Event('beforeprint'))");
   expect("all of them", await page.run("document.querySelectorAll('#paper-groups li').length"), 127);
   await page.look({ wide: 800, print: true });

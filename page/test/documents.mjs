@@ -66,19 +66,19 @@ const put = async (page, which, text) => {
 
 const refused = REFUSED.map(([name, document, wanted]) => [`refused: ${name}`, "document", async (page, expect) => {
   await page.fill("#document textarea", document);
-  await page.until(SAID, 15000);
+  await page.until(SAID);
   expect(name, await page.text("#document-message"), wanted);
 }]);
 
 const broken = Object.entries(BROKEN).map(([name, text]) => [`none: ${name}`, "document", async (page, expect) => {
   await page.fill("#document textarea", text);
-  await page.until(SAID, 15000);
+  await page.until(SAID);
   expect("a sentence", await page.text("#document-message"), /\w{3}.*[.?]/);
   await page.fill("#document textarea", '{"game":{"class":"airport","costs":[2,4,6]}}');
-  await page.until(READY, 15000);
+  await page.until(READY);
   await page.run("location.hash = '#verify'");
   await page.fill("#verify textarea", text);
-  await page.until("document.querySelector('#verify .lead, #verify .notice')", 15000);
+  await page.until("document.querySelector('#verify .lead, #verify .notice')");
   expect("no yes", await page.text("#verify .answers"), /^(?!Yes)/);
 }]);
 
@@ -102,7 +102,7 @@ export function documents(top, program) {
   return [...refused, ...broken, ...pasted, ...examples,
     ["a proposal in a document", "document", async (page, expect) => {
       await page.fill("#document textarea", departments);
-      await page.until(READY, 15000);
+      await page.until(READY);
       expect("typed", await page.run(`document.querySelector('[data-cell="proposal.0"]').value`), "4");
       expect("judged", await page.text(".shares .verdict td:last-child"), /No/);
     }]];
@@ -113,7 +113,7 @@ export function documents(top, program) {
 async function opened(page, expect, program, top, file) {
   const document = readFileSync(join(top, "examples", file), "utf8");
   await page.fill("#document textarea", document);
-  await page.until(READY, 15000);
+  await page.until(READY);
   const made = await page.run("document.querySelector('.made pre').textContent");
   const shares = (text) => JSON.parse(execFileSync(program, ["shapley"], { input: text }).toString()).shares.join();
   if (file !== "homes.json") expect(file, shares(made), shares(document));
@@ -128,7 +128,7 @@ const CHECKED = "document.querySelectorAll('#verify .word').length > 0"
   + " && ![...document.querySelectorAll('#verify .word.busy')].some((word) => word.textContent.includes('at work'))";
 
 async function said(page) {
-  await page.until(CHECKED, 15000);
+  await page.until(CHECKED);
   return page.text("#verify .answers");
 }
 

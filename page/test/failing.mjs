@@ -22,13 +22,13 @@ const FAILED = "document.querySelector('#answer-body .notice.bad')";
 
 async function fails(page, expect, url, wanted) {
   await page.open(`${url}#costs`);
-  await page.until(FAILED, 20000);
+  await page.until(FAILED);
   expect("told", await page.text("#answer-body"), wanted);
   expect("no shares", await page.run("document.querySelectorAll('#answer-body table').length"), 0);
   expect("no evidence", await page.run("document.getElementById('evidence').hidden"), true);
   await page.run("location.hash = '#verify'");
   await page.fill("#verify textarea", await page.run("window.line"));
-  await page.until("document.querySelector('#verify .lead')", 20000);
+  await page.until("document.querySelector('#verify .lead')");
   expect("no yes", await page.text("#verify .answers"), /No: this line doesn’t show[\s\S]*gave no answer/);
   expect("the other checker", await page.text("#verify .words"), /own checker says yes/);
 }
