@@ -5,6 +5,7 @@ import { spoken } from "./exact/decimals.js";
 import { parseJson } from "./exact/json.js";
 import { Game } from "./game/game.js";
 import { explain } from "./tell/explain.js";
+import { nameByRows } from "./tell/words.js";
 import { answer } from "./work/answers.js";
 import { openDocument, readCase, readCells, readList } from "./work/cases.js";
 import { coarser } from "./work/coarser.js";
@@ -21,12 +22,12 @@ const TASKS = {
   warmUp, readCase, readCells, readList, openDocument, lookAtLine, fillLinks, costsOfNetwork, fillSplits,
   estates, overrun, compare, convexity, coarser, standardText,
   solve: ({ word, document }) => answer(word, document),
-  explain: ({ line }) => explained(parseJson(line)),
+  explain: ({ line, rows }) => explained(parseJson(line), rows),
   checkAnew: ({ document }) => anew(document),
 };
 
-function explained(tree) {
-  return explain(new Game(tree.game), tree);
+function explained(tree, rows) {
+  return explain(nameByRows(new Game(tree.game), rows), tree);
 }
 
 /** The word of the second checker: {tree} with what it says, or {refused} in words. */

@@ -82,7 +82,11 @@ export class Browser {
     const ended = new Promise((done) => this.process.on("exit", done));
     this.process.kill();
     await ended;
-    rmSync(this.folder, { recursive: true, force: true, maxRetries: 10 });
+    try {
+      rmSync(this.folder, { recursive: true, force: true, maxRetries: 10 });
+    } catch {
+      // its other processes may still write there; a folder that stays in the system's own is no fault of the page
+    }
   }
 }
 

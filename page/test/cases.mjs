@@ -23,7 +23,7 @@ export const casesTyped = [
     await typeAll(page, { "rows.3.name": "Aer", "rows.3.cost": "30", "rows.3.count": "2" });
     await settle(page);
     expect("subtotal", await page.text(".subtotal"), /Aer, together/);
-    expect("rows", await page.text(".shares tbody"), /Aer, needs 20.5[\s\S]*Aer, needs 30/);
+    expect("rows", await page.text(".shares tbody"), /Aer needing 20.5[\s\S]*Aer needing 30/);
     expect("of one landing", await page.text(".shares tbody"), /3 × \d+\.\d\d \(\d+\/\d+\)/);
   }],
 
@@ -40,6 +40,40 @@ export const casesTyped = [
     await settle(page);
     const verdict = /Yes: all landings that need at most 40.00, by 20.00/;
     expect("a group by what it needs", await page.text(".shares tfoot"), verdict);
+  }],
+
+  ["landings are named everywhere as in the table", "runway", async (page, expect) => {
+    await typeAll(page, {
+      "rows.0.cost": "10", "rows.0.count": "2", "rows.1.name": "Aer", "rows.1.cost": "30",
+      "proposal.0": "16", "proposal.1": "10", "proposal.2": "34",
+    });
+    await settle(page);
+    await page.until("document.querySelector('.comparison')");
+    expect("table", await page.text(".shares tbody"), /Aer needing 10\s+2 landings[\s\S]*Aer needing 30\s+2 landings/);
+    expect("reasons", await page.text("#why"), /Aer needing 10 \(2 landings\) pay/);
+    expect("a verdict", await page.text(".shares tfoot"), /Yes: Aer needing 10 \(2 landings\), by 6.00/);
+    await page.run("dispatchEvent(new Event('beforeprint'))");
+    const [reasons] = (await page.run("document.getElementById('sheet').textContent")).split("What is agreed");
+    expect("paper", reasons, /Why: the nucleolus[\s\S]*Aer needing 10 \(2 landings\) pay/);
+    const all = await page.run("['answer', 'why'].map((id) => document.getElementById(id).textContent).join()");
+    expect("made-up names", /Aer \d/.exec(all + reasons), null);
+  }],
+
+  ["the sentence, the sums and the rows of airlines agree", "runway", async (page, expect) => {
+    for (const [r, [name, cost, count]] of [["Aer", 9, 2], ["Bee", 9, 1], ["Bee", 6, 1], ["Aer", 10, 2]].entries()) {
+      await typeAll(page, { [`rows.${r}.name`]: name, [`rows.${r}.cost`]: `${cost}`, [`rows.${r}.count`]: `${count}` });
+    }
+    await settle(page);
+    const cents = (text) => Math.round(100 * Number(text)), lead = await page.text(".lead");
+    const lines = await page.run(`[...document.querySelectorAll(".shares tbody tr")].map((row) => [row.className,
+      row.querySelector("th").textContent.slice(0, 3), row.querySelector("td:not(.context)").firstChild.textContent])`);
+    for (const airline of ["Aer", "Bee"]) {
+      const own = lines.filter(([, name]) => name === airline), [, told] = RegExp(`${airline} pays (\\S+)`).exec(lead);
+      const rows = own.filter(([kind]) => !kind).reduce((sum, [, , text]) => sum + cents(text), 0);
+      expect(`rows of ${airline}`, rows, cents(told));
+      expect(`sum of ${airline}`, own.find(([kind]) => kind === "subtotal")[2], told);
+    }
+    expect("rounded", lines.some(([, , text]) => text === "3.34"), true);
   }],
 
   ["64 landings, and more", "runway", async (page, expect) => {
@@ -242,7 +276,7 @@ export const otherCases = [
     await page.click("Clear all");
     const rows = Array.from({ length: 20 }, (_, i) => Array.from({ length: 20 }, (_, j) => (i * 7 + j * 11) % 97));
     await page.paste('[data-cell="values.0.0"]', rows.map((row) => row.join("\t")).join("\n"));
-    await page.until("document.querySelectorAll('.trades tbody tr').length > 10", 20000);
+    await page.until("document.querySelectorAll('.trades tbody tr').length > 10");
     expect("evidence", await page.text("#evidence"), /come without a certificate/);
   }],
 

@@ -115,6 +115,30 @@ const lists = [
     expect("but those that were typed do", await page.text(".lead"), /Ann gets/);
   }],
 
+  ...[
+    ["runway", "rows.0.cost", "2\n4\n6", ".lead", /Airline 1 pays/, "2\n4", /Aer pays/],
+    ["estate", "rows.0.claim", "1000\n2000\n3000", ".lead", /Claimant 1 gets/, "1000\n2000", /Adler gets/],
+    ["network", "links.0-1", "1\n2\t3\n4\t5\t6\n7\t8\t9\t10", ".lead", /Place 1 pays/, "1\n2\t3", /Harbour pays/],
+    ["market", "values.0.0", "1\t9\n9\t1\n3\t3", ".trades", /Buyer 1 – Seller 2/, "1\t9\n9\t1", /Ann – flat/],
+  ].map(([id, cell, all, where, plain, part, own]) => {
+    return [`names of the worked example don't stay with other numbers: ${id}`, id, async (page, expect) => {
+      await page.paste(`[data-cell="${cell}"]`, part);
+      await settle(page);
+      expect("with a part they do", await page.text(where), own);
+      await page.paste(`[data-cell="${cell}"]`, all);
+      await settle(page);
+      expect("plain names", await page.text(where), plain);
+      await page.type(id === "market" ? "buyers.0" : id === "network" ? "names.0" : "rows.0.name", "Zoe");
+      await page.paste(`[data-cell="${cell}"]`, all);
+      await settle(page);
+      expect("but those that were typed do", await page.text(where), /Zoe/);
+      await page.click("Clear all");
+      await page.paste(`[data-cell="${cell}"]`, all);
+      await page.click("Undo “Paste”");
+      expect("undone", await value(page, cell), "");
+    }];
+  }),
+
   ["headings of a list are told, and a row with a bad number is none", "runway", async (page, expect) => {
     await page.click("Clear all");
     await page.paste('[data-cell="rows.0.name"]', "Aer\t\t3\nBee\t40\t2\nCargo\t60\t1");

@@ -88,7 +88,11 @@ class Firefox {
     this.socket?.destroy();
     this.process.kill("SIGKILL");
     await ended;
-    rmSync(this.folder, { recursive: true, force: true, maxRetries: 10 });
+    try {
+      rmSync(this.folder, { recursive: true, force: true, maxRetries: 10 });
+    } catch {
+      // its other processes may still write there; a folder that stays in the system's own is no fault of the page
+    }
   }
 }
 

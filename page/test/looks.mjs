@@ -126,6 +126,25 @@ async function everything(page, expect) {
   expect("the buttons", await shown("#answer-settings"), false);
 }
 
+/** What was typed last is worked out before paper takes it, and nothing of it is cut off at the edge. */
+async function overrunOnPaper(page, expect) {
+  await page.run("window.print = () => { window.printed = document.querySelectorAll('.found table').length; }");
+  await page.click("If the whole costs more than planned");
+  await page.click("On paper");
+  await page.type("more", "10");
+  await page.run(`document.querySelector('[data-cell="more"]').dispatchEvent(new Event("change"))`);
+  await page.click("Print everything");
+  await page.until("window.printed !== undefined");
+  expect("tables on paper", await page.run("window.printed"), 1);
+  await page.look({ wide: 665, print: true });
+  const told = await page.run(`(() => {
+    const table = document.querySelector(".overrun"), scroll = table.parentElement, last = [...table.rows].at(-2).cells;
+    return [last.length, getComputedStyle(scroll).overflowX, table.scrollWidth - scroll.clientWidth,
+      [...document.querySelectorAll(".grid tbody tr")].filter((row) => row.offsetHeight > 0).length].join();
+  })()`);
+  expect("cells of the last row, how it is cut off, too wide by, rows of the case", told, "10,visible,0,3");
+}
+
 async function savedPicture(page, expect) {
   const file = await page.run(`(async () => {
     let kept = null;
@@ -148,6 +167,7 @@ export const looks = [
   ["nothing is sent or kept", "", apart],
   ["dark", "costs", dark, { dark: true }],
   ["everything on paper", "costs", everything],
+  ["everything on paper: an overrun", "runway", overrunOnPaper],
   ["a picture to save", "costs", savedPicture],
 ];
 

@@ -6,6 +6,9 @@ const sheetOf = async (page) => {
   return page.run("document.getElementById('sheet').textContent");
 };
 
+const WORDS = ["Imputation", "Excess", "Core", "Nucleolus", "Prenucleolus", "Per head", "Kernel", "Convex",
+  "Shapley value"];
+
 async function savedNames(page) {
   return page.run("[...document.querySelectorAll('#evidence .files button')].map((one) => one.textContent).join()");
 }
@@ -103,6 +106,45 @@ export const saying = [
     expect("dimmed", isStale, true);
     await settle(page);
     expect("answered", await page.text(".lead"), /together 13.00/);
+  }],
+
+  ["what each pays today, and how much that changes", "costs", async (page, expect) => {
+    const before = await page.run("document.querySelector('.made pre').textContent");
+    await page.click("Compare with what each pays today");
+    await page.paste('[data-cell="today.0"]', "Sales\t4\nOps\t4");
+    expect("not all yet", await page.text(".shares .sum td.today"), "–");
+    await page.type("today.2", "5");
+    const changes = /3.88\s+−0.12 \(−3.0\s%\)[\s\S]*4.00\s+−1.00 \(−20.0\s%\)/;
+    expect("money and per cent", await page.text(".shares tbody"), changes);
+    expect("together", await page.text(".shares .sum"), /13.00\s+12.00\s+−1.00 \(−7.7\s%\)/);
+    expect("told", await page.text("#answer-body"), /no file has a place for it, so it isn’t saved/);
+    expect("the same game", await page.run("document.querySelector('.made pre').textContent"), before);
+    expect("on paper", await sheetOf(page), /Pays todayChange[\s\S]*Sales[\s\S]*4.00−0.12 \(−3.0\s%\)/);
+    await page.run("dispatchEvent(new Event('afterprint'))");
+    await page.type("numbers.7", "13");
+    await settle(page);
+    expect("after another number", await page.text(".shares .sum"), /13.00\s+13.00\s+0.00 \(0.0\s%\)/);
+    await page.click("Without what each pays today");
+    expect("without", await page.run("document.querySelectorAll('.shares .today, .shares .change').length"), 0);
+  }],
+
+  ["which rule is monotonic, and the words", "document", async (page, expect) => {
+    const told = /7\/6 by the nucleolus, and by the Shapley shares[\s\S]*only 1 by the nucleolus, and 17\/12 by the Sh/;
+    const [less, more] = [/1\s+0.00\s+1.17\s+7\/6\s+1.17\s+7\/6/, /1\s+0.00\s+1.00\s+1.42\s+17\/12/];
+    for (const [whole, wanted] of [[3, less], [4, more]]) {
+      await page.run("location.hash = '#document'");
+      await page.fill("#document textarea", game([0, 0, 1, 0, 0, 0, 1, 0, 0, 0, 1, 0, 2, 0, whole], 4));
+      await page.until(`document.querySelector('[data-cell="numbers.15"]')?.value === '${whole}'`);
+      await settle(page);
+      expect(`of ${whole}`, await page.text(".shares tbody"), wanted);
+    }
+    await page.click("Which rule is monotonic when the whole grows");
+    expect("the example", await page.text("#answer-body"), told);
+    for (const part of ["#answer-body", "#verify"]) {
+      await page.click("The words, each in a sentence", `document.querySelector('${part}')`);
+      const said = await page.text(part);
+      expect("words that aren't told", WORDS.filter((word) => !said.includes(`${word}: `)).join(), "");
+    }
   }],
 
   ["nobody hears an answer that no longer stands", "costs", async (page, expect) => {

@@ -173,7 +173,7 @@ function landingsOf(kept) {
     const { rows: several, landings } = airlines.get(airline), shown = shownName(airline);
     const players = Array.from({ length: count }, () => costs.push(cost.toDocument()) - 1);
     for (let i = 1; i <= count; i++) names.push(landings > 1 ? `${airline} ${firsts[k] + i}` : airline);
-    return { label: several > 1 ? `${shown}, needs ${shortText(cost)}` : shown, players, sum: shown };
+    return { label: several > 1 ? `${shown} needing ${shortText(cost)}` : shown, players, sum: shown };
   });
   distinct(names);
   return { rows, names, costs };

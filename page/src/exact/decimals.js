@@ -13,13 +13,13 @@ const PARTED = new RegExp(`\\d${BLANKS}+\\d`), PARTED_BEHIND = new RegExp(`${BLA
 const BY_THREE = new RegExp(`^\\D*\\d{1,3}(?:${BLANKS}\\d{3})+(?!\\d)(\\D.*)?$`, "s");
 const SCIENTIFIC = /^(-?)(\d*)(?:([.,])(\d*))?e([+-]?\d{1,3})$/i;
 
-/** Shares in steps of the last place, which add to the rounded sum: all are rounded down first, and what then lacks
- * goes to those who lost most, among equals to the first. */
-export function roundedSteps(shares, places) {
+/** Shares in steps of the last place, which add to the rounded sum, or to one that is given: all are rounded down
+ * first, and what then lacks goes to those who lost most, among equals to the first. */
+export function roundedSteps(shares, places, given) {
   const unit = new Rational(10n ** BigInt(places));
   const exact = shares.map((share) => share.times(unit));
   const steps = exact.map((share) => share.floor());
-  const whole = Rational.sum(exact).plus(HALF).floor();
+  const whole = given ?? Rational.sum(exact).plus(HALF).floor();
   const lacking = Number(whole - steps.reduce((total, step) => total + step, 0n));
   const lost = exact.map((share, i) => share.minus(new Rational(steps[i])));
   const order = steps.map((_, i) => i).sort((i, j) => lost[j].compare(lost[i]) || i - j);

@@ -7,6 +7,7 @@ import { formatOf } from "./format.js";
 import { otherAmounts } from "./other-amounts.js";
 import { paperPart } from "./paper.js";
 import { takesPerHead } from "./questions.js";
+import { todayOf } from "./today.js";
 import { tableText } from "./shares-table.js";
 import { whyParts } from "./why.js";
 
@@ -53,7 +54,8 @@ export class AnswerView {
     };
     refill(at("answer-settings"), result.refusal ? [] : this.settings(result));
     const filled = filledText(session);
-    refill(at("answer-body"), answerParts(result, { rows, format, proposal, wide, filled }));
+    const today = todayOf(session, rows);
+    refill(at("answer-body"), answerParts(result, { rows, format, proposal, today, wide, filled }));
     this.say();
     if (result.refusal) return;
     this.showMore(result, rows, format);

@@ -4,22 +4,39 @@ import { decimalOf, placesOf, roundedSteps, stepsOf } from "../exact/decimals.js
 
 export function formatOf(places, mark) {
   const text = (steps) => decimalOf(steps, places, { mark });
+  const stepsIn = (values, rows) => (rows ? stepsOfRows(values, rows, places) : roundedSteps(values, places));
   return {
     places,
     mark,
+    text,
     show: (value) => text(stepsOf(value, places)),
-    /** Values as decimals that add up, and their sum as the last. */
-    column: (values) => {
-      const steps = roundedSteps(values, places);
-      return [...steps, steps.reduce((sum, step) => sum + step, 0n)].map(text);
-    },
+    /** Values as decimals that add up, and their sum as the last; those of rows to what each airline pays, too. */
+    column: (values, rows) => withSum(stepsIn(values, rows)).map(text),
+    steps: stepsIn,
     /** Whether some decimals of a column are moved by a step of the last place, so that all add up. */
-    isMoved: (values) => roundedSteps(values, places).some((step, k) => step !== stepsOf(values[k], places)),
+    isMoved: (values, rows) => stepsIn(values, rows).some((step, k) => step !== stepsOf(values[k], places)),
     isExact: (value) => {
       const needed = placesOf(value);
       return needed >= 0 && needed <= places;
     },
   };
+}
+
+/** Totals of rows in steps of the last place: first what each airline pays together, so that these add to the whole,
+ * then its rows, so that they add to that. So a sentence on airlines and the rows say the same. */
+export function stepsOfRows(totals, rows, places) {
+  const airlines = new Map();
+  rows.forEach(({ sum }, r) => airlines.set(sum ?? r, [...(airlines.get(sum ?? r) ?? []), r]));
+  const owns = [...airlines.values()], steps = Array(rows.length), of = (own) => own.map((r) => totals[r]);
+  roundedSteps(owns.map((own) => Rational.sum(of(own))), places).forEach((whole, k) => {
+    roundedSteps(of(owns[k]), places, whole).forEach((step, j) => (steps[owns[k][j]] = step));
+  });
+  return steps;
+}
+
+/** Steps, and their sum as the last. */
+export function withSum(steps) {
+  return [...steps, steps.reduce((sum, step) => sum + step, 0n)];
 }
 
 export const MOVED = "Rounded so that they add up, so equal shares may differ by one in the last place.";

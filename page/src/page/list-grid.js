@@ -9,8 +9,8 @@ export function listGrid(kind, typed, settings) {
 }
 
 class ListGrid {
-  constructor(kind, typed, { mark, onChange, readCells }) {
-    Object.assign(this, { kind, typed, mark, onChange });
+  constructor(kind, typed, { mark, onChange, readCells, remember }) {
+    Object.assign(this, { kind, typed, mark, onChange, remember });
     [this.head, this.body] = [el("thead"), el("tbody")];
     this.tools = el("div", { class: "singles" });
     this.keys = [...kind.columns, ...(kind.second ? [kind.second.column] : [])].map(({ key }) => key);
@@ -55,7 +55,7 @@ class ListGrid {
       cellOf(this.body, `rows.${Math.min(r, rows.length - 1)}.${this.keys[0]}`)?.focus();
     }, { class: "remove", "aria-label": `Remove row ${r + 1}`, title: "Remove this row" });
     const cells = this.columns().map((column) => this.cellIn(row, r, column));
-    return el("tr", {}, cells, el("td", { class: "tool" }, remove));
+    return el("tr", { class: this.isBlank(row) ? "blank" : "" }, cells, el("td", { class: "tool" }, remove));
   }
 
   cellIn(row, r, column) {
@@ -75,16 +75,27 @@ class ListGrid {
   fill(cell, pasted) {
     const [, r, key] = cell.split("."), columns = this.columns(), first = columns.findIndex((one) => one.key === key);
     if (first < 0) return;
+    this.remember("Paste");
     const numbers = columns.findIndex(({ number }) => number), rows = pasted.filter((row) => row.some(Boolean));
     const own = columns.slice(first), headings = headingsOf(rows, Math.max(0, numbers - first), this.mark());
-    const targets = headings ? columnsFor(own, headings) : own;
-    rows.slice(headings ? 1 : 0).slice(0, this.kind.most * 4).forEach((row, k) => {
+    const targets = headings ? columnsFor(own, headings) : own, below = rows.slice(headings ? 1 : 0);
+    if (Number(r) === 0) this.forgetExample(targets, below.length);
+    below.slice(0, this.kind.most * 4).forEach((row, k) => {
       const target = (this.typed.rows[Number(r) + k] ??= this.blank());
       row.forEach((text, c) => targets[c] && (target[targets[c].key] = text));
     });
     this.said.textContent = withEscapes(pastedText(rows, headings, targets));
     this.show();
     this.onChange();
+  }
+
+  /** Names of the worked example don't stay where all its numbers are pasted over, without names. */
+  forgetExample(targets, count) {
+    const { rows } = this.typed, { columns } = this.kind, given = this.kind.example().rows;
+    const isPasted = (column) => targets.some((target) => target?.key === column.key);
+    const names = (some) => some.map(({ name }) => name).filter(Boolean).join("\n");
+    const isOver = count >= given.length && isPasted(columns.find(({ number }) => number)) && !isPasted(columns[0]);
+    if (isOver && names(rows) === names(given)) for (const row of rows) row.name = "";
   }
 
   // ---- The number above the list: the estate, a quota, or two

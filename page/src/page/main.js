@@ -30,10 +30,10 @@ const paper = new Paper(session, view);
 // ---- Cases
 
 /** Opens a case. `before` is what an undo brings back, `notes` are said above the grid. */
-function openCase(kind, typed, { measure, texts, entry, before = null, notes = [], doubt = "" } = {}) {
+function openCase(kind, typed, { measure, texts, todays, entry, before = null, notes = [], doubt = "" } = {}) {
   const now = session.kind && nowTyped();
   if (now) kept.set(session.kind, now);
-  session.open(kind, typed, { measure, texts, entry, doubt });
+  session.open(kind, typed, { measure, texts, todays, entry, doubt });
   view.clear();
   panel = casePanel(kind, typed, {
     mark: () => session.readMark(), setEntry: (mark) => session.setEntry(mark), before,
@@ -72,8 +72,8 @@ async function coarsen(kind, how) {
 
 /** What stands in the cells of the case that is shown. */
 function nowTyped() {
-  const { typed, measure, texts, entry, doubt } = session;
-  return { typed, measure, texts, entry, doubt };
+  const { typed, measure, texts, todays, entry, doubt } = session;
+  return { typed, measure, texts, todays, entry, doubt };
 }
 
 /** Shows a part of the page; a case as it was left. */

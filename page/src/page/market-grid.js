@@ -8,7 +8,7 @@ export function marketGrid(kind, typed, settings) {
 }
 
 class MarketGrid {
-  constructor(kind, typed, { onChange, readCells }) {
+  constructor(kind, typed, { onChange, readCells, remember }) {
     Object.assign(this, { kind, typed, onChange });
     this.holder = el("div", { class: "scroll" });
     this.tools = el("p", { class: "tools" });
@@ -17,7 +17,10 @@ class MarketGrid {
       const [what, a, b] = cell.split(".");
       return what === "values" ? `values.${Number(a) + step}.${b}` : `${what}.${Number(a) + step}`;
     });
-    pasteCells(this.holder, (cell, rows) => this.change(() => this.fill(cell, rows)), readCells);
+    pasteCells(this.holder, (cell, rows) => {
+      remember("Paste");
+      this.change(() => this.fill(cell, rows));
+    }, readCells);
     this.show();
   }
 
@@ -74,6 +77,17 @@ class MarketGrid {
     });
   }
 
+  /** Names of the worked example don't stay where all its numbers are pasted over, but for those that come with it. */
+  forgetExample(rows, top, left) {
+    const { buyers, sellers } = this.typed, given = this.kind.example();
+    const isExample = String([buyers, sellers]) === String([given.buyers, given.sellers]);
+    const isOver = top <= 0 && left <= 0 && top + rows.length >= buyers.length
+      && rows.every((row) => left + row.length >= sellers.length);
+    if (!isExample || !isOver) return;
+    if (left === 0) buyers.fill("");
+    if (top === 0) sellers.fill("");
+  }
+
   resize(buyers, sellers) {
     const { typed } = this;
     typed.buyers = Array.from({ length: buyers }, (_, i) => typed.buyers[i] ?? "");
@@ -93,6 +107,7 @@ class MarketGrid {
     const top = what === "sellers" ? -1 : Number(a), left = what === "buyers" ? -1 : Number(what === "values" ? b : a);
     const within = (now, needed) => Math.min(most, Math.max(now, needed));
     const width = rows.reduce((wide, row) => Math.max(wide, row.length), 0);
+    this.forgetExample(rows, top, left);
     this.resize(within(typed.buyers.length, top + rows.length), within(typed.sellers.length, left + width));
     rows.slice(0, most + 1).forEach((row, r) => row.slice(0, most + 1).forEach((text, c) => {
       const i = top + r, j = left + c, isBuyer = i >= 0 && i < typed.buyers.length;

@@ -47,10 +47,46 @@ const HOLDS = "Of two players one has the stronger hold where the best group wit
 const PLAIN_IS_EVEN = "; the nucleolus is, wherever some division satisfies all groups.";
 const PER_HEAD_ISNT = ". That is counted by the group as a whole, so a division per head need not be there.";
 
+const MONOTONIC = [
+  "The whole grows, and what each group does by itself stays. By the Shapley shares and by the prenucleolus per head "
+    + "all get (of costs: bear) an equal part of what comes on top. By the Talmud’s rule of estates nobody gets less. "
+    + "By the nucleolus somebody may get less of more (Megiddo 1974), and so by Bird’s shares and by core points.",
+  "A small example: of four, 1 and 2 gain 1 together, with a third or without; 1, 3 and 4 gain 2; the other groups "
+    + "nothing. Where all four gain 3, the first gets 7/6 by the nucleolus, and by the Shapley shares. Where they gain "
+    + "4, it gets only 1 by the nucleolus, and 17/12 by the Shapley shares.",
+];
+
+const WORDS = {
+  Imputation: "a division of the whole by which nobody does worse than alone.",
+  Excess: "what a group is worth by itself less what its members get together (of costs: what they pay less what it "
+    + "costs by itself); that much it gains by leaving.",
+  Core: "all divisions by which no group does better by itself, so no excess is above 0.",
+  Nucleolus: "the imputation whose excesses, from the greatest down, are as small as can be.",
+  Prenucleolus: "the same of all divisions of the whole, imputations or not.",
+  "Per head": "each excess is divided by the number of the group’s members first.",
+  Kernel: "the imputations by which no player has a stronger hold on another, but on one who gets no more than alone.",
+  Convex: "whoever joins adds no less where more have joined (to costs: no more).",
+  "Shapley value": "what each adds, on average over all orders of joining; here the Shapley shares.",
+};
+
+/** Which rule gives nobody less where the whole grows. */
+export function monotonic() {
+  return folded("Which rule is monotonic when the whole grows", MONOTONIC);
+}
+
+/** The words of the field, each in a sentence. */
+export function words() {
+  return folded("The words, each in a sentence", Object.entries(WORDS).map(([word, text]) => {
+    return [el("b", {}, word), `: ${text}`];
+  }));
+}
+
+function folded(title, texts) {
+  return el("details", { class: "meanings screen" }, el("summary", {}, title), texts.map((text) => el("p", {}, text)));
+}
+
 export function meanings(points, hasHolds, { perHead }) {
   const texts = points.map(({ key }) => (perHead && PER_HEAD[key]) || MEANINGS[key]).filter(Boolean);
   const holds = HOLDS + (perHead ? PER_HEAD_ISNT : PLAIN_IS_EVEN);
-  return el("details", { class: "meanings screen" },
-    el("summary", {}, "What the columns and the questions mean"),
-    [...texts, GROUPS, ...(hasHolds ? [holds] : [])].map((text) => el("p", {}, text)));
+  return folded("What the columns and the questions mean", [...texts, GROUPS, ...(hasHolds ? [holds] : [])]);
 }

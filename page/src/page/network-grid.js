@@ -123,9 +123,9 @@ const NONE = /^[-–—x]?$/i; // of a link that can't be built
 
 /** A block of numbers: a triangle or a square, whose other half is the same links again; with names in front where it
  * is pasted over one, and with a heading or without. */
-function pasteLinks(kind, typed, cell, pasted) {
+function pasteLinks(kind, typed, cell, block) {
   const [what, place] = cell.split("."), isNamed = what === "names";
-  let rows = withoutHeading(pasted);
+  let rows = withoutHeading(block);
   let names = isNamed ? rows.map(([name]) => name) : [];
   if (isNamed) rows = rows.map((row) => row.slice(1));
   const isSquare = rows.length > 1 && rows.every((row, k) => {
@@ -137,12 +137,21 @@ function pasteLinks(kind, typed, cell, pasted) {
   const [i0, j0] = isNamed ? [0, Number(place) + 1] : place.split("-").map(Number);
   const top = isSquare ? 0 : j0, left = isSquare ? 0 : i0;
   while (typed.names.length < Math.min(kind.most, top + rows.length - 1)) typed.names.push("");
+  const pasted = new Set();
   rows.forEach((row, r) => row.forEach((text, c) => {
     const [i, j] = [left + c, top + r].sort((a, b) => a - b), key = `${i}-${j}`;
     if (i >= j || j > typed.names.length || !text) return;
+    pasted.add(key);
     typed.links[key] = NONE.test(text.trim()) ? "" : text;
     if (typed.filled) delete typed.filled[key];
   }));
+  if (!isNamed) forgetExample(typed, kind.example(), pasted);
+}
+
+/** Names of the worked example don't stay where all its links are pasted over, without names. */
+function forgetExample(typed, { names, links }, pasted) {
+  const isExample = typed.names.join("\n").trimEnd() === names.join("\n");
+  if (isExample && Object.keys(links).every((key) => pasted.has(key))) typed.names = typed.names.map(() => "");
 }
 
 /** The rows behind a line that has names where all other lines have numbers. */

@@ -1,9 +1,9 @@
 // The same game with other amounts: several estates side by side, and who bears an overrun.
 import { Rational } from "../exact/rational.js";
-import { decimalOf, fractionText, roundedSteps } from "../exact/decimals.js";
+import { decimalOf, fractionText } from "../exact/decimals.js";
 import { listed } from "../tell/words.js";
 import { button, el, refill } from "./dom.js";
-import { MOVED, totalsOf } from "./format.js";
+import { MOVED, totalsOf, withSum } from "./format.js";
 
 const MOST_OVERRUN = 12; // players of other games than tables
 
@@ -19,16 +19,17 @@ export function otherAmounts({ game, text }, { rows, format, typed, mark, ask })
 }
 
 /** A part that opens, with one field, and what comes of it. */
-function part({ title, hint, label, key, task, show }, { text, typed, mark, ask }) {
+function part({ title, hint, label, key, task, show }, { text, rows, typed, mark, ask }) {
   const found = el("div", { class: "found", "aria-live": "polite" });
-  const work = async () => {
+  const workOut = async () => {
     if (!(typed[key] ?? "").trim()) return refill(found);
     try {
-      return refill(found, show(await ask(task, { text, typed: typed[key], mark })));
+      return refill(found, show(await ask(task, { text, rows, typed: typed[key], mark })));
     } catch (fault) {
       return fault.message === "stopped" || refill(found, el("p", { class: "bad" }, fault.message));
     }
   };
+  const work = () => { typed.working = workOut(); }; // paper waits for it
   const field = el("input", {
     type: "text", value: typed[key] ?? "", "aria-label": label, "data-cell": key, autocomplete: "off", maxlength: 200,
     on: { input: (event) => { typed[key] = event.target.value; }, change: work },
@@ -136,15 +137,13 @@ function leavingRow(columns, { show }) {
 /** What a rule makes of it: the shares before and after, and the changes of what is shown, as texts. */
 function overrunColumn({ title, before, after, leaving }, rows, format) {
   const [old, fresh] = [before, after].map((shares) => totalsOf(rows, shares.map(Rational.of)));
-  const differences = fresh.map((value, r) => value.minus(old[r])), isMoved = [old, fresh].some(format.isMoved);
+  const differences = fresh.map((value, r) => value.minus(old[r]));
+  const isMoved = [old, fresh].some((totals) => format.isMoved(totals, rows));
   const signed = (step) => `${step > 0n ? "+" : ""}${decimalOf(step, format.places, format)}`;
-  const [first, then] = [old, fresh].map((totals) => roundedSteps(totals, format.places));
+  const [first, then] = [old, fresh].map((totals) => format.steps(totals, rows));
   const changes = withSum(then.map((step, r) => step - first[r])).map(signed);
-  return { title, differences, leaving, isMoved, texts: [format.column(old), format.column(fresh), changes] };
-}
-
-function withSum(steps) {
-  return [...steps, steps.reduce((sum, step) => sum + step, 0n)];
+  const texts = [first, then].map((steps) => withSum(steps).map(format.text));
+  return { title, differences, leaving, isMoved, texts: [...texts, changes] };
 }
 
 function overrunSentence({ title, differences, texts }, rows, change, game, { show, isExact }) {

@@ -20,7 +20,10 @@ export function paperPart(session, typed) {
     type: "checkbox", checked: Boolean(typed.withProposal), "data-cell": "paper.withProposal",
     on: { change: (event) => { typed.withProposal = event.target.checked; } },
   });
-  const printed = (what) => () => printAs(what);
+  const printed = (what) => async () => {
+    await typed.working; // what was typed last may be worked out still
+    printAs(what);
+  };
   return el("details", { class: "other paper-part" }, el("summary", {}, "On paper"),
     el("p", { class: "hint" }, "One page for a council or a court: who, how much, a picture, the reasons, what is ",
       "agreed on, and how to check it. Or all that stands here, with the amounts and the check that were worked out."),

@@ -1,20 +1,29 @@
 // The column of the user's proposal: its cells, its sum, and ways to fill it.
 import { Rational, ZERO } from "../exact/rational.js";
-import { decimal, fractionText, placesOf, readNumber, roundedSteps, typedText } from "../exact/decimals.js";
+import { decimal, fractionText, placesOf, readNumber, typedText } from "../exact/decimals.js";
+import { cellsOf } from "../cases/pasting.js";
 import { button, el } from "./dom.js";
-import { totalsOf } from "./format.js";
+import { stepsOfRows, totalsOf } from "./format.js";
 
-export function proposalInput({ label }, r, proposal) {
-  const fault = proposal.faults[r];
+/** A cell of a column that the user fills: `own` are its texts, `key` its name, `title` what it is. A column that is
+ * pasted goes on below. */
+export function ownInput({ label }, r, own, key, title) {
+  const fault = own.faults[r];
   return el("input", {
     type: "text", class: "number", inputmode: "decimal", autocomplete: "off", maxlength: 200,
-    "data-cell": `proposal.${r}`, value: proposal.texts[r],
-    "aria-label": `Your proposal for ${label}`, "aria-invalid": fault ? "true" : false, title: fault ?? false,
+    "data-cell": `${key}.${r}`, value: own.texts[r],
+    "aria-label": `${title} for ${label}`, "aria-invalid": fault ? "true" : false, title: fault ?? false,
     on: {
-      input: (event) => proposal.set(r, event.target.value),
+      input: (event) => own.set(r, event.target.value),
       keydown: (event) => {
         if (event.key !== "Enter") return;
-        document.querySelector(`[data-cell="proposal.${r + (event.shiftKey ? -1 : 1)}"]`)?.focus();
+        document.querySelector(`[data-cell="${key}.${r + (event.shiftKey ? -1 : 1)}"]`)?.focus();
+      },
+      paste: (event) => {
+        const rows = cellsOf(event.clipboardData?.getData("text/plain") ?? "");
+        if (rows.length < 2) return;
+        event.preventDefault();
+        own.setAll(own.texts.map((text, k) => rows[k - r]?.at(-1) ?? text));
       },
     },
   });
@@ -48,9 +57,9 @@ function ways({ game, points }, rows) {
 }
 
 /** Rounded totals as texts that add to the whole: with as many decimals as it has, or the greatest takes the rest. */
-function wholeTexts(totals, whole, { places, mark }) {
+function wholeTexts(totals, rows, whole, { places, mark }) {
   const count = Math.max(places, placesOf(whole)), unit = new Rational(10n ** BigInt(count));
-  const values = roundedSteps(totals, count).map((step) => new Rational(step).over(unit));
+  const values = stepsOfRows(totals, rows, count).map((step) => new Rational(step).over(unit));
   const rest = whole.minus(Rational.sum(values)), most = values.indexOf(Rational.max(values));
   values[most] = values[most].plus(rest);
   return values.map((value) => {
@@ -61,7 +70,7 @@ function wholeTexts(totals, whole, { places, mark }) {
 }
 
 export function proposalTools(result, { rows, proposal, format }) {
-  const fill = (totals) => proposal.setAll(wholeTexts(totals, result.game.whole(), format));
+  const fill = (totals) => proposal.setAll(wholeTexts(totals, rows, result.game.whole(), format));
   return el("p", { class: "tools fill" }, el("span", {}, "Fill your proposal with "),
     ways(result, rows).map(({ title, totals }) => button(title, () => fill(totals()), { class: "quiet" })),
     proposal.texts.some(Boolean) && button("clear", () => proposal.setAll([]), { class: "quiet" }));

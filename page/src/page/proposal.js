@@ -1,4 +1,4 @@
-// The division that the user proposes: a text for each row of the answer.
+// The division that the user proposes, or that stands today: a text for each row of the answer.
 import { readNumber } from "../exact/decimals.js";
 import { Rational } from "../exact/rational.js";
 
@@ -8,7 +8,7 @@ export function proposalOf(texts, rows, mark) {
   const read = readAll(typed, mark);
   const totals = rows.length && read.every((one) => one?.value) ? read.map(({ value }) => value) : null;
   return {
-    texts: typed, totals, shares: totals && sharesOf(rows, totals),
+    texts: typed, totals, shares: totals && sharesOf(rows, totals), values: read.map((one) => one?.value ?? null),
     faults: read.map((one) => (one?.fault ? `It ${one.fault}.` : null)),
   };
 }

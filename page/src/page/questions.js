@@ -3,7 +3,7 @@ import { Rational } from "../exact/rational.js";
 import { writeJson } from "../exact/json.js";
 import { Facts } from "../game/facts.js";
 import { ruleName } from "../tell/rule-names.js";
-import { capital } from "../tell/words.js";
+import { capital, nameByRows } from "../tell/words.js";
 
 /** The greatest numbers of players that the commands take, by class; README.md of the program has them all. */
 const LIMITS = {
@@ -34,18 +34,18 @@ export function takesPerHead(game) {
 
 /** Asks all that is asked of a game. `read` is what a worker read; `onPart(result)` is called as answers come. */
 export async function askAll(read, { engine, checker, onPart }) {
-  const result = { game: new Facts(read.facts), text: read.text, points: [], checks: {} };
+  const result = { game: nameByRows(new Facts(read.facts), read.rows), text: read.text, points: [], checks: {} };
   const ask = async (word, document = read.text) => checked(await engine("solve", { word, document }));
   await askSolution(result, ask);
   if (result.refusal) return onPart(result), result;
   if (result.line) onPart(result);
-  const beside = result.line ? askBeside(result, checker, onPart) : null;
+  const beside = result.line ? askBeside(result, read.rows, checker, onPart) : null;
   beside?.catch(() => 0); // it is told where it is waited for
   await askOthers(result, ask);
   onPart(result);
   for (const point of result.points) Object.assign(point, await judge(result, point.shares, engine));
   if (takes("convex", result.game) && !result.game.ballots && result.game.n > 1) {
-    result.convexity = await engine("convexity", { text: read.text });
+    result.convexity = await engine("convexity", { text: read.text, rows: read.rows });
   }
   onPart(result);
   if (result.line) result.checks.program = await settled(ask("check", result.line));
@@ -55,8 +55,8 @@ export async function askAll(read, { engine, checker, onPart }) {
 }
 
 /** What another worker does meanwhile: the sentences, and the second checker's word. */
-async function askBeside(result, checker, onPart) {
-  result.reasons = await checker("explain", { line: result.line });
+async function askBeside(result, rows, checker, onPart) {
+  result.reasons = await checker("explain", { line: result.line, rows });
   onPart(result);
   result.checks.anew = await settled(checker("checkAnew", { document: result.line }));
   onPart(result);

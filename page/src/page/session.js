@@ -28,8 +28,8 @@ export class Session {
   }
 
   /** `doubt` is why the game isn't taken for the agreed one, in words. */
-  open(kind, typed, { measure = "plain", texts = [], entry = this.own, doubt = "" } = {}) {
-    Object.assign(this, { kind, typed, measure, texts, entry, doubt, places: kind.places ?? 2 });
+  open(kind, typed, { measure = "plain", texts = [], todays = null, entry = this.own, doubt = "" } = {}) {
+    Object.assign(this, { kind, typed, measure, texts, todays, entry, doubt, places: kind.places ?? 2 });
     Object.assign(this, { reading: null, result: null, judged: {}, proposal: proposalOf([], [], entry) });
     this.changed(0);
   }
@@ -136,6 +136,12 @@ export class Session {
     this.judging = setTimeout(() => this.judge().catch(this.on.fault), WAIT);
   }
 
+  /** What each pays or has today, a text for each row; null where the user doesn't compare. No answer changes. */
+  setTodays(texts) {
+    this.todays = texts && Array.from(texts, (text) => text ?? "");
+    this.on.answer();
+  }
+
   async judge() {
     const { result, turn, texts } = this, { shares } = this.proposal;
     if (!shares || !result || result.refusal || this.isStale) return; // the next answer has it judged
@@ -155,6 +161,6 @@ export class Session {
 
   compared(checker, shares, solution) {
     const [one, other] = [shares, solution.shares].map((list) => list.map(String));
-    return checker("compare", { text: this.result.text, one, other });
+    return checker("compare", { text: this.result.text, rows: this.reading.rows, one, other });
   }
 }

@@ -4,30 +4,37 @@ import { fractionText } from "../exact/decimals.js";
 import { listed, Namer, plural } from "../tell/words.js";
 import { comparisonOf } from "./comparison.js";
 import { el } from "./dom.js";
-import { MOVED, totalsOf } from "./format.js";
-import { meanings, subtitleOf } from "./meanings.js";
-import { proposalInput, proposalSum, proposalTools } from "./proposal-cells.js";
+import { MOVED, totalsOf, withSum } from "./format.js";
+import { meanings, monotonic, subtitleOf, words } from "./meanings.js";
+import { ownInput, proposalSum, proposalTools } from "./proposal-cells.js";
+import { changeText, todayTitle, todayTools } from "./today.js";
 
-const BRIEF = 20; // rows that are kept on one printed page
+const BRIEF = 8; // rows that are kept on one printed page
 const NARROW = 520;
 const FEW = 3; // landings that are named one by one
 
 export function sharesTable(result, settings) {
   const { game, points } = result, { rows, format, proposal } = settings;
   const context = contextOf(game, rows, format);
-  const columns = points.map((point) => ({ ...point, texts: format.column(totalsOf(rows, point.shares)) }));
+  const columns = points.map((point) => {
+    const steps = format.steps(totalsOf(rows, point.shares), rows);
+    return { ...point, steps, texts: withSum(steps).map(format.text) };
+  });
   const hasHolds = points.some(({ hold }) => hold), view = { ...settings, game, context, columns };
   const kinds = ["shares", proposal.totals ? "" : "unproposed", rows.length <= BRIEF ? "brief" : ""];
   return el("div", {},
     el("div", { class: "scroll" }, el("table", { class: kinds.filter(Boolean).join(" ") },
       headOf(view), el("tbody", {}, linesOf(rows).map((line) => (line.of ? sumRow(line, view) : shareRow(line, view)))),
       footOf(view, hasHolds))),
-    columns.some(({ shares }) => format.isMoved(totalsOf(rows, shares)))
+    columns.some(({ shares }) => format.isMoved(totalsOf(rows, shares), rows))
       && el("p", { class: "hint moved" }, `${MOVED} The exact shares stand in small print.`),
     proposal.canBe && proposalTools(result, settings),
+    todayTools(game, settings.today),
     proposal.shares && sameAs(points, proposal.shares),
     proposal.comparison && comparisonOf(proposal.comparison, points[0], game),
-    meanings(points, hasHolds, game));
+    meanings(points, hasHolds, game),
+    !game.ballots && !game.isMarket() && monotonic(),
+    words());
 }
 
 /** Which division of the table a proposal is. */
@@ -37,30 +44,40 @@ function sameAs(points, shares) {
     `Your proposal is just what stands under ${listed(same.map(({ title }) => `“${title}”`))}.`);
 }
 
-function headOf({ game, context, columns, proposal }) {
+function headOf({ game, context, columns, proposal, today }) {
   const column = ({ key, title }) => el("th", { scope: "col", class: "number", "data-point": key },
     title, el("small", {}, subtitleOf(key, game)));
   return el("thead", {}, el("tr", {},
     el("th", { scope: "col" }, game.costs ? "Who pays" : "Who gets"),
     context && el("th", { scope: "col", class: "number context" }, context.title),
+    today.texts && el("th", { scope: "col", class: "number today" }, todayTitle(game)),
     columns.map(column),
     proposal.canBe && el("th", { scope: "col", class: "number proposed", "data-point": "proposal" },
       "Your proposal", el("small", {}, subtitleOf("proposal", game)))));
 }
 
-function shareRow({ row, r }, { context, columns, format, proposal }) {
+function shareRow({ row, r }, { game, context, columns, format, proposal, today }) {
   const count = row.players.length;
   return el("tr", {},
     el("th", { scope: "row" }, row.label, count > 1 && el("small", {}, plural(count, "landing"))),
     context && el("td", { class: "number context" }, context.texts[r]),
-    columns.map(({ texts, shares }) => shareCell(texts[r], shares[row.players[0]], count, format)),
-    proposal.canBe && el("td", { class: "number proposed" }, proposalInput(row, r, proposal)));
+    today.texts && el("td", { class: "number today" }, ownInput(row, r, today, "today", todayTitle(game))),
+    columns.map(({ texts, steps, shares }) => {
+      return shareCell(texts[r], shares[row.players[0]], count, format, changeOf(steps[r], r, today, format));
+    }),
+    proposal.canBe && el("td", { class: "number proposed" },
+      ownInput(row, r, proposal, "proposal", "Your proposal")));
 }
 
-function shareCell(text, share, count, format) {
+function shareCell(text, share, count, format, change) {
   const fraction = !format.isExact(share) && fractionText(share);
   const exact = count > 1 ? `${count} × ${format.show(share)}${fraction ? ` (${fraction})` : ""}` : fraction;
-  return el("td", { class: "number" }, text, exact && el("small", { class: "exact" }, exact));
+  return el("td", { class: "number" }, text, change, exact && el("small", { class: "exact" }, exact));
+}
+
+/** How much more it is than today, where that was typed. */
+function changeOf(step, r, { texts, values }, format) {
+  return texts && values[r] && el("small", { class: "change" }, changeText(step, values[r], format));
 }
 
 /** The rows, and behind the last row of an airline with several rows its sum. */
@@ -73,32 +90,38 @@ function linesOf(rows) {
   });
 }
 
-function sumRow({ sum, of }, { rows, context, columns, format, proposal }) {
-  const cells = columns.map(({ shares }) => {
+function sumRow({ sum, of }, { rows, context, columns, format, proposal, today }) {
+  const cells = columns.map(({ shares, steps }) => {
     const exact = Rational.sum(totalsOf(of.map((r) => rows[r]), shares));
-    return shareCell(format.show(exact), exact, 1, format);
+    return shareCell(withSum(of.map((r) => steps[r])).map(format.text).at(-1), exact, 1, format);
   });
   return el("tr", { class: "subtotal" }, el("th", { scope: "row" }, `${sum}, together`),
-    context && el("td", { class: "context" }), cells, proposal.canBe && el("td", { class: "proposed" }));
+    context && el("td", { class: "context" }), today.texts && el("td"), cells,
+    proposal.canBe && el("td", { class: "proposed" }));
 }
 
-function footOf({ game, context, columns, format, proposal, wide }, hasHolds) {
-  const blank = context && el("td", { class: "context" });
-  const sum = el("tr", { class: "sum" }, el("th", { scope: "row" }, "together"), blank,
-    columns.map(({ texts }) => el("td", { class: "number" }, texts.at(-1))),
+function footOf({ game, rows, context, columns, format, proposal, today, wide }, hasHolds) {
+  const blank = () => [context && el("td", { class: "context" }), today.texts && el("td")], last = rows.length;
+  const sum = el("tr", { class: "sum" }, el("th", { scope: "row" }, "together"),
+    context && el("td", { class: "context" }),
+    today.texts && el("td", { class: "number today" }, today.values[last] ? format.show(today.values[last]) : "–"),
+    columns.map(({ texts, steps }) => {
+      return el("td", { class: "number" }, texts.at(-1), changeOf(withSum(steps).at(-1), last, today, format));
+    }),
     proposal.canBe && el("td", { class: "number proposed" }, proposalSum(game, proposal, format)));
   // on a narrow page the question stands above its answers, since a column has room for a word alone
-  const isNarrow = wide < NARROW, span = columns.length + 1 + (proposal.canBe ? 1 : 0);
+  const isNarrow = wide < NARROW, span = columns.length + 1 + (proposal.canBe ? 1 : 0)
+    + (today.texts ? 1 : 0);
   const asked = (title, told, own) => [
     isNarrow && el("tr", { class: "question" }, el("th", { scope: "rowgroup", colspan: String(span) }, title)),
     el("tr", { class: "verdict" }, el("th", { scope: "row" }, isNarrow ? "" : title),
-      blank && el("td", { class: "context" }), columns.map((point) => el("td", { class: "number" }, told(point))),
+      blank(), columns.map((point) => el("td", { class: "number" }, told(point))),
       proposal.canBe && el("td", { class: "number proposed", role: "status" }, proposal.shares ? told(own) : "–")),
   ];
   const isJudged = columns.some(({ verdict }) => verdict !== null);
   return el("tfoot", {}, sum,
     isJudged && asked("Can a group do better by itself?", (one) => verdictText(game, one.verdict, format), proposal),
-    hasHolds && asked("Has one a stronger hold on another?", (one) => holdText(game, one.hold, format), proposal));
+    hasHolds && asked("Has one a stronger hold on another?", (one) => holdText(rows, one.hold, format), proposal));
 }
 
 /** What is known of each beside the shares. */
@@ -130,11 +153,11 @@ function needingAtMost({ kind, amounts, n }, group, show) {
   return isAll && group.length < n ? `all landings that need at most ${show(most)}` : null;
 }
 
-function holdText(game, hold, { show }) {
+function holdText(rows, hold, { show }) {
   if (hold === undefined) return "…";
   if (hold === null) return "–";
   if (hold.isEven) return "No";
-  const [strong, weak] = [hold.strong, hold.weak].map((i) => game.shown[i]);
+  const [strong, weak] = [hold.strong, hold.weak].map((i) => rows.find(({ players }) => players.includes(i)).label);
   return `Yes: ${strong} on ${weak}, by ${show(hold.by)}`;
 }
 
@@ -143,7 +166,7 @@ export function tableText({ points }, { rows, format }) {
   const columns = points.flatMap(({ title, shares }) => {
     const totals = totalsOf(rows, shares);
     return [
-      [format.isMoved(totals) ? `${title}, rounded to add up` : title, ...format.column(totals)],
+      [format.isMoved(totals, rows) ? `${title}, rounded to add up` : title, ...format.column(totals, rows)],
       [`${title}, exact`, ...totals.map(String), String(Rational.sum(totals))],
     ];
   });

@@ -11,7 +11,8 @@ import { lead, solutionOf } from "./answer.js";
 import { el, refill } from "./dom.js";
 import { knownDigest } from "./files.js";
 import { filledText } from "./filled.js";
-import { formatOf, MOVED, totalsOf } from "./format.js";
+import { formatOf, MOVED, totalsOf, withSum } from "./format.js";
+import { changeText, todayOf, todayTitle } from "./today.js";
 
 const WIDE = 700;
 const MOST_PICTURED = 10; // rows whose bars leave room for the rest
@@ -36,8 +37,9 @@ export function showSheet(session, typed = {}) {
     refill(sheet);
     return;
   }
-  const { rows } = reading, format = formatOf(session.places, session.mark), { heading, unit, withProposal } = typed;
-  const view = { ...session, heading, unit, withProposal, result, rows, format };
+  const { rows } = reading, format = formatOf(session.places, session.mark), today = todayOf(session, rows);
+  const { heading, unit, withProposal } = typed;
+  const view = { ...session, heading, unit, withProposal, result, rows, format, today };
   const reasons = reasonsOf(view), isLong = rows.length > MANY_ROWS || reasons.textContent.length > LONG;
   const isTight = isLong || Boolean(withProposal);
   sheet.classList.toggle("tight", isTight);
@@ -55,7 +57,7 @@ export function dayText() {
 // ---- Who, and how much
 
 function answerOf(view) {
-  const { result, rows, format, unit } = view, { game } = result;
+  const { result, rows, format, unit, today } = view, { game } = result;
   const shapley = result.points.find(({ key }) => key === "shapley");
   const point = game.ballots ? shapley : solutionOf(result) ?? result.points[0];
   if (!point) return null;
@@ -63,9 +65,9 @@ function answerOf(view) {
     return el("section", {}, tradesTable(dealsOf(game, result.matching, solutionOf(result)), format));
   }
   const title = game.ballots ? "Power" : point.title, totals = totalsOf(rows, point.shares);
-  const context = contextOf(game, rows, format), texts = format.column(totals);
+  const context = contextOf(game, rows, format), texts = format.column(totals, rows);
   const hasExact = totals.some((total) => !format.isExact(total)), who = game.costs ? "Who pays" : "Who gets";
-  const others = othersOf(view, point);
+  const others = [...todaysOf(today, format.steps(totals, rows), game, format), ...othersOf(view, point)];
   const heads = [game.ballots ? "Who votes" : who, context?.title, title, hasExact ? "exactly" : undefined,
     ...others.map((other) => other.title)];
   const line = (r) => el("tr", {},
@@ -81,8 +83,16 @@ function answerOf(view) {
     !game.ballots && !game.isMarket() && lead(result, point, { rows, format }),
     unit?.trim() && el("p", { class: "hint" }, `All amounts are in ${unit.trim()}.`),
     halves(rows.length, heads.filter((head) => head !== undefined), line, sum),
-    format.isMoved(totals) && el("p", { class: "hint" }, `${MOVED} The fractions are exact.`),
+    format.isMoved(totals, rows) && el("p", { class: "hint" }, `${MOVED} The fractions are exact.`),
     others.map((other) => other.said && el("p", { class: "hint" }, `${other.title}: ${other.said}`)));
+}
+
+/** What each pays or has today, and how much more the share is, where that was typed. */
+function todaysOf({ texts, values }, steps, game, format) {
+  if (!texts?.some(Boolean)) return [];
+  const told = (say) => withSum(steps).map((step, r) => (values[r] ? say(values[r], step) : ""));
+  return [{ title: todayTitle(game), texts: told(format.show) },
+    { title: "Change", texts: told((now, step) => changeText(step, now, format)) }];
 }
 
 /** The other columns, and the user's proposal, where these are wanted: {title, texts, said}. */
@@ -90,7 +100,7 @@ function othersOf({ result, rows, format, withProposal, proposal, judged }, show
   if (!withProposal || result.game.ballots) return [];
   const { game, points } = result, own = proposal?.totals && { title: "Your proposal", ...proposal, ...judged };
   return [...points.filter((point) => point !== shown), own].filter(Boolean).map((point) => {
-    const texts = format.column(point.totals ?? totalsOf(rows, point.shares));
+    const texts = format.column(point.totals ?? totalsOf(rows, point.shares), rows);
     return { title: point.title, texts, said: saidOf(game, point, format) };
   });
 }

@@ -7,6 +7,7 @@ import { anewWord, programWord, wordLine } from "./evidence.js";
 import { fingerprint } from "./files.js";
 import { Helper } from "./helper.js";
 import { lineTable } from "./line-table.js";
+import { words } from "./meanings.js";
 import { settled } from "./questions.js";
 import { textPlace } from "./text-place.js";
 import { meaning } from "./trust.js";
@@ -44,7 +45,7 @@ class VerifyPanel {
       onText: (text) => this.check({ agreed: text }),
     });
     const places = el("div", { class: "places screen" }, this.ofLine, this.ofGame);
-    this.element = el("div", {}, places, this.answers, this.means);
+    this.element = el("div", {}, places, this.answers, this.means, words());
   }
 
   async check(given) {

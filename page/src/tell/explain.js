@@ -73,15 +73,15 @@ class Explainer {
 
   splits(start, count) {
     const before = this.settled.players();
-    const items = this.levels.slice(start, start + count).map((level) => {
+    const alike = new Map(); // landings of one row are told together
+    for (const level of this.levels.slice(start, start + count)) {
       const [i] = level.coalitions.map(([group]) => group).find((group) => group.length === 1);
       before.add(i);
       this.settled.addLevel(level);
-      return {
-        label: `${this.namer.names[i]} ${this.gets} ${fullText(this.shares[i])}.`,
-        text: this.margin(level.excess),
-      };
-    });
+      const key = this.namer.names[i], { ids = [] } = alike.get(key) ?? {};
+      alike.set(key, { ids: [...ids, i], text: this.margin(level.excess) });
+    }
+    const items = [...alike.values()].map(({ ids, text }) => ({ label: `${this.whatTheyGet(ids)}.`, text }));
     const sentences = [
       "At each of these, one player alone, and all others together, gain least of the groups that are still open.",
       "The two groups hold each player once. What one gains the other loses, so no division does better by both.",
@@ -177,9 +177,24 @@ class Explainer {
     if (pairs.length > 8) {
       return `${pairs.length} groups of levels before ${done} (by their weights in the certificate)`;
     }
-    const names = pairs.map(([group]) => this.namer.inSum(group)), weights = pairs.map(([, weight]) => times(weight));
+    const alike = this.alike(pairs), names = alike.map(([name]) => name);
+    const weights = alike.map(([, weight]) => times(weight));
     if (new Set(weights).size === 1) return `${listed(names)} ${done} ${weights[0]}${pairs.length > 1 ? " each" : ""}`;
     return listed(names.map((name, k) => (k ? `${name} ${weights[k]}` : `${name} ${done} ${weights[k]}`)));
+  }
+
+  /** Names with weights; of groups of landings that are named and counted alike one for all. */
+  alike(pairs) {
+    const found = new Map();
+    for (const [group, weight] of pairs) {
+      const name = this.namer.inSum(group), key = `${weight} ${name}`;
+      found.set(key, { name, weight, groups: [...(found.get(key)?.groups ?? []), group] });
+    }
+    return [...found.values()].map(({ name, weight, groups }) => {
+      if (groups.length === 1) return [name, weight];
+      const isSingle = groups[0].length === 1, several = name.replace(/^the group/, `${groups.length} groups`);
+      return [isSingle ? this.namer.players(groups.flat()) : several, weight];
+    });
   }
 
   withBounds(bounds) {

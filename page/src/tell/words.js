@@ -26,12 +26,28 @@ export function isOrAre(list) {
   return list.length === 1 ? "is" : "are";
 }
 
+/** Names the landings of a runway as the rows of the answer do: each by its row, and by which part of it. */
+export function nameByRows(game, rows) {
+  if (game.kind !== "airport") return game;
+  game.shown = [...game.shown];
+  for (const row of rows) for (const i of row.players) game.shown[i] = partOf(row, 1);
+  game.landings = rows.some(({ players }) => players.length > 1) ? rows : null;
+  return game;
+}
+
+function partOf({ label, players }, count) {
+  const all = players.length;
+  if (all === 1) return label;
+  return count === all ? `${label} (${all} landings)` : `${label} (${count} of ${all} landings)`;
+}
+
 /** Names the players and the groups of a game. */
 export class Namer {
   constructor(game) {
     this.n = game.n;
     this.names = game.shown;
     this.isNamed = game.named;
+    this.landings = game.landings;
   }
 
   /** Some players: of many those that are left out, or the first and the last, or the first ones. */
@@ -39,14 +55,23 @@ export class Namer {
     const ids = [...some].sort((i, j) => i - j), out = without(this.n, ids);
     const name = (i) => this.names[i];
     if (ids.length > 3 && !out.length) return "all players";
-    if (ids.length > most / 2 && out.length <= 3) return `all but ${listed(out.map(name))}`;
-    const parts = this.runs(ids);
+    if (ids.length > most / 2 && out.length <= 3) return `all but ${listed(this.ofRows(out) ?? out.map(name))}`;
+    const ofRows = this.ofRows(ids), parts = ofRows ?? this.runs(ids);
+    if (ofRows?.length > most) return `${listed(parts.slice(0, most - 2))}, and ${parts.length - most + 2} others`;
+    if (ofRows) return listed(parts);
     if (parts.length < ids.length && parts.length <= most) return listed(parts);
     if (this.isNamed && ids.length > 4 && ids.at(-1) - ids[0] === ids.length - 1) {
       return `${name(ids[0])} to ${name(ids.at(-1))} (${ids.length} in a row)`;
     }
     if (ids.length <= most) return listed(ids.map(name));
     return `${ids.slice(0, most - 2).map(name).join(", ")} and ${ids.length - most + 2} others`;
+  }
+
+  /** Landings by their rows, each with how many of it; null where each row is one landing. */
+  ofRows(ids) {
+    const some = new Set(ids), among = ({ players }) => players.filter((i) => some.has(i)).length;
+    const counted = this.landings?.map((row) => [row, among(row)]);
+    return counted?.filter(([, count]) => count).map(([row, count]) => partOf(row, count));
   }
 
   /** Names in a row that are numbered alike, as those of landings are, are put together: "Aer 1 to 3". */
@@ -80,7 +105,7 @@ export class Namer {
 
   /** Several groups; of many, those of one player and those without one player are put together. */
   groups(groups) {
-    if (groups.length <= 4) return enumerated(groups.map((group) => this.group(group)));
+    if (groups.length <= 4 && !this.landings) return enumerated(groups.map((group) => this.group(group)));
     const alone = groups.filter((group) => group.length === 1);
     const butOne = groups.filter((group) => group.length > 1 && group.length === this.n - 1);
     const rest = groups.filter((group) => group.length > 1 && group.length < this.n - 1);
@@ -99,8 +124,12 @@ export class Namer {
   }
 
   firstAndCount(groups, most = 8) {
-    const parts = groups.slice(0, most).map((group) => this.group(group));
-    const sizes = groups.slice(most).map((group) => group.length);
+    const alike = new Map(); // groups of landings may have one name
+    for (const group of groups) alike.set(this.group(group), [...(alike.get(this.group(group)) ?? []), group.length]);
+    const parts = [...alike].slice(0, most).map(([text, { length }]) => {
+      return length > 1 ? `${text} (${length} such groups)` : text;
+    });
+    const sizes = [...alike.values()].slice(most).flat();
     if (!sizes.length) return parts;
     const low = Math.min(...sizes), high = Math.max(...sizes);
     return [...parts, `${sizes.length} more groups, of ${low < high ? `${low} to ${high}` : low} players`];

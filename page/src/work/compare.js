@@ -4,15 +4,15 @@ import { lcm, Rational } from "../exact/rational.js";
 import { shortText } from "../exact/decimals.js";
 import { Game } from "../game/game.js";
 import { membersOf } from "../game/groups.js";
-import { Namer } from "../tell/words.js";
+import { nameByRows, Namer } from "../tell/words.js";
 
 const MOST_SHOWN = 8;
 const MOST_PLAYERS = 12; // of other games than tables, whose groups take longer to be worked out
 
 /** `one` and `other` are shares as texts: the first places of both lists, and where they differ first; null where the
  * game has too many groups. */
-export function compare({ text, one, other }) {
-  const game = new Game(parseJson(text).game);
+export function compare({ text, rows, one, other }) {
+  const game = nameByRows(new Game(parseJson(text).game), rows);
   if (game.n < 2 || (!game.isTable() && game.n > MOST_PLAYERS)) return null;
   const unit = unitOf(game, [...one, ...other].map(Rational.of));
   const lists = [one, other].map((shares) => excesses(game, shares.map(Rational.of), unit));

@@ -2,14 +2,14 @@
 import { parseJson } from "../exact/json.js";
 import { shortText } from "../exact/decimals.js";
 import { Game } from "../game/game.js";
-import { listed, Namer } from "../tell/words.js";
+import { listed, nameByRows, Namer } from "../tell/words.js";
 import { answer } from "./answers.js";
 
 /** {isConvex, sentence} of a game; null where the program doesn't say. */
-export function convexity({ text }) {
+export function convexity({ text, rows }) {
   const { status, tree } = answer("convex", text);
   if (status > 1) return null;
-  const game = new Game(parseJson(text).game);
+  const game = nameByRows(new Game(parseJson(text).game), rows);
   return { isConvex: status === 0, sentence: status === 0 ? convexSentence(game) : gapOf(game, tree) };
 }
 

@@ -5,7 +5,7 @@ import { readNumber, shortText } from "../exact/decimals.js";
 import { Game } from "../game/game.js";
 import { membersOf } from "../game/groups.js";
 import { withEscapes } from "../game/names.js";
-import { Namer } from "../tell/words.js";
+import { nameByRows, Namer } from "../tell/words.js";
 import { answer, solutionOf } from "./answers.js";
 
 const MOST_ESTATES = 12;
@@ -66,8 +66,8 @@ function changeOf(typed, whole, mark) {
 
 /** Who bears it where the whole costs, or is worth, more: for each rule the shares before and after, and whether a
  * group does better by itself. */
-export function overrun({ text, typed, mark }) {
-  const game = new Game(parseJson(text).game), full = 2 ** game.n - 1;
+export function overrun({ text, rows, typed, mark }) {
+  const game = nameByRows(new Game(parseJson(text).game), rows), full = 2 ** game.n - 1;
   const { more, fault } = changeOf(typed, game.whole(), mark);
   if (fault) return { fault };
   const amounts = Array.from({ length: full }, (_, k) => game.told(membersOf(k + 1)));

@@ -1,0 +1,38 @@
+// What each pays or has today, beside the divisions: a column that the user may fill. It changes no answer, and the
+// format of documents has no place for it.
+import { Rational, ZERO } from "../exact/rational.js";
+import { decimal } from "../exact/decimals.js";
+import { button, el } from "./dom.js";
+import { proposalOf } from "./proposal.js";
+
+/** What was typed of today, read by rows, and how to change it; `texts` is null where the user doesn't compare. */
+export function todayOf(session, rows) {
+  const { todays, result } = session, setAll = (texts) => session.setTodays(texts);
+  const canBe = !result.game.isMarket() && !result.game.ballots;
+  if (!todays || !canBe) return { canBe, texts: null, setAll };
+  const set = (r, text) => setAll(Object.assign([...todays], { [r]: text }));
+  const { texts, values, faults } = proposalOf(todays, rows, session.readMark()), isWhole = values.every(Boolean);
+  return { canBe, texts, faults, set, setAll, values: isWhole ? [...values, Rational.sum(values)] : values };
+}
+
+export function todayTitle({ costs }) {
+  return costs ? "Pays today" : "Has now";
+}
+
+/** How much more a number that is shown, in steps of the last place, is than that of today: "+1.20 (+31.0 %)". */
+export function changeText(step, now, { places, mark, show }) {
+  const change = new Rational(step).over(new Rational(10n ** BigInt(places))).minus(now);
+  const sign = ZERO.less(change) ? "+" : "", part = change.over(now.isZero() ? Rational.of(1) : now.abs());
+  const percent = decimal(part.times(Rational.of(100)), 1, { mark });
+  return sign + show(change) + (now.isZero() ? "" : ` (${sign}${percent}\u202f%)`);
+}
+
+/** The way to the column, and what is said of it. */
+export function todayTools({ costs }, { canBe, texts, setAll }) {
+  const what = costs ? "what each pays today" : "what each has now";
+  if (!canBe) return null;
+  if (!texts) return el("p", { class: "tools" }, button(`Compare with ${what}`, () => setAll([]), { class: "quiet" }));
+  return el("p", { class: "tools" }, button(`Without ${what}`, () => setAll(null), { class: "quiet" }),
+    el("span", { class: "hint" }, "Below each share stands how much more or less it is. This column is for the table "
+      + "and for paper: no file has a place for it, so it isn’t saved."));
+}
