@@ -92,8 +92,8 @@ function linesOf(rows) {
 
 function sumRow({ sum, of }, { rows, context, columns, format, proposal, today }) {
   const cells = columns.map(({ shares, steps }) => {
-    const exact = Rational.sum(totalsOf(of.map((r) => rows[r]), shares));
-    return shareCell(withSum(of.map((r) => steps[r])).map(format.text).at(-1), exact, 1, format);
+    const exact = Rational.sum(totalsOf(of.map((r) => rows[r]), shares)), shown = withSum(of.map((r) => steps[r]));
+    return shareCell(format.text(shown.at(-1)), exact, 1, format);
   });
   return el("tr", { class: "subtotal" }, el("th", { scope: "row" }, `${sum}, together`),
     context && el("td", { class: "context" }), today.texts && el("td"), cells,
@@ -110,8 +110,7 @@ function footOf({ game, rows, context, columns, format, proposal, today, wide },
     }),
     proposal.canBe && el("td", { class: "number proposed" }, proposalSum(game, proposal, format)));
   // on a narrow page the question stands above its answers, since a column has room for a word alone
-  const isNarrow = wide < NARROW, span = columns.length + 1 + (proposal.canBe ? 1 : 0)
-    + (today.texts ? 1 : 0);
+  const isNarrow = wide < NARROW, span = columns.length + 1 + (proposal.canBe ? 1 : 0) + (today.texts ? 1 : 0);
   const asked = (title, told, own) => [
     isNarrow && el("tr", { class: "question" }, el("th", { scope: "rowgroup", colspan: String(span) }, title)),
     el("tr", { class: "verdict" }, el("th", { scope: "row" }, isNarrow ? "" : title),

@@ -57,7 +57,7 @@ export class Namer {
     if (ids.length > 3 && !out.length) return "all players";
     if (ids.length > most / 2 && out.length <= 3) return `all but ${listed(this.ofRows(out) ?? out.map(name))}`;
     const ofRows = this.ofRows(ids), parts = ofRows ?? this.runs(ids);
-    if (ofRows?.length > most) return `${listed(parts.slice(0, most - 2))}, and ${parts.length - most + 2} others`;
+    if (ofRows?.length > most) return `${parts.slice(0, most - 2).join(", ")} and ${parts.length - most + 2} others`;
     if (ofRows) return listed(parts);
     if (parts.length < ids.length && parts.length <= most) return listed(parts);
     if (this.isNamed && ids.length > 4 && ids.at(-1) - ids[0] === ids.length - 1) {
@@ -67,7 +67,7 @@ export class Namer {
     return `${ids.slice(0, most - 2).map(name).join(", ")} and ${ids.length - most + 2} others`;
   }
 
-  /** Landings by their rows, each with how many of it; null where each row is one landing. */
+  /** Landings by their rows, each with how many of it; undefined where no row has several. */
   ofRows(ids) {
     const some = new Set(ids), among = ({ players }) => players.filter((i) => some.has(i)).length;
     const counted = this.landings?.map((row) => [row, among(row)]);
