@@ -82,7 +82,7 @@ export class Browser {
     const ended = new Promise((done) => this.process.on("exit", done));
     this.process.kill();
     await ended;
-    rmSync(this.folder, { recursive: true, force: true, maxRetries: 10 });
+    forget(this.folder);
   }
 }
 
@@ -212,6 +212,16 @@ class Page {
   requests() {
     const asked = this.events.filter(({ method }) => method === "Network.requestWillBeSent");
     return asked.map(({ params }) => params.request.url).filter((url) => !/^(file|blob|data|about):/.test(url));
+  }
+}
+
+/** Removes the folder of a browser that has ended. A helper of the browser may write into it for a while yet: then it
+ * stays among the temporary folders. */
+export function forget(folder) {
+  try {
+    rmSync(folder, { recursive: true, force: true, maxRetries: 10, retryDelay: 200 });
+  } catch (fault) {
+    console.log(`${folder} stays: ${fault.code}`);
   }
 }
 

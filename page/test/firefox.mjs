@@ -3,12 +3,12 @@
 // Each case has to be answered, with a yes of both checkers, without an error and no wider than the window. Pictures
 // are put into FOLDER, if one is named. The status is 3 where Firefox doesn't start, as on a machine that is very busy.
 import { spawn } from "node:child_process";
-import { mkdtempSync, rmSync, writeFileSync } from "node:fs";
+import { mkdtempSync, writeFileSync } from "node:fs";
 import { connect } from "node:net";
 import { tmpdir } from "node:os";
 import { join, resolve } from "node:path";
 import { pathToFileURL } from "node:url";
-import { pause } from "./browser.mjs";
+import { forget, pause } from "./browser.mjs";
 import { READY } from "./harness.mjs";
 
 const CASES = ["runway", "estate", "costs", "gains", "network", "market", "votes"];
@@ -88,7 +88,7 @@ class Firefox {
     this.socket?.destroy();
     this.process.kill("SIGKILL");
     await ended;
-    rmSync(this.folder, { recursive: true, force: true, maxRetries: 10 });
+    forget(this.folder);
   }
 }
 
