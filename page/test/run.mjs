@@ -11,6 +11,7 @@ import { checking, documents } from "./documents.mjs";
 import { entering } from "./entering.mjs";
 import { failing } from "./failing.mjs";
 import { Harness } from "./harness.mjs";
+import { lecture } from "./lecture.mjs";
 import { access, large, looks } from "./looks.mjs";
 import { monkey } from "./monkey.mjs";
 import { saying } from "./saying.mjs";
@@ -22,7 +23,7 @@ const slack = Number(option("--slack", "1")), told = [];
 const harness = new Harness(pathToFileURL(page).href, option("--only", ""), slack);
 const program = resolve(option("--program", join(top, "crates", "coop_program", "out", "coop_program")));
 harness.add(large(slack, told));
-for (const some of [entering, saying, bothWays, casesTyped, tables, otherCases, documents(top, program),
+for (const some of [entering, saying, lecture, bothWays, casesTyped, tables, otherCases, documents(top, program),
   checking(top), checks(top), failing(page, top), looks, access]) {
   harness.add(some);
 }

@@ -11,8 +11,9 @@ export const network = {
   unit: "place",
   isNetwork: true,
   most: 16,
-  help: "What a link between each two places would cost. A link that can’t be built needs a number too, which decides "
-    + "much: leave it empty, and see below.",
+  help: "What a link between each two places would cost. A group by itself may use the links between its own places "
+    + "and the source alone, and costs its cheapest network of these. A link that can’t be built needs a number too, "
+    + "which decides much: leave it empty, and see below.",
   example: () => ({
     names: ["Harbour", "Mill", "Farm", "Chapel"],
     links: linksOf([["9.99", "10.25", "12", "14"], ["1.05", "3.50", "8"], ["6", "2"], ["5"]]),

@@ -1,7 +1,8 @@
 // Votes: by one quota, which is a game of its own class, or by two at once, which is a table of who wins.
 import { gcd, Rational } from "../exact/rational.js";
-import { typedText } from "../exact/decimals.js";
+import { readNumber, typedText } from "../exact/decimals.js";
 import { membersOf } from "../game/groups.js";
+import { withEscapes } from "../game/names.js";
 import { readList } from "./lists.js";
 
 const MOST_IN_TABLE = 16;
@@ -15,7 +16,10 @@ export const votes = {
   unit: "voter",
   isVote: true,
   places: 3,
-  single: { key: "quota", title: "Votes needed", help: "A motion passes with at least so many." },
+  single: {
+    key: "quota", title: "Votes needed",
+    help: "A motion passes with at least so many, or with such a part of all votes: 60 %.",
+  },
   columns: [
     { key: "name", title: "Who votes", wide: true, placeholder: "Voter" },
     { key: "votes", title: "Votes", number: true },
@@ -58,9 +62,18 @@ export const votes = {
   }),
 };
 
+/** The least number of votes that reaches a quota in per cent of all votes; null for another text. */
+function partOf(typed, all, mark) {
+  const [, percent] = /^(.*)%\s*$/.exec(typed ?? "") ?? [];
+  const { value } = percent === undefined ? {} : readNumber(percent.trim(), mark);
+  return value ? Rational.of(-all.times(value).over(Rational.of(-100)).floor()) : null;
+}
+
 /** The quota of some votes, which are whole numbers. */
 function readBallot(reading, typed, cell, what, { values, cells }) {
-  const quota = reading.number(cell, typed, what), all = Rational.sum(values);
+  const all = Rational.sum(values), part = partOf(typed, all, reading.mark);
+  const quota = part ?? reading.number(cell, typed, what);
+  if (part) reading.notes.push(`${what}: ${withEscapes(typed.trim())} of ${all} votes, so at least ${part}.`);
   values.forEach((value, i) => value.isWhole() || reading.fault(cells[i], "Votes are whole numbers."));
   if (!quota) return { values };
   if (!quota.isWhole()) reading.fault(cell, `${what} is a whole number: the least number of votes that is enough.`);

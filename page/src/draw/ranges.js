@@ -45,8 +45,10 @@ export function trades(game, matching, { solution, wide, ...format }) {
   return el("div", {}, tradesTable(deals, format),
     el("p", { class: "hint" },
       `Together they gain ${format.show(Rational.of(matching.value))}; no other pairs gain more. `,
-      "A price is what the seller gets of the gain, above its own value. At a lower price some buyer would be outbid, ",
-      "at a higher one some seller undercut.", idle.length > 0 && ` Without a trade: ${idle.join(", ")}.`),
+      "A price is what the seller gets of the gain, above its own value. The ranges say how far each price can go, not ",
+      "that each can be chosen by itself: one price holds the others. Below its range a buyer would be outbid, or the ",
+      "seller rather keep it; above it the seller would be undercut, or the buyer rather not buy.",
+      idle.length > 0 && ` Without a trade: ${idle.join(", ")}.`),
     deals.length > 0 && figure("ranges", "prices", pricesPicture(deals, priceOf(format), format.show, wide)));
 }
 
@@ -56,7 +58,7 @@ export function pricesPicture(deals, price, show, wide) {
     title: "The range of each price", low: 0, wide, text: tickText,
     high: Math.max(...deals.map(({ worth }) => worth.toNumber())) || 1,
     legend: [
-      { kind: "span", title: "prices by which no buyer and seller do better together" },
+      { kind: "span", title: "how far a price can go with no pair doing better together" },
       ...(hasFair ? [{ kind: "adds", title: `by the ${deals[0].rule}` }] : []),
     ],
     rows: deals.map((deal) => ({

@@ -13,6 +13,10 @@ const ALONE = [[0], [1], [2]];
 const PAIRS = [[1, 2], [0, 2], [0, 1]];
 const MOST_TOLD = 26; // letters of the numbers at a corner
 const [TOP, LINE, BESIDE] = [54, 24, 660]; // above this width the legend stands beside the triangle
+const FAR = [14, 28]; // how far outside a letter may stand
+const ALONG = [0.12, 0.25, 0.4, 0.6, 0.75]; // and where beside its line, if there is no room outside
+const APART = 15; // between two letters
+const CORNER = { wide: 70, high: 52 }; // how far the texts at a corner reach
 
 const GREY = [
   "The core is empty",
@@ -102,7 +106,7 @@ function cornersOf(game, { spots, side, outer, sign, isImputations }, width) {
 /** The lines on which a group gets just what it is worth, with their letters; and those that lie outside. */
 function boundsOf(game, shape) {
   const bound = game.costs ? "at most" : "at least", get = game.costs ? "pay" : "get";
-  const bounds = [], hidden = [];
+  const bounds = [], hidden = [], taken = [];
   for (const group of [...PAIRS, ...(shape.isImputations ? [] : ALONE)]) {
     const isPair = group.length === 2, who = group.map((i) => game.shown[i]).join(" and ");
     const worth = shortText(shape.sign(game.worth(group)));
@@ -114,17 +118,41 @@ function boundsOf(game, shape) {
     }
     const letter = LETTERS[bounds.length], [[x1, y1], [x2, y2]] = ends;
     const line = svg("line", { class: isPair ? "pair" : "single", x1, y1, x2, y2 });
-    const [x, y] = outwards(ends[isPair ? 0 : 1], shape.spots);
+    const [x, y] = roomBeside(isPair ? ends : [...ends].reverse(), shape.spots, taken);
+    taken.push([x, y]);
     bounds.push({ letter, text, drawn: [line, letterAt(letter, x, y + 4)] });
   }
   return { bounds, hidden };
 }
 
-/** A place a little outside of the end of a line. */
-function outwards([x, y], spots) {
+/** A place for a letter outside of an end of its line, or beside it: the first apart from other letters and corners. */
+function roomBeside(ends, spots, taken) {
+  const outside = FAR.flatMap((far) => ends.map((end) => outwards(end, spots, far)));
+  const [[x, y], [a, b]] = ends, isPoint = Math.hypot(a - x, b - y) < 1;
+  const places = [...outside, ...(isPoint ? [[x + 24, y]] : ALONG.map((part) => beside(ends, part)))];
+  const isApart = ([left, top]) => ([c, d]) => Math.hypot(left - c, top - d) > APART;
+  return places.find((place) => taken.every(isApart(place)) && spots.every(leaves(place))) ?? places[0];
+}
+
+/** Whether a place leaves the texts at a corner alone: they stand above the third corner, and below the others. */
+function leaves([x, y]) {
+  return ([a, b], i) => {
+    const [low, high] = i === 2 ? [-CORNER.high, -6] : [6, CORNER.high];
+    return Math.abs(x - a) > CORNER.wide || y < b + low || y > b + high;
+  };
+}
+
+/** A place outside of the end of a line, so far away from it. */
+function outwards([x, y], spots, far) {
   const middle = [0, 1].map((axis) => spots.reduce((sum, spot) => sum + spot[axis], 0) / 3);
   const away = Math.hypot(x - middle[0], y - middle[1]) || 1;
-  return [x + ((x - middle[0]) / away) * 14, y + ((y - middle[1]) / away) * 14];
+  return [x + ((x - middle[0]) / away) * far, y + ((y - middle[1]) / away) * far];
+}
+
+/** A place beside a line, after such a part of it. */
+function beside([[x1, y1], [x2, y2]], part) {
+  const long = Math.hypot(x2 - x1, y2 - y1) || 1, [across, down] = [(y2 - y1) / long, (x1 - x2) / long];
+  return [x1 + (x2 - x1) * part + across * 11, y1 + (y2 - y1) * part + down * 11];
 }
 
 function letterAt(letter, x, y) {

@@ -5,7 +5,7 @@ const SUBTITLES = {
   nucleolus: "treats those worst off best",
   prenucleolus: "the same, of all divisions: some may do worse than alone",
   shapley: "the mean over all orders of joining",
-  core: "one of many, and no proposal",
+  core: "one, often of many; no proposal",
   bird: "each pays its own link",
   buyers: "the least prices",
   sellers: "the greatest prices",

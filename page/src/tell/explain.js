@@ -17,6 +17,9 @@ const WHOLE = {
   voting: "There is a prize of # to divide, which a group wins that reaches the quota.",
 };
 
+/** Where two levels have one excess: a level names the groups that its proof needs, and not all that are worst off. */
+const AGAIN = "That is the number of the level before: a level names groups enough to settle something, and not all.";
+
 /** The parts of an explanation: {title, sentences, items}, the rule of the class first where there is one. */
 export function explain(game, line) {
   return new Explainer(game, line).parts();
@@ -108,7 +111,8 @@ class Explainer {
     this.settled.addLevel(level);
     const who = place ? "Each group that is still open" : "Every group but all together";
     const settles = this.settles(before);
-    const sentences = [...this.worstOff(level, who), ...this.why(reducedLevel(level)), settles];
+    const isAgain = place > 0 && this.levels[place - 1].excess.equals(level.excess);
+    const sentences = [...this.worstOff(level, who), isAgain && AGAIN, ...this.why(reducedLevel(level)), settles];
     const title = `Level ${place + 1}`;
     return { title, sentences: sentences.filter(Boolean), items: [], brief: settles, isLevel: true };
   }
@@ -120,14 +124,14 @@ class Explainer {
     if (e.isZero()) {
       return [
         `${who} ${this.gets} at ${this.game.costs ? "most" : "least"} what it ${alone}.`,
-        `Just that: ${groups}.`,
+        `Among those with just that: ${groups}.`,
       ];
     }
     const more = `${shortText(e.abs())} ${e.isNegative() === this.game.costs ? "less" : "more"}`;
     const perHead = this.perHead ? `,${this.perHead},` : "";
     return [
       `${who} ${this.gets}${perHead} at ${e.isNegative() ? "least" : "most"} ${more} than it ${alone}.`,
-      `Just ${more}${this.perHead}: ${groups}.`,
+      `Among those with just ${more}${this.perHead}: ${groups}.`,
     ];
   }
 

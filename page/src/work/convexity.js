@@ -15,8 +15,8 @@ export function convexity({ text, rows }) {
 
 function convexSentence({ costs }) {
   return costs
-    ? "The more have joined, the less (no more) each adds to the cost: the game is convex. So there are divisions that "
-      + "satisfy all groups, and the Shapley shares are one of them."
+    ? "The more have joined, the less (no more) each adds to the cost: the costs are concave, and so the game of what "
+      + "is saved is convex. So there are divisions that satisfy all groups, and the Shapley shares are one of them."
     : "The more have joined, the more (no less) each adds: the game is convex. So there are divisions that satisfy all "
       + "groups, and the Shapley shares are one of them.";
 }
@@ -35,7 +35,8 @@ function gapOf(game, { set, i, j }) {
   const start = group.length ? `joining ${to(group)}` : "alone";
   return game.costs
     ? `It can cost less to join early: ${name} adds ${early} to the cost ${start}, and ${late} joining `
-      + `${to(withFirst)}. So the game isn’t convex, and Shapley shares may leave a group dissatisfied.`
+      + `${to(withFirst)}. So the costs aren’t concave (the game of what is saved isn’t convex), and Shapley shares `
+      + "may leave a group dissatisfied."
     : `It can be worth less to join late: ${name} adds ${early} ${start}, and ${late} joining ${to(withFirst)}. `
       + "So the game isn’t convex, and Shapley shares may leave a group dissatisfied.";
 }

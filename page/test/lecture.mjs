@@ -1,0 +1,63 @@
+// Scenarios: what a teacher shows to a class, in the words of the field.
+import { noted, settle } from "./harness.mjs";
+
+const type = async (page, cells) => {
+  for (const [cell, text] of Object.entries(cells)) await page.type(cell, text);
+};
+
+/** Letters of the triangle that lie on one another, or on what is written at a corner. */
+const OVERLAPS = `(() => {
+  const boxes = [...document.querySelectorAll(".triangle svg .letter, .triangle svg .soft, .triangle svg .strong")]
+    .map((text) => [text.textContent, text.getBoundingClientRect()]);
+  const isOn = (a, b) => a.left < b.right && b.left < a.right && a.top + 4 < b.bottom && b.top + 4 < a.bottom;
+  const after = (k, a) => boxes.slice(k + 1).filter(([, b]) => isOn(a, b));
+  return boxes.flatMap(([one, a], k) => after(k, a).map(([two]) => one + two)).join();
+})()`;
+
+export const lecture = [
+  ["letters of the triangle stand apart", "runway", async (page, expect) => {
+    await type(page, { "rows.0.cost": "2", "rows.1.cost": "4", "rows.2.cost": "7" });
+    await type(page, { "rows.0.count": "1", "rows.1.count": "1" });
+    await settle(page);
+    expect("a runway", await page.run(OVERLAPS), "");
+    expect("letters", await page.run("document.querySelectorAll('.triangle svg .letter').length > 4"), true);
+  }],
+
+  ["a pair of gloves: a core of one point, and levels with one number", "gains", async (page, expect) => {
+    await type(page, { "numbers.1": "0", "numbers.2": "0", "numbers.3": "0", "numbers.4": "0" });
+    await type(page, { "numbers.5": "1", "numbers.6": "1", "numbers.7": "1" });
+    await page.until("/one point in grey/.test(document.querySelector('.triangle')?.innerText)");
+    await settle(page);
+    expect("no other is promised", await page.text(".shares thead"), /A core point\s+one, often of many; no proposal/);
+    const why = await page.text("#why");
+    expect("some of the groups", why, /Among those with just that:/);
+    expect("the same number", why, /That is the number of the level before: a level names groups enough/);
+    expect("apart", await page.run(OVERLAPS), "");
+  }],
+
+  ["costs are concave, savings convex", "runway", async (page, expect) => {
+    const why = await page.text("#why");
+    expect("by the word of textbooks", why, /the costs are concave, and so the game of what is saved is convex/);
+  }],
+
+  ["prices hang together", "market", async (page, expect) => {
+    expect("not each by itself", await page.text("#answer-body"), /not that each can be chosen by itself/);
+  }],
+
+  ["a quota in per cent", "votes", async (page, expect) => {
+    await page.click("Clear all");
+    await page.paste('[data-cell="rows.0.name"]', "A\t100\nB\t101\nC\t125");
+    await page.type("quota", "60 %");
+    await settle(page);
+    const said = "document.querySelector('.made pre').textContent";
+    expect("rounded up", await page.run(said), /"quota":196,/);
+    expect("told", await page.text("#case-body"), /The quota: 60 % of 326 votes, so at least 196/);
+    await page.type("quota", "x %");
+    await noted(page, /The quota is no number/);
+    expect("no number", await page.text("#case .faults"), /The quota is no number/);
+  }],
+
+  ["what a group may build by itself", "network", async (page, expect) => {
+    expect("told", await page.text("#case-body"), /A group by itself may use the links between its own places/);
+  }],
+];
