@@ -5,6 +5,7 @@ import { remarksOf, withEscapes } from "../game/names.js";
 
 const MOST_SCALE = 65536n;
 const MOST = 2n ** 40n;
+const OTHER = { ".": ",", ",": "." };
 const MOST_KEPT = 200; // faults that are kept with their cells; of the others only the number
 
 export class Reading {
@@ -16,6 +17,7 @@ export class Reading {
     this.doubts = []; // numbers that the decimal mark decides, the first ones
     this.doubted = 0;
     this.shown = new Map(); // marks that stand in front of decimals beyond doubt, each with a text that shows it
+    this.asked = null; // a row that may be the sum of the others: {r, name, sentence}
     this.notes = []; // what was changed for the program, and what is remarkable
     this.numbers = [];
     this.texts = new Map();
@@ -38,11 +40,7 @@ export class Reading {
     const { value, fault, doubt, by } = this.known(typed);
     if (doubt) this.doubt(cell, typed, value);
     if (by && !this.shown.has(by)) this.shown.set(by, typed);
-    if (fault === "is empty") {
-      this.empty.count += 1;
-      this.empty.first ??= cell;
-      return null;
-    }
+    if (fault === "is empty") return this.open(cell);
     if (fault) {
       const shown = fault === "is no number" ? `: “${withEscapes(typed.trim().slice(0, 20))}”` : "";
       return this.fault(cell, `${what} ${fault}${shown}.`);
@@ -50,6 +48,13 @@ export class Reading {
     if (value.isNegative() && !canBeNegative) return this.fault(cell, `${what} can’t be negative.`);
     this.numbers.push({ cell, value, what });
     return value;
+  }
+
+  /** A cell that is empty and may not be. */
+  open(cell) {
+    this.empty.count += 1;
+    this.empty.first ??= cell;
+    return null;
   }
 
   doubt(cell, typed, value) {
@@ -62,19 +67,25 @@ export class Reading {
     return this.shown.size === 1 ? [...this.shown.keys()][0] : null;
   }
 
+  /** A whole number. One as 1.234 that would have decimals shows that its mark parts thousands; of one as 5.000, which
+   * is whole in both ways, the other numbers say what it is, or the user is asked. */
   whole(cell, typed, what, low, high) {
-    const value = /^\s*\d{1,9}\s*$/.test(typed) ? Number(typed) : readNumber(typed, this.mark).value?.toNumber();
-    if (!Number.isInteger(value)) return this.fault(cell, `${what} is a whole number.`);
-    if (value < low || value > high) {
-      return this.fault(cell, `${what} is from ${low} to ${high.toLocaleString("en")}.`);
-    }
-    return value;
+    const { value, fault, doubt, by } = this.known(typed), isWhole = value?.isWhole();
+    if (fault === "is empty") return this.open(cell);
+    if (doubt) this.doubt(cell, typed, value);
+    const shown = doubt && !isWhole ? OTHER[this.mark] : by;
+    if (shown && !this.shown.has(shown)) this.shown.set(shown, typed);
+    if (!isWhole) return this.fault(cell, `${what} is a whole number.`);
+    const number = value.toNumber();
+    if (number >= low && number <= high) return number;
+    return this.fault(cell, `${what} is from ${low} to ${high.toLocaleString("en")}.`);
   }
 
-  /** Names, each with its cell; an empty one is the word with its number. */
-  names(cells, word) {
+  /** Names, each with its cell; an empty one is the word with its number, or, in a list with names, still open. */
+  names(cells, word, isNamed = false) {
     const names = cells.map(({ typed }, i) => typed.trim().normalize("NFC") || `${word} ${i + 1}`);
     const first = new Map();
+    for (const { typed, cell } of isNamed ? cells : []) if (!typed.trim()) this.open(cell);
     names.forEach((name, i) => {
       if (bytesOf(name) > 64) this.fault(cells[i].cell, "A name has at most 64 letters (32 with accents).");
       if (first.has(name)) this.fault(cells[i].cell, `The name “${withEscapes(name)}” stands twice.`);
@@ -109,7 +120,7 @@ export class Reading {
   }
 
   isRight() {
-    return !this.count && !this.empty.count;
+    return !this.count && !this.empty.count && !this.asked;
   }
 }
 

@@ -36,12 +36,25 @@ export function casePanel(kind, typed, settings) {
   function tell(reading) {
     markFaults(grid, reading.faults);
     refill(faults, reading.notes.map((note) => el("p", { class: "note" }, note)),
+      reading.asked && sumQuestion(reading.asked, typed, settings),
       doubts(reading, settings), emptyCells(reading, grid), faultList(reading, grid),
       reading.isTooFine && finenessHelp(settings));
     refill(made, reading.text && documentOf(kind, reading.text));
   }
 
   return { element, tell };
+}
+
+/** Asks whether a row is the sum of the others: until that is settled there is no answer. */
+function sumQuestion({ r, name }, typed, { onReset, onChange }) {
+  const without = () => onReset({ ...typed, rows: typed.rows.filter((_, k) => k !== r) }, "Remove the sum");
+  const keep = () => {
+    typed.notSum = name;
+    onChange(0);
+  };
+  const [which, rest] = name ? [`, “${withEscapes(name)}”.`, " "] : [" has no name.", " Else give it a name. "];
+  return el("p", { class: "note" }, `The last row${which} Is it the sum of the others? It would count as one more.${rest}`,
+    button("Yes, remove it", without, { class: "quiet" }), name && button("No, it counts", keep, { class: "quiet" }));
 }
 
 /** A vote by two quotas stays one. */

@@ -97,6 +97,10 @@ export class Session {
   }
 
   async ask(engine, checker, isMine) {
+    if (!this.reading.facts) { // the program takes no such game, and the page has calculated what it can
+      this.result = { beyond: this.reading.beyond, points: [] };
+      return;
+    }
     this.readProposal();
     const onPart = (result) => {
       if (!isMine()) return;
