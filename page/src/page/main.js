@@ -29,11 +29,11 @@ const paper = new Paper(session, view);
 
 // ---- Cases
 
-/** Opens a case. `before` is what an undo brings back, `notes` are said above the grid. */
-function openCase(kind, typed, { measure, texts, entry, before = null, notes = [], doubt = "" } = {}) {
+/** Opens a case. `before` is what an undo brings back, `notes` are said above the grid, `file` is that of its game. */
+function openCase(kind, typed, { measure, texts, entry, before = null, notes = [], doubt = "", file = null } = {}) {
   const now = session.kind && nowTyped();
   if (now) kept.set(session.kind, now);
-  session.open(kind, typed, { measure, texts, entry, doubt });
+  session.open(kind, typed, { measure, texts, entry, doubt, file });
   view.clear();
   panel = casePanel(kind, typed, {
     mark: () => session.readMark(), setEntry: (mark) => session.setEntry(mark), before,
@@ -72,8 +72,8 @@ async function coarsen(kind, how) {
 
 /** What stands in the cells of the case that is shown. */
 function nowTyped() {
-  const { typed, measure, texts, entry, doubt } = session;
-  return { typed, measure, texts, entry, doubt };
+  const { typed, measure, texts, entry, doubt, file } = session;
+  return { typed, measure, texts, entry, doubt, file };
 }
 
 /** Shows a part of the page; a case as it was left. */
@@ -121,10 +121,11 @@ function begin() {
     onCase: (kind) => show(kind.id), onDocument: () => show("document"), onCheck: () => show("verify"),
   }));
   const documents = new Documents({
-    mark: () => session.mark, onOpen: openCase, onLine: (text) => verify.setLine(text),
+    mark: () => session.mark, onOpen: openCase, onLine: (text, from) => verify.setLine(text, from),
   });
   const verify = verifyPanel({
-    format: () => view.format(), onOpen: (text, doubt) => documents.open(text, { doubt, isChecked: true }),
+    format: () => view.format(),
+    onOpen: (text, doubt, from) => documents.open(text, { doubt, isChecked: true, from }),
     onPrint: () => paper.print("check"),
   });
   refill(at("verify-body"), verify.element);

@@ -27,15 +27,18 @@ export class Session {
     for (const helper of [this.engine, this.checker]) helper.ask("warmUp").catch(() => 0);
   }
 
-  /** `doubt` is why the game isn't taken for the agreed one, in words. */
-  open(kind, typed, { measure = "plain", texts = [], entry = this.own, doubt = "" } = {}) {
+  /** `doubt` is why the game isn't taken for the agreed one, in words; `file` is that which was opened: {name, digest},
+   * and `made`, the document that the page makes of it. */
+  open(kind, typed, { measure = "plain", texts = [], entry = this.own, doubt = "", file = null } = {}) {
     Object.assign(this, { kind, typed, measure, texts, entry, doubt, places: kind.places ?? 2 });
     Object.assign(this, { reading: null, result: null, judged: {}, proposal: proposalOf([], [], entry) });
     this.changed(0);
+    this.file = file;
   }
 
-  /** Something was typed, or chosen, that changes the game. */
+  /** Something was typed, or chosen, that changes the game. Before it was read it was no more that of its file. */
   changed(wait = WAIT) {
+    if (!this.file?.made) this.file = null;
     this.turn += 1;
     this.isStale = true;
     this.on.stale();
@@ -83,6 +86,7 @@ export class Session {
       const reading = await engine("readCase", { id: kind.id, typed, mark, measure });
       if (!isMine()) return;
       this.reading = reading;
+      if (this.file) this.file.made ??= reading.text;
       this.judged = {};
       this.on.read();
       if (reading.isRight) await this.ask(engine, checker, isMine);
