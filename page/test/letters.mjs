@@ -1,7 +1,7 @@
 // Scenarios: files and letters that come from others, under their own names, and what is printed of them.
 import { readFileSync } from "node:fs";
 import { join } from "node:path";
-import { READY, settle, told } from "./harness.mjs";
+import { noted, READY, settle, told } from "./harness.mjs";
 
 /** Chooses a file in the place of a number among those of a part. */
 function choose(page, part, which, name, content) {
@@ -78,14 +78,43 @@ async function agreedFileOnPaper(page, expect, line, agreed) {
   await page.click("Open the agreed game, with the reasons");
   await page.until("document.querySelector('[data-cell=\"rows.2.cost\"]')?.value === '6'");
   await page.until(READY);
-  const named = new RegExp(`agreed.json. That file has the SHA-256 ${digest}`);
+  const named = new RegExp(`agreed.json: its SHA-256 is ${digest}`);
   expect("the agreed file", await page.run(PAPER), named);
   await page.run("dispatchEvent(new Event('afterprint'))");
   await page.type("rows.2.cost", "7");
   await settle(page);
-  const own = /a file of its own, runway-game.json, with the SHA-256 [0-9a-f]{64}\. Numbers were changed since agreed/;
+  const own = /a file of its own, runway-game.json: its SHA-256 is [0-9a-f]{64}\. Numbers were changed since agreed/;
   await page.until(`${own}.test(${PAPER})`);
   await page.run("dispatchEvent(new Event('afterprint'))");
+}
+
+const GERMAN = "Adler\t95.000\nBrandt\t62.000,25\nChopra\t41.000\nDupont\t30.500,75\nEgger\t22.000\nFink\t9.000";
+const ENGLISH = GERMAN.replace(/[.,]/g, (mark) => (mark === "." ? "," : "."));
+
+/** An estate by the one mark beside claims by the other: 120,000 may be 120, or 120000. */
+async function marksThatContradict(page, expect) {
+  for (const [claims, estate, short, proof] of [
+    [GERMAN, "120,000", "120", "“62.000,25” shows that the comma"],
+    [ENGLISH, "120.000", "120", "“62,000.25” shows that the point"],
+  ]) {
+    await page.click("Clear all");
+    await page.paste('[data-cell="rows.0.name"]', claims);
+    await page.type("estate", estate);
+    const note = await noted(page, new RegExp(`“${estate}”`));
+    expect("which was read", note, new RegExp(`“${estate}” (as \\d more )?is read as ${short}, with decimals`));
+    expect("and which otherwise", note, /“95.000” \(as 3 more\) is read as the whole number 95000/);
+    expect("why", note, new RegExp(proof));
+    await settle(page);
+    expect("read", await page.text(".lead"), /together 120.00/);
+    await page.click(`Read “${estate}” as 120000`);
+    await noted(page, /as you chose/);
+    await settle(page);
+    expect("by the other", await page.text(".lead"), /together 120\u202f000.00/);
+    await page.click("Read them by one mark again");
+    await noted(page, new RegExp(proof));
+  }
+  await page.type("estate", "120.000,50");
+  expect("two marks", await noted(page, /change places/), /Each of the two/);
 }
 
 export function letters(top) {
@@ -96,6 +125,7 @@ export function letters(top) {
     ["letters: a file that can’t be taken leaves no word", "verify", given(untaken)],
     ["letters: the name goes with the text", "verify", given(namesGoWithTexts)],
     ["letters: a printed check is tied to its letter", "verify", given(tiedToItsLetter)],
+    ["letters: marks that contradict each other", "estate", marksThatContradict],
     ["letters: the one page names the agreed file", "verify", given(agreedFileOnPaper)],
   ];
 }

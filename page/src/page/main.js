@@ -36,7 +36,7 @@ function openCase(kind, typed, { measure, texts, entry, before = null, notes = [
   session.open(kind, typed, { measure, texts, entry, doubt, file });
   view.clear();
   panel = casePanel(kind, typed, {
-    mark: () => session.readMark(), setEntry: (mark) => session.setEntry(mark), before,
+    mark: () => session.entryMark(), setEntry: (mark) => session.setEntry(mark), before,
     notes: doubt ? [doubt, ...notes] : notes,
     onChange: (wait) => {
       isUnsaved = true;
@@ -48,7 +48,7 @@ function openCase(kind, typed, { measure, texts, entry, before = null, notes = [
       openCase(kind, back.typed, { ...back, before: { ...nowTyped(), what, isBack: !isBack } });
     },
     snapshot: () => structuredClone(nowTyped()),
-    readList: (what) => session.reader.ask("readList", { ...what, mark: session.readMark() }),
+    readList: (what) => session.reader.ask("readList", { ...what, mark: session.entryMark() }),
     readCells: (text) => session.reader.ask("readCells", { text }),
     help: (task, what) => session.reader.ask(task, what),
     coarsen: (how) => coarsen(kind, how),
@@ -62,7 +62,7 @@ function openCase(kind, typed, { measure, texts, entry, before = null, notes = [
 /** Makes the numbers of a case coarser, as the user chose, or gives a fault in words. */
 async function coarsen(kind, how) {
   const before = nowTyped(), { typed, measure, entry, doubt } = before;
-  const what = { id: kind.id, typed: kind.pack?.(typed) ?? typed, mark: session.readMark(), how };
+  const what = { id: kind.id, typed: kind.pack?.(typed) ?? typed, mark: session.entryMark(), how };
   const { typed: changed, notes, fault } = await session.reader.ask("coarser", what);
   if (fault || session.typed !== typed) return fault;
   const next = { ...typed, ...(kind.unpack?.(changed) ?? changed) };

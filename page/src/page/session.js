@@ -59,9 +59,14 @@ export class Session {
     this.changed(0);
   }
 
-  /** The mark by which the cells were read. */
+  /** The mark by which numbers beside the cells are read. */
   readMark() {
-    return this.reading?.mark ?? this.entry;
+    return this.reading?.mark ?? this.own;
+  }
+
+  /** How the cells were read: that mark, or what the user chose in its place for those that can be read both ways. */
+  entryMark() {
+    return this.reading?.entry ?? this.entry;
   }
 
   setMeasure(measure) {

@@ -206,9 +206,9 @@ function toldOf({ sentences, items, last = "" }) {
 function numbersOf({ file, kind, result: { text } }) {
   const isOpened = file?.made === text, digest = isOpened ? file.digest : knownDigest(`${text}\n`);
   const sum = el("span", { class: "digest" }, digest ?? "(this browser works out none)");
-  if (isOpened) return [`The numbers of the game, as they stand in ${file.name}. That file has the SHA-256 `, sum, "."];
-  return [`The numbers of the game, as this page writes them in a file of its own, ${kind.id}-game.json, with the `,
-    "SHA-256 ", sum, ".", file && ` Numbers were changed since ${file.name} was opened.`];
+  if (isOpened) return [`The numbers of the game, as they stand in ${file.name}: its SHA-256 is `, sum, "."];
+  return [`The numbers of the game, as this page writes them in a file of its own, ${kind.id}-game.json: its `,
+    "SHA-256 is ", sum, ".", file && ` Numbers were changed since ${file.name} was opened.`];
 }
 
 function agreedOf(view) {
