@@ -14,8 +14,7 @@ export class Reading {
     this.faults = []; // {cell, sentence}
     this.count = 0; // of faults
     this.empty = { count: 0, first: null }; // cells that are empty and may not be
-    this.doubts = []; // numbers that the decimal mark decides, the first ones
-    this.doubted = 0;
+    this.doubts = new Map(); // of numbers that the decimal mark decides, by how they were read: the first, and how many
     this.shown = new Map(); // marks that stand in front of decimals beyond doubt, each with a text that shows it
     this.asked = null; // a row that may be the sum of the others: {r, name, sentence}
     this.notes = []; // what was changed for the program, and what is remarkable
@@ -38,7 +37,7 @@ export class Reading {
   /** The value of a cell, or null. */
   number(cell, typed, what, { canBeNegative = false } = {}) {
     const { value, fault, doubt, by } = this.known(typed);
-    if (doubt) this.doubt(cell, typed, value);
+    if (doubt) this.doubt(doubt, typed, value);
     if (by && !this.shown.has(by)) this.shown.set(by, typed);
     if (fault === "is empty") return this.open(cell);
     if (fault) {
@@ -57,9 +56,10 @@ export class Reading {
     return null;
   }
 
-  doubt(cell, typed, value) {
-    this.doubted += 1;
-    if (!this.doubts.length) this.doubts.push({ cell, typed, value: String(value) });
+  doubt(how, typed, value) {
+    const known = this.doubts.get(how) ?? { how, typed, value: String(value), count: 0 };
+    this.doubts.set(how, known);
+    known.count += 1;
   }
 
   /** The one mark that all other numbers show; null where none does, or both stand there. */
@@ -72,8 +72,8 @@ export class Reading {
   whole(cell, typed, what, low, high) {
     const { value, fault, doubt, by } = this.known(typed), isWhole = value?.isWhole();
     if (fault === "is empty") return this.open(cell);
-    if (doubt) this.doubt(cell, typed, value);
-    const shown = doubt && !isWhole ? OTHER[this.mark] : by;
+    if (doubt) this.doubt(doubt, typed, value);
+    const shown = doubt && !isWhole ? OTHER[/[.,]/.exec(typed)[0]] : by;
     if (shown && !this.shown.has(shown)) this.shown.set(shown, typed);
     if (!isWhole) return this.fault(cell, `${what} is a whole number.`);
     const number = value.toNumber();

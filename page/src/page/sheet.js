@@ -212,12 +212,19 @@ function toldOf({ sentences, items, last = "" }) {
 
 // ---- What is agreed on, and how to check it
 
-function agreedOf({ result: { text }, rows, kind, typed, doubt }) {
+/** The numbers by the file that was opened, while they are its own; else by that which the page writes of them. */
+function numbersOf({ file, kind, result: { text } }) {
+  const isOpened = file?.made === text, digest = isOpened ? file.digest : knownDigest(`${text}\n`);
+  const sum = el("span", { class: "digest" }, digest ?? "(this browser works out none)");
+  if (isOpened) return [`The numbers of the game, as they stand in ${file.name}: its SHA-256 is `, sum, "."];
+  return [`The numbers of the game, as this page writes them in a file of its own, ${kind.id}-game.json: its `,
+    "SHA-256 is ", sum, ".", file && ` Numbers were changed since ${file.name} was opened.`];
+}
+
+function agreedOf(view) {
+  const { result: { text }, rows, doubt } = view, filled = filledText(view);
   const isShort = text.length <= (rows.length > MOST_PICTURED ? MOST_ALONE : MOST_DOCUMENT);
-  const digest = knownDigest(`${text}\n`) ?? "(this browser works out none)", filled = filledText({ kind, typed });
-  const file = `${kind.id}-game.json`, sum = el("span", { class: "digest" }, digest);
-  const what = el("p", {}, `The numbers of the game, as they stand in ${file}. As this page writes that file, its `,
-    "SHA-256 is ", sum, ".", filled && ` ${filled}`);
+  const what = el("p", {}, numbersOf(view), filled && ` ${filled}`);
   return el("section", {}, el("h2", {}, doubt ? "Not agreed on" : "What is agreed on"),
     doubt && el("p", {}, doubt), what,
     isShort ? el("p", { class: "document" }, text)
