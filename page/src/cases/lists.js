@@ -26,7 +26,7 @@ export const runway = {
     { key: "cost", title: "A landing needs alone", number: true, heads: COST },
     {
       key: "count", title: "Landings", number: true, short: true, fallback: "1",
-      heads: heads("landings|flights|movements|number|count|landungen|flüge|anzahl|atterrissages|vols|mouvements|nombre"),
+      heads: heads("landings|flights|movements|number|count|landungen|flüge|anzahl|atterri|vols|mouvements|nombre"),
     },
   ],
   ofFour: ["name", "type", "count", "cost"], // what four columns without headings are

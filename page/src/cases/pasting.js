@@ -81,8 +81,8 @@ function swapped(filled, found, below, mark) {
   return filled.map((column, c) => (c === count ? filled[cost] : c === cost ? filled[count] : column));
 }
 
-/** What has to be told of pasted rows: which was taken as headings, what for what, and what was left out. `usual` are the
- * columns that go without saying. */
+/** What has to be told of pasted rows: which was taken as headings, what for what, and what was left out. `usual` are
+ * the columns that go without saying. */
 export function pastedText(rows, headings, targets, usual = targets) {
   const pairs = headings?.map((text, c) => targets[c] && `“${text}” is “${targets[c].title}”`).filter(Boolean);
   const out = headings?.filter((_, c) => !targets[c]).map((text) => `“${text}” was left out.`) ?? [];

@@ -19,7 +19,8 @@ export function askOfSum(reading, state, keys) {
 
 /** Whether a number is the sum of others, or greater than each of them. */
 function isAbove(reading, typed, others) {
-  const valueOf = (text) => reading.known(text).value, own = valueOf(typed), values = others.map(valueOf).filter(Boolean);
+  const valueOf = (text) => reading.known(text).value, own = valueOf(typed);
+  const values = others.map(valueOf).filter(Boolean);
   if (!own || !values.length) return false;
   return own.equals(Rational.sum(values)) || values.every((value) => value.less(own));
 }

@@ -6,15 +6,15 @@ import { linesOf, shareCell } from "./shares-table.js";
 import { airlineLines, csvButton, shareLines } from "./table-lines.js";
 import { typeLines, typesTable } from "./types-table.js";
 
-const OURS = "So the page itself calculated what stands here, by a formula, in exact fractions. These numbers do NOT come "
-  + "from the proved program, and there is no certificate of them.";
+const OURS = "So the page itself calculated what stands here, by a formula, in exact fractions. These numbers do NOT "
+  + "come from the proved program, and there is no certificate of them.";
 const THEOREMS = {
   nucleolus: "for the nucleolus the theorem payments_are_the_nucleolus (Littlechild’s payments; Littlechild 1974)",
-  shapley: "for the Shapley shares the theorem shapley_is_by_step (equal parts of each step of the costs; Littlechild and "
-    + "Owen 1973)",
+  shapley: "for the Shapley shares the theorem shapley_is_by_step (equal parts of each step of the costs; Littlechild "
+    + "and Owen 1973)",
 };
-const SCALED = "Don’t scale the landings down to have fewer: by the nucleolus airlines would pay other shares. By the "
-  + "Shapley shares each airline would pay the same.";
+const SCALED = "Don’t scale the landings down to have fewer: by the nucleolus airlines may pay other shares then. (By the "
+  + "Shapley shares each airline pays the same, where all are scaled alike.)";
 
 /** What a worker has calculated, sent as texts. */
 function read({ isAll, all, rows, points }) {
@@ -55,11 +55,12 @@ export function beyondParts(sent, { format }) {
 function table({ rows, points }, format) {
   const columns = points.map((point) => ({ ...point, steps: format.steps(point.totals, rows) }));
   const sumOf = (steps) => format.text(withSum(steps).at(-1));
+  const landings = (some) => el("td", { class: "number" }, String(some.reduce((sum, { count }) => sum + count, 0)));
   const rowOf = ({ row, r }) => el("tr", {}, el("th", { scope: "row" }, row.label),
     el("td", { class: "number" }, String(row.count)), el("td", { class: "number context" }, format.show(row.cost)),
     columns.map(({ steps, each }) => shareCell(format.text(steps[r]), each[r], row.count, format)));
   const airline = ({ sum, of }) => el("tr", { class: "subtotal" }, el("th", { scope: "row" }, `${sum}, together`),
-    el("td"), el("td", { class: "context" }), columns.map(({ steps, totals }) => {
+    landings(of.map((r) => rows[r])), el("td", { class: "context" }), columns.map(({ steps, totals }) => {
       return shareCell(sumOf(of.map((r) => steps[r])), Rational.sum(of.map((r) => totals[r])), 1, format);
     }));
   const head = (title, kind = "number") => el("th", { scope: "col", class: kind }, title);
@@ -69,8 +70,7 @@ function table({ rows, points }, format) {
         el("small", {}, "calculated by the page"))))),
     el("tbody", {}, linesOf(rows).map((line) => (line.of ? airline(line) : rowOf(line)))),
     el("tfoot", {}, el("tr", { class: "sum" }, el("th", { scope: "row" }, "together"),
-      el("td", { class: "number" }, String(rows.reduce((sum, { count }) => sum + count, 0))),
-      el("td", { class: "context" }), columns.map(({ steps }) => el("td", { class: "number" }, sumOf(steps))))));
+      landings(rows), el("td", { class: "context" }), columns.map(({ steps }) => el("td", { class: "number" }, sumOf(steps))))));
 }
 
 /** The same on the one page. */

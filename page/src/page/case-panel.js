@@ -51,7 +51,8 @@ function sumQuestion({ r, name }, typed, { onReset, onChange }) {
     onChange(0);
   };
   const [which, rest] = name ? [`, “${withEscapes(name)}”.`, " "] : [" has no name.", " Else give it a name. "];
-  return el("p", { class: "note" }, `The last row${which} Is it the sum of the others? It would count as one more.${rest}`,
+  const asked = `The last row${which} Is it the sum of the others? It would count as one more.${rest}`;
+  return el("p", { class: "note" }, asked,
     button("Yes, remove it", without, { class: "quiet" }), name && button("No, it counts", keep, { class: "quiet" }));
 }
 

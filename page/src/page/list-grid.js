@@ -126,7 +126,8 @@ class ListGrid {
     return this.columns().filter((column) => column.fallback && !isPasted(column)).map((column) => {
       const open = targets.some(Boolean) ? filled.filter((row) => !row[column.key]?.trim()) : [];
       for (const row of open) row[column.key] = column.fallback;
-      return open.length > 0 && `No “${column.title}” were pasted: ${column.fallback} was put into each open cell of them.`;
+      const put = `${column.fallback} was put into each of its open cells.`;
+      return open.length > 0 && `No “${column.title}” were pasted: ${put}`;
     });
   }
 

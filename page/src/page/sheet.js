@@ -8,11 +8,14 @@ import { Rational } from "../exact/rational.js";
 import { sourceOf } from "../tell/rule-names.js";
 import { Namer } from "../tell/words.js";
 import { lead, solutionOf } from "./answer.js";
+import { beyondSheet } from "./beyond.js";
 import { el, refill } from "./dom.js";
 import { knownDigest } from "./files.js";
 import { filledText } from "./filled.js";
 import { formatOf, MOVED, totalsOf, withSum } from "./format.js";
+import { airlineLines } from "./table-lines.js";
 import { changeText, todayOf, todayTitle } from "./today.js";
+import { linesTable } from "./types-table.js";
 
 const WIDE = 700;
 const MOST_PICTURED = 10; // rows whose bars leave room for the rest
@@ -33,6 +36,12 @@ const PRICES = "By the pairs that gain most together, and the prices at which no
 /** Fills the sheet with the answer of a session; leaves it empty where there is none. */
 export function showSheet(session, typed = {}) {
   const sheet = document.getElementById("sheet"), { result, reading } = session;
+  if (result?.beyond && !result.game) {
+    const format = formatOf(session.places, session.mark), view = { ...session, ...typed, format };
+    sheet.classList.add("tight");
+    refill(sheet, headOf(view), beyondSheet(result.beyond, view));
+    return;
+  }
   if (!result || result.refusal || !result.points.length) {
     refill(sheet);
     return;
@@ -84,7 +93,16 @@ function answerOf(view) {
     unit?.trim() && el("p", { class: "hint" }, `All amounts are in ${unit.trim()}.`),
     halves(rows.length, heads.filter((head) => head !== undefined), line, sum),
     format.isMoved(totals, rows) && el("p", { class: "hint" }, `${MOVED} The fractions are exact.`),
-    others.map((other) => other.said && el("p", { class: "hint" }, `${other.title}: ${other.said}`)));
+    others.map((other) => other.said && el("p", { class: "hint" }, `${other.title}: ${other.said}`)),
+    airlinesOf(view, point));
+}
+
+/** The bill: what each airline pays for all its rows, by the columns that are shown. */
+function airlinesOf({ result: { points }, rows, format, withProposal, proposal }, shown) {
+  const others = withProposal ? points.filter((point) => point !== shown) : [];
+  const columns = [shown, ...others].map(({ title, shares }) => ({ title, totals: totalsOf(rows, shares) }));
+  const own = withProposal && proposal?.totals ? [{ title: "Your proposal", totals: proposal.totals }] : [];
+  return linesTable("What each airline pays", airlineLines(rows, [...columns, ...own], format));
 }
 
 /** What each pays or has today, and how much more the share is, where that was typed. */

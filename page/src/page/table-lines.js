@@ -3,8 +3,8 @@ import { Rational } from "../exact/rational.js";
 import { button, download } from "./dom.js";
 import { withSum } from "./format.js";
 
-/** Rows {label, sum} and points {title, totals}: a line for each row, with plain decimals and the exact fractions beside
- * them, and the sum. */
+/** Rows {label, sum} and points {title, totals}: a line for each row, with plain decimals and the exact fractions
+ * beside them, and the sum. */
 export function shareLines(rows, points, format) {
   const columns = points.flatMap(({ title, totals }) => [
     [format.isMoved(totals, rows) ? `${title}, rounded to add up` : title, ...format.column(totals, rows)],
@@ -35,8 +35,8 @@ export function tabbed(lines) {
   return `${lines.map((line) => line.map(plain).join("\t")).join("\n")}\n`;
 }
 
-/** As a file: with a comma in front of decimals semicolons stand between the cells. A name that a spreadsheet would take
- * for a formula gets a mark in front. Tables, each of lines, stand one below the other. */
+/** As a file: with a comma in front of decimals semicolons stand between the cells. A name that a spreadsheet would
+ * take for a formula gets a mark in front. Tables, each of lines, stand one below the other. */
 export function csvText(tables, mark) {
   const by = mark === "," ? ";" : ",", isOdd = (text) => text.includes(by) || /["\r\n]/.test(text);
   const cell = (text) => {

@@ -26,10 +26,14 @@ export function typeLines(rows, points, { show }) {
 
 /** Nothing where no row has a type. */
 export function typesTable(rows, points, format) {
-  const [head, ...lines] = typeLines(rows, points, format);
+  return linesTable("What one landing of each type pays", typeLines(rows, points, format));
+}
+
+/** Lines of cells as a table with a title, the first of them as its head; nothing where there are none. */
+export function linesTable(title, [head, ...lines]) {
   const cell = (text, c) => (c ? el("td", { class: "number" }, text) : el("th", { scope: "row" }, text));
-  return head && el("div", { class: "types" }, el("h3", {}, "What one landing of each type pays"),
-    el("div", { class: "scroll" }, el("table", { class: "shares" },
+  return head && el("div", { class: "lines" }, el("h3", {}, title), el("div", { class: "scroll" },
+    el("table", { class: "shares" },
       el("thead", {}, el("tr", {}, head.map((text, c) => el("th", { scope: "col", class: c ? "number" : "" }, text)))),
       el("tbody", {}, lines.map((line) => el("tr", {}, line.map(cell)))))));
 }
