@@ -151,8 +151,8 @@ const lists = [
     await page.paste('[data-cell="rows.0.name"]', sheet);
     await settle(page);
     expect("by its headings", `${await value(page, "rows.0.cost")} ${await value(page, "rows.0.count")}`, "20.50 3");
-    const told = "The first row was taken as headings: “Airline” is “Airline”, “Landings” is “Landings”, “Cost” is "
-      + "“A landing needs alone”. “Type” was left out.";
+    const told = "The first row was taken as headings: “Airline” is “Airline”, “Type” is “Type”, “Landings” is "
+      + "“Landings”, “Cost” is “A landing needs alone”.";
     expect("told", await page.text("#case .pasted"), told);
   }],
 

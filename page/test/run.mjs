@@ -12,6 +12,7 @@ import { entering } from "./entering.mjs";
 import { failing } from "./failing.mjs";
 import { Harness } from "./harness.mjs";
 import { letters } from "./letters.mjs";
+import { landings } from "./landings.mjs";
 import { access, large, looks } from "./looks.mjs";
 import { monkey } from "./monkey.mjs";
 import { saying } from "./saying.mjs";
@@ -27,6 +28,7 @@ for (const some of [entering, saying, bothWays, casesTyped, tables, otherCases, 
   checking(top), checks(top), letters(top), failing(page, top), looks, access]) {
   harness.add(some);
 }
+harness.add(landings);
 harness.add(monkey(Number(option("--seed", "1")), Number(option("--steps", "60"))));
 const faults = await harness.run();
 for (const line of told) console.log(line);

@@ -44,7 +44,8 @@ export function tryRunways(expect, draw) {
 /** From which number of landings on the page calculates what. */
 function tryLimits(expect) {
   for (const [count, wanted] of [[32, undefined], [33, "shapley"], [64, "shapley"], [65, "nucleolus,shapley"]]) {
-    const rows = [{ airline: "A", type: "", cost: Rational.of(5), count }], { points } = beyondProgram(rows, rows) ?? {};
+    const rows = [{ airline: "A", type: "", cost: Rational.of(5), count }];
+    const { points } = beyondProgram(rows, rows) ?? {};
     expect(`calculated of ${count} landings`, points && String(points.map(({ key }) => key)), wanted);
   }
 }

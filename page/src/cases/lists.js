@@ -44,8 +44,8 @@ export const runway = {
 
   read(state, mark) {
     const reading = new Reading(mark), kept = readLandings(state, reading);
-    const isAsked = askOfSum(reading, state, ["cost", "count"]), airlines = new Set(kept.map(({ airline }) => airline));
-    reading.remark(isAsked ? [...airlines].slice(0, -1) : [...airlines]);
+    reading.remark([...new Set(kept.map(({ airline }) => airline))]);
+    askOfSum(reading, state, ["cost", "count"]);
     const all = kept.reduce((sum, { count }) => sum + count, 0);
     if (!kept.length && reading.isRight()) reading.fault("rows.0.cost", "Give at least one landing.");
     if (all > MOST_LANDINGS) return { reading, rows: labelsOf(kept), tree: null, landings: kept };

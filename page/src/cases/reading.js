@@ -16,7 +16,7 @@ export class Reading {
     this.empty = { count: 0, first: null }; // cells that are empty and may not be
     this.doubts = new Map(); // of numbers that the decimal mark decides, by how they were read: the first, and how many
     this.shown = new Map(); // marks that stand in front of decimals beyond doubt, each with a text that shows it
-    this.asked = null; // a row that may be the sum of the others: {r, name, sentence}
+    this.asked = null; // a row that may be the sum of the others: {r, name}
     this.notes = []; // what was changed for the program, and what is remarkable
     this.numbers = [];
     this.texts = new Map();

@@ -13,8 +13,10 @@ export function askOfSum(reading, state, keys) {
   const name = last.row.name.trim(), above = kept.slice(0, -1).map(({ row }) => row);
   const isAsked = name ? isSumWord(name) && state.notSum !== name
     : Boolean(state.isNamed) && keys.some((key) => isAbove(reading, last.row[key], above.map((row) => row[key])));
-  if (isAsked) reading.asked = { r: last.r, name };
-  return isAsked;
+  if (!isAsked) return false;
+  reading.notes = reading.notes.filter((note) => !note.includes("Is it the sum of the others?")); // it is asked instead
+  reading.asked = { r: last.r, name };
+  return true;
 }
 
 /** Whether a number is the sum of others, or greater than each of them. */

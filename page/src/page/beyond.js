@@ -13,8 +13,8 @@ const THEOREMS = {
   shapley: "for the Shapley shares the theorem shapley_is_by_step (equal parts of each step of the costs; Littlechild "
     + "and Owen 1973)",
 };
-const SCALED = "Don’t scale the landings down to have fewer: by the nucleolus airlines may pay other shares then. (By the "
-  + "Shapley shares each airline pays the same, where all are scaled alike.)";
+const SCALED = "Don’t scale the landings down to have fewer: by the nucleolus airlines may pay other shares then. (By "
+  + "the Shapley shares each airline pays the same, where all are scaled alike.)";
 
 /** What a worker has calculated, sent as texts. */
 function read({ isAll, all, rows, points }) {
@@ -70,7 +70,8 @@ function table({ rows, points }, format) {
         el("small", {}, "calculated by the page"))))),
     el("tbody", {}, linesOf(rows).map((line) => (line.of ? airline(line) : rowOf(line)))),
     el("tfoot", {}, el("tr", { class: "sum" }, el("th", { scope: "row" }, "together"),
-      landings(rows), el("td", { class: "context" }), columns.map(({ steps }) => el("td", { class: "number" }, sumOf(steps))))));
+      landings(rows), el("td", { class: "context" }),
+      columns.map(({ steps }) => el("td", { class: "number" }, sumOf(steps))))));
 }
 
 /** The same on the one page. */
