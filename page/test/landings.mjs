@@ -4,7 +4,8 @@ import { noted, settle, told } from "./harness.mjs";
 const value = (page, cell) => page.run(`document.querySelector('[data-cell="${cell}"]').value`);
 const made = (page) => page.run("document.querySelector('.made pre').textContent");
 const isHidden = (page) => page.run("document.getElementById('answer').hidden");
-const sheetOf = (page) => page.run("dispatchEvent(new Event('beforeprint')); document.getElementById('sheet').innerText");
+const PRINT = "dispatchEvent(new Event('beforeprint'))";
+const sheetOf = (page) => page.run(`${PRINT}; document.getElementById("sheet").textContent`);
 
 async function pasted(page, text) {
   await page.click("Clear all");
@@ -15,8 +16,11 @@ async function pasted(page, text) {
 async function saved(page, title) {
   await page.run(`(() => {
     const made = URL.createObjectURL;
-    URL.createObjectURL = (blob) => (blob.text().then((text) => { globalThis.savedText = text; }), made.call(URL, blob));
     delete globalThis.savedText;
+    URL.createObjectURL = (blob) => {
+      blob.text().then((text) => { globalThis.savedText = text; });
+      return made.call(URL, blob);
+    };
   })()`);
   await page.click(title, "document.getElementById('answer')");
   await page.until("globalThis.savedText !== undefined");
@@ -35,7 +39,9 @@ const numbers = [
     await told(page, "#answer-body", /These are 5,003 landings/);
     expect("told", await page.text("#case .faults"), /“5.000” is read as the whole number 5000/);
     await page.click("Clear all");
-    for (const [key, text] of [["name", "Aer"], ["cost", "20"], ["count", "5.000"]]) await page.type(`rows.0.${key}`, text);
+    for (const [key, text] of Object.entries({ name: "Aer", cost: "20", count: "5.000" })) {
+      await page.type(`rows.0.${key}`, text);
+    }
     await noted(page, /“5.000” is read as 5.*the point stands in front of decimals/);
     await page.click("Let the comma do so");
     await told(page, "#answer-body", /These are 5,000 landings/);
@@ -57,7 +63,8 @@ const numbers = [
     await pasted(page, "Aer\t20\nBee\t40");
     await settle(page);
     expect("1 is put", `${await value(page, "rows.0.count")} ${await value(page, "rows.1.count")}`, "1 1");
-    expect("and told", await page.text("#case .pasted"), "No “Landings” were pasted: 1 was put into each of its open cells.");
+    const put = "No “Landings” were pasted: 1 was put into each of its open cells.";
+    expect("and told", await page.text("#case .pasted"), put);
   }],
 
   ["airlines with a number behind their names stay apart", "runway", async (page, expect) => {
@@ -69,7 +76,8 @@ const numbers = [
     await page.fill("#document textarea", text);
     await page.until("location.hash === '#runway' && document.querySelector('.made pre')");
     await settle(page);
-    expect("names", `${await value(page, "rows.0.name")}, ${await value(page, "rows.1.name")}`, "Terminal 1, Terminal 2");
+    expect("names", `${await value(page, "rows.0.name")}, ${await value(page, "rows.1.name")}`,
+      "Terminal 1, Terminal 2");
     expect("landings", `${await value(page, "rows.0.count")} ${await value(page, "rows.1.count")}`, "1 1");
     expect("the same document", await made(page), text);
   }],
@@ -98,16 +106,20 @@ const types = [
   ["a sheet without headings, its types, and the bill", "runway", async (page, expect) => {
     await pasted(page, FEW);
     await settle(page);
-    expect("told", await page.text("#case .pasted"), /^Taken, in this order, as: “Airline”, “Type”, “Landings”, “A land/);
+    const taken = /^Taken, in this order, as: “Airline”, “Type”, “Landings”, “A landing needs alone”.$/;
+    expect("told", await page.text("#case .pasted"), taken);
     expect("names", await made(page), /"Albatros, DH8 1","Albatros, DH8 2"[\s\S]*"Condor, B744 2"/);
     expect("rows", await page.text(".shares tbody"), /^Albatros, DH8[\s\S]*Albatros, A320[\s\S]*Albatros, together/);
-    expect("types", await page.text(".lines"), /one landing of each type pays[\s\S]*DH8\s+20.50[\s\S]*A320\s+40.00[\s\S]*B744/);
-    expect("the bill on paper", await sheetOf(page), /What each airline pays[\s\S]*Albatros\s+\d+\.\d\d\s+Bergfalke\s+\d/);
+    const each = /one landing of each type pays[\s\S]*DH8\s+20.50[\s\S]*A320\s+40.00[\s\S]*B744/;
+    expect("types", await page.text(".lines"), each);
+    const bill = /What each airline pays.*Albatros528\.03Bergfalke14\.10Condor227\.87together860\.00/;
+    expect("the bill on paper", await sheetOf(page), bill);
     await page.run("dispatchEvent(new Event('afterprint'))");
     await page.type("rows.1.type", "DH8");
     await page.type("rows.1.cost", "20,50");
     await settle(page);
-    const labels = await page.run("[...document.querySelectorAll('.shares tbody th')].map((one) => one.firstChild.data)");
+    const heads = "[...document.querySelectorAll('.shares')[0].tBodies[0].querySelectorAll('th')]";
+    const labels = await page.run(`${heads}.map((one) => one.firstChild.data)`);
     expect("no label twice", new Set(labels).size, labels.length);
   }],
 
@@ -124,8 +136,9 @@ const types = [
     await pasted(page, MANY);
     await settle(page);
     expect("rows", await page.run("document.querySelectorAll('.shares tbody')[0].rows.length"), 20);
-    const texts = await page.run("[...document.querySelectorAll('.bars svg text')].map((one) => one.textContent).join('\\n')");
-    expect("bars", texts, /DH8, needs 20.5\neach of 5\nA320, needs 40\neach of 5\nB744, needs 60\neach of 15/);
+    const drawn = "[...document.querySelectorAll('.bars svg text')].map((one) => one.textContent)";
+    const texts = (await page.run(drawn)).join("\n");
+    expect("bars", texts, /DH8, needs 20.5\neach of 5\n→\nA320, needs 40\neach of 5\n→\nB744, needs 60\neach of 15/);
     expect("in the picture itself", texts, /A bar is what one landing pays/);
   }],
 ];
@@ -133,17 +146,20 @@ const types = [
 const beyond = [
   ["above 64 landings the page calculates, and says so", "runway", async (page, expect) => {
     await pasted(page, `${HEADS}${FEW.replace("DH8;3", "DH8;300")}`);
-    await told(page, "#answer-body", /These are 305 landings[\s\S]*do NOT come from the proved program, and there is no cert/);
+    await told(page, "#answer-body", /These are 305 landings[\s\S]*do NOT come from the proved program/);
     const rows = await page.text(".beyond tbody");
-    expect("a row", rows, /Albatros, DH8\s+300\s+20.50\s+20.36\s+300 × 0.07 \(41\/604\)\s+20.16\s+300 × 0.07 \(41\/610\)/);
+    const first = /Albatros, DH8\s+300\s+20.50\s+20.36\s+300 × 0.07 \(41\/604\)\s+20.16\s+300 × 0.07 \(41\/610\)/;
+    expect("a row", rows, first);
     expect("an airline", rows, /Albatros, together\s+302/);
     expect("types", await page.text(".beyond .lines"), /DH8\s+20.50\s+0.07\s+0.07/);
-    expect("scaled", await page.text(".beyond"), /by the nucleolus airlines may pay other shares[\s\S]*Shapley shares.* the same/);
+    const scaled = /by the nucleolus airlines may pay other shares[\s\S]*Shapley shares each airline pays the same/;
+    expect("scaled", await page.text(".beyond"), scaled);
     const sheet = await sheetOf(page);
-    expect("on paper", sheet, /Albatros, together[\s\S]*do NOT come from the proved[\s\S]*shapley_is_by_step[\s\S]*Agreed/);
+    expect("on paper", sheet, /Albatros, together.*do NOT come from the proved.*shapley_is_by_step.*Agreed on by/);
     await page.run("dispatchEvent(new Event('afterprint'))");
     const file = await saved(page, "Save the table (CSV)");
-    expect("a file", file, /^\ufeff,"Nucleolus, rounded to add up","Nucleolus, exact"[^]*"Albatros, DH8",20\.3\d,3075\/151/);
+    const lines = /^,Nucl[^]*"Albatros, DH8",20\.36,3075\/151[^]*\r\nDH8,20.50,0.07,0.07\r\n/;
+    expect("a file", file, lines);
     await page.type("rows.0.count", "3");
     await settle(page);
     expect("the program again", await page.text("#evidence .words"), /says yes[\s\S]*says yes/);
@@ -152,7 +168,8 @@ const beyond = [
   ["Shapley shares above 32 landings", "runway", async (page, expect) => {
     await page.type("rows.0.count", "30");
     await settle(page);
-    expect("beside the program's", await page.text(".beyond"), /work[\s\S]*33 landings[\s\S]*Aer\s+30\s+20.50\s+18.64/);
+    const shown = /These are 33 landings[\s\S]*Aer\s+30\s+20.50\s+18.64/;
+    expect("beside the program's", await page.text(".beyond"), shown);
     expect("no nucleolus of the page's", /payments_are/.test(await page.text(".beyond")), false);
     expect("evidence", await page.text("#evidence .words"), /says yes[\s\S]*says yes/);
   }],
@@ -167,8 +184,8 @@ const beyond = [
     })()`);
     await settle(page);
     const file = await saved(page, "Save the table (CSV)");
-    expect("semicolons", file, /^\ufeff;Nucleolus[^]*\r\nAlbatros, DH8;\d+,\d\d;/);
-    expect("airlines", file, /\r\n\r\nAirline, together;Nucleolus;Shapley shares\r\nAlbatros;\d+,\d\d;\d+,\d\d\r\n/);
+    expect("semicolons", file, /^;Nucleolus[^]*\r\nAlbatros, DH8;\d+,\d\d;/);
+    expect("airlines", file, /\r\n\r\nAirline;Landings;Nucleolus;Shapley shares\r\nAlbatros;5;28,03;22,56\r\n/);
   }],
 ];
 

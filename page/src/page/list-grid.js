@@ -55,6 +55,7 @@ class ListGrid {
     const { rows } = this.typed;
     if (this.kind.columns.some(({ optional }) => optional)) this.showSingles();
     if (!rows.length || !this.isBlank(rows.at(-1))) rows.push(this.blank());
+    this.head.parentElement.classList.toggle("more", this.columns().some(({ optional }) => optional));
     const titleOf = ({ title, number }) => el("th", { scope: "col", class: number ? "number" : "" }, title);
     refill(this.head, el("tr", {}, this.columns().map(titleOf), el("td", { class: "tool" })));
     refill(this.body, rows.map((row, r) => this.rowOf(row, r)));
@@ -80,22 +81,25 @@ class ListGrid {
       onInput: (text) => {
         const wasBlank = this.isBlank(row), isLast = r === this.typed.rows.length - 1;
         row[column.key] = text;
-        this.begin(row, column, wasBlank);
-        if (wasBlank || (this.isBlank(row) && isLast)) this.show();
+        const isGiven = this.begin(row, column, wasBlank);
+        if (wasBlank || isGiven || (this.isBlank(row) && isLast)) this.show();
         this.onChange();
       },
     }));
   }
 
-  /** A row that begins gets what its columns begin with, and loses that where nothing else is left in it. */
+  /** A row that begins gets what its columns begin with, and loses that where nothing else is left in it. Whether such
+   * a cell changed. */
   begin(row, column, wasBlank) {
     const columns = this.columns(), given = columns.filter(({ fallback }) => fallback);
     const others = columns.filter(({ fallback }) => !fallback);
     const isLeft = !column.fallback && others.every(({ key }) => !(row[key] ?? "").trim());
+    const before = given.map(({ key }) => row[key] ?? "");
     for (const { key, fallback } of given) {
       if (isLeft && row[key] === fallback) row[key] = "";
       else if (wasBlank && !isLeft && !row[key]?.trim()) row[key] = fallback;
     }
+    return given.some(({ key }, k) => row[key] !== before[k]);
   }
 
   fill(cell, pasted) {

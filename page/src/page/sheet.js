@@ -89,20 +89,20 @@ function answerOf(view) {
     el("td", { class: "number strong" }, texts.at(-1)), hasExact && el("td"),
     others.map((other) => el("td", { class: "number" }, other.texts.at(-1))));
   return el("section", {},
-    !game.ballots && !game.isMarket() && lead(result, point, { rows, format }),
+    !game.ballots && !game.isMarket() && (airlinesOf(view, point) ?? lead(result, point, { rows, format })),
     unit?.trim() && el("p", { class: "hint" }, `All amounts are in ${unit.trim()}.`),
     halves(rows.length, heads.filter((head) => head !== undefined), line, sum),
     format.isMoved(totals, rows) && el("p", { class: "hint" }, `${MOVED} The fractions are exact.`),
-    others.map((other) => other.said && el("p", { class: "hint" }, `${other.title}: ${other.said}`)),
-    airlinesOf(view, point));
+    others.map((other) => other.said && el("p", { class: "hint" }, `${other.title}: ${other.said}`)));
 }
 
-/** The bill: what each airline pays for all its rows, by the columns that are shown. */
+/** The bill: what each airline pays for all its rows, by the columns that are shown; null where none has several. */
 function airlinesOf({ result: { points }, rows, format, withProposal, proposal }, shown) {
   const others = withProposal ? points.filter((point) => point !== shown) : [];
   const columns = [shown, ...others].map(({ title, shares }) => ({ title, totals: totalsOf(rows, shares) }));
   const own = withProposal && proposal?.totals ? [{ title: "Your proposal", totals: proposal.totals }] : [];
-  return linesTable("What each airline pays", airlineLines(rows, [...columns, ...own], format));
+  const lines = airlineLines(rows, [...columns, ...own], format);
+  return lines.length ? linesTable("What each airline pays", lines, "shares dense") : null;
 }
 
 /** What each pays or has today, and how much more the share is, where that was typed. */

@@ -17,13 +17,17 @@ export function shareLines(rows, points, format) {
 export function airlineLines(rows, points, format) {
   const airlines = [...new Set(rows.map(({ sum }) => sum))];
   if (airlines.length === rows.length || airlines.includes(undefined)) return [];
-  const steps = points.map(({ totals }) => format.steps(totals, rows));
-  const sumOf = (airline, own) => format.text(withSum(own.filter((_, r) => rows[r].sum === airline)).at(-1));
+  const steps = points.map(({ totals }) => format.steps(totals, rows)), landings = rows.map(landingsIn);
+  const lineOf = (name, own) => [name, String(own.reduce((sum, r) => sum + landings[r], 0)),
+    ...steps.map((some) => format.text(withSum(own.map((r) => some[r])).at(-1)))];
+  const all = rows.map((_, r) => r), ofAirline = (airline) => all.filter((r) => rows[r].sum === airline);
   return [
-    ["Airline, together", ...points.map(({ title }) => title)],
-    ...airlines.map((airline) => [airline, ...steps.map((own) => sumOf(airline, own))]),
+    ["Airline", "Landings", ...points.map(({ title }) => title)],
+    ...airlines.map((airline) => lineOf(airline, ofAirline(airline))), lineOf("together", all),
   ];
 }
+
+const landingsIn = ({ count, players }) => count ?? players.length;
 
 /** A cell as programs read it: without blanks in numbers, and without characters that aren't seen. */
 function plain(text) {

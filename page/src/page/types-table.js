@@ -30,10 +30,10 @@ export function typesTable(rows, points, format) {
 }
 
 /** Lines of cells as a table with a title, the first of them as its head; nothing where there are none. */
-export function linesTable(title, [head, ...lines]) {
+export function linesTable(title, [head, ...lines], kind = "shares") {
   const cell = (text, c) => (c ? el("td", { class: "number" }, text) : el("th", { scope: "row" }, text));
   return head && el("div", { class: "lines" }, el("h3", {}, title), el("div", { class: "scroll" },
-    el("table", { class: "shares" },
+    el("table", { class: kind },
       el("thead", {}, el("tr", {}, head.map((text, c) => el("th", { scope: "col", class: c ? "number" : "" }, text)))),
       el("tbody", {}, lines.map((line) => el("tr", {}, line.map(cell)))))));
 }
