@@ -13,7 +13,7 @@ export const casesTyped = [
     const sheet = "Airline\tCost\tLandings\r\nNord\t1.250,50\t4\r\nSüd\t980,25\t10\r\nOst\t2.000\t1\r\n";
     await page.paste('[data-cell="rows.0.name"]', sheet);
     await settle(page);
-    expect("settled by the others", await page.run("document.querySelectorAll('#case .note').length"), 0);
+    expect("settled by the others", await page.text("#case .faults"), /is read as the whole number[^“]*“.*shows that/);
     const lead = /Nord pays .* for 4 landings, Süd pays .* and Ost pays .*together 2000.00/;
     expect("lead", await page.text(".lead"), lead);
     expect("words", await page.text(".words"), WORDS);

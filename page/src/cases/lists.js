@@ -32,7 +32,7 @@ export const runway = {
   ofFour: ["name", "type", "count", "cost"], // what four columns without headings are
   help: "One row for each airline and kind of landing. The cost is what a runway just for this landing would cost. "
     + "A player is a landing, so who lands more often counts more often.",
-  most: 64,
+  most: 500,
   example: () => ({
     rows: [
       { name: "Aer", cost: "20.50", count: "3" },

@@ -73,7 +73,8 @@ export class AnswerView {
     for (const id of ["why", "evidence"]) at(id).hidden = true;
     refill(at("answer-settings"), this.formats());
     refill(at("answer-body"), beyondParts(beyond, { format: this.format() }));
-    if (this.shownMore !== "beyond") refill(at("answer-more"), paperPart(this.session, this.typed));
+    const more = at("answer-more"), isKept = this.shownMore === "beyond" && more.childElementCount;
+    if (!isKept) refill(more, paperPart(this.session, this.typed));
     this.shownMore = "beyond";
     this.say();
   }

@@ -52,7 +52,7 @@ export function beyondParts(sent, { format }) {
     el("p", { class: "tools" }, csvButton("runway-calculated", tables, format)));
 }
 
-function table({ rows, points }, format) {
+function table({ rows, points }, format, kind = "shares") {
   const columns = points.map((point) => ({ ...point, steps: format.steps(point.totals, rows) }));
   const sumOf = (steps) => format.text(withSum(steps).at(-1));
   const landings = (some) => el("td", { class: "number" }, String(some.reduce((sum, { count }) => sum + count, 0)));
@@ -63,8 +63,8 @@ function table({ rows, points }, format) {
     landings(of.map((r) => rows[r])), el("td", { class: "context" }), columns.map(({ steps, totals }) => {
       return shareCell(sumOf(of.map((r) => steps[r])), Rational.sum(of.map((r) => totals[r])), 1, format);
     }));
-  const head = (title, kind = "number") => el("th", { scope: "col", class: kind }, title);
-  return el("table", { class: "shares" },
+  const head = (title, side = "number") => el("th", { scope: "col", class: side }, title);
+  return el("table", { class: kind },
     el("thead", {}, el("tr", {}, head("Who pays", ""), head("Landings"), head("A landing needs", "number context"),
       columns.map(({ key, title }) => el("th", { scope: "col", class: "number", "data-point": key }, title,
         el("small", {}, "calculated by the page"))))),
@@ -74,12 +74,12 @@ function table({ rows, points }, format) {
       columns.map(({ steps }) => el("td", { class: "number" }, sumOf(steps))))));
 }
 
-/** The same on the one page. */
+/** The same on the one page; what one landing pays stands there by its type, where each has one. */
 export function beyondSheet(sent, { format, unit }) {
   const beyond = read(sent), { rows, points } = beyond;
   return [
     el("section", {}, unit?.trim() && el("p", { class: "hint" }, `All amounts are in ${unit.trim()}.`),
-      table(beyond, format),
+      table(beyond, format, `shares dense${rows.every(({ type }) => type) ? " whole" : ""}`),
       points.some(({ totals }) => format.isMoved(totals, rows)) && el("p", { class: "hint" }, MOVED)),
     el("section", {}, typesTable(rows, points, format)),
     el("section", {}, el("h2", {}, "How it was found"), beyondTexts(beyond).map((text) => el("p", {}, text))),

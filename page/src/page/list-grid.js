@@ -110,14 +110,15 @@ class ListGrid {
     const from = own.filter(({ optional }) => !optional).findIndex(({ number }) => number);
     const headings = headingsOf(rows, Math.max(0, from), this.mark());
     const targets = columnsFor(own, headings, { rows, mark: this.mark(), ofFour: this.kind.ofFour });
-    const below = rows.slice(headings ? 1 : 0).slice(0, this.kind.most * 4);
+    const all = rows.slice(headings ? 1 : 0), below = all.slice(0, this.kind.most * 4);
+    const isCut = below.length < all.length && `Of ${all.length} rows only the first ${below.length} were taken.`;
     if (Number(r) === 0) this.forgetExample(targets, below.length);
     const filled = below.map((row, k) => {
       const target = (this.typed.rows[Number(r) + k] ??= this.blank());
       row.forEach((text, c) => targets[c] && (target[targets[c].key] = text));
       return target;
     });
-    const said = [pastedText(rows, headings, targets, columns.slice(first)), ...this.complete(filled, targets)];
+    const said = [pastedText(rows, headings, targets, columns.slice(first)), isCut, ...this.complete(filled, targets)];
     this.said.textContent = withEscapes(said.filter(Boolean).join(" "));
     this.show();
     this.onChange();

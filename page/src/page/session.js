@@ -109,6 +109,7 @@ export class Session {
   async ask(engine, checker, isMine) {
     if (!this.reading.facts) { // the program takes no such game, and the page has calculated what it can
       this.result = { beyond: this.reading.beyond, points: [] };
+      this.proposal = proposalOf([], [], this.readMark());
       return;
     }
     this.readProposal();
