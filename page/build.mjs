@@ -9,19 +9,20 @@
 // It is no bundler. Each module becomes a function of its own, so names don't clash. An import names what it takes,
 // from a relative path; an export stands in front of what it exports. Other forms of import and export are refused.
 import { createHash } from "node:crypto";
-import { readFileSync, writeFileSync } from "node:fs";
+import { existsSync, readFileSync, writeFileSync } from "node:fs";
 import { dirname, join, relative, resolve } from "node:path";
 import { fileURLToPath } from "node:url";
+import { packed, packedIn, unpacked } from "./engine/inside.js";
 
 const TOP = dirname(fileURLToPath(import.meta.url));
 const SRC = join(TOP, "src");
 const MOST = 1_200_000; // bytes of the page
 
 /** What stands in the place of "/* NAME *\/" in a module, as the text of a string or as code. */
-function placesOf(module) {
+function placesOf(own) {
   const style = (name) => JSON.stringify(readFileSync(join(SRC, name), "utf8")).slice(1, -1);
   return {
-    MODULE: () => module.toString("base64"),
+    MODULE: () => own,
     PALETTE: () => style("palette.css"),
     PICTURE: () => style("picture.css"),
   };
@@ -57,14 +58,21 @@ function nameOf(path) {
   return `module_${relative(SRC, path).replace(/\W/g, "_")}`;
 }
 
-/** Code without the comments that stand in lines of their own: they are for the readers of the sources. */
-function withoutComments(code) {
-  return code.replace(/^ *\/\*\*[\s\S]*?\*\/\n/gm, "").replace(/^ *\/\/.*\n/gm, "");
+/** Code without what is for the readers of its sources alone: comments in lines of their own, and indentation. Where a
+ * template runs over lines, blanks may be text: these lines stay as they are. */
+function bare(code) {
+  const lines = code.replace(/^ *\/\*\*[\s\S]*?\*\/\n/gm, "").replace(/^ *\/\/.*\n/gm, "").split("\n");
+  let isOpen = false; // whether a template runs over the end of the line before
+  return lines.map((line) => {
+    const isText = isOpen;
+    if (line.split("`").length % 2 === 0) isOpen = !isOpen;
+    return isText ? line : line.trimStart();
+  }).join("\n");
 }
 
 function moduleOf(path, places, importing) {
   const exported = [];
-  let code = withoutComments(readFileSync(path, "utf8"));
+  let code = bare(readFileSync(path, "utf8"));
   code = code.replace(/^import \{([^}]*)\} from "([^"]+)";$/gm, (_, names, from) => {
     return `const {${names.replace(/ as /g, ": ")}} = ${importing(resolve(dirname(path), from))};`;
   });
@@ -82,12 +90,13 @@ function inScript(code) {
   return code.replace(/<\/script/gi, "<\\/script").replace(/<!--/g, "<\\!--");
 }
 
-function pageOf(module, commit) {
-  const scripts = scriptsOf(placesOf(module)), text = (name) => readFileSync(join(SRC, name), "utf8");
+/** `own` is the module as it stands in a page. */
+function pageOf(own, commit) {
+  const scripts = scriptsOf(placesOf(own)), text = (name) => readFileSync(join(SRC, name), "utf8");
   const styles = ["palette.css", "style.css", "answer.css", "picture.css", "narrow.css", "print.css"];
   return text("page.html")
     .replaceAll("COMMIT", commit)
-    .replaceAll("DIGEST", createHash("sha256").update(module).digest("hex"))
+    .replaceAll("DIGEST", createHash("sha256").update(unpacked(own)).digest("hex"))
     .replace("/* STYLE */", () => styles.map(text).join("\n"))
     .replace(/\/\* (SHARED|WORKER|PAGE) \*\//g, (_, name) => `"use strict";\n${scripts[name]}`);
 }
@@ -99,24 +108,24 @@ function commitOf(path) {
   return found[1];
 }
 
-async function moduleOfPage(path) {
-  const { moduleIn } = await import("./engine/inside.js");
-  return moduleIn(readFileSync(path, "utf8"));
+/** The module of a file, packed; but as the page has it already where it is the same, so that the page stays as it is. */
+function packedOf(file, out) {
+  const own = !file || existsSync(out) ? packedIn(readFileSync(out, "utf8")) : null, module = file && readFileSync(file);
+  return !module || (own && module.equals(unpacked(own))) ? own : packed(module);
 }
 
-async function main(words) {
+function main(words) {
   const option = (name) => (words.includes(name) ? words[words.indexOf(name) + 1] : undefined);
   const [file, out] = [option("--module"), option("--out")];
   if (!out) {
     console.error("node page/build.mjs [--module MODULE] [--commit COMMIT] --out PAGE");
     return 2;
   }
-  const module = file ? readFileSync(file) : Buffer.from(await moduleOfPage(out));
-  const page = pageOf(module, option("--commit") ?? commitOf(out)), bytes = Buffer.byteLength(page);
+  const page = pageOf(packedOf(file, out), option("--commit") ?? commitOf(out)), bytes = Buffer.byteLength(page);
   if (bytes > MOST) throw new Error(`the page has ${bytes} bytes, and may have ${MOST}`);
   writeFileSync(out, page);
   console.log(`${out}: ${bytes} bytes, SHA-256 ${createHash("sha256").update(page).digest("hex")}`);
   return 0;
 }
 
-process.exitCode = await main(process.argv.slice(2));
+process.exitCode = main(process.argv.slice(2));

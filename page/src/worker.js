@@ -19,7 +19,7 @@ import { fillSplits } from "./work/splits.js";
 import { standardText } from "./work/standard.js";
 
 const TASKS = {
-  warmUp, readCase, readCells, readList, openDocument, lookAtLine, fillLinks, costsOfNetwork, fillSplits,
+  warmUp: () => null, readCase, readCells, readList, openDocument, lookAtLine, fillLinks, costsOfNetwork, fillSplits,
   estates, overrun, compare, convexity, coarser, standardText,
   solve: ({ word, document }) => answer(word, document),
   explain: ({ line, rows }) => explained(parseJson(line), rows),
@@ -36,7 +36,10 @@ function anew(document) {
   return refused === undefined ? { tree: parseJson(line) } : { refused };
 }
 
-self.onmessage = ({ data: { id, task, what, mark } }) => {
+const started = warmUp();
+
+self.onmessage = async ({ data: { id, task, what, mark } }) => {
+  await started;
   spoken.mark = mark;
   try {
     self.postMessage({ id, result: TASKS[task](what) });

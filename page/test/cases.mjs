@@ -1,5 +1,5 @@
 // Scenarios: each case, typed and pasted, and what its parts answer.
-import { noted, READY, settle } from "./harness.mjs";
+import { noted, READY, settle, told } from "./harness.mjs";
 
 const WORDS = /program’s checker says yes[\s\S]*own checker says yes/;
 
@@ -13,7 +13,7 @@ export const casesTyped = [
     const sheet = "Airline\tCost\tLandings\r\nNord\t1.250,50\t4\r\nSüd\t980,25\t10\r\nOst\t2.000\t1\r\n";
     await page.paste('[data-cell="rows.0.name"]', sheet);
     await settle(page);
-    expect("settled by the others", await page.run("document.querySelectorAll('#case .note').length"), 0);
+    expect("settled by the others", await page.text("#case .faults"), /is read as the whole number[^“]*“.*shows that/);
     const lead = /Nord pays .* for 4 landings, Süd pays .* and Ost pays .*together 2000.00/;
     expect("lead", await page.text(".lead"), lead);
     expect("words", await page.text(".words"), WORDS);
@@ -81,12 +81,13 @@ export const casesTyped = [
     await settle(page);
     expect("lead", await page.text(".lead"), /Aer pays .* for 59 landings/);
     expect("no Shapley shares above 32", await page.text(".shares thead"), /^(?![\s\S]*Shapley)/);
-    const missing = /shares per head up to 8; an overrun, .* up to 12; Shapley shares up to 32/;
+    const missing = /shares per head up to 8; an overrun, .* up to 12.$/;
     expect("and it is told", await page.text(".missing"), missing);
     expect("words", await page.text(".words"), WORDS);
     await page.type("rows.1.count", "9");
-    await noted(page, /These are 69 landings, and the program takes 64[\s\S]*by hand[\s\S]*Don’t scale/);
-    expect("no answer", await page.run("document.getElementById('answer').hidden"), true);
+    await told(page, "#answer-body", /These are 69 landings, and the program takes 64[\s\S]*do NOT come from the/);
+    expect("by theorems", await page.text(".beyond .notice"), /payments_are_the_nucleolus[\s\S]*shapley_is_by_step/);
+    expect("no evidence", await page.run("document.getElementById('evidence').hidden"), true);
   }],
 
   ["an estate above the claims, and a bad number", "estate", async (page, expect) => {

@@ -1,7 +1,7 @@
 // Scenarios: the word that the page says of a line, what it offers then, and what is printed of it.
 import { readFileSync } from "node:fs";
 import { join } from "node:path";
-import { giveLine, READY, settle } from "./harness.mjs";
+import { giveLine, noted, READY, settle } from "./harness.mjs";
 
 const SAID = "document.querySelector('#verify .answers .word, #verify .answers .notice')"
   + " && ![...document.querySelectorAll('#verify .word.busy')].some((word) => word.textContent.includes('at work'))";
@@ -42,7 +42,7 @@ async function perHead(page, expect) {
 
 async function checkOnPaper(page, expect, line, agreed) {
   await give(page, line, agreed);
-  await page.until("document.querySelectorAll('#verify .fingerprint').length === 2");
+  await page.until("document.querySelectorAll('#verify .fingerprint').length === 3");
   const sums = await page.text("#verify .answers");
   expect("both sums", sums, /as it was given, has the SHA-256 [0-9a-f]{64}[\s\S]*Written as this [\s\S]*[0-9a-f]{64}/);
   expect("what is printed", await page.run(PAPER), "check");
@@ -127,9 +127,12 @@ async function sumOfOthers(page, expect) {
   await page.click("Clear all");
   await page.paste('[data-cell="rows.0.name"]', "Who\tClaim\nAda\t100\nBob\t200\nCem\t300\nSumme\t600");
   await page.type("estate", "300");
+  await noted(page, /The last row, “Summe”. Is it the sum of the others?/);
+  expect("no answer before", await page.run("document.getElementById('answer').hidden"), true);
+  await page.click("No, it counts");
   await settle(page);
   const told = await page.text("#case .faults");
-  expect("asked", told, /Name 4 is “Summe”. Is it the sum[\s\S]*“Summe”, claims just what all above it claim together/);
+  expect("told", told, /Name 4 is “Summe”. Is it the sum[\s\S]*“Summe”, claims just what all above it claim together/);
 }
 
 async function allOnPaper(page, expect) {

@@ -3,8 +3,7 @@ import { mkdtempSync, readFileSync, rmSync, writeFileSync } from "node:fs";
 import { tmpdir } from "node:os";
 import { join } from "node:path";
 import { pathToFileURL } from "node:url";
-
-const MODULE = /AGFzbQEAAAA[A-Za-z0-9+/]{1000,}={0,2}/;
+import { packed, packedIn } from "../engine/inside.js";
 
 /** A module with the exports of the program, whose one call traps. */
 const TRAPPING = Buffer.from([
@@ -13,10 +12,10 @@ const TRAPPING = Buffer.from([
   "0503010001", "0607017e004280080b", // a page of memory, and where the heap begins
   "0723", "03", "066d656d6f72790200", "0b5f5f686561705f626173650300", "08636f6f705f72756e0000", // their names
   "0a05010300000b", // the body: unreachable
-].join(""), "hex").toString("base64");
+].join(""), "hex");
 
 /** The same without its last byte, which no browser takes. */
-const BROKEN = Buffer.from(TRAPPING, "base64").subarray(0, -1).toString("base64");
+const BROKEN = TRAPPING.subarray(0, -1);
 
 const FAILED = "document.querySelector('#answer-body .notice.bad')";
 
@@ -40,7 +39,7 @@ export function failing(page, top) {
   const line = readFileSync(join(top, "examples", "airport-solved.json"), "utf8");
   const made = (name, module) => {
     const path = join(folder, name), given = `<script>window.line = ${JSON.stringify(line)}</script></body>`;
-    writeFileSync(path, text.replace(MODULE, module).replace("</body>", () => given));
+    writeFileSync(path, text.replace(packedIn(text), packed(module)).replace("</body>", () => given));
     return pathToFileURL(path).href;
   };
   const [trapping, broken] = [made("trapping.html", TRAPPING), made("broken.html", BROKEN)];

@@ -11,6 +11,7 @@ import { missingText } from "../src/page/questions.js";
 import { compare } from "../src/work/compare.js";
 import { costsOfNetwork, fillLinks } from "../src/work/networks.js";
 import { fillSplits } from "../src/work/splits.js";
+import { tryRunways } from "./runways.mjs";
 
 let state = 5, tried = 0, faults = 0;
 
@@ -157,17 +158,29 @@ tryNames(["Airline 1", "Airline 2", "Bee"], [20, 20, 60], "Airline 1 20x1; Airli
 tryNames(["Flight 1", "Flight 2"], [20, 60], "Flight 1 20x1; Flight 2 60x1");
 tryNames(["Aer 1", "Aer 2"], [20, 20], "Aer 20x2");
 
-const many = runway.read({ rows: ["9000", "18000"].map((count) => ({ name: "", cost: "9", count })) });
-expect("faults of many landings", many.reading.count, 1);
-expect("what to do with many landings", /^These are 27000 landings, and the program takes 64\. .*by hand.*Don’t scale/
-  .test(many.reading.faults[0].sentence), true);
-const MISSING = [[8, false], [12, "head up to 8."], [32, "hold, up to 12."], [33, "Shapley shares up to 32."]];
+for (const [k, wanted] of [["Terminal 1", "Terminal 2"], ["Aer 1", "Bee"], ["Gate 1 1", "Gate 1 2"]].entries()) {
+  const rows = wanted.map((name) => ({ name, cost: "5", count: "1" }));
+  expect(`apart ${k}`, rowsText(runway.fromGame(gameOf(rows)).rows), rowsText(rows));
+}
+const typedRows = [["Aer", "DH8", 2], ["Aer", "A320", 1], ["Bee", "DH8", 1]].map(([name, type, count], k) => {
+  return { name, type, cost: String(20 + k), count: String(count) };
+});
+const withTypes = (rows) => rows.map(({ name, type, cost, count }) => `${name}/${type} ${cost}x${count}`).join("; ");
+expect("types, opened again", withTypes(runway.fromGame(gameOf(typedRows)).rows), withTypes(typedRows));
+const alike = typedRows.map((row) => ({ ...row, name: "Aer", type: "DH8", cost: "20" }));
+expect("labels", new Set(runway.read({ rows: alike }, ".").rows.map(({ label }) => label)).size, 3);
+
+const many = runway.read({ rows: ["9000", "18000"].map((count) => ({ name: "", cost: "9", count })) }, ".");
+expect("faults of many landings", many.reading.count, 0);
+expect("no document of many landings", many.tree, null);
+const MISSING = [[8, false], [12, "head up to 8."], [32, "hold, up to 12."], [33, "hold, up to 12."]];
 for (const [n, wanted] of MISSING) {
   const found = missingText({ kind: "airport", n });
   expect(`what is missing for ${n} landings: ${found}`, found && found.endsWith(wanted), Boolean(wanted));
 }
 expect("nothing of an estate", missingText({ kind: "bankruptcy", n: 40 }), false);
 
+tryRunways(expect, draw);
 for (let k = 0; k < 40; k++) {
   tryRunway();
   tryNetwork(1 + (k % 4));

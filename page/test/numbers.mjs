@@ -66,7 +66,19 @@ const PASTED = [
     + "“Cost” is “A landing needs alone”."],
   ["Airline\tA landing needs alone\tLandings\nAer\t20\t3", "name cost count", /^The first/],
   ["Airline\tCost per landing\tNumber of landings\nAer\t20\t3", "name cost count", /^The first/],
-  ["Airline\tType\tLandings\t€\nAer\tA320\t3\t20.50", "name - count cost", /“Type” was left out/],
+  ["Airline\tType\tLandings\t€\nAer\tA320\t3\t20.50", "name type count cost", /“Type” is “Type”, “Landings”/],
+  ["Airline\tLand\tLandings\t€\nAer\t12\t3\t20.50", "name type count cost", /“Land” is “Type”/],
+  ["Airline\tAlso\tType\tLandings\t€\nAer\tx\tA320\t3\t20.50", "name - type count cost", /“Also” was left out/],
+  ["Fluggesellschaft;Typ;Landungen;Kosten der Piste\nAer;DH8;5;2.400.000,00", "name type count cost", /“Typ” is/],
+  ["Kosten der Piste;Landungen;Typ;Airline\n20;5;DH8;Aer", "cost count type name", /“Landungen” is “Landings”/],
+  ["Compagnie;Type d’avion;Atterrissages;Coût\nAer;DH8;5;20", "name type count cost", /“Coût” is “A landing needs/],
+  ["A;B;C;D\nAer;DH8;5;20", "name type count cost", /“C” is “Landings”, “D” is “A landing needs alone”/],
+  ["A;B;C\nAer;5;20,50", "name count cost", /“B” is “Landings”/],
+  ["Aer;DH8;5;2400\nBee;738;12;2600", "", "Taken, in this order, as: “Airline”, “Type”, “Landings”, “A landing needs "
+    + "alone”."],
+  ["Aer;DH8;20.5;3\nBee;738;30;4", "", /“Type”, “A landing needs alone”, “Landings”.$/],
+  ["Aer;3;20.5\nBee;4;30", "", /“Airline”, “Landings”, “A landing needs alone”.$/],
+  ["Aer;DH8;20\nBee;738;30", "", /“Airline”, “Type”, “A landing needs alone”.$/],
   ["Who\tEUR\tHow often\nAer\t20\t3", "name cost count", /“Who” is “Airline”, “EUR” is “A landing needs alone”/],
   ...["", "20.5 EUR", "20,5,0", "12O", "n/a", "NaN", "#REF!", "#N/A", "-", "x"].flatMap((cost) => [
     [`Aer\t${cost}\t3\nBee\t40\t2\nCargo\t60\t1`, "", ""],
@@ -74,14 +86,15 @@ const PASTED = [
   ]),
   ["Aer\tx\nBee\t40", "name cost", "The first row was taken as headings: “Aer” is “Airline”, “x” is “A landing needs "
     + "alone”."],
-  ["Aer\t20\t3\tA320\nBee\t40\t2\t", "", "Of each row only the first 3 cells were taken."],
-  ["Aer\t20\t3\t\nBee\t40\t2\t", "", ""], ["Aer\nBee", "", ""], ["Aer\tx\nBee\ty", "", ""],
+  ["Aer\t20\t3\tA320\nBee\t40\t2\t", "", /“Airline”, “A landing needs alone”, “Landings”, “Type”.$/],
+  ["Aer\tx\t20\t3\tA320\nBee\tx\t40\t2\t", "", /“Landings”. Of each row only the first 4 cells were taken.$/],
+  ["Aer\t20\t3\t\nBee\t40\t2\t", "", ""], ["Aer\nBee", "", ""], ["Aer\tx\nBee\ty", "", /“Airline”, “Type”.$/],
 ];
 for (const [text, wanted, told] of PASTED) {
   const rows = cellsOf(text), headings = headingsOf(rows, 1, ".");
-  const targets = headings ? columnsFor(runway.columns, headings) : runway.columns;
+  const targets = columnsFor(runway.columns, headings, { rows, mark: ".", ofFour: runway.ofFour });
   const found = headings ? targets.map((column) => column?.key ?? "-").join(" ") : "";
-  const said = pastedText(rows, headings, targets);
+  const said = pastedText(rows, headings, targets, runway.columns.filter(({ optional }) => !optional));
   if (found === wanted && (told instanceof RegExp ? told.test(said) : told === said)) continue;
   faults += 1;
   console.log(`${JSON.stringify(text)}: headings ${JSON.stringify(found)}, and it is told: ${said}`);

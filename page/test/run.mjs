@@ -11,7 +11,9 @@ import { checking, documents } from "./documents.mjs";
 import { entering } from "./entering.mjs";
 import { failing } from "./failing.mjs";
 import { Harness } from "./harness.mjs";
+import { landings } from "./landings.mjs";
 import { lecture } from "./lecture.mjs";
+import { letters } from "./letters.mjs";
 import { access, large, looks } from "./looks.mjs";
 import { monkey } from "./monkey.mjs";
 import { saying } from "./saying.mjs";
@@ -23,8 +25,8 @@ const slack = Number(option("--slack", "1")), told = [];
 const harness = new Harness(pathToFileURL(page).href, option("--only", ""), slack);
 const program = resolve(option("--program", join(top, "crates", "coop_program", "out", "coop_program")));
 harness.add(large(slack, told));
-for (const some of [entering, saying, lecture, bothWays, casesTyped, tables, otherCases, documents(top, program),
-  checking(top), checks(top), failing(page, top), looks, access]) {
+for (const some of [entering, saying, lecture, landings, bothWays, casesTyped, tables, otherCases,
+  documents(top, program), checking(top), checks(top), letters(top), failing(page, top), looks, access]) {
   harness.add(some);
 }
 harness.add(monkey(Number(option("--seed", "1")), Number(option("--steps", "60"))));

@@ -1,5 +1,6 @@
 """The module as a command: page/coop.mjs in processes of its own, and bin/coop where nothing is built."""
 import base64
+import gzip
 import os
 import shutil
 import subprocess
@@ -42,10 +43,10 @@ def faults_without_answer(page: str) -> Iterator[str]:
         shutil.copytree(page, copy, ignore=shutil.ignore_patterns("coop.html", "out"))
         html = Path(copy, "coop.html")
         whole = Path(page, "coop.html").read_text("utf-8")
-        begins = whole.index("AGFzbQEAAAA")
+        begins = whole.index("H4sI")
         half = whole[:begins + 100000] + whole[whole.index('"', begins):]
         pages = {"no page": None, "no module": "<p>", "two modules": whole + whole, "half of a module": half,
-                 "a trap": f'<script>"{base64.b64encode(small_module()).decode()}"</script>'}
+                 "a trap": f'<script>"{base64.b64encode(gzip.compress(small_module(), 0)).decode()}"</script>'}
         for name, text in pages.items():
             if text is not None:
                 html.write_text(text, "utf-8")

@@ -42,21 +42,55 @@ export function headingsOf(rows, from, mark) {
   return words?.length && words.every(isWord) && below.some((row) => row.some(isNumber)) ? rows[0] : null;
 }
 
-/** The column that each pasted one is for: the one that its heading names, and of the others the next; or none. */
-export function columnsFor(columns, headings) {
-  const named = headings.map((text) => columns.find(({ heads }) => heads?.test(text)));
-  const found = named.map((column, c) => (named.indexOf(column) === c ? column : undefined));
-  const free = columns.filter((column) => !found.includes(column));
-  return found.map((column) => column ?? free.shift());
+/** The column that each pasted one is for: the one that its heading names, and of the others the next; or none. Numbers
+ * are for no optional column, but where four columns stand as `ofFour` has them, by its keys. */
+export function columnsFor(columns, headings, { rows = [], mark = ".", ofFour = [] } = {}) {
+  const wide = Math.max(headings?.length ?? 0, ...rows.map(lastOf)), all = Array.from({ length: wide }, (_, c) => c);
+  const below = (c) => rows.slice(headings ? 1 : 0).map((row) => row[c]).filter(Boolean);
+  const named = all.map((c) => columns.find(({ heads }) => headings && heads?.test(headings[c])));
+  const found = named.map((column, c) => (column && named.indexOf(column) === c ? column : undefined));
+  const isFour = wide === 4 && columns.length === ofFour.length && isNumeric(below(3), mark);
+  const order = isFour ? ofFour.map((key) => columns.find((column) => column.key === key)) : columns;
+  const free = order.filter((column) => !found.includes(column));
+  const filled = all.map((c) => {
+    if (found[c]) return found[c];
+    const k = free.findIndex(({ optional }) => isFour || !optional || !isNumeric(below(c), mark));
+    return k < 0 ? undefined : free.splice(k, 1)[0];
+  });
+  return swapped(filled, found, below, mark);
 }
 
-/** What has to be told of pasted rows: which was taken as headings, what for what, and what was left out. */
-export function pastedText(rows, headings, targets) {
+/** How many cells a row has, without empty ones behind. */
+function lastOf(row) {
+  return row.reduce((last, text, c) => (text ? c + 1 : last), 0);
+}
+
+function isNumeric(texts, mark) {
+  return texts.filter((text) => !readNumber(text, mark).fault).length * 2 > texts.length;
+}
+
+/** Where what no heading names as a number of landings has decimals, and its neighbour none, the two are the other way
+ * round. */
+function swapped(filled, found, below, mark) {
+  const [count, cost] = [({ short }) => short, ({ number, short }) => number && !short].map((is) => {
+    return filled.findIndex((column) => column && is(column));
+  });
+  if (count < 0 || cost < 0 || found[count] || found[cost]) return filled;
+  const isWhole = (c) => below(c).every((text) => readNumber(text, mark).value?.isWhole() ?? true);
+  if (isWhole(count) || !isWhole(cost)) return filled;
+  return filled.map((column, c) => (c === count ? filled[cost] : c === cost ? filled[count] : column));
+}
+
+/** What has to be told of pasted rows: which was taken as headings, what for what, and what was left out. `usual` are
+ * the columns that go without saying. */
+export function pastedText(rows, headings, targets, usual = targets) {
   const pairs = headings?.map((text, c) => targets[c] && `“${text}” is “${targets[c].title}”`).filter(Boolean);
   const out = headings?.filter((_, c) => !targets[c]).map((text) => `“${text}” was left out.`) ?? [];
-  const isWider = rows.some((row) => row.slice(targets.length).some(Boolean));
+  const taken = targets.filter(Boolean), isUsual = taken.every((column, c) => column === usual[c]);
+  const isWider = rows.some((row) => row.slice(headings ? targets.length : taken.length).some(Boolean));
   return [
     ...(pairs ? [`The first row was taken as headings: ${pairs.join(", ")}.`] : []), ...out,
-    ...(isWider ? [`Of each row only the first ${targets.length} cells were taken.`] : []),
+    ...(pairs || isUsual ? [] : [`Taken, in this order, as: ${taken.map(({ title }) => `“${title}”`).join(", ")}.`]),
+    ...(isWider ? [`Of each row only the first ${taken.length} cells were taken.`] : []),
   ].join(" ");
 }

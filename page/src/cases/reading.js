@@ -5,6 +5,7 @@ import { remarksOf, withEscapes } from "../game/names.js";
 
 const MOST_SCALE = 65536n;
 const MOST = 2n ** 40n;
+const OTHER = { ".": ",", ",": "." };
 const MOST_KEPT = 200; // faults that are kept with their cells; of the others only the number
 
 export class Reading {
@@ -13,9 +14,9 @@ export class Reading {
     this.faults = []; // {cell, sentence}
     this.count = 0; // of faults
     this.empty = { count: 0, first: null }; // cells that are empty and may not be
-    this.doubts = []; // numbers that the decimal mark decides, the first ones
-    this.doubted = 0;
+    this.doubts = new Map(); // of numbers that the decimal mark decides, by how they were read: the first, and how many
     this.shown = new Map(); // marks that stand in front of decimals beyond doubt, each with a text that shows it
+    this.asked = null; // a row that may be the sum of the others: {r, name}
     this.notes = []; // what was changed for the program, and what is remarkable
     this.numbers = [];
     this.texts = new Map();
@@ -36,13 +37,9 @@ export class Reading {
   /** The value of a cell, or null. */
   number(cell, typed, what, { canBeNegative = false } = {}) {
     const { value, fault, doubt, by } = this.known(typed);
-    if (doubt) this.doubt(cell, typed, value);
+    if (doubt) this.doubt(doubt, typed, value);
     if (by && !this.shown.has(by)) this.shown.set(by, typed);
-    if (fault === "is empty") {
-      this.empty.count += 1;
-      this.empty.first ??= cell;
-      return null;
-    }
+    if (fault === "is empty") return this.open(cell);
     if (fault) {
       const shown = fault === "is no number" ? `: “${withEscapes(typed.trim().slice(0, 20))}”` : "";
       return this.fault(cell, `${what} ${fault}${shown}.`);
@@ -52,9 +49,17 @@ export class Reading {
     return value;
   }
 
-  doubt(cell, typed, value) {
-    this.doubted += 1;
-    if (!this.doubts.length) this.doubts.push({ cell, typed, value: String(value) });
+  /** A cell that is empty and may not be. */
+  open(cell) {
+    this.empty.count += 1;
+    this.empty.first ??= cell;
+    return null;
+  }
+
+  doubt(how, typed, value) {
+    const known = this.doubts.get(how) ?? { how, typed, value: String(value), count: 0 };
+    this.doubts.set(how, known);
+    known.count += 1;
   }
 
   /** The one mark that all other numbers show; null where none does, or both stand there. */
@@ -62,19 +67,25 @@ export class Reading {
     return this.shown.size === 1 ? [...this.shown.keys()][0] : null;
   }
 
+  /** A whole number. One as 1.234 that would have decimals shows that its mark parts thousands; of one as 5.000, which
+   * is whole in both ways, the other numbers say what it is, or the user is asked. */
   whole(cell, typed, what, low, high) {
-    const value = /^\s*\d{1,9}\s*$/.test(typed) ? Number(typed) : readNumber(typed, this.mark).value?.toNumber();
-    if (!Number.isInteger(value)) return this.fault(cell, `${what} is a whole number.`);
-    if (value < low || value > high) {
-      return this.fault(cell, `${what} is from ${low} to ${high.toLocaleString("en")}.`);
-    }
-    return value;
+    const { value, fault, doubt, by } = this.known(typed), isWhole = value?.isWhole();
+    if (fault === "is empty") return this.open(cell);
+    if (doubt) this.doubt(doubt, typed, value);
+    const shown = doubt && !isWhole ? OTHER[/[.,]/.exec(typed)[0]] : by;
+    if (shown && !this.shown.has(shown)) this.shown.set(shown, typed);
+    if (!isWhole) return this.fault(cell, `${what} is a whole number.`);
+    const number = value.toNumber();
+    if (number >= low && number <= high) return number;
+    return this.fault(cell, `${what} is from ${low} to ${high.toLocaleString("en")}.`);
   }
 
-  /** Names, each with its cell; an empty one is the word with its number. */
-  names(cells, word) {
+  /** Names, each with its cell; an empty one is the word with its number, or, in a list with names, still open. */
+  names(cells, word, isNamed = false) {
     const names = cells.map(({ typed }, i) => typed.trim().normalize("NFC") || `${word} ${i + 1}`);
     const first = new Map();
+    for (const { typed, cell } of isNamed ? cells : []) if (!typed.trim()) this.open(cell);
     names.forEach((name, i) => {
       if (bytesOf(name) > 64) this.fault(cells[i].cell, "A name has at most 64 letters (32 with accents).");
       if (first.has(name)) this.fault(cells[i].cell, `The name “${withEscapes(name)}” stands twice.`);
@@ -109,7 +120,7 @@ export class Reading {
   }
 
   isRight() {
-    return !this.count && !this.empty.count;
+    return !this.count && !this.empty.count && !this.asked;
   }
 }
 

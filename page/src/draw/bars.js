@@ -1,7 +1,10 @@
 // Bars of what each gets or pays, with marks at what it is worth alone and at what it adds to all others.
+import { shortText } from "../exact/decimals.js";
 import { Rational, ZERO } from "../exact/rational.js";
 import { chart } from "./chart.js";
 import { figure } from "./figure.js";
+
+const MOST_ROWS = 12; // of landings that have a bar each
 
 /** `rows` are {label, players}: players of a row have equal shares, and the bar is that of one of them. */
 export function barsPicture(game, rows, points, { show, wide }) {
@@ -12,11 +15,13 @@ export function barsPicture(game, rows, points, { show, wide }) {
   const low = Rational.min([...values, ...alone]).toNumber();
   const high = isFar ? most.toNumber() * 1.1 : Rational.max([...values, ...alone]).toNumber();
   const own = game.costs ? "costs alone" : "is worth alone";
+  const isSeveral = rows.some(({ players }) => players.length > 1);
   const within = (value) => (value.toNumber() <= high ? value.toNumber() : null);
   return chart({
     title: game.costs ? "What each pays" : "What each gets",
     low, high: high > low ? high : low + 1, wide, text: tickText,
     legend: [
+      ...(isSeveral ? [{ kind: "text", title: "A bar is what one landing pays" }] : []),
       ...points.map(({ key, title }) => ({ key, title })),
       { kind: "alone", title: own + (isFar ? " (an arrow: far more)" : "") },
       { kind: "adds", title: `adds to the ${game.costs ? "cost" : "worth"} of all others` },
@@ -34,8 +39,21 @@ export function barsPicture(game, rows, points, { show, wide }) {
 }
 
 export function bars(game, rows, points, settings) {
-  const each = rows.some(({ players }) => players.length > 1) ? "A bar is what one landing pays." : "";
-  return figure("bars", "shares", barsPicture(game, rows, points, settings), each);
+  const drawn = game.kind === "airport" && rows.length > MOST_ROWS ? byType(game, rows) : rows;
+  return figure("bars", "shares", barsPicture(game, drawn, points, settings));
+}
+
+/** One row for all landings of a type that need the same, from the least. */
+function byType({ amounts }, rows) {
+  const kinds = new Map(), costOf = ({ players: [i] }) => amounts[i];
+  for (const row of [...rows].sort((one, other) => costOf(one).compare(costOf(other)))) {
+    const key = `${row.type}\n${costOf(row)}`;
+    kinds.set(key, [...(kinds.get(key) ?? []), row]);
+  }
+  return [...kinds.values()].map((own) => ({
+    label: [own[0].type, `needs ${shortText(costOf(own[0]))}`].filter(Boolean).join(", "),
+    players: own.flatMap(({ players }) => players),
+  }));
 }
 
 export function tickText(tick) {

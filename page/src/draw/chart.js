@@ -85,12 +85,12 @@ function legendLines(legend, wide) {
   const parts = [];
   let x = 2, y = 14;
   for (const { key, kind, title } of legend) {
-    const width = 26 + widthOf(title);
+    const left = kind === "text" ? 0 : 26, width = left + widthOf(title); // a text alone has no sign
     if (x > 2 && x + width > wide) [x, y] = [2, y + LINE];
-    parts.push(kind === "span" ? svg("rect", { class: "span", x, y: y - 9, width: 20, height: 10, rx: 2 })
+    if (left) parts.push(kind === "span" ? svg("rect", { class: "span", x, y: y - 9, width: 20, height: 10, rx: 2 })
       : kind ? markOf(kind, x + 8, y - 11, 12)
       : svg("rect", { class: "own", "data-point": key, x, y: y - 9, width: 20, height: 10, rx: 2 }));
-    parts.push(svg("text", { x: x + 26, y }, title));
+    parts.push(svg("text", { x: x + left, y }, title));
     x += width + 22;
   }
   return { parts, high: y + 8 };

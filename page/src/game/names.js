@@ -63,6 +63,11 @@ export function remarksOf(names) {
   return remarks;
 }
 
+/** Whether a name says that it is a sum, as "Total". */
+export function isSumWord(name) {
+  return SUMS.test(looksOf(name).replace(/[:.]$/, ""));
+}
+
 function remarksOfOne(name, number) {
   const remarks = [], looks = looksOf(name);
   if (withEscapes(name) !== name) {
@@ -74,7 +79,7 @@ function remarksOfOne(name, number) {
     const told = mixed.map((letter) => `“${letter}” (${alphabetOf(letter)}, ${escapeOf(letter)})`).join(", ");
     remarks.push(`Name ${number}, “${shownName(name)}”, has letters of two alphabets in one word: ${told}.`);
   }
-  if (SUMS.test(looks)) {
+  if (isSumWord(name)) {
     remarks.push(`Name ${number} is “${looks}”. Is it the sum of the others? Then it is no player, and has to go.`);
   }
   return remarks;

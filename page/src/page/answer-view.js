@@ -1,5 +1,6 @@
 // The panels below a case: the answer, its settings, the reasons and the evidence.
 import { answerParts } from "./answer.js";
+import { beyondParts } from "./beyond.js";
 import { button, copy, el, refill } from "./dom.js";
 import { evidenceParts } from "./evidence.js";
 import { filledText } from "./filled.js";
@@ -8,7 +9,8 @@ import { otherAmounts } from "./other-amounts.js";
 import { paperPart } from "./paper.js";
 import { takesPerHead } from "./questions.js";
 import { todayOf } from "./today.js";
-import { tableText } from "./shares-table.js";
+import { tablesOf } from "./shares-table.js";
+import { csvButton, tabbed } from "./table-lines.js";
 import { whyParts } from "./why.js";
 
 const PLACES = [0, 1, 2, 3, 4, 6];
@@ -46,6 +48,7 @@ export class AnswerView {
       at(id).hidden = !result || (id !== "answer" && Boolean(result.refusal));
     }
     if (!result) return this.hush();
+    if (!result.game) return this.showBeyond(result);
     const { rows } = session.reading, wide = at("answer-body").clientWidth || 640, format = this.format();
     const proposal = {
       ...session.proposal,
@@ -63,6 +66,17 @@ export class AnswerView {
     refill(at("why-body"), why);
     at("why").hidden = !why.length;
     refill(at("evidence-body"), evidenceParts(result, session.kind.id, filled));
+  }
+
+  /** What the page calculates by itself has no reasons and no evidence. */
+  showBeyond({ beyond }) {
+    for (const id of ["why", "evidence"]) at(id).hidden = true;
+    refill(at("answer-settings"), this.formats());
+    refill(at("answer-body"), beyondParts(beyond, { format: this.format() }));
+    const more = at("answer-more"), isKept = this.shownMore === "beyond" && more.childElementCount;
+    if (!isKept) refill(more, paperPart(this.session, this.typed));
+    this.shownMore = "beyond";
+    this.say();
   }
 
   /** An answer that no longer stands isn't said either. */
@@ -91,6 +105,16 @@ export class AnswerView {
   }
 
   settings({ game, points }) {
+    const { session } = this, tables = () => {
+      return tablesOf(session.result, { rows: session.reading.rows, format: this.format() });
+    };
+    const copied = (event) => copy(tabbed(tables()[0]), event.target);
+    return [takesPerHead(game) && this.measures(game), this.formats(),
+      points.length > 0 && [button("Copy the table", copied, { class: "quiet" }),
+        csvButton(`${session.kind.id}-answer`, tables, this.format())]];
+  }
+
+  formats() {
     const { session } = this, choice = (title, options, now, onChange) => el("label", {}, `${title} `,
       el("select", { on: { change: (event) => onChange(event.target.value) } }, options.map(([value, name]) => {
         return el("option", { value: String(value), selected: value === now }, String(name));
@@ -100,9 +124,7 @@ export class AnswerView {
       this.show();
     });
     const mark = choice("Decimal mark", MARKS, session.mark, (value) => session.setMark(value));
-    const text = () => tableText(session.result, { rows: session.reading.rows, format: this.format() });
-    const copyTable = button("Copy the table", (event) => copy(text(), event.target), { class: "quiet" });
-    return [takesPerHead(game) && this.measures(game), places, mark, points.length > 0 && copyTable];
+    return [places, mark];
   }
 
   measures(game) {

@@ -5,10 +5,12 @@ import { plan } from "../draw/plan.js";
 import { power, trades } from "../draw/ranges.js";
 import { triangle } from "../draw/triangle.js";
 import { listed, Namer, times } from "../tell/words.js";
+import { beyondParts } from "./beyond.js";
 import { el } from "./dom.js";
 import { totalsOf } from "./format.js";
 import { missingText } from "./questions.js";
 import { sharesTable } from "./shares-table.js";
+import { typesTable } from "./types-table.js";
 
 /** All parts of an answer. `settings` are {rows, format, proposal, wide}. */
 export function answerParts(result, settings) {
@@ -26,8 +28,16 @@ export function answerParts(result, settings) {
     solution && !game.ballots && !game.isMarket() && lead(result, solution, settings),
     points.length > 0 && (!game.ballots || solution) && sharesTable(result, settings),
     missing && el("p", { class: "hint missing" }, missing),
+    game.kind === "airport" && typesPart(result, settings),
+    result.beyond && beyondParts(result.beyond, settings),
     ...(solution && !game.ballots ? pictures(result, seen, pictured) : []),
   ].filter(Boolean);
+}
+
+function typesPart({ game, points }, { rows, format }) {
+  const landings = rows.map(({ type, players: [i] }) => ({ type, cost: game.amounts[i] }));
+  const each = ({ shares }) => rows.map(({ players: [i] }) => shares[i]);
+  return typesTable(landings, points.map((point) => ({ title: point.title, each: each(point) })), format);
 }
 
 export function solutionOf({ points }) {

@@ -2,6 +2,7 @@
 import { caseNamed } from "../cases/cases.js";
 import { el, refill } from "./dom.js";
 import { Helper } from "./helper.js";
+import { digestOf } from "./files.js";
 import { textOfFile, textPlace } from "./text-place.js";
 
 const OF_A_LINE = "This is the game of a line, and all below is worked out anew. Whether the line’s own shares are "
@@ -15,39 +16,45 @@ function notesOf({ other }, isLine) {
 }
 
 export class Documents {
-  /** `onOpen(kind, typed, settings)` opens a case; `onLine(text)` has a line checked; `mark()` is the decimal mark. */
+  /** `onOpen(kind, typed, settings)` opens a case; `onLine(text, from)` has a line checked; `mark()` is the decimal
+   * mark. */
   constructor({ mark, onOpen, onLine }) {
     Object.assign(this, { mark, onOpen, onLine, turn: 0 });
     this.helper = new Helper();
     this.message = document.getElementById("document-message");
     refill(document.getElementById("document-body"), textPlace({
       title: "A document", hint: "JSON, as {\"game\":{…}}; a line of the program does as well.", rows: 8,
-      onText: (text) => this.open(text),
+      onText: (text, from) => this.open(text, { from }),
     }));
   }
 
   /** Opens a document as a case, or tells why it can't be. `doubt` is why its game isn't taken for the agreed one; a
-   * text that `isChecked` isn't handed on to be. */
-  async open(text, { doubt = "", isChecked = false } = {}) {
+   * text that `isChecked` isn't handed on to be; `from` says of which file it is. */
+  async open(text, { doubt = "", isChecked = false, from = {} } = {}) {
     const mine = (this.turn += 1);
     this.helper.stop();
     refill(this.message);
+    if (from.fault) this.tell({ sentence: from.fault });
     if (!text.trim()) return;
     try {
-      const found = await this.helper.ask("openDocument", { text, mark: this.mark() });
+      const [found, digest] = await Promise.all([
+        this.helper.ask("openDocument", { text, mark: this.mark() }), from.name && digestOf(text),
+      ]);
       if (mine !== this.turn) return;
       if (found.refusal) this.tell(found.refusal);
-      else this.openCase(caseNamed(found.id), found, { text, doubt, isChecked });
+      else this.openCase(caseNamed(found.id), found, { text, doubt, isChecked, from: { ...from, digest } });
     } catch (fault) {
       if (fault.message === "stopped") return;
       this.tell({ sentence: `The document couldn’t be opened: ${fault.message}.` });
     }
   }
 
-  openCase(kind, found, { text, doubt, isChecked }) {
-    const isLine = !isChecked && /"certificate"\s*:/.test(text), notes = isChecked ? [] : notesOf(found, isLine);
-    this.onOpen(kind, kind.unpack?.(found.typed) ?? found.typed, { ...found, doubt, notes });
-    if (isLine) this.onLine(text);
+  openCase(kind, found, { text, doubt, isChecked, from: { digest, ...from } }) {
+    const hasCertificate = /"certificate"\s*:/.test(text), isLine = hasCertificate && !isChecked;
+    const notes = isChecked ? [] : notesOf(found, isLine);
+    const file = from.name && !hasCertificate ? { name: from.name, digest } : null; // a line isn't the game's file
+    this.onOpen(kind, kind.unpack?.(found.typed) ?? found.typed, { ...found, doubt, notes, file });
+    if (isLine) this.onLine(text, from);
   }
 
   tell({ sentence, place }) {
@@ -62,15 +69,14 @@ export class Documents {
       event.preventDefault();
       const [file] = event.dataTransfer?.files ?? [];
       if (!file) return;
-      const { text, fault } = await textOfFile(file);
-      if (!fault && text.includes('"certificate"')) {
+      const { text = "", from, fault } = await textOfFile(file);
+      if (text.includes('"certificate"')) {
         show("verify");
-        onLine(text);
+        onLine(text, from);
         return;
       }
       show("document");
-      if (fault) this.tell({ sentence: fault });
-      else this.open(text);
+      this.open(text, { from: from ?? { fault } });
     });
   }
 }

@@ -26,8 +26,21 @@ class ListGrid {
     this.show();
   }
 
+  /** The columns that are shown: with an optional one in the order in which such lists mostly come. */
   columns() {
-    return this.typed.secondQuota === undefined ? this.kind.columns : [...this.kind.columns, this.kind.second.column];
+    const { columns, ofFour = [] } = this.kind, isMore = columns.some((one) => one.optional && this.hasColumn(one));
+    if (isMore) return ofFour.map((key) => columns.find((one) => one.key === key));
+    return this.allColumns().filter(({ optional }) => !optional);
+  }
+
+  allColumns() {
+    const { typed, kind: { columns, second } } = this;
+    return typed.secondQuota === undefined ? columns : [...columns, second.column];
+  }
+
+  /** An optional column is there where the user wants it, or where a cell of it is filled. */
+  hasColumn({ key }) {
+    return this.typed.more?.includes(key) || this.typed.rows.some((row) => row[key]?.trim());
   }
 
   blank() {
@@ -40,7 +53,9 @@ class ListGrid {
 
   show() {
     const { rows } = this.typed;
+    if (this.kind.columns.some(({ optional }) => optional)) this.showSingles();
     if (!rows.length || !this.isBlank(rows.at(-1))) rows.push(this.blank());
+    this.head.parentElement.classList.toggle("more", this.columns().some(({ optional }) => optional));
     const titleOf = ({ title, number }) => el("th", { scope: "col", class: number ? "number" : "" }, title);
     refill(this.head, el("tr", {}, this.columns().map(titleOf), el("td", { class: "tool" })));
     refill(this.body, rows.map((row, r) => this.rowOf(row, r)));
@@ -59,34 +74,66 @@ class ListGrid {
   }
 
   cellIn(row, r, column) {
-    const named = column.placeholder && `${column.placeholder} ${r + 1}`;
+    const named = column.placeholder && !this.typed.isNamed && `${column.placeholder} ${r + 1}`;
     return el("td", { class: column.wide ? "wide" : column.short ? "short" : "" }, cellInput({
       cell: `rows.${r}.${column.key}`, value: row[column.key] ?? "", isNumber: column.number,
-      label: `${column.title}, row ${r + 1}`, placeholder: this.isBlank(row) ? "" : named ?? column.fallback ?? "",
+      label: `${column.title}, row ${r + 1}`, placeholder: this.isBlank(row) ? "" : named || "",
       onInput: (text) => {
         const wasBlank = this.isBlank(row), isLast = r === this.typed.rows.length - 1;
         row[column.key] = text;
-        if (wasBlank || (this.isBlank(row) && isLast)) this.show();
+        const isGiven = this.begin(row, column, wasBlank);
+        if (wasBlank || isGiven || (this.isBlank(row) && isLast)) this.show();
         this.onChange();
       },
     }));
+  }
+
+  /** A row that begins gets what its columns begin with, and loses that where nothing else is left in it. Whether such
+   * a cell changed. */
+  begin(row, column, wasBlank) {
+    const columns = this.columns(), given = columns.filter(({ fallback }) => fallback);
+    const others = columns.filter(({ fallback }) => !fallback);
+    const isLeft = !column.fallback && others.every(({ key }) => !(row[key] ?? "").trim());
+    const before = given.map(({ key }) => row[key] ?? "");
+    for (const { key, fallback } of given) {
+      if (isLeft && row[key] === fallback) row[key] = "";
+      else if (wasBlank && !isLeft && !row[key]?.trim()) row[key] = fallback;
+    }
+    return given.some(({ key }, k) => row[key] !== before[k]);
   }
 
   fill(cell, pasted) {
     const [, r, key] = cell.split("."), columns = this.columns(), first = columns.findIndex((one) => one.key === key);
     if (first < 0) return;
     this.remember("Paste");
-    const numbers = columns.findIndex(({ number }) => number), rows = pasted.filter((row) => row.some(Boolean));
-    const own = columns.slice(first), headings = headingsOf(rows, Math.max(0, numbers - first), this.mark());
-    const targets = headings ? columnsFor(own, headings) : own, below = rows.slice(headings ? 1 : 0);
+    const own = first ? columns.slice(first) : this.allColumns(), rows = pasted.filter((row) => row.some(Boolean));
+    const from = own.filter(({ optional }) => !optional).findIndex(({ number }) => number);
+    const headings = headingsOf(rows, Math.max(0, from), this.mark());
+    const targets = columnsFor(own, headings, { rows, mark: this.mark(), ofFour: this.kind.ofFour });
+    const all = rows.slice(headings ? 1 : 0), below = all.slice(0, this.kind.most * 4);
+    const isCut = below.length < all.length && `Of ${all.length} rows only the first ${below.length} were taken.`;
     if (Number(r) === 0) this.forgetExample(targets, below.length);
-    below.slice(0, this.kind.most * 4).forEach((row, k) => {
+    const filled = below.map((row, k) => {
       const target = (this.typed.rows[Number(r) + k] ??= this.blank());
       row.forEach((text, c) => targets[c] && (target[targets[c].key] = text));
+      return target;
     });
-    this.said.textContent = withEscapes(pastedText(rows, headings, targets));
+    const said = [pastedText(rows, headings, targets, columns.slice(first)), isCut, ...this.complete(filled, targets)];
+    this.said.textContent = withEscapes(said.filter(Boolean).join(" "));
     this.show();
     this.onChange();
+  }
+
+  /** What wasn't pasted begins as a typed row does, and that is told; a list with names has them in each row. */
+  complete(filled, targets) {
+    const isPasted = ({ key }) => targets.some((target) => target?.key === key), [{ key }] = this.kind.columns;
+    if (isPasted({ key }) && filled.filter((row) => row[key]).length * 2 > filled.length) this.typed.isNamed = true;
+    return this.columns().filter((column) => column.fallback && !isPasted(column)).map((column) => {
+      const open = targets.some(Boolean) ? filled.filter((row) => !row[column.key]?.trim()) : [];
+      for (const row of open) row[column.key] = column.fallback;
+      const put = `${column.fallback} was put into each of its open cells.`;
+      return open.length > 0 && `No “${column.title}” were pasted: ${put}`;
+    });
   }
 
   /** Names of the worked example don't stay where all its numbers are pasted over, without names. */
@@ -110,7 +157,16 @@ class ListGrid {
       this.onChange();
     }, { class: "quiet" });
     refill(this.tools, kind.single && this.single(kind.single), isDouble && this.single(kind.second.single),
-      kind.second && turn);
+      kind.second && turn, kind.columns.filter((column) => column.optional).map((column) => this.moreOf(column)));
+  }
+
+  /** The way to an optional column, as long as it isn't there. */
+  moreOf({ key, title }) {
+    return !this.hasColumn({ key }) && button(`Add a column “${title}”`, () => {
+      this.typed.more = [...(this.typed.more ?? []), key];
+      this.showSingles();
+      this.show();
+    }, { class: "quiet" });
   }
 
   single({ key, title, help }) {

@@ -29,14 +29,15 @@ const paper = new Paper(session, view);
 
 // ---- Cases
 
-/** Opens a case. `before` is what an undo brings back, `notes` are said above the grid. */
-function openCase(kind, typed, { measure, texts, todays, entry, before = null, notes = [], doubt = "" } = {}) {
+/** Opens a case. `before` is what an undo brings back, `notes` are said above the grid, `file` is that of its game. */
+function openCase(kind, typed, settings = {}) {
+  const { measure, texts, todays, entry, before = null, notes = [], doubt = "", file = null } = settings;
   const now = session.kind && nowTyped();
   if (now) kept.set(session.kind, now);
-  session.open(kind, typed, { measure, texts, todays, entry, doubt });
+  session.open(kind, typed, { measure, texts, todays, entry, doubt, file });
   view.clear();
   panel = casePanel(kind, typed, {
-    mark: () => session.readMark(), setEntry: (mark) => session.setEntry(mark), before,
+    mark: () => session.entryMark(), setEntry: (mark) => session.setEntry(mark), before,
     notes: doubt ? [doubt, ...notes] : notes,
     onChange: (wait) => {
       isUnsaved = true;
@@ -48,7 +49,7 @@ function openCase(kind, typed, { measure, texts, todays, entry, before = null, n
       openCase(kind, back.typed, { ...back, before: { ...nowTyped(), what, isBack: !isBack } });
     },
     snapshot: () => structuredClone(nowTyped()),
-    readList: (what) => session.reader.ask("readList", { ...what, mark: session.readMark() }),
+    readList: (what) => session.reader.ask("readList", { ...what, mark: session.entryMark() }),
     readCells: (text) => session.reader.ask("readCells", { text }),
     help: (task, what) => session.reader.ask(task, what),
     coarsen: (how) => coarsen(kind, how),
@@ -62,7 +63,7 @@ function openCase(kind, typed, { measure, texts, todays, entry, before = null, n
 /** Makes the numbers of a case coarser, as the user chose, or gives a fault in words. */
 async function coarsen(kind, how) {
   const before = nowTyped(), { typed, measure, entry, doubt } = before;
-  const what = { id: kind.id, typed: kind.pack?.(typed) ?? typed, mark: session.readMark(), how };
+  const what = { id: kind.id, typed: kind.pack?.(typed) ?? typed, mark: session.entryMark(), how };
   const { typed: changed, notes, fault } = await session.reader.ask("coarser", what);
   if (fault || session.typed !== typed) return fault;
   const next = { ...typed, ...(kind.unpack?.(changed) ?? changed) };
@@ -72,8 +73,8 @@ async function coarsen(kind, how) {
 
 /** What stands in the cells of the case that is shown. */
 function nowTyped() {
-  const { typed, measure, texts, todays, entry, doubt } = session;
-  return { typed, measure, texts, todays, entry, doubt };
+  const { typed, measure, texts, todays, entry, doubt, file } = session;
+  return { typed, measure, texts, todays, entry, doubt, file };
 }
 
 /** Shows a part of the page; a case as it was left. */
@@ -121,10 +122,11 @@ function begin() {
     onCase: (kind) => show(kind.id), onDocument: () => show("document"), onCheck: () => show("verify"),
   }));
   const documents = new Documents({
-    mark: () => session.mark, onOpen: openCase, onLine: (text) => verify.setLine(text),
+    mark: () => session.mark, onOpen: openCase, onLine: (text, from) => verify.setLine(text, from),
   });
   const verify = verifyPanel({
-    format: () => view.format(), onOpen: (text, doubt) => documents.open(text, { doubt, isChecked: true }),
+    format: () => view.format(),
+    onOpen: (text, doubt, from) => documents.open(text, { doubt, isChecked: true, from }),
     onPrint: () => paper.print("check"),
   });
   refill(at("verify-body"), verify.element);

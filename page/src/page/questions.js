@@ -21,8 +21,7 @@ export function takes(question, game) {
 
 /** What isn't there of a runway of many landings, and up to how many it is. */
 export function missingText({ kind, n }) {
-  const limits = [["shares per head", MOST_PER_HEAD], ["an overrun, and who has the stronger hold,", MOST_HELD],
-    ["Shapley shares", LIMITS.shapley.airport]];
+  const limits = [["shares per head", MOST_PER_HEAD], ["an overrun, and who has the stronger hold,", MOST_HELD]];
   const parts = limits.filter(([, most]) => n > most).map(([what, most]) => `${what} up to ${most}`);
   return kind === "airport" && parts.length > 0 && `Worked out for fewer landings only: ${parts.join("; ")}.`;
 }
@@ -34,7 +33,8 @@ export function takesPerHead(game) {
 
 /** Asks all that is asked of a game. `read` is what a worker read; `onPart(result)` is called as answers come. */
 export async function askAll(read, { engine, checker, onPart }) {
-  const result = { game: nameByRows(new Facts(read.facts), read.rows), text: read.text, points: [], checks: {} };
+  const { rows, text, beyond } = read, game = nameByRows(new Facts(read.facts), rows);
+  const result = { game, text, beyond, points: [], checks: {} };
   const ask = async (word, document = read.text) => checked(await engine("solve", { word, document }));
   await askSolution(result, ask);
   if (result.refusal) return onPart(result), result;

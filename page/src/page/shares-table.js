@@ -7,6 +7,7 @@ import { el } from "./dom.js";
 import { MOVED, totalsOf, withSum } from "./format.js";
 import { meanings, monotonic, subtitleOf, words } from "./meanings.js";
 import { ownInput, proposalSum, proposalTools } from "./proposal-cells.js";
+import { airlineLines, shareLines } from "./table-lines.js";
 import { changeText, todayTitle, todayTools } from "./today.js";
 
 const BRIEF = 8; // rows that are kept on one printed page
@@ -69,7 +70,7 @@ function shareRow({ row, r }, { game, context, columns, format, proposal, today 
       ownInput(row, r, proposal, "proposal", "Your proposal")));
 }
 
-function shareCell(text, share, count, format, change) {
+export function shareCell(text, share, count, format, change) {
   const fraction = !format.isExact(share) && fractionText(share);
   const exact = count > 1 ? `${count} × ${format.show(share)}${fraction ? ` (${fraction})` : ""}` : fraction;
   return el("td", { class: "number" }, text, change, exact && el("small", { class: "exact" }, exact));
@@ -81,7 +82,7 @@ function changeOf(step, r, { texts, values }, format) {
 }
 
 /** The rows, and behind the last row of an airline with several rows its sum. */
-function linesOf(rows) {
+export function linesOf(rows) {
   const found = rows.map((row, r) => ({ row, r }));
   return found.flatMap((line) => {
     const same = found.filter(({ row }) => row.sum !== undefined && row.sum === line.row.sum);
@@ -96,8 +97,14 @@ function sumRow({ sum, of }, { rows, context, columns, format, proposal, today }
     return shareCell(format.text(shown.at(-1)), exact, 1, format);
   });
   return el("tr", { class: "subtotal" }, el("th", { scope: "row" }, `${sum}, together`),
-    context && el("td", { class: "context" }), today.texts && el("td"), cells,
-    proposal.canBe && el("td", { class: "proposed" }));
+    context && el("td", { class: "context" }), today.texts && el("td", { class: "number" }, ownSum(of, today, format)),
+    cells, proposal.canBe && el("td", { class: "number proposed" }, ownSum(of, proposal, format)));
+}
+
+/** What the user typed for the rows of an airline, added. */
+function ownSum(of, { values }, { show }) {
+  const own = of.map((r) => values[r]);
+  return own.every(Boolean) && show(Rational.sum(own));
 }
 
 function footOf({ game, rows, context, columns, format, proposal, today, wide }, hasHolds) {
@@ -160,16 +167,8 @@ function holdText(rows, hold, { show }) {
   return `Yes: ${strong} on ${weak}, by ${show(hold.by)}`;
 }
 
-/** The table for a spreadsheet: tabs between, plain decimals, and the exact fractions beside them. */
-export function tableText({ points }, { rows, format }) {
-  const columns = points.flatMap(({ title, shares }) => {
-    const totals = totalsOf(rows, shares);
-    return [
-      [format.isMoved(totals, rows) ? `${title}, rounded to add up` : title, ...format.column(totals, rows)],
-      [`${title}, exact`, ...totals.map(String), String(Rational.sum(totals))],
-    ];
-  });
-  const names = ["", ...rows.map(({ label }) => label.replace(/[\u2068\u2069\t]/g, "")), "together"];
-  const lines = names.map((name, r) => [name, ...columns.map((column) => column[r])].join("\t"));
-  return `${lines.join("\n").replace(/\u202f/g, "").replace(/−/g, "-")}\n`;
+/** The table for a spreadsheet, as lines of cells, and what each airline pays. */
+export function tablesOf({ points }, { rows, format }) {
+  const own = points.map(({ title, shares }) => ({ title, totals: totalsOf(rows, shares) }));
+  return [shareLines(rows, own, format), airlineLines(rows, own, format)];
 }

@@ -8,11 +8,14 @@ import { Rational } from "../exact/rational.js";
 import { sourceOf } from "../tell/rule-names.js";
 import { Namer } from "../tell/words.js";
 import { lead, solutionOf } from "./answer.js";
+import { beyondSheet } from "./beyond.js";
 import { el, refill } from "./dom.js";
 import { knownDigest } from "./files.js";
 import { filledText } from "./filled.js";
 import { formatOf, MOVED, totalsOf, withSum } from "./format.js";
+import { airlineLines } from "./table-lines.js";
 import { changeText, todayOf, todayTitle } from "./today.js";
+import { linesTable } from "./types-table.js";
 
 const WIDE = 700;
 const MOST_PICTURED = 10; // rows whose bars leave room for the rest
@@ -33,6 +36,12 @@ const PRICES = "By the pairs that gain most together, and the prices at which no
 /** Fills the sheet with the answer of a session; leaves it empty where there is none. */
 export function showSheet(session, typed = {}) {
   const sheet = document.getElementById("sheet"), { result, reading } = session;
+  if (result?.beyond && !result.game) {
+    const format = formatOf(session.places, session.mark), view = { ...session, ...typed, format };
+    sheet.classList.add("tight");
+    refill(sheet, headOf(view), beyondSheet(result.beyond, view));
+    return;
+  }
   if (!result || result.refusal || !result.points.length) {
     refill(sheet);
     return;
@@ -80,11 +89,20 @@ function answerOf(view) {
     el("td", { class: "number strong" }, texts.at(-1)), hasExact && el("td"),
     others.map((other) => el("td", { class: "number" }, other.texts.at(-1))));
   return el("section", {},
-    !game.ballots && !game.isMarket() && lead(result, point, { rows, format }),
+    !game.ballots && !game.isMarket() && (airlinesOf(view, point) ?? lead(result, point, { rows, format })),
     unit?.trim() && el("p", { class: "hint" }, `All amounts are in ${unit.trim()}.`),
     halves(rows.length, heads.filter((head) => head !== undefined), line, sum),
     format.isMoved(totals, rows) && el("p", { class: "hint" }, `${MOVED} The fractions are exact.`),
     others.map((other) => other.said && el("p", { class: "hint" }, `${other.title}: ${other.said}`)));
+}
+
+/** The bill: what each airline pays for all its rows, by the columns that are shown; null where none has several. */
+function airlinesOf({ result: { points }, rows, format, withProposal, proposal }, shown) {
+  const others = withProposal ? points.filter((point) => point !== shown) : [];
+  const columns = [shown, ...others].map(({ title, shares }) => ({ title, totals: totalsOf(rows, shares) }));
+  const own = withProposal && proposal?.totals ? [{ title: "Your proposal", totals: proposal.totals }] : [];
+  const lines = airlineLines(rows, [...columns, ...own], format);
+  return lines.length ? linesTable("What each airline pays", lines, "shares dense") : null;
 }
 
 /** What each pays or has today, and how much more the share is, where that was typed. */
@@ -212,12 +230,19 @@ function toldOf({ sentences, items, last = "" }) {
 
 // ---- What is agreed on, and how to check it
 
-function agreedOf({ result: { text }, rows, kind, typed, doubt }) {
+/** The numbers by the file that was opened, while they are its own; else by that which the page writes of them. */
+function numbersOf({ file, kind, result: { text } }) {
+  const isOpened = file?.made === text, digest = isOpened ? file.digest : knownDigest(`${text}\n`);
+  const sum = el("span", { class: "digest" }, digest ?? "(this browser works out none)");
+  if (isOpened) return [`The numbers of the game, as they stand in ${file.name}: its SHA-256 is `, sum, "."];
+  return [`The numbers of the game, as this page writes them in a file of its own, ${kind.id}-game.json: its `,
+    "SHA-256 is ", sum, ".", file && ` Numbers were changed since ${file.name} was opened.`];
+}
+
+function agreedOf(view) {
+  const { result: { text }, rows, doubt } = view, filled = filledText(view);
   const isShort = text.length <= (rows.length > MOST_PICTURED ? MOST_ALONE : MOST_DOCUMENT);
-  const digest = knownDigest(`${text}\n`) ?? "(this browser works out none)", filled = filledText({ kind, typed });
-  const file = `${kind.id}-game.json`, sum = el("span", { class: "digest" }, digest);
-  const what = el("p", {}, `The numbers of the game, as they stand in ${file}. As this page writes that file, its `,
-    "SHA-256 is ", sum, ".", filled && ` ${filled}`);
+  const what = el("p", {}, numbersOf(view), filled && ` ${filled}`);
   return el("section", {}, el("h2", {}, doubt ? "Not agreed on" : "What is agreed on"),
     doubt && el("p", {}, doubt), what,
     isShort ? el("p", { class: "document" }, text)

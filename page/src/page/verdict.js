@@ -27,6 +27,14 @@ export function twice({ doubles = [] }) {
     "shown here. Don’t go by the text itself, and ask for one in which each key stands once.");
 }
 
+/** That nothing is checked, since a file can't be taken; `onWithout` checks the line without the agreed one. */
+export function notTaken(fault, onWithout) {
+  return [
+    lead("Nothing is checked."), el("p", { class: "notice bad", role: "alert" }, fault),
+    onWithout && el("p", { class: "tools" }, button("Check the line without an agreed file", onWithout)),
+  ];
+}
+
 /** What has to be told of the names. */
 export function nameRemarks({ remarks = [] }) {
   return remarks.length > 0 && el("div", { class: "notice" }, remarks.slice(0, 12).map((one) => el("p", {}, one)));

@@ -11,6 +11,7 @@ import { withEscapes } from "../game/names.js";
 import { ruleName } from "../tell/rule-names.js";
 import { slipsOf } from "../tell/slips.js";
 import { answer } from "./answers.js";
+import { beyondProgram } from "./runways.js";
 
 const MOST_PER_HEAD = 8;
 const ANSWERS = ["nucleolus", "prenucleolus", "shapley"];
@@ -18,25 +19,35 @@ const MOST_BYTES = 2097152;
 
 /** What the cells say: the rows of the answer, what is wrong, and, where nothing is, the document and its facts. */
 export function readCase({ id, typed, mark, measure }) {
-  const { reading, rows, tree, ballots } = readByOneMark(caseNamed(id), typed, mark);
-  const { faults, count, empty, doubts, doubted, notes, isTooFine = false } = reading;
+  const { reading, rows, tree, ballots, landings } = readByOneMark(caseNamed(id), typed, mark);
+  const { faults, count, empty, notes, asked, isTooFine = false } = reading;
   const read = {
-    rows, faults, count, empty, doubts, doubted, notes, isTooFine, mark: reading.mark, isRight: reading.isRight(),
+    rows, faults, count, empty, notes, asked, isTooFine, isRight: reading.isRight(), ...marksOf(reading),
   };
   if (!read.isRight) return read;
+  if (landings) read.beyond = beyondProgram(landings, rows);
+  if (!tree) return read; // the program takes no such game
   const players = rows.reduce((sum, row) => sum + row.players.length, 0), isMeasured = measure === "per-head";
   const { class: name, ...others } = tree, canBe = players <= MOST_PER_HEAD && name !== "market";
   const game = isMeasured && canBe ? { class: name, excess: "per-head", ...others } : tree;
   return { ...read, text: writeJson({ game }), facts: factsOf(new Game(game), ballots) };
 }
 
-/** All cells are read by one mark: where some show which, that one settles those that can be read both ways. */
+/** All cells are read by one mark: where some show which, that one settles those that can be read both ways, unless the
+ * user chose how these are read, by a `mark` of none or of both. */
 function readByOneMark(kind, typed, mark) {
   const first = kind.read(typed, mark), settled = first.reading.settles();
-  if (!first.reading.doubted || settled === null) return first;
-  const read = settled === mark ? first : kind.read(typed, settled);
-  Object.assign(read.reading, { doubts: [], doubted: 0 });
-  return read;
+  const isSettled = first.reading.doubts.size > 0 && settled !== null && isOne(mark);
+  return isSettled && settled !== mark ? kind.read(typed, settled) : first;
+}
+
+const isOne = (mark) => mark.length === 1;
+
+/** By which mark the numbers were read (`entry`; `mark` where one is needed to write them), which of them could be read
+ * otherwise, and which show the mark. */
+function marksOf(reading) {
+  const { mark: entry, doubts, shown } = reading, mark = isOne(entry) ? entry : reading.settles() ?? ".";
+  return { entry, mark, doubts: [...doubts.values()], shown: [...shown.entries()] };
 }
 
 /** The rows of what was pasted. */
@@ -62,6 +73,7 @@ export function openDocument({ text, mark }) {
   if (status > 1 && Number(said.number) !== 10) return { refusal: slip?.number === refusal.number ? slip : refusal };
   const game = new Game(tree.game), kind = caseOfClass(game.kind), typed = kind.fromGame(game);
   const isProposal = Array.isArray(tree.shares) && !("answer" in tree) && tree.shares.length === game.n;
+  typed.notSum = typed.rows?.at?.(-1)?.name; // a document's players are players, whatever their names
   const { rows } = kind.read(typed, ".");
   return {
     id: kind.id, typed: kind.pack?.(typed) ?? typed, measure: game.perHead ? "per-head" : "plain",

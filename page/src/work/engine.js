@@ -1,22 +1,28 @@
-// The proved program itself, compiled to WebAssembly. The build puts the module, in base64, into the place below.
+// The proved program itself, compiled to WebAssembly. The build puts the module, by gzip and in base64, into the place
+// below.
 import { coop } from "../../engine/host.js";
 
 const MODULE = "/* MODULE */";
 
-let compiled = null;
+let compiled = null, fault = null;
 
-/** Compiles the module, so that the first question needn't wait for it. */
-export function warmUp() {
+/** Unpacks and compiles the module; all that asks the program has to wait for it. It never fails: `solve` does. */
+export async function warmUp() {
   try {
-    compiled ??= new WebAssembly.Module(Uint8Array.from(atob(MODULE), (letter) => letter.charCodeAt(0)));
-  } catch (fault) {
-    throw new Error(`The program doesn’t start in this browser: ${fault.message}`);
+    compiled ??= await WebAssembly.compile(await unpacked());
+  } catch (cause) {
+    fault = cause;
   }
+}
+
+function unpacked() {
+  const packed = Uint8Array.from(atob(MODULE), (letter) => letter.charCodeAt(0));
+  return new Response(new Blob([packed]).stream().pipeThrough(new DecompressionStream("gzip"))).arrayBuffer();
 }
 
 /** Answers a document by the program: the status that it ends with, and the line that it prints. */
 export function solve(words, document) {
-  warmUp();
+  if (!compiled) throw new Error(`The program doesn’t start in this browser: ${fault?.message ?? "it wasn’t asked to"}`);
   const { status, line } = coop(compiled, words, new TextEncoder().encode(document));
   return { status, line: new TextDecoder().decode(line) };
 }

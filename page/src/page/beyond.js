@@ -1,0 +1,89 @@
+// Runways of more landings than the program takes: what the page calculates by itself, and that it says so.
+import { Rational } from "../exact/rational.js";
+import { el } from "./dom.js";
+import { MOVED, withSum } from "./format.js";
+import { linesOf, shareCell } from "./shares-table.js";
+import { airlineLines, csvButton, shareLines } from "./table-lines.js";
+import { typeLines, typesTable } from "./types-table.js";
+
+const OURS = "So the page itself calculated what stands here, by a formula, in exact fractions. These numbers do NOT "
+  + "come from the proved program, and there is no certificate of them.";
+const THEOREMS = {
+  nucleolus: "for the nucleolus the theorem payments_are_the_nucleolus (Littlechild’s payments; Littlechild 1974)",
+  shapley: "for the Shapley shares the theorem shapley_is_by_step (equal parts of each step of the costs; Littlechild "
+    + "and Owen 1973)",
+};
+const SCALED = "Don’t scale the landings down to have fewer: by the nucleolus airlines may pay other shares then. (By "
+  + "the Shapley shares each airline pays the same, where all are scaled alike.)";
+
+/** What a worker has calculated, sent as texts. */
+function read({ isAll, all, rows, points }) {
+  const counts = rows.map(({ count }) => Rational.of(count));
+  return {
+    isAll, all, rows: rows.map((row) => ({ ...row, cost: Rational.of(row.cost) })),
+    points: points.map(({ key, title, each }) => {
+      const shares = each.map(Rational.of);
+      return { key, title, each: shares, totals: shares.map((share, r) => share.times(counts[r])) };
+    }),
+  };
+}
+
+/** What has to be said of these numbers: that they aren't the program's, and why they are those of the rule. */
+export function beyondTexts({ isAll, all, points }) {
+  const limit = isAll ? `These are ${all.toLocaleString("en")} landings, and the program takes 64.`
+    : `These are ${all} landings, and the program works out Shapley shares up to 32.`;
+  const proved = points.map(({ key }) => THEOREMS[key]).join(", and ");
+  return [`${limit} ${OURS}`, `That the formula gives the rule, for any number of landings, says ${proved}. What isn’t `
+    + "proved is the page’s own calculation; where the program answers too, tests compare the two."];
+}
+
+/** The parts of the answer that the page calculates. */
+export function beyondParts(sent, { format }) {
+  const beyond = read(sent), { isAll, rows, points } = beyond;
+  const tables = () => [shareLines(rows, points, format), airlineLines(rows, points, format),
+    typeLines(rows, points, format)];
+  return el("div", { class: "beyond" },
+    el("h3", {}, isAll ? "Above 64 landings" : "Shapley shares above 32 landings"),
+    el("div", { class: "notice" }, beyondTexts(beyond).map((text) => el("p", {}, text))),
+    el("div", { class: "scroll" }, table(beyond, format)),
+    points.some(({ totals }) => format.isMoved(totals, rows)) && el("p", { class: "hint moved" }, MOVED),
+    isAll && typesTable(rows, points, format),
+    isAll && el("p", { class: "hint" }, SCALED),
+    el("p", { class: "tools" }, csvButton("runway-calculated", tables, format)));
+}
+
+function table({ rows, points }, format, kind = "shares") {
+  const columns = points.map((point) => ({ ...point, steps: format.steps(point.totals, rows) }));
+  const sumOf = (steps) => format.text(withSum(steps).at(-1));
+  const landings = (some) => el("td", { class: "number" }, String(some.reduce((sum, { count }) => sum + count, 0)));
+  const rowOf = ({ row, r }) => el("tr", {}, el("th", { scope: "row" }, row.label),
+    el("td", { class: "number" }, String(row.count)), el("td", { class: "number context" }, format.show(row.cost)),
+    columns.map(({ steps, each }) => shareCell(format.text(steps[r]), each[r], row.count, format)));
+  const airline = ({ sum, of }) => el("tr", { class: "subtotal" }, el("th", { scope: "row" }, `${sum}, together`),
+    landings(of.map((r) => rows[r])), el("td", { class: "context" }), columns.map(({ steps, totals }) => {
+      return shareCell(sumOf(of.map((r) => steps[r])), Rational.sum(of.map((r) => totals[r])), 1, format);
+    }));
+  const head = (title, side = "number") => el("th", { scope: "col", class: side }, title);
+  return el("table", { class: kind },
+    el("thead", {}, el("tr", {}, head("Who pays", ""), head("Landings"), head("A landing needs", "number context"),
+      columns.map(({ key, title }) => el("th", { scope: "col", class: "number", "data-point": key }, title,
+        el("small", {}, "calculated by the page"))))),
+    el("tbody", {}, linesOf(rows).map((line) => (line.of ? airline(line) : rowOf(line)))),
+    el("tfoot", {}, el("tr", { class: "sum" }, el("th", { scope: "row" }, "together"),
+      landings(rows), el("td", { class: "context" }),
+      columns.map(({ steps }) => el("td", { class: "number" }, sumOf(steps))))));
+}
+
+/** The same on the one page; what one landing pays stands there by its type, where each has one. */
+export function beyondSheet(sent, { format, unit }) {
+  const beyond = read(sent), { rows, points } = beyond;
+  return [
+    el("section", {}, unit?.trim() && el("p", { class: "hint" }, `All amounts are in ${unit.trim()}.`),
+      table(beyond, format, `shares dense${rows.every(({ type }) => type) ? " whole" : ""}`),
+      points.some(({ totals }) => format.isMoved(totals, rows)) && el("p", { class: "hint" }, MOVED)),
+    el("section", {}, typesTable(rows, points, format)),
+    el("section", {}, el("h2", {}, "How it was found"), beyondTexts(beyond).map((text) => el("p", {}, text))),
+    el("p", { class: "sign" }, "Agreed on by", el("span"), "on", el("span", { class: "short" })),
+    el("section", {}, el("p", { class: "hint" }, document.querySelector("footer p").textContent)),
+  ];
+}

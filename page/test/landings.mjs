@@ -1,0 +1,192 @@
+// Scenarios: a runway by a sheet of airlines and types, as airports have it.
+import { noted, settle, told } from "./harness.mjs";
+
+const value = (page, cell) => page.run(`document.querySelector('[data-cell="${cell}"]').value`);
+const made = (page) => page.run("document.querySelector('.made pre').textContent");
+const isHidden = (page) => page.run("document.getElementById('answer').hidden");
+const PRINT = "dispatchEvent(new Event('beforeprint'))";
+const sheetOf = (page) => page.run(`${PRINT}; document.getElementById("sheet").textContent`);
+
+async function pasted(page, text) {
+  await page.click("Clear all");
+  await page.paste('[data-cell="rows.0.name"]', text);
+}
+
+/** The text of the file that a button saves. */
+async function saved(page, title) {
+  await page.run(`(() => {
+    const made = URL.createObjectURL;
+    delete globalThis.savedText;
+    URL.createObjectURL = (blob) => {
+      blob.text().then((text) => { globalThis.savedText = text; });
+      return made.call(URL, blob);
+    };
+  })()`);
+  await page.click(title, "document.getElementById('answer')");
+  await page.until("globalThis.savedText !== undefined");
+  return page.run("globalThis.savedText");
+}
+
+const HEADS = "Fluggesellschaft;Typ;Landungen;Kosten der Piste\n";
+const FEW = "Albatros;DH8;3;20,50\nAlbatros;A320;2;40\nBergfalke;DH8;1;20,50\nCondor;B744;2;60";
+const AIRLINES = ["Albatros", "Bergfalke", "Condor", "Delta", "Eisvogel"];
+const MANY = AIRLINES.map((name, k) => ["DH8;1;20,50", "A320;1;40", `B744;${k + 1};60`].map((one) => `${name};${one}`))
+  .flat().join("\n");
+
+const numbers = [
+  ["landings with a point, as Germans write them", "runway", async (page, expect) => {
+    await pasted(page, `${HEADS}Aer;DH8;5.000;2.400.000,00\nBee;A320;3;4.100.000,50`);
+    await told(page, "#answer-body", /These are 5,003 landings/);
+    expect("told", await page.text("#case .faults"), /“5.000” is read as the whole number 5000/);
+    await page.click("Clear all");
+    for (const [key, text] of Object.entries({ name: "Aer", cost: "20", count: "5.000" })) {
+      await page.type(`rows.0.${key}`, text);
+    }
+    await noted(page, /“5.000” is read as 5.*the point stands in front of decimals/);
+    await page.click("Let the comma do so");
+    await told(page, "#answer-body", /These are 5,000 landings/);
+    await page.type("rows.0.count", "1.234");
+    await page.click("Let the point do so");
+    await told(page, "#answer-body", /These are 1,234 landings/);
+  }],
+
+  ["a row without landings is open", "runway", async (page, expect) => {
+    await page.type("rows.0.count", "");
+    await noted(page, /1 cell is still empty/);
+    expect("no answer", await isHidden(page), true);
+    await pasted(page, "Aer\t20\t\nBee\t40\t2");
+    await noted(page, /1 cell is still empty/);
+    await page.type("rows.2.name", "Cargo");
+    expect("a row begins with 1", await value(page, "rows.2.count"), "1");
+    await page.type("rows.2.name", "");
+    expect("and ends with it", await value(page, "rows.2.count"), "");
+    await pasted(page, "Aer\t20\nBee\t40");
+    await settle(page);
+    expect("1 is put", `${await value(page, "rows.0.count")} ${await value(page, "rows.1.count")}`, "1 1");
+    const put = "No “Landings” were pasted: 1 was put into each of its open cells.";
+    expect("and told", await page.text("#case .pasted"), put);
+  }],
+
+  ["airlines with a number behind their names stay apart", "runway", async (page, expect) => {
+    await pasted(page, "Terminal 1\t20\t1\nTerminal 2\t20\t1");
+    await settle(page);
+    const text = await made(page);
+    await page.click("All cases");
+    await page.click("Open or paste a document");
+    await page.fill("#document textarea", text);
+    await page.until("location.hash === '#runway' && document.querySelector('.made pre')");
+    await settle(page);
+    expect("names", `${await value(page, "rows.0.name")}, ${await value(page, "rows.1.name")}`,
+      "Terminal 1, Terminal 2");
+    expect("landings", `${await value(page, "rows.0.count")} ${await value(page, "rows.1.count")}`, "1 1");
+    expect("the same document", await made(page), text);
+  }],
+
+  ["the sum below a sheet is asked about", "runway", async (page, expect) => {
+    await pasted(page, `${HEADS}${FEW}\n;;;120,50`);
+    await noted(page, /The last row has no name. Is it the sum of the others[\s\S]*2 cells are still empty/);
+    expect("no answer", await isHidden(page), true);
+    await page.click("Yes, remove it");
+    await settle(page);
+    expect("without it", await page.text(".lead"), /^Albatros pays .*together 60.00/);
+    await page.click("Undo “Remove the sum”");
+    await noted(page, /The last row has no name/);
+    await pasted(page, `${HEADS}${FEW}\nTotal;;8;120,50`);
+    await noted(page, /The last row, “Total”. Is it the sum of the others\? It would count as one more/);
+    expect("no answer, with a name too", await isHidden(page), true);
+    await page.click("No, it counts");
+    await settle(page);
+    expect("it counts", await page.text(".lead"), /Total pays .*together 120.50/);
+    await pasted(page, "Aer\t20\t1\n\t30\t1\nBee\t40\t1");
+    await noted(page, /^1 cell is still empty/);
+  }],
+];
+
+const types = [
+  ["a sheet without headings, its types, and the bill", "runway", async (page, expect) => {
+    await pasted(page, FEW);
+    await settle(page);
+    const taken = /^Taken, in this order, as: “Airline”, “Type”, “Landings”, “A landing needs alone”.$/;
+    expect("told", await page.text("#case .pasted"), taken);
+    expect("names", await made(page), /"Albatros, DH8 1","Albatros, DH8 2"[\s\S]*"Condor, B744 2"/);
+    expect("rows", await page.text(".shares tbody"), /^Albatros, DH8[\s\S]*Albatros, A320[\s\S]*Albatros, together/);
+    const each = /one landing of each type pays[\s\S]*DH8\s+20.50[\s\S]*A320\s+40.00[\s\S]*B744/;
+    expect("types", await page.text(".lines"), each);
+    const bill = /What each airline pays.*Albatros528\.03Bergfalke14\.10Condor227\.87together860\.00/;
+    expect("the bill on paper", await sheetOf(page), bill);
+    await page.run("dispatchEvent(new Event('afterprint'))");
+    await page.type("rows.1.type", "DH8");
+    await page.type("rows.1.cost", "20,50");
+    await settle(page);
+    const heads = "[...document.querySelectorAll('.shares')[0].tBodies[0].querySelectorAll('th')]";
+    const labels = await page.run(`${heads}.map((one) => one.firstChild.data)`);
+    expect("no label twice", new Set(labels).size, labels.length);
+  }],
+
+  ["a proposal for the rows of an airline", "runway", async (page, expect) => {
+    await pasted(page, FEW);
+    await settle(page);
+    await page.paste('[data-cell="proposal.0"]', "10\n20\n5\n25");
+    await settle(page);
+    expect("downwards", `${await value(page, "proposal.1")} ${await value(page, "proposal.3")}`, "20 25");
+    expect("the airline's sum", await page.text(".subtotal .proposed"), "30.00");
+  }],
+
+  ["many rows have a bar for each type", "runway", async (page, expect) => {
+    await pasted(page, MANY);
+    await settle(page);
+    expect("rows", await page.run("document.querySelectorAll('.shares tbody')[0].rows.length"), 20);
+    const drawn = "[...document.querySelectorAll('.bars svg text')].map((one) => one.textContent)";
+    const texts = (await page.run(drawn)).join("\n");
+    expect("bars", texts, /DH8, needs 20.5\neach of 5\n→\nA320, needs 40\neach of 5\n→\nB744, needs 60\neach of 15/);
+    expect("in the picture itself", texts, /A bar is what one landing pays/);
+  }],
+];
+
+const beyond = [
+  ["above 64 landings the page calculates, and says so", "runway", async (page, expect) => {
+    await pasted(page, `${HEADS}${FEW.replace("DH8;3", "DH8;300")}`);
+    await told(page, "#answer-body", /These are 305 landings[\s\S]*do NOT come from the proved program/);
+    const rows = await page.text(".beyond tbody");
+    const first = /Albatros, DH8\s+300\s+20.50\s+20.36\s+300 × 0.07 \(41\/604\)\s+20.16\s+300 × 0.07 \(41\/610\)/;
+    expect("a row", rows, first);
+    expect("an airline", rows, /Albatros, together\s+302/);
+    expect("types", await page.text(".beyond .lines"), /DH8\s+20.50\s+0.07\s+0.07/);
+    const scaled = /by the nucleolus airlines may pay other shares[\s\S]*Shapley shares each airline pays the same/;
+    expect("scaled", await page.text(".beyond"), scaled);
+    const sheet = await sheetOf(page);
+    expect("on paper", sheet, /Albatros, together.*do NOT come from the proved.*shapley_is_by_step.*Agreed on by/);
+    await page.run("dispatchEvent(new Event('afterprint'))");
+    const file = await saved(page, "Save the table (CSV)");
+    const lines = /^,Nucl[^]*"Albatros, DH8",20\.36,3075\/151[^]*\r\nDH8,20.50,0.07,0.07\r\n/;
+    expect("a file", file, lines);
+    await page.type("rows.0.count", "3");
+    await settle(page);
+    expect("the program again", await page.text("#evidence .words"), /says yes[\s\S]*says yes/);
+  }],
+
+  ["Shapley shares above 32 landings", "runway", async (page, expect) => {
+    await page.type("rows.0.count", "30");
+    await settle(page);
+    const shown = /These are 33 landings[\s\S]*Aer\s+30\s+20.50\s+18.64/;
+    expect("beside the program's", await page.text(".beyond"), shown);
+    expect("no nucleolus of the page's", /payments_are/.test(await page.text(".beyond")), false);
+    expect("evidence", await page.text("#evidence .words"), /says yes[\s\S]*says yes/);
+  }],
+
+  ["the table as a file, by the decimal mark", "runway", async (page, expect) => {
+    await pasted(page, FEW);
+    await settle(page);
+    await page.run(`(() => {
+      const marks = document.querySelectorAll("#answer-settings select")[1];
+      [marks.value] = [","];
+      marks.dispatchEvent(new Event("change"));
+    })()`);
+    await settle(page);
+    const file = await saved(page, "Save the table (CSV)");
+    expect("semicolons", file, /^;Nucleolus[^]*\r\nAlbatros, DH8;\d+,\d\d;/);
+    expect("airlines", file, /\r\n\r\nAirline;Landings;Nucleolus;Shapley shares\r\nAlbatros;5;28,03;22,56\r\n/);
+  }],
+];
+
+export const landings = [...numbers, ...types, ...beyond];
