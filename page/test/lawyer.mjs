@@ -1,4 +1,4 @@
-// Scenarios: an estate before a court: what is said of cents, of a proposal beside the nucleolus, and of lists half typed.
+// Scenarios: an estate before a court: what is said of cents, of a proposal beside the nucleolus, of lists half typed.
 import { readFileSync } from "node:fs";
 import { join } from "node:path";
 import { giveLine, noted, settle, told } from "./harness.mjs";
@@ -24,15 +24,18 @@ async function propose(page) {
 
 async function cents(page, expect) {
   await sixClaims(page);
-  const rule = /all are rounded down, and each unit of the last place[^.]*lost most by that, among equals to the upper row/;
+  const rule = /all are rounded down, and each unit of the last place[^.]*lost most by that, among equals to the upper/;
   expect("the rule", await page.text("#answer .moved"), rule);
   expect("as the cents went", await page.text(".lead"), /Adler Bau gets 80.074.88, .* Dupont gets 15.575.62/);
   expect("the claims together", await page.text(".shares .sum .context"), /^259.501.00$/);
+  const hint = await page.run("document.querySelector('.other .hint').textContent");
+  expect("an amount isn’t broken", hint, /500; 1\u00a0200\u00a0000/);
   const sheet = await page.run(PAPER);
   expect("on paper", sheet, rule);
   expect("the claims on paper", sheet, /together259.501.00184.300.50/);
   expect("decimals as in the table", sheet, /The estate of 184.300.50 is/);
-  expect("where the page is", sheet, /from the project’s repository, at the commit named below[^.]*give you its address/);
+  const where = /project’s repository, at the commit named below[^.]*give you its address/;
+  expect("where the page is", sheet, where);
   expect("by typing", sheet, /simply type the numbers into that page: the answer has to be the same/);
   expect("handing on", await page.text("#evidence .steps"), /the project’s repository, at the commit named at the end/);
 }
@@ -42,7 +45,8 @@ async function besideNucleolus(page, expect) {
   expect("not before it is whole", await page.run("document.querySelector('.shares .against')"), null);
   await propose(page);
   expect("the title", await page.text(".shares thead .against"), "against the nucleolus");
-  const column = await page.run("[...document.querySelectorAll('.shares td.against')].map((td) => td.textContent).join()");
+  const cells = "[...document.querySelectorAll('.shares td.against')]";
+  const column = await page.run(`${cells}.map((td) => td.textContent).join()`);
   const wanted = "−12\u202f599.88,+2925.37,−1074.87,+6249.38,+1000.00,+3500.00,0.00";
   expect("more and less", column, wanted);
   expect("the first pair alone", await page.text(".shares .verdict:last-child"), /Yes, for example \S+/);
@@ -57,7 +61,8 @@ async function keysThatRemove(page, expect) {
   await page.click("Undo “Remove Brandt”");
   await page.until(`document.querySelector('[data-cell="rows.1.name"]').value === "Brandt"`);
   await settle(page);
-  await page.run(`[...document.querySelectorAll(".fill button")].find((one) => /proportion/.test(one.textContent)).focus()`);
+  const way = `[...document.querySelectorAll(".fill button")].find((one) => /proportion/.test(one.textContent))`;
+  await page.run(`${way}.focus()`);
   await page.key("Enter", { text: "\r" });
   await page.until(`document.querySelector('[data-cell="proposal.0"]').value !== ""`);
   await settle(page);
@@ -101,7 +106,8 @@ async function sharesOfALine(page, expect, line) {
   expect("by names", said, /nucleolus of this game, .*: medium pays 0.50 too much and heavy pays 0.50 too little/);
   await giveLine(page, line.replace('"-1"', '"-2"'));
   const same = await told(page, "#verify .answers", /these shares all the same/);
-  expect("the certificate alone", same, /what light alone would gain or lose by leaving \(its excess\) isn’t what the line/);
+  const excess = /what light alone would gain or lose by leaving \(its excess\) isn’t what the line/;
+  expect("the certificate alone", same, excess);
 }
 
 async function onAPhone(page, expect) {

@@ -71,6 +71,7 @@ export const saying = [
     await settle(page);
     expect("told", await page.text("#answer .moved"), /Rounded so that they add up[\s\S]*small print/);
     expect("on paper", await sheetOf(page), /Rounded so that they add up/);
+    expect("decimals beside a fraction", await page.text("#why"), /but at most 100\/3 \(about 33.33\)/);
     await page.run("dispatchEvent(new Event('afterprint'))");
     await page.type("estate", "300");
     await settle(page);

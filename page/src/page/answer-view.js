@@ -60,7 +60,7 @@ export class AnswerView {
     const why = whyParts(result);
     refill(at("why-body"), why);
     at("why").hidden = !why.length;
-    refill(at("evidence-body"), evidenceParts(result, session.kind.id, filled));
+    refill(at("evidence-body"), evidenceParts(result, session.kind.id, filled, session.file));
   }
 
   /** An answer that no longer stands isn't said either. */

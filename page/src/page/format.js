@@ -22,9 +22,11 @@ export function formatOf(places, mark) {
   };
 }
 
-/** Differences as decimals that add up, with their signs, and their sum as the last. */
-export function signedColumn(values, { column }) {
-  return column(values).map((text) => (/^−|^[0.,]+$/.test(text) ? text : `+${text}`));
+/** What is shown of values less what is shown of others, with signs, and the sum of that as the last. */
+export function signedDifferences(values, others, { places, mark }) {
+  const [own, beside] = [values, others].map((some) => roundedSteps(some, places));
+  const steps = own.map((step, k) => step - beside[k]), sum = steps.reduce((all, step) => all + step, 0n);
+  return [...steps, sum].map((step) => `${step > 0n ? "+" : ""}${decimalOf(step, places, { mark })}`);
 }
 
 /** What exact/decimals.js does where rounding by itself doesn't add up. */
