@@ -140,11 +140,11 @@ export const tables = [
     expect("equal", await page.run(`document.querySelector('[data-cell="proposal.0"]').value`), "4.00");
     await page.click("nucleolus, rounded");
     await settle(page);
-    expect("sum", await page.text(".shares .sum td:last-child"), /12.00/);
+    expect("sum", await page.text(".shares .sum .proposed"), /12.00/);
   }],
 
   ["who has a stronger hold, and who joins late", "gains", async (page, expect) => {
-    const holds = /stronger hold on another\?\s+No\s+Yes: pianist on singer, by 2.50/;
+    const holds = /stronger hold on another\?\s+No\s+Yes, for example pianist on singer, by 2.50/;
     expect("holds", await page.text(".shares tfoot"), holds);
     expect("convex", await page.text("#why"), /The more have joined, the more \(no less\) each adds/);
     await page.type("numbers.7", "100");

@@ -80,6 +80,7 @@ async function agreedFileOnPaper(page, expect, line, agreed) {
   await page.until(READY);
   const named = new RegExp(`agreed.json: its SHA-256 is ${digest}`);
   expect("the agreed file", await page.run(PAPER), named);
+  expect("and on the screen", await page.text("#evidence .steps"), new RegExp(`agreed.json[^.]*SHA-256 ${digest}`));
   await page.run("dispatchEvent(new Event('afterprint'))");
   await page.type("rows.2.cost", "7");
   await settle(page);
@@ -101,8 +102,8 @@ async function marksThatContradict(page, expect) {
     await page.paste('[data-cell="rows.0.name"]', claims);
     await page.type("estate", estate);
     const note = await noted(page, new RegExp(`“${estate}”`));
-    expect("which was read", note, new RegExp(`“${estate}” (as \\d more )?is read as ${short}, with decimals`));
-    expect("and which otherwise", note, /“95.000” \(as 3 more\) is read as the whole number 95000/);
+    expect("which was read", note, new RegExp(`“${estate}” is read as ${short}, with decimals`));
+    expect("and which otherwise", note, /“95.000” \(and 3 like it\) is read as the whole number 95000/);
     expect("why", note, new RegExp(proof));
     await settle(page);
     expect("read", await page.text(".lead"), /together 120.00/);

@@ -12,6 +12,7 @@ import { entering } from "./entering.mjs";
 import { failing } from "./failing.mjs";
 import { Harness } from "./harness.mjs";
 import { landings } from "./landings.mjs";
+import { lawyer } from "./lawyer.mjs";
 import { lecture } from "./lecture.mjs";
 import { letters } from "./letters.mjs";
 import { access, large, looks } from "./looks.mjs";
@@ -26,7 +27,7 @@ const harness = new Harness(pathToFileURL(page).href, option("--only", ""), slac
 const program = resolve(option("--program", join(top, "crates", "coop_program", "out", "coop_program")));
 harness.add(large(slack, told));
 for (const some of [entering, saying, lecture, landings, bothWays, casesTyped, tables, otherCases,
-  documents(top, program), checking(top), checks(top), letters(top), failing(page, top), looks, access]) {
+  documents(top, program), checking(top), checks(top), letters(top), lawyer(top), failing(page, top), looks, access]) {
   harness.add(some);
 }
 harness.add(monkey(Number(option("--seed", "1")), Number(option("--steps", "60"))));

@@ -74,6 +74,7 @@ export const saying = [
     await settle(page);
     expect("told", await page.text("#answer .moved"), /Rounded so that they add up[\s\S]*small print/);
     expect("on paper", await sheetOf(page), /Rounded so that they add up/);
+    expect("decimals beside a fraction", await page.text("#why"), /but at most 100\/3 \(about 33.33\)/);
     await page.run("dispatchEvent(new Event('afterprint'))");
     await page.type("estate", "300");
     await settle(page);
@@ -194,7 +195,7 @@ saying.push(
     expect("together", drawn, /Shapley shares and Your proposal: one point/);
     expect("corners", drawn, /Aer−4; 4; 6Bee2; −2; 6/);
     const told = await page.run("document.querySelector('.triangle svg').getAttribute('aria-label')");
-    expect("told", told, /Nucleolus: Aer 1, Bee 1.5, Cargo 3.5/);
+    expect("told", told, /Nucleolus: Aer 1, Bee 1.50, Cargo 3.50/);
   }],
 
   ["eight who share, filled and on one page", "costs", async (page, expect) => {

@@ -119,8 +119,14 @@ export class Reading {
     return null;
   }
 
+  /** What keeps the program from being asked and is no slip, as in a list that isn't whole yet. */
+  pause(note) {
+    this.isPaused = true;
+    this.notes.push(note);
+  }
+
   isRight() {
-    return !this.count && !this.empty.count && !this.asked;
+    return !this.count && !this.empty.count && !this.asked && !this.isPaused;
   }
 }
 

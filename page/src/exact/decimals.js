@@ -48,10 +48,11 @@ export function fractionText(value) {
   return value.toString().replace("-", "−");
 }
 
-/** A number as a sentence has it, exact: a decimal where four places do, else a fraction; a very long one about. */
+/** A number as a sentence has it, exact: a decimal where four places do, two at least as in tables, else a fraction; a
+ * very long one about. */
 export function shortText(value) {
   const places = placesOf(value);
-  if (places >= 0) return decimal(value, places, spoken);
+  if (places >= 0) return decimal(value, places && Math.max(places, 2), spoken);
   const text = fractionText(value);
   return text.length <= 15 ? text : `about ${decimal(value, 4, spoken)}`;
 }

@@ -65,7 +65,7 @@ export class AnswerView {
     const why = whyParts(result);
     refill(at("why-body"), why);
     at("why").hidden = !why.length;
-    refill(at("evidence-body"), evidenceParts(result, session.kind.id, filled));
+    refill(at("evidence-body"), evidenceParts(result, session.kind.id, filled, session.file));
   }
 
   /** What the page calculates by itself has no reasons and no evidence. */

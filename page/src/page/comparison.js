@@ -1,5 +1,14 @@
 // The user's proposal beside the program's division, as the nucleolus compares them.
 import { el } from "./dom.js";
+import { signedDifferences, totalsOf } from "./format.js";
+
+/** Who gets or pays more than by the program's division, and who less, row by row: {title, texts}; null where nothing
+ * whole is proposed. */
+export function againstOf(point, rows, { totals }, format) {
+  if (!totals || !point?.key.endsWith("nucleolus")) return null;
+  const texts = signedDifferences(totals, totalsOf(rows, point.shares), rows, format);
+  return { title: `against the ${point.title.toLowerCase()}`, texts };
+}
 
 /** `found` is what work/compare.js says; `point` is the program's division. */
 export function comparisonOf(found, { title, key }, game) {

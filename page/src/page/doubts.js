@@ -12,8 +12,9 @@ const BY = { whole: "", decimals: ".," }; // how all are read, whatever the othe
 const quoted = (typed) => `“${withEscapes(typed.trim())}”`;
 
 /** The notes for what was read; `setEntry(mark)` reads the case anew. No number is read in one of two ways in silence.
- * */
-export function doubtNotes({ doubts, entry, mark, shown }, { setEntry }) {
+ * Those read with decimals come first: where others show otherwise, they are the odd ones. */
+export function doubtNotes({ doubts: found, entry, mark, shown }, { setEntry }) {
+  const doubts = [...found].sort((one, other) => one.how.localeCompare(other.how));
   const [[, one] = [], [, two] = []] = shown, isClash = shown.length > 1;
   const clash = isClash && el("p", { class: "note" }, `In ${quoted(one)} and ${quoted(two)} the point and the comma `,
     "change places. Each of the two can be read in one way only, so it is read as it shows.");
@@ -30,17 +31,17 @@ export function doubtNotes({ doubts, entry, mark, shown }, { setEntry }) {
 
 /** Of several kinds of readings each says how many are like it. */
 function readAs({ typed, value: text, how, count }, mark, kinds) {
-  const value = Rational.of(text), like = kinds > 1 && count > 1 ? ` (as ${count - 1} more)` : "";
+  const value = Rational.of(text), like = kinds > 1 && count > 1 ? ` (and ${count - 1} like it)` : "";
   const number = how === "whole" ? `the whole number ${value}` : `${typedText(value, mark)}, with decimals`;
   return `${quoted(typed)}${like} is read as ${number}`;
 }
 
-/** Where nothing shows the mark the other may be it; else those that are read with decimals are the odd ones. */
+/** Where nothing shows the mark the other may be it; else the first of the kinds is read otherwise. */
 function waysOut({ doubts, mark, proof, isChosen }, setEntry) {
   const way = (title, by) => button(title, () => setEntry(by), { class: "quiet" });
   if (isChosen) return [way("Read them by one mark again", mark)];
-  const odd = doubts.find(({ how }) => how === "decimals") ?? doubts[0];
-  const how = odd.how === "decimals" ? "whole" : "decimals", { value } = readNumber(odd.typed, BY[how]);
+  const [odd] = doubts, how = odd.how === "decimals" ? "whole" : "decimals";
+  const { value } = readNumber(odd.typed, BY[how]);
   const others = odd.count > 1 ? ", and all like it" : "";
   return [
     !proof && way(`Let the ${NAMES[OTHER[mark]]} do so`, OTHER[mark]),

@@ -39,7 +39,15 @@ export function withSum(steps) {
   return [...steps, steps.reduce((sum, step) => sum + step, 0n)];
 }
 
-export const MOVED = "Rounded so that they add up, so equal shares may differ by one in the last place.";
+/** What is shown of the rows' values less what is shown of others, with signs, and the sum of that as the last. */
+export function signedDifferences(values, others, rows, { steps, text }) {
+  const [own, beside] = [values, others].map((some) => steps(some, rows));
+  return withSum(own.map((step, k) => step - beside[k])).map((step) => `${step > 0n ? "+" : ""}${text(step)}`);
+}
+
+/** What exact/decimals.js does where rounding by itself doesn't add up. */
+export const MOVED = "Rounded so that they add up: all are rounded down, and each unit of the last place that then "
+  + "lacks goes to who lost most by that, among equals to the upper row. So equal shares may differ by one.";
 
 /** The totals of the rows by a point: of a row of landings what they pay together. */
 export function totalsOf(rows, shares) {

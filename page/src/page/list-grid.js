@@ -64,6 +64,7 @@ class ListGrid {
   rowOf(row, r) {
     const { rows } = this.typed, canGo = rows.length > 1 && !(this.isBlank(row) && r === rows.length - 1);
     const remove = canGo && button("×", () => {
+      this.remember(`Remove ${withEscapes((row.name ?? "").trim()) || `row ${r + 1}`}`);
       rows.splice(r, 1);
       this.show();
       this.onChange();

@@ -2,7 +2,7 @@
 import { Rational } from "../exact/rational.js";
 import { fractionText } from "../exact/decimals.js";
 import { listed, Namer, plural } from "../tell/words.js";
-import { comparisonOf } from "./comparison.js";
+import { againstOf, comparisonOf } from "./comparison.js";
 import { el } from "./dom.js";
 import { MOVED, totalsOf, withSum } from "./format.js";
 import { meanings, monotonic, subtitleOf, words } from "./meanings.js";
@@ -21,7 +21,10 @@ export function sharesTable(result, settings) {
     const steps = format.steps(totalsOf(rows, point.shares), rows);
     return { ...point, steps, texts: withSum(steps).map(format.text) };
   });
-  const hasHolds = points.some(({ hold }) => hold), view = { ...settings, game, context, columns };
+  const against = againstOf(points[0], rows, proposal, format), isNarrow = settings.wide < NARROW;
+  const span = columns.length + [proposal.canBe, against, settings.today.texts].filter(Boolean).length;
+  const view = { ...settings, game, context, columns, against, isNarrow, span };
+  const hasHolds = points.some(({ hold }) => hold);
   const kinds = ["shares", proposal.totals ? "" : "unproposed", rows.length <= BRIEF ? "brief" : ""];
   return el("div", {},
     el("div", { class: "scroll" }, el("table", { class: kinds.filter(Boolean).join(" ") },
@@ -45,29 +48,40 @@ function sameAs(points, shares) {
     `Your proposal is just what stands under ${listed(same.map(({ title }) => `“${title}”`))}.`);
 }
 
-function headOf({ game, context, columns, proposal, today }) {
+/** A row with its name in front; on a narrow page above it, where no number that is scrolled goes behind it. */
+function named({ isNarrow, span }, kind, name, cells) {
+  if (!isNarrow) return el("tr", { class: kind }, el("th", { scope: "row" }, name), cells);
+  return [
+    el("tr", { class: `above ${kind}` }, el("th", { scope: "rowgroup", colspan: String(span) }, el("span", {}, name))),
+    el("tr", { class: kind }, cells),
+  ];
+}
+
+function headOf({ game, context, columns, proposal, today, against, isNarrow }) {
   const column = ({ key, title }) => el("th", { scope: "col", class: "number", "data-point": key },
     title, el("small", {}, subtitleOf(key, game)));
   return el("thead", {}, el("tr", {},
-    el("th", { scope: "col" }, game.costs ? "Who pays" : "Who gets"),
+    !isNarrow && el("th", { scope: "col" }, game.costs ? "Who pays" : "Who gets"),
     context && el("th", { scope: "col", class: "number context" }, context.title),
     today.texts && el("th", { scope: "col", class: "number today" }, todayTitle(game)),
     columns.map(column),
     proposal.canBe && el("th", { scope: "col", class: "number proposed", "data-point": "proposal" },
-      "Your proposal", el("small", {}, subtitleOf("proposal", game)))));
+      "Your proposal", el("small", {}, subtitleOf("proposal", game))),
+    against && el("th", { scope: "col", class: "number against" }, against.title)));
 }
 
-function shareRow({ row, r }, { game, context, columns, format, proposal, today }) {
-  const count = row.players.length;
-  return el("tr", {},
-    el("th", { scope: "row" }, row.label, count > 1 && el("small", {}, plural(count, "landing"))),
+function shareRow({ row, r }, view) {
+  const { game, context, columns, format, proposal, today, against } = view, count = row.players.length;
+  return named(view, "", [row.label, count > 1 && el("small", {}, plural(count, "landing"))], [
     context && el("td", { class: "number context" }, context.texts[r]),
     today.texts && el("td", { class: "number today" }, ownInput(row, r, today, "today", todayTitle(game))),
     columns.map(({ texts, steps, shares }) => {
       return shareCell(texts[r], shares[row.players[0]], count, format, changeOf(steps[r], r, today, format));
     }),
     proposal.canBe && el("td", { class: "number proposed" },
-      ownInput(row, r, proposal, "proposal", "Your proposal")));
+      ownInput(row, r, proposal, "proposal", "Your proposal")),
+    against && el("td", { class: "number against" }, against.texts[r]),
+  ]);
 }
 
 export function shareCell(text, share, count, format, change) {
@@ -91,14 +105,16 @@ export function linesOf(rows) {
   });
 }
 
-function sumRow({ sum, of }, { rows, context, columns, format, proposal, today }) {
+function sumRow({ sum, of }, view) {
+  const { rows, context, columns, format, proposal, today, against } = view;
   const cells = columns.map(({ shares, steps }) => {
     const exact = Rational.sum(totalsOf(of.map((r) => rows[r]), shares)), shown = withSum(of.map((r) => steps[r]));
     return shareCell(format.text(shown.at(-1)), exact, 1, format);
   });
-  return el("tr", { class: "subtotal" }, el("th", { scope: "row" }, `${sum}, together`),
+  return named(view, "subtotal", `${sum}, together`, [
     context && el("td", { class: "context" }), today.texts && el("td", { class: "number" }, ownSum(of, today, format)),
-    cells, proposal.canBe && el("td", { class: "number proposed" }, ownSum(of, proposal, format)));
+    cells, proposal.canBe && el("td", { class: "number proposed" }, ownSum(of, proposal, format)), against && el("td"),
+  ]);
 }
 
 /** What the user typed for the rows of an airline, added. */
@@ -107,35 +123,42 @@ function ownSum(of, { values }, { show }) {
   return own.every(Boolean) && show(Rational.sum(own));
 }
 
-function footOf({ game, rows, context, columns, format, proposal, today, wide }, hasHolds) {
-  const blank = () => [context && el("td", { class: "context" }), today.texts && el("td")], last = rows.length;
-  const sum = el("tr", { class: "sum" }, el("th", { scope: "row" }, "together"),
-    context && el("td", { class: "context" }),
+function footOf(view, hasHolds) {
+  const { game, rows, context, columns, format, proposal, today, against } = view, last = rows.length;
+  const sum = named(view, "sum", "together", [
+    context && el("td", { class: "number context" }, context.sum),
     today.texts && el("td", { class: "number today" }, today.values[last] ? format.show(today.values[last]) : "–"),
     columns.map(({ texts, steps }) => {
       return el("td", { class: "number" }, texts.at(-1), changeOf(withSum(steps).at(-1), last, today, format));
     }),
-    proposal.canBe && el("td", { class: "number proposed" }, proposalSum(game, proposal, format)));
-  // on a narrow page the question stands above its answers, since a column has room for a word alone
-  const isNarrow = wide < NARROW, span = columns.length + 1 + (proposal.canBe ? 1 : 0) + (today.texts ? 1 : 0);
-  const asked = (title, told, own) => [
-    isNarrow && el("tr", { class: "question" }, el("th", { scope: "rowgroup", colspan: String(span) }, title)),
-    el("tr", { class: "verdict" }, el("th", { scope: "row" }, isNarrow ? "" : title),
-      blank(), columns.map((point) => el("td", { class: "number" }, told(point))),
-      proposal.canBe && el("td", { class: "number proposed", role: "status" }, proposal.shares ? told(own) : "–")),
-  ];
+    proposal.canBe && el("td", { class: "number proposed" }, proposalSum(game, proposal, format)),
+    against && el("td", { class: "number against" }, against.texts.at(-1)),
+  ]);
+  const asked = (title, told, own) => named(view, "verdict", title, [
+    context && el("td", { class: "context" }), today.texts && el("td"),
+    columns.map((point) => el("td", { class: "number" }, told(point))),
+    proposal.canBe && el("td", { class: "number proposed", colspan: against ? "2" : false, role: "status" },
+      proposal.shares ? told(own) : "–"),
+  ]);
   const isJudged = columns.some(({ verdict }) => verdict !== null);
   return el("tfoot", {}, sum,
     isJudged && asked("Can a group do better by itself?", (one) => verdictText(game, one.verdict, format), proposal),
     hasHolds && asked("Has one a stronger hold on another?", (one) => holdText(rows, one.hold, format), proposal));
 }
 
-/** What is known of each beside the shares. */
-function contextOf(game, rows, { show }) {
+/** What is known of each beside the shares, and its sum where one may add it up. */
+export function contextOf(game, rows, { show, column }) {
   if (game.isMarket()) return null;
   const of = (values, title) => ({ title, texts: rows.map(({ players: [i] }) => show(values[i])) });
-  if (game.ballots) return { title: "Votes", texts: rows.map(({ players: [i] }) => String(game.ballots[0].votes[i])) };
-  if (game.kind === "bankruptcy") return of(game.amounts, "Claim");
+  const votes = game.ballots?.[0].votes;
+  if (votes) {
+    const texts = rows.map(({ players: [i] }) => String(votes[i]));
+    return { title: "Votes", texts, sum: String(Rational.sum(votes)) };
+  }
+  if (game.kind === "bankruptcy") {
+    const texts = column(rows.map(({ players: [i] }) => game.amounts[i]));
+    return { title: "Claim", texts, sum: texts.at(-1) };
+  }
   if (game.kind === "airport") return of(game.amounts, "A landing needs");
   return of(game.own, game.costs ? "Costs alone" : "Worth alone");
 }
@@ -164,7 +187,7 @@ function holdText(rows, hold, { show }) {
   if (hold === null) return "–";
   if (hold.isEven) return "No";
   const [strong, weak] = [hold.strong, hold.weak].map((i) => rows.find(({ players }) => players.includes(i)).label);
-  return `Yes: ${strong} on ${weak}, by ${show(hold.by)}`;
+  return `Yes, for example ${strong} on ${weak}, by ${show(hold.by)}`;
 }
 
 /** The table for a spreadsheet, as lines of cells, and what each airline pays. */

@@ -13,11 +13,13 @@ import { el, refill } from "./dom.js";
 import { knownDigest } from "./files.js";
 import { filledText } from "./filled.js";
 import { formatOf, MOVED, totalsOf, withSum } from "./format.js";
+import { contextOf } from "./shares-table.js";
 import { airlineLines } from "./table-lines.js";
 import { changeText, todayOf, todayTitle } from "./today.js";
 import { linesTable } from "./types-table.js";
 
 const WIDE = 700;
+const PAPER_WIDE = 176; // millimetres of A4 between the margins
 const MOST_PICTURED = 10; // rows whose bars leave room for the rest
 const MOST_ROWS = 18; // of one table; more stand in two, side by side
 const MANY_ROWS = 5; // above, letters are smaller, and a picture is lower
@@ -27,7 +29,9 @@ const MOST_LEVELS = 1100; // characters of what the levels behind the first sett
 const MOST_DOCUMENT = 420; // characters of the game's document that are printed
 const MOST_ALONE = 900; // the same where there is no picture
 
-const OPEN = "Open the page coop.html of the project";
+const OPEN = "Open coop.html from the project’s repository, at the commit named below (whoever sends this has to give "
+  + "you its address)";
+const TYPE_IN = " Or simply type the numbers into that page: the answer has to be the same.";
 const AREA = "The dark area, where there is one: the divisions by which no group does better by itself.";
 const POWER = "Power is in what part of all orders of joining a voter is the one by whom the votes suffice (Shapley "
   + "and Shubik 1954).";
@@ -85,7 +89,8 @@ function answerOf(view) {
     el("td", { class: "number strong" }, texts[r]),
     hasExact && el("td", { class: "number" }, format.isExact(totals[r]) ? "" : fractionText(totals[r])),
     others.map((other) => el("td", { class: "number" }, other.texts[r])));
-  const sum = el("tr", { class: "sum" }, el("th", { scope: "row" }, "together"), context && el("td"),
+  const sum = el("tr", { class: "sum" }, el("th", { scope: "row" }, "together"),
+    context && el("td", { class: "number" }, context.sum),
     el("td", { class: "number strong" }, texts.at(-1)), hasExact && el("td"),
     others.map((other) => el("td", { class: "number" }, other.texts.at(-1))));
   return el("section", {},
@@ -154,21 +159,13 @@ function halves(count, heads, line, sum) {
   return el("div", { class: "halves" }, tables);
 }
 
-function contextOf(game, rows, { show }) {
-  const of = (title, values) => ({ title, texts: rows.map(({ players: [i] }) => show(values[i])) });
-  if (game.ballots) return { title: "Votes", texts: rows.map(({ players: [i] }) => String(game.ballots[0].votes[i])) };
-  if (game.isMarket()) return undefined;
-  if (game.kind === "bankruptcy") return of("Claim", game.amounts);
-  if (game.kind === "airport") return of("A landing needs", game.amounts);
-  return of(game.costs ? "Costs alone" : "Worth alone", game.own);
-}
-
 // ---- The picture
 
 function pictureOf({ result, rows, format }) {
   const { game, points, bird } = result, solution = solutionOf(result), few = rows.length <= MOST_PICTURED;
   const settings = { ...format, wide: WIDE };
-  const holder = (drawn, said) => el("figure", {}, drawn, said && el("figcaption", { class: "hint" }, said));
+  const holder = (drawn, said) => el("figure", { style: `--high: ${highOf(drawn)}mm` }, drawn,
+    said && el("figcaption", { class: "hint" }, said));
   if (game.ballots) return few ? holder(powerOf(game, points, format)) : null;
   if (result.matching) {
     const deals = dealsOf(game, result.matching, solution);
@@ -178,6 +175,12 @@ function pictureOf({ result, rows, format }) {
   if (bird && few) return holder(planPicture(game, bird.tree, settings));
   if (game.n === 3) return holder(trianglePicture(game, [solution], settings).drawn, AREA);
   return few ? holder(barsPicture(game, rows, [solution], settings)) : null;
+}
+
+/** How high a picture is on paper, across the whole page. */
+function highOf(drawn) {
+  const [, , wide, high] = drawn.getAttribute("viewBox").split(" ").map(Number);
+  return Math.round((PAPER_WIDE * high) / wide);
 }
 
 function powerOf(game, points, { show }) {
@@ -259,5 +262,6 @@ function checkOf({ result: { rule, line, game }, doubt }) {
       + `Two checkers, apart from each other, say whether these shares are the ${rule} of the agreed game. `
       + "It goes by hand, too: the page lists the eight conditions under “What a yes means”."
     : `${OPEN}, choose “Open or paste a document”, and give it the agreed file: it works the answer out anew.`;
-  return el("section", {}, el("h2", {}, "How to check it"), el("p", {}, steps), el("p", { class: "hint" }, foot));
+  return el("section", {}, el("h2", {}, "How to check it"), el("p", {}, steps, TYPE_IN),
+    el("p", { class: "hint" }, foot));
 }

@@ -12,14 +12,17 @@ import { words } from "./meanings.js";
 import { settled } from "./questions.js";
 import { textPlace } from "./text-place.js";
 import { meaning } from "./trust.js";
-import { bareText, conclusion, disagreement, nameRemarks, notTaken, twice, unreadable } from "./verdict.js";
+import {
+  bareText, besideRight, conclusion, disagreement, nameRemarks, notTaken, twice, unreadable,
+} from "./verdict.js";
 
 const NO_FILE = "No file of the game is given, so nobody can say. A certificate shows that shares are right for its "
   + "own game.";
 const NOT_AGREED = "This game came with a line, and isn’t the agreed game. Nothing on this page is agreed on.";
 const NOT_RIGHT = "This game came with a line that doesn’t show that its shares are right. The shares below are worked "
   + "out anew.";
-const ASKED = ["nucleolus", "prenucleolus", "shapley", "bird"]; // what the program can find anew
+const RULES = ["nucleolus", "prenucleolus"];
+const ASKED = [...RULES, "shapley", "bird"]; // what the program can find anew
 
 /** `onOpen(text, doubt, from)` opens a game as a case; `format()` says how numbers are shown; `onPrint()` prints all
  * this. */
@@ -84,6 +87,17 @@ class VerifyPanel {
       asked("program", engine.ask("solve", { word: "check", document }).then(ended)),
       asked("anew", checker.ask("checkAnew", { document })),
     ]);
+    if (isMine()) await this.askRight(seen, game, found, isMine);
+  }
+
+  /** Where a checker says no the program is asked for the shares of the game, if it may be the agreed one. */
+  async askRight(seen, game, found, isMine) {
+    const { bare, answer, same } = seen, isYes = (word) => word.tree?.answer === "yes";
+    const isOpen = bare?.isOwn && RULES.includes(answer) && same?.isYes !== false;
+    if (!isOpen || (isYes(found.program) && isYes(found.anew))) return;
+    const [engine] = this.helpers;
+    found.right = await settled(engine.ask("solve", { word: answer, document: bare.text }).then(ended));
+    if (isMine()) this.show(seen, game, found);
   }
 
   /** Without a certificate the program is asked for the answer anew, where the game and the question are known. */
@@ -132,8 +146,8 @@ class VerifyPanel {
     refill(this.answers, conclusion(words, seen, game), twice(seen),
       seen.fault && unreadable(seen, (text) => this.mend(text)),
       (!seen.fault || same.isGiven) && el("ul", { class: "words" }, words.map(wordLine)),
-      disagreement(found), nameRemarks(seen), lineTable(seen, game, this.format()), this.sums,
-      this.tools(seen, game, same, words));
+      disagreement(found), besideRight(seen, game, found.right, this.format()), nameRemarks(seen),
+      lineTable(seen, game, this.format()), this.sums, this.tools(seen, game, same, words));
   }
 
   /** The line without what a mail program added; what was given stays known, for its sum. */
