@@ -57,14 +57,21 @@ function nameOf(path) {
   return `module_${relative(SRC, path).replace(/\W/g, "_")}`;
 }
 
-/** Code without the comments that stand in lines of their own: they are for the readers of the sources. */
-function withoutComments(code) {
-  return code.replace(/^ *\/\*\*[\s\S]*?\*\/\n/gm, "").replace(/^ *\/\/.*\n/gm, "");
+/** Code without what is for the readers of its sources alone: comments in lines of their own, and indentation. Where a
+ * template runs over lines, blanks may be text: these lines stay as they are. */
+function bare(code) {
+  const lines = code.replace(/^ *\/\*\*[\s\S]*?\*\/\n/gm, "").replace(/^ *\/\/.*\n/gm, "").split("\n");
+  let isOpen = false; // whether a template runs over the end of the line before
+  return lines.map((line) => {
+    const isText = isOpen;
+    if (line.split("`").length % 2 === 0) isOpen = !isOpen;
+    return isText ? line : line.trimStart();
+  }).join("\n");
 }
 
 function moduleOf(path, places, importing) {
   const exported = [];
-  let code = withoutComments(readFileSync(path, "utf8"));
+  let code = bare(readFileSync(path, "utf8"));
   code = code.replace(/^import \{([^}]*)\} from "([^"]+)";$/gm, (_, names, from) => {
     return `const {${names.replace(/ as /g, ": ")}} = ${importing(resolve(dirname(path), from))};`;
   });

@@ -1,6 +1,6 @@
 // Reads what a person typed into the cells of a case, and keeps what is wrong, cell by cell.
 import { lcm } from "../exact/rational.js";
-import { readNumber } from "../exact/decimals.js";
+import { countText, readNumber } from "../exact/decimals.js";
 import { remarksOf, withEscapes } from "../game/names.js";
 
 const MOST_SCALE = 65536n;
@@ -66,7 +66,7 @@ export class Reading {
     const value = /^\s*\d{1,9}\s*$/.test(typed) ? Number(typed) : readNumber(typed, this.mark).value?.toNumber();
     if (!Number.isInteger(value)) return this.fault(cell, `${what} is a whole number.`);
     if (value < low || value > high) {
-      return this.fault(cell, `${what} is from ${low} to ${high.toLocaleString("en")}.`);
+      return this.fault(cell, `${what} is from ${low} to ${countText(high)}.`);
     }
     return value;
   }

@@ -1,5 +1,6 @@
 // Bars of what each gets or pays, with marks at what it is worth alone and at what it adds to all others.
 import { Rational, ZERO } from "../exact/rational.js";
+import { spoken } from "../exact/decimals.js";
 import { chart } from "./chart.js";
 import { figure } from "./figure.js";
 
@@ -35,9 +36,10 @@ export function barsPicture(game, rows, points, { show, wide }) {
 
 export function bars(game, rows, points, settings) {
   const each = rows.some(({ players }) => players.length > 1) ? "A bar is what one landing pays." : "";
-  return figure("bars", "shares", barsPicture(game, rows, points, settings), each);
+  return figure("bars", "shares", barsPicture(game, rows, points, settings), each, settings.remark);
 }
 
 export function tickText(tick) {
-  return Number(tick.toPrecision(10)).toLocaleString("en").replace(/,/g, "\u202f").replace("-", "−");
+  return Number(tick.toPrecision(10)).toLocaleString("en").replace(/,/g, "\u202f")
+    .replace(".", spoken.mark).replace("-", "−");
 }

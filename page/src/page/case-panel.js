@@ -38,7 +38,7 @@ export function casePanel(kind, typed, settings) {
     refill(faults, reading.notes.map((note) => el("p", { class: "note" }, note)),
       doubts(reading, settings), emptyCells(reading, grid), faultList(reading, grid),
       reading.isTooFine && finenessHelp(settings));
-    refill(made, reading.text && documentOf(kind, reading.text));
+    refill(made, reading.text && documentOf(kind, reading.text, settings));
   }
 
   return { element, tell };
@@ -92,9 +92,12 @@ function doubts({ doubts: [doubt], doubted, mark: own }, { setEntry }) {
     button(`Let the ${NAMES[other]} do so`, () => setEntry(other), { class: "quiet" }));
 }
 
-function documentOf(kind, text) {
+function documentOf(kind, text, { caseText }) {
   return el("div", {}, shown("The document that this makes", text),
     el("p", { class: "tools" },
-      button("Save it", () => download(`${kind.id}-game.json`, `${text}\n`), { class: "quiet" }),
-      button("Copy it", (event) => copy(text, event.target), { class: "quiet" })));
+      button("Save the case", () => download(`${kind.id}-case.json`, caseText()), { class: "quiet" }),
+      button("Save the document", () => download(`${kind.id}-game.json`, `${text}\n`), { class: "quiet" }),
+      button("Copy it", (event) => copy(text, event.target), { class: "quiet" })),
+    el("p", { class: "hint screen" }, "The page opens a case with what was filled in, the decimal mark, heading, unit ",
+      "and your proposal. The program reads the document alone."));
 }

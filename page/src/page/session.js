@@ -28,8 +28,10 @@ export class Session {
   }
 
   /** `doubt` is why the game isn't taken for the agreed one, in words. */
-  open(kind, typed, { measure = "plain", texts = [], entry = this.own, doubt = "" } = {}) {
-    Object.assign(this, { kind, typed, measure, texts, entry, doubt, places: kind.places ?? 2 });
+  open(kind, typed, settings = {}) {
+    const { measure = "plain", texts = [], entry = this.own, doubt = "", places = kind.places ?? 2 } = settings;
+    Object.assign(this, { kind, typed, measure, texts, entry, doubt, places, mark: settings.mark ?? this.mark });
+    spoken.mark = this.mark;
     Object.assign(this, { reading: null, result: null, judged: {}, proposal: proposalOf([], [], entry) });
     this.changed(0);
   }

@@ -1,16 +1,17 @@
 // The one printed page: who, how much, a picture, the reasons, what is agreed on, and how to check it.
-import { fractionText } from "../exact/decimals.js";
+import { sourceName } from "../cases/matrices.js";
+import { countText, fractionText } from "../exact/decimals.js";
 import { barsPicture } from "../draw/bars.js";
 import { planPicture } from "../draw/plan.js";
 import { dealsOf, powerPicture, priceOf, pricesPicture, tradesTable } from "../draw/ranges.js";
 import { trianglePicture } from "../draw/triangle.js";
 import { Rational } from "../exact/rational.js";
-import { sourceOf } from "../tell/rule-names.js";
+import { ruleFile, sourceOf } from "../tell/rule-names.js";
 import { Namer } from "../tell/words.js";
 import { lead, solutionOf } from "./answer.js";
 import { el, refill } from "./dom.js";
 import { knownDigest } from "./files.js";
-import { filledText } from "./filled.js";
+import { filledLines, filledText } from "./filled.js";
 import { formatOf, MOVED, totalsOf } from "./format.js";
 
 const WIDE = 700;
@@ -137,9 +138,9 @@ function contextOf(game, rows, { show }) {
 
 // ---- The picture
 
-function pictureOf({ result, rows, format }) {
+function pictureOf({ result, rows, format, ...session }) {
   const { game, points, bird } = result, solution = solutionOf(result), few = rows.length <= MOST_PICTURED;
-  const settings = { ...format, wide: WIDE };
+  const settings = { ...format, wide: WIDE, source: sourceName(session.typed) };
   const holder = (drawn, said) => el("figure", {}, drawn, said && el("figcaption", { class: "hint" }, said));
   if (game.ballots) return few ? holder(powerOf(game, points, format)) : null;
   if (result.matching) {
@@ -149,7 +150,7 @@ function pictureOf({ result, rows, format }) {
   if (!solution) return null;
   if (bird && few) return holder(planPicture(game, bird.tree, settings));
   if (game.n === 3) return holder(trianglePicture(game, [solution], settings).drawn, AREA);
-  return few ? holder(barsPicture(game, rows, [solution], settings)) : null;
+  return few ? holder(barsPicture(game, rows, [solution], settings), filledLines(session, rows)) : null;
 }
 
 function powerOf(game, points, { show }) {
@@ -161,7 +162,7 @@ function powerOf(game, points, { show }) {
 
 // ---- The reasons
 
-function reasonsOf({ result }) {
+function reasonsOf({ result, pair }) {
   const { reasons, answer, rule, game, points } = result;
   if (game.ballots || !reasons) {
     return el("section", {}, el("h2", {}, "How it was found"), el("p", {}, game.ballots ? POWER : PRICES));
@@ -176,7 +177,8 @@ function reasonsOf({ result }) {
     el("p", {}, sentences.join(" ")),
     behind.length > 0 && el("ul", { class: "levels" }, behind.map((text) => el("li", {}, text))),
     el("p", {}, isCore && "By these shares no group does better by itself. ",
-      `No other division meets the principle: there is just one ${rule} (${sourceOf(game.perHead)}).`));
+      `No other division meets the principle: there is just one ${rule} (${sourceOf(game.perHead)}).`),
+    pair && el("p", {}, pair));
 }
 
 /** What the levels behind the first say: who is worst off, and what is settled, or that alone, as there is room. */
@@ -202,25 +204,27 @@ function toldOf({ sentences, items, last = "" }) {
 
 // ---- What is agreed on, and how to check it
 
-function agreedOf({ result: { text }, rows, kind, typed, doubt }) {
+function agreedOf({ result: { text }, rows, kind, typed, doubt, fills }) {
   const isShort = text.length <= (rows.length > MOST_PICTURED ? MOST_ALONE : MOST_DOCUMENT);
   const digest = knownDigest(`${text}\n`) ?? "(this browser works out none)", filled = filledText({ kind, typed });
   const file = `${kind.id}-game.json`, sum = el("span", { class: "digest" }, digest);
   const what = el("p", {}, `The numbers of the game, as they stand in ${file}. As this page writes that file, its `,
-    "SHA-256 is ", sum, ".", filled && ` ${filled}`);
+    "SHA-256 is ", sum, ".", filled && ` ${filled}`,
+    fills?.text === text && ` ${fills.sentence}`);
   return el("section", {}, el("h2", {}, doubt ? "Not agreed on" : "What is agreed on"),
     doubt && el("p", {}, doubt), what,
     isShort ? el("p", { class: "document" }, text)
-      : el("p", { class: "hint" }, `The file has ${text.length.toLocaleString("en")} characters, and isn’t printed. `
+      : el("p", { class: "hint" }, `The file has ${countText(text.length)} characters, and isn’t printed. `
         + "Keep it with this page."),
     !doubt && el("p", { class: "sign" }, "Agreed on by", el("span"), "on", el("span", { class: "short" })));
 }
 
-function checkOf({ result: { rule, line, game }, doubt }) {
+function checkOf({ result: { rule, answer, line, game }, kind, doubt }) {
   const foot = document.querySelector("footer p").textContent;
   if (doubt) return el("section", {}, el("p", { class: "hint" }, foot));
   const steps = line && !game.ballots
-    ? `${OPEN}, choose “I got an answer and doubt it”, and give it the agreed file and the line with the certificate. `
+    ? `${OPEN}, choose “I got an answer and doubt it”, and give it the agreed file and the line with the certificate, `
+      + `${kind.id}-${ruleFile(answer, game.perHead)}.json. `
       + `Two checkers, apart from each other, say whether these shares are the ${rule} of the agreed game. `
       + "It goes by hand, too: the page lists the eight conditions under “What a yes means”."
     : `${OPEN}, choose “Open or paste a document”, and give it the agreed file: it works the answer out anew.`;

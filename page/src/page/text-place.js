@@ -1,4 +1,5 @@
 // A place to drop, choose or paste a text.
+import { countText } from "../exact/decimals.js";
 import { button, el } from "./dom.js";
 
 export const MOST_BYTES = 8388608; // of a text that is read at all
@@ -70,7 +71,7 @@ class TextPlace {
 
   async take(file) {
     if (!file) return;
-    this.name.textContent = `${file.name}, ${file.size.toLocaleString("en")} bytes`;
+    this.name.textContent = `${file.name}, ${countText(file.size)} bytes`;
     const { text, fault } = await textOfFile(file);
     if (fault) this.name.textContent = fault;
     else this.setText(text);
