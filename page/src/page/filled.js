@@ -20,8 +20,8 @@ export function filledLines(session, rows) {
   if (!whose.length) return "";
   const who = whose.length === rows.length ? "anybody" : listed(whose.map(({ label }) => label));
   const [line, had] = session.kind.isCost ? ["cost", "cost"] : ["worth", "gain"];
-  return `What all others ${had} without ${who} was filled by the page: there the line “adds to the `
-    + "of all others” stands on a number that nobody has given.`;
+  return `What all others ${had} without ${who} was filled by the page: there the line “adds to the ${line} of all `
+    + "others” stands on a number that nobody has given.";
 }
 
 function ofTable(kind, { names, filled, how }) {

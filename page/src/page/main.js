@@ -64,7 +64,8 @@ function asked(kind) {
     readCells: (text) => session.reader.ask("readCells", { text }),
     help: (task, what) => session.reader.ask(task, what),
     caseText: () => {
-      return caseText({ ...nowTyped(), mark: session.mark, entry: session.readMark(), text: session.reading.text });
+      const { shows, mark: entry, text } = session.reading;
+      return caseText({ ...nowTyped(), mark: session.mark, entry: shows ?? entry, text });
     },
   };
 }

@@ -37,6 +37,7 @@ class TableGrid {
   }
 
   change(next) {
+    this.filling = (this.filling ?? 0) + 1; // what is being filled is of the old table
     Object.assign(this.typed, next);
     this.order = masksBySize(this.typed.names.length);
     this.start = 0;

@@ -21,7 +21,8 @@ export function readCase({ id, typed, mark, measure }) {
   const { reading, rows, tree, ballots } = readByOneMark(caseNamed(id), typed, mark);
   const { faults, count, empty, doubts, doubted, notes, isTooFine = false } = reading;
   const read = {
-    rows, faults, count, empty, doubts, doubted, notes, isTooFine, mark: reading.mark, isRight: reading.isRight(),
+    rows, faults, count, empty, doubts, doubted, notes, isTooFine, mark: reading.mark, shows: reading.settles(),
+    isRight: reading.isRight(),
   };
   if (!read.isRight) return read;
   const players = rows.reduce((sum, row) => sum + row.players.length, 0), isMeasured = measure === "per-head";
