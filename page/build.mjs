@@ -10,7 +10,7 @@
 // from a relative path; an export stands in front of what it exports. Other forms of import and export are refused.
 import { createHash } from "node:crypto";
 import { readFileSync, writeFileSync } from "node:fs";
-import { dirname, join, relative, resolve } from "node:path";
+import { dirname, join, resolve } from "node:path";
 import { fileURLToPath } from "node:url";
 
 const TOP = dirname(fileURLToPath(import.meta.url));
@@ -53,8 +53,12 @@ function scriptsOf(places) {
   };
 }
 
+const names = new Map();
+
+/** The name of a module in the page: short, since each is named some ten times, and the same in page and worker. */
 function nameOf(path) {
-  return `module_${relative(SRC, path).replace(/\W/g, "_")}`;
+  if (!names.has(path)) names.set(path, `$${names.size}`);
+  return names.get(path);
 }
 
 /** Code without what is for the readers of its sources alone: comments in lines of their own, and indentation. Where a

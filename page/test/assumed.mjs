@@ -113,7 +113,7 @@ export const assumed = [
     await page.run("dispatchEvent(new Event('beforeprint'))");
     const sheet = await page.run("document.getElementById('sheet').textContent");
     expect("on paper", sheet.includes(change.slice(change.indexOf("Filled by"))), true);
-    const line = /What all others cost without .* was filled by the page: there the line “adds to the cost of all/;
+    const line = /The line “adds to the cost of all others” of Aston and Bray stands on a number that the page filled/;
     expect("in the picture", await page.text("figure.bars figcaption"), line);
     expect("and on paper", sheet, line);
     await page.run("dispatchEvent(new Event('afterprint'))");

@@ -23,12 +23,12 @@ export function ruleIn({ title }) {
   return title.replace(/^[NP]/, (letter) => letter.toLowerCase());
 }
 
-/** `parts` are the heads of the three columns of each rule. */
-export function changesTable(columns, { rows, game, format }, parts = ["before", "after", "change"]) {
+/** `parts` are the heads of the three columns of each rule; `hasExact`: exact changes stand in small print. */
+export function changesTable(columns, { rows, game, format, hasExact = true }, parts = ["before", "after", "change"]) {
   const name = el("th", { scope: "col", rowspan: "2" }, game.costs ? "Who pays" : "Who gets");
   const titles = columns.map(({ title }) => el("th", { scope: "colgroup", colspan: "3", class: "number" }, title));
   const cells = (r) => columns.flatMap(({ texts, differences }) => texts.map((text, k) => {
-    const exact = k === 2 && r < rows.length && !format.isExact(differences[r]) && differences[r];
+    const exact = hasExact && k === 2 && r < rows.length && !format.isExact(differences[r]) && differences[r];
     return el("td", { class: k === 2 ? "number change" : "number" }, text[r],
       exact && el("small", { class: "exact" }, fractionText(exact)));
   }));

@@ -13,15 +13,15 @@ export function isFilled({ kind, typed }, groups) {
   return Boolean(kind.isTable && typed.filled?.length && groups.some((group) => typed.filled.includes(maskOf(group))));
 }
 
-/** For whom the line in the picture of what each adds stands on a number that the page filled, in a sentence. */
+/** Whose line in the picture of what each adds stands on a filled number, in a sentence. */
 export function filledLines(session, rows) {
-  const everyone = rows.flatMap(({ players }) => players);
-  const whose = rows.filter(({ players }) => isFilled(session, [everyone.filter((i) => !players.includes(i))]));
+  const everyone = rows.flatMap(({ players }) => players), names = (some) => listed(some.map(({ label }) => label));
+  const isIn = ({ players }) => isFilled(session, [everyone.filter((i) => !players.includes(i))]);
+  const whose = rows.filter(isIn), others = rows.filter((row) => !isIn(row));
   if (!whose.length) return "";
-  const who = whose.length === rows.length ? "anybody" : listed(whose.map(({ label }) => label));
-  const [line, had] = session.kind.isCost ? ["cost", "cost"] : ["worth", "gain"];
-  return `What all others ${had} without ${who} was filled by the page: there the line “adds to the ${line} of all `
-    + "others” stands on a number that nobody has given.";
+  const who = !others.length ? "each" : whose.length > others.length ? `all but ${names(others)}` : names(whose);
+  return `The line “adds to the ${session.kind.isCost ? "cost" : "worth"} of all others” of ${who} stands on a number `
+    + "that the page filled.";
 }
 
 function ofTable(kind, { names, filled, how }) {

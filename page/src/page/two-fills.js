@@ -21,7 +21,7 @@ export function fillsPart(session, view) {
     const sentence = both ? largestOf(columns, view) : "By both ways the same numbers are filled.";
     session.fills = { text: result.text, sentence };
     refill(said, sentence);
-    if (both) refill(found, tableOf(both, columns, { ...view, game: result.game }));
+    if (both) refill(found, tableOf(both, columns, { ...view, game: result.game, hasExact: false }));
   }).catch(() => refill(said, "It couldn’t be worked out."));
   return el("details", { class: "other fills" },
     el("summary", {}, "How much the answer depends on what was filled. ", said),
