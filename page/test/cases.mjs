@@ -13,7 +13,7 @@ export const casesTyped = [
     const sheet = "Airline\tCost\tLandings\r\nNord\t1.250,50\t4\r\nSüd\t980,25\t10\r\nOst\t2.000\t1\r\n";
     await page.paste('[data-cell="rows.0.name"]', sheet);
     await settle(page);
-    expect("settled by the others", await page.run("document.querySelectorAll('#case .note').length"), 0);
+    expect("settled by the others", await page.text("#case .faults"), /is read as the whole number[^“]*“.*shows that/);
     const lead = /Nord pays .* for 4 landings, Süd pays .* and Ost pays .*together 2000.00/;
     expect("lead", await page.text(".lead"), lead);
     expect("words", await page.text(".words"), WORDS);
@@ -105,11 +105,11 @@ export const tables = [
     expect("equal", await page.run(`document.querySelector('[data-cell="proposal.0"]').value`), "4.00");
     await page.click("nucleolus, rounded");
     await settle(page);
-    expect("sum", await page.text(".shares .sum td:last-child"), /12.00/);
+    expect("sum", await page.text(".shares .sum .proposed"), /12.00/);
   }],
 
   ["who has a stronger hold, and who joins late", "gains", async (page, expect) => {
-    const holds = /stronger hold on another\?\s+No\s+Yes: pianist on singer, by 2.50/;
+    const holds = /stronger hold on another\?\s+No\s+Yes, for example pianist on singer, by 2.50/;
     expect("holds", await page.text(".shares tfoot"), holds);
     expect("convex", await page.text("#why"), /The more have joined, the more \(no less\) each adds/);
     await page.type("numbers.7", "100");

@@ -42,7 +42,7 @@ async function perHead(page, expect) {
 
 async function checkOnPaper(page, expect, line, agreed) {
   await give(page, line, agreed);
-  await page.until("document.querySelectorAll('#verify .fingerprint').length === 2");
+  await page.until("document.querySelectorAll('#verify .fingerprint').length === 3");
   const sums = await page.text("#verify .answers");
   expect("both sums", sums, /as it was given, has the SHA-256 [0-9a-f]{64}[\s\S]*Written as this [\s\S]*[0-9a-f]{64}/);
   expect("what is printed", await page.run(PAPER), "check");

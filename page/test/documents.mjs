@@ -138,7 +138,8 @@ async function lawyer(page, expect, line, agreed) {
   await put(page, 0, line);
   expect("good", await said(page), /Yes: these shares are the nucleolus of the agreed game[\s\S]*3.50/);
   await put(page, 0, line.replace('"-1"', '"-2"'));
-  expect("spoilt", await said(page), /says no. At level 1: light alone hasn’t the excess[\s\S]*own checker says no/);
+  const spoilt = /says no. At level 1: by these shares what light alone would gain[\s\S]*own checker says no/;
+  expect("spoilt", await said(page), spoilt);
   await put(page, 0, line.replace("[2,4,6]", "[2,4,7]"));
   expect("other game", await said(page), /No. What heavy needs \(item 3\): the line has 7, the agreed file 6/);
   await put(page, 0, '{"game":');

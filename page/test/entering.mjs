@@ -29,7 +29,8 @@ const marks = [
     await useList(page, "0.1754\n3.922\n1.5\n26.4614\n12.125\n8\n40");
     await settle(page);
     expect("read", await made(page), /"1961\/500"[\s\S]*"97\/8"|3\.922/);
-    expect("nobody asks", await notes(page), "");
+    const read = /^“3.922” is read as 3.9220, with decimals: “0.1754” shows that the point stands in front of decimals/;
+    expect("and said", await notes(page), read);
     await useList(page, "3.922\n1.234\n5\n6\n7\n8\n40.000");
     await settle(page);
     expect("told", await notes(page), /“3.922” is read as 3.9220, with decimals[\s\S]*So are the 3 numbers/);

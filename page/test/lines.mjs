@@ -123,7 +123,7 @@ for (const [typed, wanted] of AMOUNTS) {
 expect("one amount", amountsIn("1 200 000", ".")[0].note, /read as one amount/);
 expect("settled by another", amountsIn("1,200; 900,50", ".").map(({ value, note }) => `${value} ${note}`).join(),
   "6/5 undefined,1801/2 undefined");
-expect("a doubt", amountsIn("1.200; 1,200", ".").map(({ note }) => note).join(), /1.200” is read as 1.2:.*1,200” is/);
+expect("a doubt", amountsIn("1.200; 1,200", ".").map(({ note }) => note).join(), /1.200” is read as 1.20:.*1,200” is/);
 
 expect("per head", ruleName("prenucleolus", true), "prenucleolus per head");
 expect("as a whole", ruleName("nucleolus", false), "nucleolus");

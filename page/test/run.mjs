@@ -12,6 +12,8 @@ import { checking, documents } from "./documents.mjs";
 import { entering } from "./entering.mjs";
 import { failing } from "./failing.mjs";
 import { Harness } from "./harness.mjs";
+import { lawyer } from "./lawyer.mjs";
+import { letters } from "./letters.mjs";
 import { access, large, looks } from "./looks.mjs";
 import { monkey } from "./monkey.mjs";
 import { saying } from "./saying.mjs";
@@ -24,7 +26,7 @@ const harness = new Harness(pathToFileURL(page).href, option("--only", ""), slac
 const program = resolve(option("--program", join(top, "crates", "coop_program", "out", "coop_program")));
 harness.add(large(slack, told));
 for (const some of [entering, assumed, saying, bothWays, casesTyped, tables, otherCases, documents(top, program),
-  checking(top), checks(top), failing(page, top), looks, access]) {
+  checking(top), checks(top), letters(top), lawyer(top), failing(page, top), looks, access]) {
   harness.add(some);
 }
 harness.add(monkey(Number(option("--seed", "1")), Number(option("--steps", "60"))));

@@ -152,7 +152,7 @@ saying.push(
     expect("together", drawn, /Shapley shares and Your proposal: one point/);
     expect("corners", drawn, /Aer−4; 4; 6Bee2; −2; 6/);
     const told = await page.run("document.querySelector('.triangle svg').getAttribute('aria-label')");
-    expect("told", told, /Nucleolus: Aer 1, Bee 1.5, Cargo 3.5/);
+    expect("told", told, /Nucleolus: Aer 1, Bee 1.50, Cargo 3.50/);
   }],
 
   ["eight who share, filled and on one page", "costs", async (page, expect) => {

@@ -100,7 +100,8 @@ export const estate = {
     const whole = reading.number("estate", state.estate, "The estate");
     reading.close();
     if (whole && reading.isRight() && Rational.sum(values).less(whole)) {
-      reading.fault("estate", "The claims add to less than the estate. Each gets its claim, and no rule is needed.");
+      reading.pause("So far the claims add to less than the estate. If no others come, each gets its claim, and no "
+        + "rule is needed.");
     }
     if (values.length > 64) {
       reading.fault(cells.at(-1), `These are ${values.length} claims, and the program takes 64.`);

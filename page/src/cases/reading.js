@@ -13,8 +13,7 @@ export class Reading {
     this.faults = []; // {cell, sentence}
     this.count = 0; // of faults
     this.empty = { count: 0, first: null }; // cells that are empty and may not be
-    this.doubts = []; // numbers that the decimal mark decides, the first ones
-    this.doubted = 0;
+    this.doubts = new Map(); // of numbers that the decimal mark decides, by how they were read: the first, and how many
     this.shown = new Map(); // marks that stand in front of decimals beyond doubt, each with a text that shows it
     this.notes = []; // what was changed for the program, and what is remarkable
     this.numbers = [];
@@ -36,7 +35,7 @@ export class Reading {
   /** The value of a cell, or null. */
   number(cell, typed, what, { canBeNegative = false } = {}) {
     const { value, fault, doubt, by } = this.known(typed);
-    if (doubt) this.doubt(cell, typed, value);
+    if (doubt) this.doubt(doubt, typed, value);
     if (by && !this.shown.has(by)) this.shown.set(by, typed);
     if (fault === "is empty") {
       this.empty.count += 1;
@@ -52,9 +51,10 @@ export class Reading {
     return value;
   }
 
-  doubt(cell, typed, value) {
-    this.doubted += 1;
-    if (!this.doubts.length) this.doubts.push({ cell, typed, value: String(value) });
+  doubt(how, typed, value) {
+    const known = this.doubts.get(how) ?? { how, typed, value: String(value), count: 0 };
+    this.doubts.set(how, known);
+    known.count += 1;
   }
 
   /** The one mark that all other numbers show; null where none does, or both stand there. */
@@ -108,8 +108,14 @@ export class Reading {
     return null;
   }
 
+  /** What keeps the program from being asked and is no slip, as in a list that isn't whole yet. */
+  pause(note) {
+    this.isPaused = true;
+    this.notes.push(note);
+  }
+
   isRight() {
-    return !this.count && !this.empty.count;
+    return !this.count && !this.empty.count && !this.isPaused;
   }
 }
 

@@ -53,10 +53,11 @@ export function fractionText(value) {
   return value.toString().replace("-", "−");
 }
 
-/** A number as a sentence has it, exact: a decimal where four places do, else a fraction; a very long one about. */
+/** A number as a sentence has it, exact: a decimal where four places do, two at least as in tables, else a fraction; a
+ * very long one about. */
 export function shortText(value) {
   const places = placesOf(value);
-  if (places >= 0) return decimal(value, places, spoken);
+  if (places >= 0) return decimal(value, places && Math.max(places, 2), spoken);
   const text = fractionText(value);
   return text.length <= 15 ? text : `about ${decimal(value, 4, spoken)}`;
 }
@@ -74,8 +75,8 @@ export function placesOf(value) {
 
 /** A value as one would type it: a decimal where four places do, else a fraction. It can be read in one way only, so
  * 1.708 gets a fourth decimal. */
-export function typedText(value, mark = ".") {
-  const places = placesOf(value);
+export function typedText(value, by = ".") {
+  const places = placesOf(value), mark = by.length === 1 ? by : ".";
   if (places < 0) return value.toString();
   const text = (count) => decimal(value, count, { mark, grouped: false }).replace("−", "-");
   return text(readNumber(text(places)).doubt ? places + 1 : places);
@@ -98,8 +99,9 @@ function scientific(text) {
 }
 
 /** The number that a person typed or a spreadsheet gave: {value}, or {fault} in words. Points and commas may part
- * thousands or stand in front of decimals; where a text can be read both ways, as 1,234, the mark decides, and `doubt`
- * says so; `by` is the mark in front of decimals where the text itself shows it. */
+ * thousands or stand in front of decimals. Where a text can be read both ways, as 1,234, the mark in front of decimals
+ * decides (by "" none stands there, by ".," each does), and `doubt` says how it was read, "whole" or "decimals"; `by`
+ * is the mark in front of decimals where the text itself shows it. */
 export function readNumber(typed, mark = ".") {
   if (/^\d{1,15}$/.test(typed)) return { value: new Rational(BigInt(typed)) };
   const text = joined(typed);
@@ -129,10 +131,10 @@ function marked(text, mark) {
     const read = () => ({ value: withDecimals(whole.replaceAll(other, ""), decimals), by: last });
     return isRight ? read() : { fault: "is no number" };
   }
-  const doubt = thousands(last).test(text);
-  if (doubt && last !== mark) return { value: new Rational(BigInt(text.replace(last, ""))), doubt };
-  const [whole, decimals] = text.split(last);
-  return { value: withDecimals(whole, decimals), doubt, by: doubt ? undefined : last };
+  const isBoth = thousands(last).test(text);
+  if (isBoth && !mark.includes(last)) return { value: new Rational(BigInt(text.replace(last, ""))), doubt: "whole" };
+  const value = withDecimals(...text.split(last));
+  return isBoth ? { value, doubt: "decimals" } : { value, by: last };
 }
 
 function withDecimals(whole, decimals) {

@@ -1,10 +1,8 @@
 // The panel of a case: its grid, what is wrong with it, and the document that it makes.
-import { Rational } from "../exact/rational.js";
-import { typedText } from "../exact/decimals.js";
-import { withEscapes } from "../game/names.js";
 import { plural } from "../tell/words.js";
 import { markFaults } from "./cells.js";
 import { button, cellOf, copy, download, el, refill } from "./dom.js";
+import { doubtNotes } from "./doubts.js";
 import { shown } from "./files.js";
 import { listGrid } from "./list-grid.js";
 import { marketGrid } from "./market-grid.js";
@@ -12,7 +10,6 @@ import { networkGrid } from "./network-grid.js";
 import { tableGrid } from "./table-grid.js";
 
 const MOST_FAULTS = 6;
-const NAMES = { ".": "point", ",": "comma" };
 
 /** `settings` are {mark, setEntry, notes, onReset, onUndo} and what the grids need. */
 export function casePanel(kind, typed, settings) {
@@ -36,7 +33,7 @@ export function casePanel(kind, typed, settings) {
   function tell(reading) {
     markFaults(grid, reading.faults);
     refill(faults, reading.notes.map((note) => el("p", { class: "note" }, note)),
-      doubts(reading, settings), emptyCells(reading, grid), faultList(reading, grid),
+      doubtNotes(reading, settings), emptyCells(reading, grid), faultList(reading, grid),
       reading.isTooFine && finenessHelp(settings));
     refill(made, reading.text && documentOf(kind, reading.text, settings));
   }
@@ -79,17 +76,6 @@ function emptyCells({ empty: { count, first } }, grid) {
   };
   const said = `${plural(count, "cell is", "cells are")} still empty. Go to the first.`;
   return count > 0 && button(said, goTo, { class: "fault gentle" });
-}
-
-/** Where numbers can be read both ways the page says how it reads them all; the button turns it, and turns it back. */
-function doubts({ doubts: [doubt], doubted, mark: own }, { setEntry }) {
-  if (!doubt) return null;
-  const other = own === "." ? "," : ".", value = Rational.of(doubt.value), typed = withEscapes(doubt.typed.trim());
-  const how = value.isWhole() ? `the whole number ${value}` : `${typedText(value, own)}, with decimals`;
-  const more = doubted > 1 ? ` So are the ${doubted} numbers here that can be read in two ways.` : "";
-  return el("p", { class: "note" },
-    `“${typed}” is read as ${how}: the ${NAMES[own]} stands in front of decimals.${more} `,
-    button(`Let the ${NAMES[other]} do so`, () => setEntry(other), { class: "quiet" }));
 }
 
 function documentOf(kind, text, { caseText }) {

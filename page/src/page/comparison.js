@@ -1,5 +1,14 @@
 // The user's proposal beside the program's division, as the nucleolus compares them.
 import { el } from "./dom.js";
+import { signedColumn, totalsOf } from "./format.js";
+
+/** Who gets or pays more than by the program's division, and who less, row by row: {title, texts}; null where nothing
+ * whole is proposed. */
+export function againstOf(point, rows, { totals }, format) {
+  if (!totals || !point?.key.endsWith("nucleolus")) return null;
+  const given = totalsOf(rows, point.shares), by = totals.map((total, r) => total.minus(given[r]));
+  return { title: `against the ${point.title.toLowerCase()}`, texts: signedColumn(by, format) };
+}
 
 /** `found` is what work/compare.js says; `point` is the program's division. */
 export function comparisonOf(found, { title, key }, game) {

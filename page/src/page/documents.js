@@ -2,6 +2,7 @@
 import { caseNamed } from "../cases/cases.js";
 import { el, refill } from "./dom.js";
 import { Helper } from "./helper.js";
+import { digestOf } from "./files.js";
 import { textOfFile, textPlace } from "./text-place.js";
 
 const OF_A_LINE = "This is the game of a line, and all below is worked out anew. Whether the line’s own shares are "
@@ -18,41 +19,47 @@ function notesOf({ other, notes }, isLine, isTable) {
 }
 
 export class Documents {
-  /** `onOpen(kind, typed, settings)` opens a case; `onLine(text)` has a line checked; `mark()` is the decimal mark. */
+  /** `onOpen(kind, typed, settings)` opens a case; `onLine(text, from)` has a line checked; `mark()` is the decimal
+   * mark. */
   constructor({ mark, onOpen, onLine }) {
     Object.assign(this, { mark, onOpen, onLine, turn: 0 });
     this.helper = new Helper();
     this.message = document.getElementById("document-message");
     refill(document.getElementById("document-body"), textPlace({
       title: "A document", hint: "JSON, as {\"game\":{…}}; a line of the program or a saved case does, too.", rows: 8,
-      onText: (text) => this.open(text),
+      onText: (text, from) => this.open(text, { from }),
     }));
   }
 
   /** Opens a document as a case, or tells why it can't be. `doubt` is why its game isn't taken for the agreed one; a
-   * text that `isChecked` isn't handed on to be. */
-  async open(text, { doubt = "", isChecked = false } = {}) {
+   * text that `isChecked` isn't handed on to be; `from` says of which file it is. */
+  async open(text, { doubt = "", isChecked = false, from = {} } = {}) {
     const mine = (this.turn += 1);
     this.helper.stop();
     refill(this.message);
+    if (from.fault) this.tell({ sentence: from.fault });
     if (!text.trim()) return;
     try {
-      const found = await this.helper.ask("openDocument", { text, mark: this.mark() });
+      const [found, digest] = await Promise.all([
+        this.helper.ask("openDocument", { text, mark: this.mark() }), from.name && digestOf(text),
+      ]);
       if (mine !== this.turn) return;
       if (found.refusal) this.tell(found.refusal);
-      else this.openCase(caseNamed(found.id), found, { text, doubt, isChecked });
+      else this.openCase(caseNamed(found.id), found, { text, doubt, isChecked, from: { ...from, digest } });
     } catch (fault) {
       if (fault.message === "stopped") return;
       this.tell({ sentence: `The document couldn’t be opened: ${fault.message}.` });
     }
   }
 
-  openCase(kind, found, { text, doubt, isChecked }) {
-    const isLine = !isChecked && /"certificate"\s*:/.test(text);
+  openCase(kind, found, { text, doubt, isChecked, from: { digest, ...from } }) {
+    const hasCertificate = /"certificate"\s*:/.test(text), isLine = hasCertificate && !isChecked;
     const notes = isChecked ? [] : notesOf(found, isLine, kind.isTable);
-    const { measure, texts, more, settings } = found, typed = kind.unpack?.(found.typed) ?? found.typed;
-    this.onOpen(kind, { ...typed, ...more }, { measure, texts, ...settings, doubt, notes });
-    if (isLine) this.onLine(text);
+    const { measure, texts, more, settings, isCase } = found, typed = kind.unpack?.(found.typed) ?? found.typed;
+    const isGame = from.name && !hasCertificate && !isCase; // a line or a case isn't the game's file
+    const file = isGame ? { name: from.name, digest } : null;
+    this.onOpen(kind, { ...typed, ...more }, { measure, texts, ...settings, doubt, notes, file });
+    if (isLine) this.onLine(text, from);
   }
 
   tell({ sentence, place }) {
@@ -67,15 +74,14 @@ export class Documents {
       event.preventDefault();
       const [file] = event.dataTransfer?.files ?? [];
       if (!file) return;
-      const { text, fault } = await textOfFile(file);
-      if (!fault && text.includes('"certificate"')) {
+      const { text = "", from, fault } = await textOfFile(file);
+      if (text.includes('"certificate"')) {
         show("verify");
-        onLine(text);
+        onLine(text, from);
         return;
       }
       show("document");
-      if (fault) this.tell({ sentence: fault });
-      else this.open(text);
+      this.open(text, { from: from ?? { fault } });
     });
   }
 }

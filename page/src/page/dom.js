@@ -29,16 +29,24 @@ export function button(text, onClick, attributes = {}) {
 
 const summaries = (element) => [...element.querySelectorAll("details > summary")];
 
-/** Puts new children into an element; the cell that had the focus has it again, and what was unfolded stays so. */
+/** A button by what it is called, to find it again among those that are made anew. */
+const calledLike = (one) => (other) => {
+  const name = (element) => element.getAttribute("aria-label") ?? element.textContent;
+  return name(one) === name(other) && !other.disabled;
+};
+
+/** Puts new children into an element; the cell or button that had the focus has it again, and what was unfolded stays
+ * so. */
 export function refill(element, ...children) {
   const isOpen = new Set(summaries(element).filter((one) => one.parentElement.open).map((one) => one.textContent));
-  const focused = document.activeElement;
-  const cell = element.contains(focused) ? focused.dataset.cell : undefined;
+  const focused = element.contains(document.activeElement) ? document.activeElement : null;
+  const cell = focused?.dataset.cell;
   const hasRange = cell !== undefined && typeof focused.selectionStart === "number";
   const range = hasRange ? [focused.selectionStart, focused.selectionEnd] : null;
   element.replaceChildren(...children.flat(Infinity).filter(isShown));
   for (const one of isOpen.size ? summaries(element) : []) one.parentElement.open ||= isOpen.has(one.textContent);
-  const again = cell === undefined ? null : cellOf(element, cell);
+  const again = cell !== undefined ? cellOf(element, cell)
+    : focused?.tagName === "BUTTON" ? [...element.querySelectorAll("button")].find(calledLike(focused)) : null;
   again?.focus({ preventScroll: true });
   if (range) again?.setSelectionRange?.(...range);
 }

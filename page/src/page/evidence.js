@@ -53,8 +53,9 @@ export function evidenceParts(result, name, filled) {
         fileButtons(text, `${name}-game.json`), fingerprint(text),
         filled && el("p", { class: "hint" }, `${filled} The file doesn’t say which.`)),
       el("li", {}, "Send the line: the answer with its evidence. ", fileButtons(line, file)),
-      el("li", {}, "Whoever gets it opens this page, taken from where the project has it and not from you, and checks ",
-        "below: is it the agreed game, and does the certificate hold?")),
+      el("li", {}, "Whoever gets it opens this page and checks below: is it the agreed game, and does the certificate ",
+        "hold? The page shouldn’t come from you, but from the project’s repository, at the commit named at the end of ",
+        "this page. Of that repository you have to give the address.")),
     shown("The game’s file", result.text), shown("The line with its evidence", line.trim()),
     meaning(answer, game.perHead),
   ];

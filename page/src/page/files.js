@@ -22,7 +22,7 @@ const MOST_KNOWN = 8;
 const known = new Map(); // the last texts whose SHA-256 was worked out
 
 /** The SHA-256 of a text, by which people see that they have the same file; null where the browser has none. */
-async function digestOf(text) {
+export async function digestOf(text) {
   const bytes = await globalThis.crypto?.subtle?.digest("SHA-256", new TextEncoder().encode(text));
   const digest = bytes ? [...new Uint8Array(bytes)].map((byte) => byte.toString(16).padStart(2, "0")).join("") : null;
   known.delete(text);

@@ -22,7 +22,14 @@ export function formatOf(places, mark) {
   };
 }
 
-export const MOVED = "Rounded so that they add up, so equal shares may differ by one in the last place.";
+/** Differences as decimals that add up, with their signs, and their sum as the last. */
+export function signedColumn(values, { column }) {
+  return column(values).map((text) => (/^−|^[0.,]+$/.test(text) ? text : `+${text}`));
+}
+
+/** What exact/decimals.js does where rounding by itself doesn't add up. */
+export const MOVED = "Rounded so that they add up: all are rounded down, and each unit of the last place that then "
+  + "lacks goes to who lost most by that, among equals to the upper row. So equal shares may differ by one.";
 
 /** The totals of the rows by a point: of a row of landings what they pay together. */
 export function totalsOf(rows, shares) {

@@ -9,8 +9,8 @@ export function listGrid(kind, typed, settings) {
 }
 
 class ListGrid {
-  constructor(kind, typed, { mark, onChange, readCells }) {
-    Object.assign(this, { kind, typed, mark, onChange });
+  constructor(kind, typed, { mark, onChange, readCells, remember }) {
+    Object.assign(this, { kind, typed, mark, onChange, remember });
     [this.head, this.body] = [el("thead"), el("tbody")];
     this.tools = el("div", { class: "singles" });
     this.keys = [...kind.columns, ...(kind.second ? [kind.second.column] : [])].map(({ key }) => key);
@@ -49,6 +49,7 @@ class ListGrid {
   rowOf(row, r) {
     const { rows } = this.typed, canGo = rows.length > 1 && !(this.isBlank(row) && r === rows.length - 1);
     const remove = canGo && button("×", () => {
+      this.remember(`Remove ${withEscapes((row.name ?? "").trim()) || `row ${r + 1}`}`);
       rows.splice(r, 1);
       this.show();
       this.onChange();

@@ -31,7 +31,7 @@ const paper = new Paper(session, view);
 // ---- Cases
 
 /** Opens a case. `before` is what an undo brings back, `notes` are said above the grid; `paper` is what was typed below
- * the answer, as the heading. */
+ * the answer, as the heading; among the settings, `file` is that of its game. */
 function openCase(kind, typed, { before = null, notes = [], doubt = "", paper, ...settings } = {}) {
   const now = session.kind && nowTyped();
   if (now) kept.set(session.kind, now);
@@ -59,13 +59,13 @@ function openCase(kind, typed, { before = null, notes = [], doubt = "", paper, .
 /** What a case asks for: marks, workers, and itself as a file. */
 function asked(kind) {
   return {
-    mark: () => session.readMark(), setEntry: (mark) => session.setEntry(mark),
-    readList: (what) => session.reader.ask("readList", { ...what, mark: session.readMark() }),
+    mark: () => session.entryMark(), setEntry: (mark) => session.setEntry(mark),
+    readList: (what) => session.reader.ask("readList", { ...what, mark: session.entryMark() }),
     readCells: (text) => session.reader.ask("readCells", { text }),
     help: (task, what) => session.reader.ask(task, what),
     caseText: () => {
-      const { shows, mark: entry, text } = session.reading;
-      return caseText({ ...nowTyped(), mark: session.mark, entry: shows ?? entry, text });
+      const { shown: [[by] = [], other], mark, text } = session.reading;
+      return caseText({ ...nowTyped(), mark: session.mark, entry: by && !other ? by : mark, text });
     },
   };
 }
@@ -85,7 +85,7 @@ function replaced(kind, what) {
 /** Makes the numbers of a case coarser, as the user chose, or gives a fault in words. */
 async function coarsen(kind, how) {
   const before = cellsNow(), { typed, measure, entry, doubt } = before, { paper, places } = nowTyped();
-  const what = { id: kind.id, typed: kind.pack?.(typed) ?? typed, mark: session.readMark(), how };
+  const what = { id: kind.id, typed: kind.pack?.(typed) ?? typed, mark: session.entryMark(), how };
   const { typed: changed, notes, fault } = await session.reader.ask("coarser", what);
   if (fault || session.typed !== typed) return fault;
   const next = { ...typed, ...(kind.unpack?.(changed) ?? changed) };
@@ -95,8 +95,8 @@ async function coarsen(kind, how) {
 
 /** What stands in the cells of the case that is shown. */
 function cellsNow() {
-  const { typed, measure, texts, entry, doubt } = session;
-  return { typed, measure, texts, entry, doubt };
+  const { typed, measure, texts, entry, doubt, file } = session;
+  return { typed, measure, texts, entry, doubt, file };
 }
 
 /** The same with the decimals, and what was typed below the answer. */
@@ -149,13 +149,14 @@ function begin() {
     onCase: (kind) => show(kind.id), onDocument: () => show("document"), onCheck: () => show("verify"),
   }));
   const documents = new Documents({
-    mark: () => session.mark, onLine: (text) => verify.setLine(text),
+    mark: () => session.mark, onLine: (text, from) => verify.setLine(text, from),
     onOpen: (kind, typed, settings) => {
       openCase(kind, typed, { ...settings, before: replaced(kind, "Open a document") });
     },
   });
   const verify = verifyPanel({
-    format: () => view.format(), onOpen: (text, doubt) => documents.open(text, { doubt, isChecked: true }),
+    format: () => view.format(),
+    onOpen: (text, doubt, from) => documents.open(text, { doubt, isChecked: true, from }),
     onPrint: () => paper.print("check"),
   });
   refill(at("verify-body"), verify.element);

@@ -1,15 +1,15 @@
 // The grid of a market: what each buyer gains with each seller.
 import { withEscapes } from "../game/names.js";
 import { cellInput, moveByKeys, pasteCells } from "./cells.js";
-import { button, el, refill } from "./dom.js";
+import { button, cellOf, el, refill } from "./dom.js";
 
 export function marketGrid(kind, typed, settings) {
   return new MarketGrid(kind, typed, settings).element;
 }
 
 class MarketGrid {
-  constructor(kind, typed, { onChange, readCells }) {
-    Object.assign(this, { kind, typed, onChange });
+  constructor(kind, typed, { onChange, readCells, remember }) {
+    Object.assign(this, { kind, typed, onChange, remember });
     this.holder = el("div", { class: "scroll" });
     this.tools = el("p", { class: "tools" });
     this.element = el("div", {}, this.holder, this.tools);
@@ -36,17 +36,22 @@ class MarketGrid {
   }
 
   removal(i, name) {
+    const { buyers, values } = this.typed, label = `Remove ${withEscapes(name) || `buyer ${i + 1}`}`;
     const remove = () => {
-      this.typed.buyers.splice(i, 1);
-      this.typed.values.splice(i, 1);
+      this.remember(label);
+      buyers.splice(i, 1);
+      values.splice(i, 1);
     };
-    const label = `Remove ${withEscapes(name) || `buyer ${i + 1}`}`;
-    return button("×", () => this.change(remove), { class: "remove", "aria-label": label });
+    return button("×", () => {
+      this.change(remove);
+      cellOf(this.holder, `buyers.${Math.min(i, buyers.length - 1)}`)?.focus();
+    }, { class: "remove", "aria-label": label });
   }
 
   showTools() {
     const { buyers, sellers } = this.typed, { most } = this.kind;
     const tool = (title, more, others) => button(title, () => this.change(() => {
+      if (others < 0) this.remember(title);
       this.resize(buyers.length + more, sellers.length + others);
     }), { class: "quiet" });
     refill(this.tools, buyers.length < most && tool("Add a buyer", 1, 0),

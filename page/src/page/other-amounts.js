@@ -55,7 +55,8 @@ function part({ title, hint, label, key, task, show, placeholder = "" }, { text,
 function estatesPart(view) {
   return part({
     title: "Several amounts side by side", key: "amounts", task: "estates", label: "Amounts",
-    hint: "What each would get of other estates, the claims being the same. Part them by semicolons: 500; 1 200 000.",
+    hint: "What each would get of other estates, the claims being the same. Part them by semicolons: "
+      + "500; 1\u00a0200\u00a0000.",
     show: (found) => estatesTable(found, view),
   }, view);
 }

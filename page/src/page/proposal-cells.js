@@ -1,6 +1,6 @@
 // The column of the user's proposal: its cells, its sum, and ways to fill it.
 import { Rational, ZERO } from "../exact/rational.js";
-import { decimal, fractionText, placesOf, readNumber, roundedSteps, typedText } from "../exact/decimals.js";
+import { decimal, fullText, placesOf, readNumber, roundedSteps, typedText } from "../exact/decimals.js";
 import { button, el } from "./dom.js";
 import { totalsOf } from "./format.js";
 
@@ -24,7 +24,7 @@ export function proposalSum(game, { totals }, { show, isExact }) {
   if (!totals) return "–";
   const sum = Rational.sum(totals), rest = game.whole().minus(sum);
   if (rest.isZero()) return show(sum);
-  const size = isExact(rest) ? show(rest.abs()) : fractionText(rest.abs());
+  const size = isExact(rest) ? show(rest.abs()) : fullText(rest.abs());
   return [show(sum), el("small", { class: "bad" }, rest.isNegative() ? `${size} too much` : `${size} is missing`)];
 }
 
@@ -64,5 +64,8 @@ export function proposalTools(result, { rows, proposal, format }) {
   const fill = (totals) => proposal.setAll(wholeTexts(totals, result.game.whole(), format));
   return el("p", { class: "tools fill" }, el("span", {}, "Fill your proposal with "),
     ways(result, rows).map(({ title, totals }) => button(title, () => fill(totals()), { class: "quiet" })),
-    proposal.texts.some(Boolean) && button("clear", () => proposal.setAll([]), { class: "quiet" }));
+    proposal.texts.some(Boolean) && button("clear", () => {
+      proposal.setAll([]);
+      document.querySelector('[data-cell="proposal.0"]')?.focus(); // the button is gone
+    }, { class: "quiet" }));
 }

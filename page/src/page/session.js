@@ -27,17 +27,21 @@ export class Session {
     for (const helper of [this.engine, this.checker]) helper.ask("warmUp").catch(() => 0);
   }
 
-  /** `doubt` is why the game isn't taken for the agreed one, in words. */
+  /** `doubt` is why the game isn't taken for the agreed one, in words; `file` is that which was opened: {name, digest},
+   * and `made`, the document that the page makes of it. */
   open(kind, typed, settings = {}) {
-    const { measure = "plain", texts = [], entry = this.own, doubt = "", places = kind.places ?? 2 } = settings;
-    Object.assign(this, { kind, typed, measure, texts, entry, doubt, places, mark: settings.mark ?? this.mark });
-    spoken.mark = this.mark;
+    const { measure = "plain", texts = [], entry = this.own, doubt = "", file = null } = settings;
+    const { places = kind.places ?? 2, mark = this.mark } = settings;
+    Object.assign(this, { kind, typed, measure, texts, entry, doubt, places, mark });
+    spoken.mark = mark;
     Object.assign(this, { reading: null, result: null, judged: {}, proposal: proposalOf([], [], entry) });
     this.changed(0);
+    this.file = file;
   }
 
-  /** Something was typed, or chosen, that changes the game. */
+  /** Something was typed, or chosen, that changes the game. Before it was read it was no more that of its file. */
   changed(wait = WAIT) {
+    if (!this.file?.made) this.file = null;
     this.turn += 1;
     this.isStale = true;
     this.on.stale();
@@ -58,9 +62,14 @@ export class Session {
     this.changed(0);
   }
 
-  /** The mark by which the cells were read. */
+  /** The mark by which numbers beside the cells are read. */
   readMark() {
-    return this.reading?.mark ?? this.entry;
+    return this.reading?.mark ?? this.own;
+  }
+
+  /** How the cells were read: that mark, or what the user chose in its place for those that can be read both ways. */
+  entryMark() {
+    return this.reading?.entry ?? this.entry;
   }
 
   setMeasure(measure) {
@@ -85,6 +94,7 @@ export class Session {
       const reading = await engine("readCase", { id: kind.id, typed, mark, measure });
       if (!isMine()) return;
       this.reading = reading;
+      if (this.file) this.file.made ??= reading.text;
       this.judged = {};
       this.on.read();
       if (reading.isRight) await this.ask(engine, checker, isMine);

@@ -2,7 +2,7 @@
 import { Rational } from "../exact/rational.js";
 import { fractionText } from "../exact/decimals.js";
 import { listed, Namer, plural } from "../tell/words.js";
-import { comparisonOf } from "./comparison.js";
+import { againstOf, comparisonOf } from "./comparison.js";
 import { el } from "./dom.js";
 import { MOVED, totalsOf } from "./format.js";
 import { meanings, subtitleOf } from "./meanings.js";
@@ -16,7 +16,10 @@ export function sharesTable(result, settings) {
   const { game, points } = result, { rows, format, proposal } = settings;
   const context = contextOf(game, rows, format);
   const columns = points.map((point) => ({ ...point, texts: format.column(totalsOf(rows, point.shares)) }));
-  const hasHolds = points.some(({ hold }) => hold), view = { ...settings, game, context, columns };
+  const against = againstOf(points[0], rows, proposal, format), isNarrow = settings.wide < NARROW;
+  const span = columns.length + (proposal.canBe ? 1 : 0) + (against ? 1 : 0);
+  const view = { ...settings, game, context, columns, against, isNarrow, span };
+  const hasHolds = points.some(({ hold }) => hold);
   const kinds = ["shares", proposal.totals ? "" : "unproposed", rows.length <= BRIEF ? "brief" : ""];
   return el("div", {},
     el("div", { class: "scroll" }, el("table", { class: kinds.filter(Boolean).join(" ") },
@@ -37,24 +40,35 @@ function sameAs(points, shares) {
     `Your proposal is just what stands under ${listed(same.map(({ title }) => `“${title}”`))}.`);
 }
 
-function headOf({ game, context, columns, proposal }) {
+/** A row with its name in front; on a narrow page above it, where no number that is scrolled goes behind it. */
+function named({ isNarrow, span }, kind, name, cells) {
+  if (!isNarrow) return el("tr", { class: kind }, el("th", { scope: "row" }, name), cells);
+  return [
+    el("tr", { class: `above ${kind}` }, el("th", { scope: "rowgroup", colspan: String(span) }, el("span", {}, name))),
+    el("tr", { class: kind }, cells),
+  ];
+}
+
+function headOf({ game, context, columns, proposal, against, isNarrow }) {
   const column = ({ key, title }) => el("th", { scope: "col", class: "number", "data-point": key },
     title, el("small", {}, subtitleOf(key, game)));
   return el("thead", {}, el("tr", {},
-    el("th", { scope: "col" }, game.costs ? "Who pays" : "Who gets"),
+    !isNarrow && el("th", { scope: "col" }, game.costs ? "Who pays" : "Who gets"),
     context && el("th", { scope: "col", class: "number context" }, context.title),
     columns.map(column),
     proposal.canBe && el("th", { scope: "col", class: "number proposed", "data-point": "proposal" },
-      "Your proposal", el("small", {}, subtitleOf("proposal", game)))));
+      "Your proposal", el("small", {}, subtitleOf("proposal", game))),
+    against && el("th", { scope: "col", class: "number against" }, against.title)));
 }
 
-function shareRow({ row, r }, { context, columns, format, proposal }) {
-  const count = row.players.length;
-  return el("tr", {},
-    el("th", { scope: "row" }, row.label, count > 1 && el("small", {}, plural(count, "landing"))),
+function shareRow({ row, r }, view) {
+  const { context, columns, format, proposal, against } = view, count = row.players.length;
+  return named(view, "", [row.label, count > 1 && el("small", {}, plural(count, "landing"))], [
     context && el("td", { class: "number context" }, context.texts[r]),
     columns.map(({ texts, shares }) => shareCell(texts[r], shares[row.players[0]], count, format)),
-    proposal.canBe && el("td", { class: "number proposed" }, proposalInput(row, r, proposal)));
+    proposal.canBe && el("td", { class: "number proposed" }, proposalInput(row, r, proposal)),
+    against && el("td", { class: "number against" }, against.texts[r]),
+  ]);
 }
 
 function shareCell(text, share, count, format) {
@@ -73,40 +87,48 @@ function linesOf(rows) {
   });
 }
 
-function sumRow({ sum, of }, { rows, context, columns, format, proposal }) {
+function sumRow({ sum, of }, view) {
+  const { rows, context, columns, format, proposal, against } = view;
   const cells = columns.map(({ shares }) => {
     const exact = Rational.sum(totalsOf(of.map((r) => rows[r]), shares));
     return shareCell(format.show(exact), exact, 1, format);
   });
-  return el("tr", { class: "subtotal" }, el("th", { scope: "row" }, `${sum}, together`),
-    context && el("td", { class: "context" }), cells, proposal.canBe && el("td", { class: "proposed" }));
+  return named(view, "subtotal", `${sum}, together`, [context && el("td", { class: "context" }), cells,
+    proposal.canBe && el("td", { class: "proposed" }), against && el("td")]);
 }
 
-function footOf({ game, context, columns, format, proposal, wide }, hasHolds) {
-  const blank = context && el("td", { class: "context" });
-  const sum = el("tr", { class: "sum" }, el("th", { scope: "row" }, "together"), blank,
+function footOf(view, hasHolds) {
+  const { game, context, columns, format, proposal, against } = view;
+  const sum = named(view, "sum", "together", [
+    context && el("td", { class: "number context" }, context.sum),
     columns.map(({ texts }) => el("td", { class: "number" }, texts.at(-1))),
-    proposal.canBe && el("td", { class: "number proposed" }, proposalSum(game, proposal, format)));
-  // on a narrow page the question stands above its answers, since a column has room for a word alone
-  const isNarrow = wide < NARROW, span = columns.length + 1 + (proposal.canBe ? 1 : 0);
-  const asked = (title, told, own) => [
-    isNarrow && el("tr", { class: "question" }, el("th", { scope: "rowgroup", colspan: String(span) }, title)),
-    el("tr", { class: "verdict" }, el("th", { scope: "row" }, isNarrow ? "" : title),
-      blank && el("td", { class: "context" }), columns.map((point) => el("td", { class: "number" }, told(point))),
-      proposal.canBe && el("td", { class: "number proposed", role: "status" }, proposal.shares ? told(own) : "–")),
-  ];
+    proposal.canBe && el("td", { class: "number proposed" }, proposalSum(game, proposal, format)),
+    against && el("td", { class: "number against" }, against.texts.at(-1)),
+  ]);
+  const asked = (title, told, own) => named(view, "verdict", title, [
+    context && el("td", { class: "context" }), columns.map((point) => el("td", { class: "number" }, told(point))),
+    proposal.canBe && el("td", { class: "number proposed", colspan: against ? "2" : false, role: "status" },
+      proposal.shares ? told(own) : "–"),
+  ]);
   const isJudged = columns.some(({ verdict }) => verdict !== null);
   return el("tfoot", {}, sum,
     isJudged && asked("Can a group do better by itself?", (one) => verdictText(game, one.verdict, format), proposal),
     hasHolds && asked("Has one a stronger hold on another?", (one) => holdText(game, one.hold, format), proposal));
 }
 
-/** What is known of each beside the shares. */
-function contextOf(game, rows, { show }) {
+/** What is known of each beside the shares, and its sum where one may add it up. */
+export function contextOf(game, rows, { show, column }) {
   if (game.isMarket()) return null;
   const of = (values, title) => ({ title, texts: rows.map(({ players: [i] }) => show(values[i])) });
-  if (game.ballots) return { title: "Votes", texts: rows.map(({ players: [i] }) => String(game.ballots[0].votes[i])) };
-  if (game.kind === "bankruptcy") return of(game.amounts, "Claim");
+  const votes = game.ballots?.[0].votes;
+  if (votes) {
+    const texts = rows.map(({ players: [i] }) => String(votes[i]));
+    return { title: "Votes", texts, sum: String(Rational.sum(votes)) };
+  }
+  if (game.kind === "bankruptcy") {
+    const texts = column(rows.map(({ players: [i] }) => game.amounts[i]));
+    return { title: "Claim", texts, sum: texts.at(-1) };
+  }
   if (game.kind === "airport") return of(game.amounts, "A landing needs");
   return of(game.own, game.costs ? "Costs alone" : "Worth alone");
 }
@@ -135,7 +157,7 @@ function holdText(game, hold, { show }) {
   if (hold === null) return "–";
   if (hold.isEven) return "No";
   const [strong, weak] = [hold.strong, hold.weak].map((i) => game.shown[i]);
-  return `Yes: ${strong} on ${weak}, by ${show(hold.by)}`;
+  return `Yes, for example ${strong} on ${weak}, by ${show(hold.by)}`;
 }
 
 /** The table for a spreadsheet: tabs between, plain decimals, and the exact fractions beside them. */

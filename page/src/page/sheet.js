@@ -13,8 +13,10 @@ import { el, refill } from "./dom.js";
 import { knownDigest } from "./files.js";
 import { filledLines, filledText } from "./filled.js";
 import { formatOf, MOVED, totalsOf } from "./format.js";
+import { contextOf } from "./shares-table.js";
 
 const WIDE = 700;
+const PAPER_WIDE = 176; // millimetres of A4 between the margins
 const MOST_PICTURED = 10; // rows whose bars leave room for the rest
 const MOST_ROWS = 18; // of one table; more stand in two, side by side
 const MANY_ROWS = 5; // above, letters are smaller, and a picture is lower
@@ -24,7 +26,9 @@ const MOST_LEVELS = 1100; // characters of what the levels behind the first sett
 const MOST_DOCUMENT = 420; // characters of the game's document that are printed
 const MOST_ALONE = 900; // the same where there is no picture
 
-const OPEN = "Open the page coop.html of the project";
+const OPEN = "Open coop.html from the project’s repository, at the commit named below (whoever sends this has to give "
+  + "you its address)";
+const TYPE_IN = " Or simply type the numbers into that page: the answer has to be the same.";
 const AREA = "The dark area, where there is one: the divisions by which no group does better by itself.";
 const POWER = "Power is in what part of all orders of joining a voter is the one by whom the votes suffice (Shapley "
   + "and Shubik 1954).";
@@ -75,7 +79,8 @@ function answerOf(view) {
     el("td", { class: "number strong" }, texts[r]),
     hasExact && el("td", { class: "number" }, format.isExact(totals[r]) ? "" : fractionText(totals[r])),
     others.map((other) => el("td", { class: "number" }, other.texts[r])));
-  const sum = el("tr", { class: "sum" }, el("th", { scope: "row" }, "together"), context && el("td"),
+  const sum = el("tr", { class: "sum" }, el("th", { scope: "row" }, "together"),
+    context && el("td", { class: "number" }, context.sum),
     el("td", { class: "number strong" }, texts.at(-1)), hasExact && el("td"),
     others.map((other) => el("td", { class: "number" }, other.texts.at(-1))));
   return el("section", {},
@@ -127,21 +132,13 @@ function halves(count, heads, line, sum) {
   return el("div", { class: "halves" }, tables);
 }
 
-function contextOf(game, rows, { show }) {
-  const of = (title, values) => ({ title, texts: rows.map(({ players: [i] }) => show(values[i])) });
-  if (game.ballots) return { title: "Votes", texts: rows.map(({ players: [i] }) => String(game.ballots[0].votes[i])) };
-  if (game.isMarket()) return undefined;
-  if (game.kind === "bankruptcy") return of("Claim", game.amounts);
-  if (game.kind === "airport") return of("A landing needs", game.amounts);
-  return of(game.costs ? "Costs alone" : "Worth alone", game.own);
-}
-
 // ---- The picture
 
 function pictureOf({ result, rows, format, ...session }) {
   const { game, points, bird } = result, solution = solutionOf(result), few = rows.length <= MOST_PICTURED;
   const settings = { ...format, wide: WIDE, source: sourceName(session.typed) };
-  const holder = (drawn, said) => el("figure", {}, drawn, said && el("figcaption", { class: "hint" }, said));
+  const holder = (drawn, said) => el("figure", { style: `--high: ${highOf(drawn)}mm` }, drawn,
+    said && el("figcaption", { class: "hint" }, said));
   if (game.ballots) return few ? holder(powerOf(game, points, format)) : null;
   if (result.matching) {
     const deals = dealsOf(game, result.matching, solution);
@@ -151,6 +148,12 @@ function pictureOf({ result, rows, format, ...session }) {
   if (bird && few) return holder(planPicture(game, bird.tree, settings));
   if (game.n === 3) return holder(trianglePicture(game, [solution], settings).drawn, AREA);
   return few ? holder(barsPicture(game, rows, [solution], settings), filledLines(session, rows)) : null;
+}
+
+/** How high a picture is on paper, across the whole page. */
+function highOf(drawn) {
+  const [, , wide, high] = drawn.getAttribute("viewBox").split(" ").map(Number);
+  return Math.round((PAPER_WIDE * high) / wide);
 }
 
 function powerOf(game, points, { show }) {
@@ -204,13 +207,19 @@ function toldOf({ sentences, items, last = "" }) {
 
 // ---- What is agreed on, and how to check it
 
-function agreedOf({ result: { text }, rows, kind, typed, doubt, fills }) {
+/** The numbers by the file that was opened, while they are its own; else by that which the page writes of them. */
+function numbersOf({ file, kind, result: { text } }) {
+  const isOpened = file?.made === text, digest = isOpened ? file.digest : knownDigest(`${text}\n`);
+  const sum = el("span", { class: "digest" }, digest ?? "(this browser works out none)");
+  if (isOpened) return [`The numbers of the game, as they stand in ${file.name}: its SHA-256 is `, sum, "."];
+  return [`The numbers of the game, as this page writes them in a file of its own, ${kind.id}-game.json: its `,
+    "SHA-256 is ", sum, ".", file && ` Numbers were changed since ${file.name} was opened.`];
+}
+
+function agreedOf(view) {
+  const { result: { text }, rows, doubt, fills } = view, filled = filledText(view);
   const isShort = text.length <= (rows.length > MOST_PICTURED ? MOST_ALONE : MOST_DOCUMENT);
-  const digest = knownDigest(`${text}\n`) ?? "(this browser works out none)", filled = filledText({ kind, typed });
-  const file = `${kind.id}-game.json`, sum = el("span", { class: "digest" }, digest);
-  const what = el("p", {}, `The numbers of the game, as they stand in ${file}. As this page writes that file, its `,
-    "SHA-256 is ", sum, ".", filled && ` ${filled}`,
-    fills?.text === text && ` ${fills.sentence}`);
+  const what = el("p", {}, numbersOf(view), filled && ` ${filled}`, fills?.text === text && ` ${fills.sentence}`);
   return el("section", {}, el("h2", {}, doubt ? "Not agreed on" : "What is agreed on"),
     doubt && el("p", {}, doubt), what,
     isShort ? el("p", { class: "document" }, text)
@@ -228,5 +237,6 @@ function checkOf({ result: { rule, answer, line, game }, kind, doubt }) {
       + `Two checkers, apart from each other, say whether these shares are the ${rule} of the agreed game. `
       + "It goes by hand, too: the page lists the eight conditions under “What a yes means”."
     : `${OPEN}, choose “Open or paste a document”, and give it the agreed file: it works the answer out anew.`;
-  return el("section", {}, el("h2", {}, "How to check it"), el("p", {}, steps), el("p", { class: "hint" }, foot));
+  return el("section", {}, el("h2", {}, "How to check it"), el("p", {}, steps, TYPE_IN),
+    el("p", { class: "hint" }, foot));
 }

@@ -1,6 +1,11 @@
 // What the words of the checkers come to, and what is told of a line beside them.
+import { Rational } from "../exact/rational.js";
+import { fractionText } from "../exact/decimals.js";
 import { ruleName } from "../tell/rule-names.js";
+import { listed } from "../tell/words.js";
 import { button, el } from "./dom.js";
+
+const MOST_NAMED = 12; // whose shares are others than they should be
 
 const lead = (sentence) => el("p", { class: "lead" }, sentence);
 
@@ -27,9 +32,35 @@ export function twice({ doubles = [] }) {
     "shown here. Don’t go by the text itself, and ask for one in which each key stands once.");
 }
 
+/** That nothing is checked, since a file can't be taken; `onWithout` checks the line without the agreed one. */
+export function notTaken(fault, onWithout) {
+  return [
+    lead("Nothing is checked."), el("p", { class: "notice bad", role: "alert" }, fault),
+    onWithout && el("p", { class: "tools" }, button("Check the line without an agreed file", onWithout)),
+  ];
+}
+
 /** What has to be told of the names. */
 export function nameRemarks({ remarks = [] }) {
   return remarks.length > 0 && el("div", { class: "notice" }, remarks.slice(0, 12).map((one) => el("p", {}, one)));
+}
+
+/** Who has too much by the line and who too little, where the program finds other shares for its game; or that it finds
+ * the same. `found` is its answer. */
+export function besideRight({ answer, bare }, game, found, format) {
+  if (!found?.tree?.shares) return null;
+  const rule = ruleName(answer, game.perHead), verb = game.costs ? "pays" : "gets";
+  const by = bare.shares.map((share, i) => Rational.of(share).minus(Rational.of(found.tree.shares[i])));
+  const told = by.map((more, i) => {
+    const size = format.show(more.abs()), exact = format.isExact(more) ? "" : ` (${fractionText(more.abs())})`;
+    return !more.isZero() && `${game.shown[i]} ${verb} ${size}${exact} too ${more.isNegative() ? "little" : "much"}`;
+  }).filter(Boolean);
+  const others = told.splice(MOST_NAMED).length;
+  return el("p", { class: "notice" }, told.length
+    ? `Beside the ${rule} of this game, worked out anew by the program: `
+      + `${listed(others ? [...told, `${others} others have other shares, too`] : told)}.`
+    : `The program, asked anew for the ${rule} of this game, finds these shares all the same. It is the certificate `
+      + "that doesn’t show it.");
 }
 
 /** The two checkers never disagree, as far as anybody knows; if they do, somebody should hear of it. */

@@ -5,43 +5,49 @@ import { ruleName } from "../tell/rule-names.js";
 import { button, el, refill } from "./dom.js";
 import { anewWord, programWord, wordLine } from "./evidence.js";
 import { fingerprint } from "./files.js";
+import { givenParts } from "./given.js";
 import { Helper } from "./helper.js";
 import { lineTable } from "./line-table.js";
 import { settled } from "./questions.js";
 import { textPlace } from "./text-place.js";
 import { meaning } from "./trust.js";
-import { bareText, conclusion, disagreement, nameRemarks, twice, unreadable } from "./verdict.js";
+import {
+  bareText, besideRight, conclusion, disagreement, nameRemarks, notTaken, twice, unreadable,
+} from "./verdict.js";
 
 const NO_FILE = "No file of the game is given, so nobody can say. A certificate shows that shares are right for its "
   + "own game.";
 const NOT_AGREED = "This game came with a line, and isn’t the agreed game. Nothing on this page is agreed on.";
 const NOT_RIGHT = "This game came with a line that doesn’t show that its shares are right. The shares below are worked "
   + "out anew.";
-const ASKED = ["nucleolus", "prenucleolus", "shapley", "bird"]; // what the program can find anew
+const RULES = ["nucleolus", "prenucleolus"];
+const ASKED = [...RULES, "shapley", "bird"]; // what the program can find anew
 
-/** `onOpen(text, doubt)` opens a game as a case; `format()` says how numbers are shown; `onPrint()` prints all this. */
+/** `onOpen(text, doubt, from)` opens a game as a case; `format()` says how numbers are shown; `onPrint()` prints all
+ * this. */
 export function verifyPanel({ format, onOpen, onPrint }) {
   const panel = new VerifyPanel(format, onOpen, onPrint);
   return {
     element: panel.element,
-    setLine: (text) => panel.line !== text && panel.ofLine.setText(text),
+    setLine: (text, from) => panel.ofLine.setText(text, from),
   };
 }
 
 class VerifyPanel {
   constructor(format, onOpen, onPrint) {
     Object.assign(this, { format, onOpen, onPrint, line: "", agreed: "", turn: 0 });
+    this.from = { ofLine: {}, ofGame: {} }; // where the two texts come from
     this.helpers = [new Helper(), new Helper()];
     this.answers = el("div", { class: "answers", "aria-live": "polite" });
     this.means = el("div", {}, meaning());
     this.ofLine = textPlace({
       title: "The line to check", hint: "What the program printed, or this page saved: an answer with its certificate.",
-      onText: (text) => this.check({ line: text }),
+      onText: (text, from) => this.check({ line: text, from: { ...this.from, ofLine: from } }),
     });
     this.ofGame = textPlace({
       title: "The game that was agreed on",
       hint: "The file that all agreed on before anyone knew an answer. It may be left out.",
-      onText: (text) => this.check({ agreed: text }),
+      onText: (text, from) => this.check({ agreed: text, from: { ...this.from, ofGame: from } }),
     });
     const places = el("div", { class: "places screen" }, this.ofLine, this.ofGame);
     this.element = el("div", {}, places, this.answers, this.means);
@@ -51,12 +57,13 @@ class VerifyPanel {
     Object.assign(this, given);
     const mine = (this.turn += 1), isMine = () => mine === this.turn, { line, agreed } = this;
     for (const helper of this.helpers) helper.stop();
+    if (this.tellNotTaken()) return undefined;
     const hint = agreed.trim() && el("p", { class: "hint" }, "Give the line to check, too.");
     if (!line.trim()) return refill(this.answers, hint);
     try {
       const seen = await this.helpers[0].ask("lookAtLine", { line, agreed });
       if (!isMine()) return undefined;
-      this.sums = agreed.trim() ? this.sumsOf(agreed, seen, isMine) : null;
+      this.sums = this.sumsOf(agreed, seen, isMine);
       const game = seen.facts ? new Facts(seen.facts) : null, found = {};
       refill(this.means, meaning(seen.answer, game?.perHead));
       if (!seen.fault && !seen.hasCertificate) return await this.askBare(seen, game, isMine);
@@ -79,6 +86,17 @@ class VerifyPanel {
       asked("program", engine.ask("solve", { word: "check", document }).then(ended)),
       asked("anew", checker.ask("checkAnew", { document })),
     ]);
+    if (isMine()) await this.askRight(seen, game, found, isMine);
+  }
+
+  /** Where a checker says no the program is asked for the shares of the game, if it may be the agreed one. */
+  async askRight(seen, game, found, isMine) {
+    const { bare, answer, same } = seen, isYes = (word) => word.tree?.answer === "yes";
+    const isOpen = bare?.isOwn && RULES.includes(answer) && same?.isYes !== false;
+    if (!isOpen || (isYes(found.program) && isYes(found.anew))) return;
+    const [engine] = this.helpers;
+    found.right = await settled(engine.ask("solve", { word: answer, document: bare.text }).then(ended));
+    if (isMine()) this.show(seen, game, found);
   }
 
   /** Without a certificate the program is asked for the answer anew, where the game and the question are known. */
@@ -91,9 +109,18 @@ class VerifyPanel {
     if (isMine()) this.showBare(seen, game, found);
   }
 
-  /** By which sum the agreed file can be compared: that of what was given, and that which the page's paper names. */
+  /** A file that can't be taken leaves no word of the one before. */
+  tellNotTaken() {
+    const { ofLine, ofGame } = this.from;
+    const onWithout = !ofLine.fault && this.line.trim() && (() => this.ofGame.setText(""));
+    const fault = ofLine.fault ?? ofGame.fault;
+    if (fault) refill(this.answers, notTaken(fault, onWithout));
+    return fault;
+  }
+
+  /** By which sums the two files can be compared: those of what was given, and that which the page's paper names. */
   sumsOf(agreed, { file }, isMine) {
-    const place = el("div", {}, fingerprint(agreed, "The agreed file, as it was given, has the SHA-256 "));
+    const place = el("div", {}, givenParts(this, this.from));
     const made = file?.isGame ? this.helpers[1].ask("standardText", { text: agreed }) : Promise.resolve(null);
     made.then((text) => {
       if (!isMine() || !text || text === agreed) return;
@@ -116,14 +143,21 @@ class VerifyPanel {
     const same = this.sameWord(seen);
     const words = [same, ...(seen.fault ? [] : [programWord(found.program, game), anewWord(found.anew, game)])];
     refill(this.answers, conclusion(words, seen, game), twice(seen),
-      seen.fault && unreadable(seen, (text) => this.ofLine.setText(text)),
+      seen.fault && unreadable(seen, (text) => this.mend(text)),
       (!seen.fault || same.isGiven) && el("ul", { class: "words" }, words.map(wordLine)),
-      disagreement(found), nameRemarks(seen), lineTable(seen, game, this.format()), this.sums,
-      this.tools(seen, game, same, words));
+      disagreement(found), besideRight(seen, game, found.right, this.format()), nameRemarks(seen),
+      lineTable(seen, game, this.format()), this.sums, this.tools(seen, game, same, words));
+  }
+
+  /** The line without what a mail program added; what was given stays known, for its sum. */
+  mend(text) {
+    const { ofLine } = this.from;
+    this.ofLine.setText(text, { ...ofLine, given: ofLine.given ?? this.line });
   }
 
   agreedButton({ file }, { isYes }) {
-    return file?.isGame && button("Open the agreed game, with the reasons", () => this.onOpen(this.agreed), {
+    const open = () => this.onOpen(this.agreed, "", this.from.ofGame);
+    return file?.isGame && button("Open the agreed game, with the reasons", open, {
       class: isYes === false ? "" : "quiet",
     });
   }
@@ -157,10 +191,10 @@ class VerifyPanel {
   }
 
   turnRound() {
-    const { line, agreed } = this;
+    const { line, agreed, from: { ofLine, ofGame } } = this;
     this.agreed = line;
-    this.ofGame.setText(line);
-    this.ofLine.setText(agreed);
+    this.ofGame.setText(line, ofLine);
+    this.ofLine.setText(agreed, ofGame);
   }
 
   /** What the program finds anew for the question of a line without a certificate. */

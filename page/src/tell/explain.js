@@ -98,7 +98,7 @@ class Explainer {
     if (excess.isZero()) return `Both groups ${this.get} just what they ${alone} by themselves.`;
     const isBetter = excess.isNegative();
     const more = isBetter === this.game.costs ? "less" : "more";
-    return `Both groups ${this.get} ${shortText(excess.abs())}${this.perHead} ${more} than by themselves.`;
+    return `Both groups ${this.get} ${fullText(excess.abs())}${this.perHead} ${more} than by themselves.`;
   }
 
   // ---- One level
@@ -123,7 +123,7 @@ class Explainer {
         `Just that: ${groups}.`,
       ];
     }
-    const more = `${shortText(e.abs())} ${e.isNegative() === this.game.costs ? "less" : "more"}`;
+    const more = `${fullText(e.abs())} ${e.isNegative() === this.game.costs ? "less" : "more"}`;
     const perHead = this.perHead ? `,${this.perHead},` : "";
     return [
       `${who} ${this.gets}${perHead} at ${e.isNegative() ? "least" : "most"} ${more} than it ${alone}.`,

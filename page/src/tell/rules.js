@@ -59,7 +59,7 @@ function runwayStep(game, namer, { who, part, done, paid }, before) {
   if (isLast) sentences.push(several ? "They share it equally." : "The last pays it.");
   else if (count === 2) sentences.push("Half of it is paid, and half is saved.");
   else sentences.push(`Each pays one of ${count} parts, and one part is saved.`);
-  const more = before && before.part.less(part) ? `, ${shortText(part.minus(before.part))} more than those before` : "";
+  const more = before && before.part.less(part) ? `, ${fullText(part.minus(before.part))} more than those before` : "";
   return {
     label: `${namer.players(who)} ${several ? "pay" : "pays"} ${fullText(part)}${several ? " each" : ""}${more}.`,
     text: sentences.join(" "),
@@ -103,7 +103,7 @@ function estateRule(game, shares, namer) {
     ...(isCut ? [`A claim above the estate counts as the estate, ${shortText(estate)}.`] : []),
     `The claims add to ${shortText(total)}, and half of that is ${shortText(half)}.`,
     `The estate of ${shortText(estate)} is ${isLacking ? "more" : "no more"} than that.`,
-    `So each ${verb} half of its claim${isCapped.includes(true) ? `, but at most ${shortText(t)}` : ""}.`,
+    `So each ${verb} half of its claim${isCapped.includes(true) ? `, but at most ${fullText(t)}` : ""}.`,
     ...greatestText(parts, isCapped, t, amount),
     `Together that is ${isLacking ? `the ${shortText(amount)} that the estate lacks` : shortText(amount)}.`,
   ];

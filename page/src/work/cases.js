@@ -19,10 +19,9 @@ const MOST_BYTES = 2097152;
 /** What the cells say: the rows of the answer, what is wrong, and, where nothing is, the document and its facts. */
 export function readCase({ id, typed, mark, measure }) {
   const { reading, rows, tree, ballots } = readByOneMark(caseNamed(id), typed, mark);
-  const { faults, count, empty, doubts, doubted, notes, isTooFine = false } = reading;
+  const { faults, count, empty, notes, isTooFine = false } = reading;
   const read = {
-    rows, faults, count, empty, doubts, doubted, notes, isTooFine, mark: reading.mark, shows: reading.settles(),
-    isRight: reading.isRight(),
+    rows, faults, count, empty, notes, isTooFine, isRight: reading.isRight(), ...marksOf(reading),
   };
   if (!read.isRight) return read;
   const players = rows.reduce((sum, row) => sum + row.players.length, 0), isMeasured = measure === "per-head";
@@ -31,13 +30,21 @@ export function readCase({ id, typed, mark, measure }) {
   return { ...read, text: writeJson({ game }), facts: factsOf(new Game(game), ballots) };
 }
 
-/** All cells are read by one mark: where some show which, that one settles those that can be read both ways. */
+/** All cells are read by one mark: where some show which, that one settles those that can be read both ways, unless the
+ * user chose how these are read, by a `mark` of none or of both. */
 function readByOneMark(kind, typed, mark) {
   const first = kind.read(typed, mark), settled = first.reading.settles();
-  if (!first.reading.doubted || settled === null) return first;
-  const read = settled === mark ? first : kind.read(typed, settled);
-  Object.assign(read.reading, { doubts: [], doubted: 0 });
-  return read;
+  const isSettled = first.reading.doubts.size > 0 && settled !== null && isOne(mark);
+  return isSettled && settled !== mark ? kind.read(typed, settled) : first;
+}
+
+const isOne = (mark) => mark.length === 1;
+
+/** By which mark the numbers were read (`entry`; `mark` where one is needed to write them), which of them could be read
+ * otherwise, and which show the mark. */
+function marksOf(reading) {
+  const { mark: entry, doubts, shown } = reading, mark = isOne(entry) ? entry : reading.settles() ?? ".";
+  return { entry, mark, doubts: [...doubts.values()], shown: [...shown.entries()] };
 }
 
 /** The rows of what was pasted. */

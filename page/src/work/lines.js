@@ -21,7 +21,7 @@ export function lookAtLine({ line, agreed }) {
     hasCertificate, isRefusal: "refused" in tree || "usage" in tree,
     facts: game && factsOf(game), shares: shares?.map(String) ?? null,
     remarks: game?.named ? remarksOf(game.names) : [],
-    bare: hasCertificate ? null : bareOf(tree, game, other),
+    bare: bareOf(tree, game, other),
   };
 }
 
@@ -29,7 +29,7 @@ function helpOf(line) {
   return { help: unreadable(line), mended: mended(line) };
 }
 
-/** Of a line without a certificate: its shares as texts, and the game of which they may be, its own or the agreed. */
+/** For asking the program anew: the shares as texts, and the game of which they may be, its own or the agreed. */
 function bareOf({ shares }, own, agreed) {
   const game = own ?? agreed?.game, listed = Array.isArray(shares) ? shares.map(shareOf) : [];
   if (!game || listed.length !== game.n || !listed.every(Boolean)) return null;

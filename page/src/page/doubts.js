@@ -1,0 +1,49 @@
+// What is said where numbers can be read in two ways, or show two marks, and the buttons that read them otherwise.
+import { Rational } from "../exact/rational.js";
+import { readNumber, typedText } from "../exact/decimals.js";
+import { withEscapes } from "../game/names.js";
+import { listed } from "../tell/words.js";
+import { button, el } from "./dom.js";
+
+const NAMES = { ".": "point", ",": "comma" };
+const OTHER = { ".": ",", ",": "." };
+const BY = { whole: "", decimals: ".," }; // how all are read, whatever the others show, where the user chose it
+
+const quoted = (typed) => `“${withEscapes(typed.trim())}”`;
+
+/** The notes for what was read; `setEntry(mark)` reads the case anew. No number is read in one of two ways in silence.
+ * */
+export function doubtNotes({ doubts, entry, mark, shown }, { setEntry }) {
+  const [[, one] = [], [, two] = []] = shown, isClash = shown.length > 1;
+  const clash = isClash && el("p", { class: "note" }, `In ${quoted(one)} and ${quoted(two)} the point and the comma `,
+    "change places. Each of the two can be read in one way only, so it is read as it shows.");
+  if (!doubts.length) return clash;
+  const proof = isClash ? undefined : one, isChosen = entry.length !== 1;
+  const why = isChosen ? "as you chose" : `${proof ? `${quoted(proof)} shows that ` : ""}the ${NAMES[mark]} stands in `
+    + "front of decimals";
+  const read = listed(doubts.map((doubt) => readAs(doubt, mark, doubts.length)));
+  const [{ count }] = doubts, isMany = doubts.length === 1 && count > 1;
+  const more = isMany ? ` So are the ${count} numbers here that can be read in two ways.` : "";
+  return [clash, el("p", { class: "note" }, `${read}${isChosen ? ", " : ": "}${why}.${more} `,
+    waysOut({ doubts, mark, proof, isChosen }, setEntry))];
+}
+
+/** Of several kinds of readings each says how many are like it. */
+function readAs({ typed, value: text, how, count }, mark, kinds) {
+  const value = Rational.of(text), like = kinds > 1 && count > 1 ? ` (as ${count - 1} more)` : "";
+  const number = how === "whole" ? `the whole number ${value}` : `${typedText(value, mark)}, with decimals`;
+  return `${quoted(typed)}${like} is read as ${number}`;
+}
+
+/** Where nothing shows the mark the other may be it; else those that are read with decimals are the odd ones. */
+function waysOut({ doubts, mark, proof, isChosen }, setEntry) {
+  const way = (title, by) => button(title, () => setEntry(by), { class: "quiet" });
+  if (isChosen) return [way("Read them by one mark again", mark)];
+  const odd = doubts.find(({ how }) => how === "decimals") ?? doubts[0];
+  const how = odd.how === "decimals" ? "whole" : "decimals", { value } = readNumber(odd.typed, BY[how]);
+  const others = odd.count > 1 ? ", and all like it" : "";
+  return [
+    !proof && way(`Let the ${NAMES[OTHER[mark]]} do so`, OTHER[mark]),
+    (proof || doubts.length > 1) && way(`Read ${quoted(odd.typed)} as ${typedText(value, mark)}${others}`, BY[how]),
+  ];
+}
