@@ -61,15 +61,15 @@ function nameOf(path) {
   return names.get(path);
 }
 
-/** Code without what is for the readers of its sources alone: comments in lines of their own, and indentation. Where a
- * template runs over lines, blanks may be text: these lines stay as they are. */
+/** Code without what is for the readers of its sources alone: comments in lines of their own, indentation, and empty
+ * lines. Where a template runs over lines, blanks may be text: these lines stay as they are. */
 function bare(code) {
   const lines = code.replace(/^ *\/\*\*[\s\S]*?\*\/\n/gm, "").replace(/^ *\/\/.*\n/gm, "").split("\n");
   let isOpen = false; // whether a template runs over the end of the line before
-  return lines.map((line) => {
-    const isText = isOpen;
+  return lines.flatMap((line) => {
+    const isText = isOpen, bared = isText ? line : line.trimStart();
     if (line.split("`").length % 2 === 0) isOpen = !isOpen;
-    return isText ? line : line.trimStart();
+    return isText || bared ? [bared] : [];
   }).join("\n");
 }
 
