@@ -56,7 +56,7 @@ export function filledOf(kind, names, tree) {
   if (tree === undefined) return {};
   const key = kind.isTable ? "groups" : "links", list = Array.isArray(tree[key]) ? tree[key] : [null];
   const isRight = !kind.isTable && !kind.isNetwork ? () => false : kind.isTable ? isGroup : isLink;
-  const wrong = list.findIndex((one) => !Array.isArray(one) || !isRight(one, BigInt(names.length)));
+  const wrong = list.findIndex((one) => !Array.isArray(one) || !isRight(one, BigInt(names?.length ?? 0)));
   if (wrong >= 0) return { fault: spoilt(`filled, ${key}, item ${wrong + 1}`) };
   if (kind.isNetwork) return { filled: Object.fromEntries(list.map(([i, j, how]) => [`${i}-${j}`, how])) };
   const how = tree.how === "larger" && kind.isCost ? "larger" : "split";

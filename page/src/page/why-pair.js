@@ -38,19 +38,18 @@ function sentencesOf({ alone, holds }, two, { game, solution, format: { show } }
   const per = perHead ? " per member" : "", verb = costs ? "pays" : "gets", has = costs ? "costs" : "has";
   const gain = (value) => `${show(value.abs())}${per} ${value.isNegative() ? "lost" : "gained"}`;
   const group = ({ group: members }) => namer.group(members).replace(/ together$/, "");
-  const own = ([share, value]) => {
+  const own = (share, value) => {
     const gained = costs ? value.minus(share) : share.minus(value);
     return `${show(value)}, and gains ${show(gained)} by joining`;
   };
-  const [first, second] = [[a, alone[0]], [b, alone[1]]].map(([share, value]) => own([share, Rational.of(value)]));
   const more = `${show(difference.abs())} ${difference.isNegative() ? "less" : "more"} than`;
   const way = difference.isZero() ? "as much as" : more;
   return [
     `By the ${solution.title.toLowerCase()} ${x} ${verb} ${way} ${y}.`,
-    `Of the groups with ${x} and without ${y} that of ${group(holds[0])} gains least by joining (${gain(s)}), of those `
-      + `with ${y} and without ${x} that of ${group(holds[1])} (${gain(t)}).`,
+    `Of the groups with ${x} and without ${y}, ${group(holds[0])} gains least by joining (${gain(s)}); of those with `
+      + `${y} and without ${x}, ${group(holds[1])} (${gain(t)}).`,
     reasonOf(s, t, x, y, costs),
-    `Alone ${x} ${has} ${first}; ${y} ${has} ${second}.`,
+    `Alone ${x} ${has} ${own(a, Rational.of(alone[0]))}; ${y} ${has} ${own(b, Rational.of(alone[1]))}.`,
   ];
 }
 
