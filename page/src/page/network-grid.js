@@ -24,6 +24,7 @@ class NetworkGrid {
     this.element = el("div", {}, this.holder, this.tools, this.help);
     moveByKeys(this.holder, (cell, step) => {
       const [what, place] = cell.split(".");
+      if (what === "source") return "names.0";
       if (what === "names") return `names.${Number(place) + step}`;
       const [i, j] = place.split("-").map(Number);
       return `links.${i}-${j + step}`;
@@ -136,7 +137,7 @@ const NONE = /^[-–—x]?$/i; // of a link that can't be built
 /** A block of numbers: a triangle or a square, whose other half is the same links again; with names in front where it
  * is pasted over one, and with a heading or without. */
 function pasteLinks(kind, typed, cell, pasted) {
-  const [what, place] = cell.split("."), isNamed = what === "names";
+  const [what, place] = (cell === "source" ? "names.0" : cell).split("."), isNamed = what === "names";
   let rows = withoutHeading(pasted);
   let names = isNamed ? rows.map(([name]) => name) : [];
   if (isNamed) rows = rows.map((row) => row.slice(1));
