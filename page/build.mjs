@@ -10,7 +10,7 @@
 // from a relative path; an export stands in front of what it exports. Other forms of import and export are refused.
 import { createHash } from "node:crypto";
 import { existsSync, readFileSync, writeFileSync } from "node:fs";
-import { dirname, join, relative, resolve } from "node:path";
+import { dirname, join, resolve } from "node:path";
 import { fileURLToPath } from "node:url";
 import { packed, packedIn, unpacked } from "./engine/inside.js";
 
@@ -54,19 +54,23 @@ function scriptsOf(places) {
   };
 }
 
+const names = new Map();
+
+/** The name of a module in the page: short, since each is named some ten times, and the same in page and worker. */
 function nameOf(path) {
-  return `module_${relative(SRC, path).replace(/\W/g, "_")}`;
+  if (!names.has(path)) names.set(path, `$${names.size}`);
+  return names.get(path);
 }
 
-/** Code without what is for the readers of its sources alone: comments in lines of their own, and indentation. Where a
- * template runs over lines, blanks may be text: these lines stay as they are. */
+/** Code without what is for the readers of its sources alone: comments in lines of their own, indentation, and empty
+ * lines. Where a template runs over lines, blanks may be text: these lines stay as they are. */
 function bare(code) {
   const lines = code.replace(/^ *\/\*\*[\s\S]*?\*\/\n/gm, "").replace(/^ *\/\/.*\n/gm, "").split("\n");
   let isOpen = false; // whether a template runs over the end of the line before
-  return lines.map((line) => {
-    const isText = isOpen;
+  return lines.flatMap((line) => {
+    const isText = isOpen, bared = isText ? line : line.trimStart();
     if (line.split("`").length % 2 === 0) isOpen = !isOpen;
-    return isText ? line : line.trimStart();
+    return isText || bared ? [bared] : [];
   }).join("\n");
 }
 

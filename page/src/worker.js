@@ -7,7 +7,9 @@ import { Game } from "./game/game.js";
 import { explain } from "./tell/explain.js";
 import { nameByRows } from "./tell/words.js";
 import { answer } from "./work/answers.js";
-import { openDocument, readCase, readCells, readList } from "./work/cases.js";
+import { openText } from "./work/case-files.js";
+import { readCase, readCells, readList } from "./work/cases.js";
+import { compareFills, leave } from "./work/changes.js";
 import { coarser } from "./work/coarser.js";
 import { compare } from "./work/compare.js";
 import { convexity } from "./work/convexity.js";
@@ -15,12 +17,14 @@ import { warmUp } from "./work/engine.js";
 import { lookAtLine } from "./work/lines.js";
 import { costsOfNetwork, fillLinks } from "./work/networks.js";
 import { estates, overrun } from "./work/others.js";
+import { pair } from "./work/pair.js";
 import { fillSplits } from "./work/splits.js";
 import { standardText } from "./work/standard.js";
 
 const TASKS = {
-  warmUp: () => null, readCase, readCells, readList, openDocument, lookAtLine, fillLinks, costsOfNetwork, fillSplits,
-  estates, overrun, compare, convexity, coarser, standardText,
+  warmUp: () => null, readCase, readCells, readList, lookAtLine, fillLinks, costsOfNetwork, fillSplits,
+  estates, overrun, compare, convexity, coarser, standardText, compareFills, leave, pair,
+  openDocument: openText,
   solve: ({ word, document }) => answer(word, document),
   explain: ({ line, rows }) => explained(parseJson(line), rows),
   checkAnew: ({ document }) => anew(document),

@@ -177,8 +177,8 @@ export const tables = [
     await page.click("Work it out", "document.querySelector('.other')");
     await page.until("document.querySelector('.found table')");
     const found = await page.text(".found");
-    expect("Shapley", found, /By the Shapley shares all bear the same: 1.00 each/);
-    expect("per head", found, /By the prenucleolus per head all bear the same: 1.00 each/);
+    expect("Shapley", found, /By the Shapley shares all bear the same, as in every case: 1.00 each/);
+    expect("per head", found, /By the prenucleolus per head all bear the same, as in every case: 1.00 each/);
     expect("table", found, /together\s+12.00\s+15.00\s+\+3.00/);
   }],
 

@@ -4,6 +4,7 @@
 // where all is as expected, and 1 else. On a busy machine times may be longer by the factor.
 import { join, resolve } from "node:path";
 import { pathToFileURL } from "node:url";
+import { assumed } from "./assumed.mjs";
 import { bothWays } from "./both-ways.mjs";
 import { casesTyped, otherCases, tables } from "./cases.mjs";
 import { checks } from "./checks.mjs";
@@ -26,7 +27,7 @@ const slack = Number(option("--slack", "1")), told = [];
 const harness = new Harness(pathToFileURL(page).href, option("--only", ""), slack);
 const program = resolve(option("--program", join(top, "crates", "coop_program", "out", "coop_program")));
 harness.add(large(slack, told));
-for (const some of [entering, saying, lecture, landings, bothWays, casesTyped, tables, otherCases,
+for (const some of [entering, assumed, saying, lecture, landings, bothWays, casesTyped, tables, otherCases,
   documents(top, program), checking(top), checks(top), letters(top), lawyer(top), failing(page, top), looks, access]) {
   harness.add(some);
 }

@@ -28,7 +28,7 @@ export const saying = [
     expect("proposal", await page.text(".fill"), /nucleolus per head, rounded/);
     const sheet = await sheetOf(page);
     expect("paper", sheet, /Why: the nucleolus per head[\s\S]*one nucleolus per head \(Grotte 1970\)/);
-    expect("not by another's name", /nucleolus(?! per head)/i.test(sheet), false);
+    expect("not by another's name", /nucleolus(?![ -]per[ -]head)/i.test(sheet), false);
     expect("what a yes means", await page.run("document.querySelector('#evidence .meanings').textContent"),
       /shares are the nucleolus per head of/);
     const line = await page.run("[...document.querySelectorAll('#evidence pre')].at(-1).textContent");

@@ -1,5 +1,6 @@
 // Cases that are a matrix: a network of links, and buyers with sellers.
 import { typedText } from "../exact/decimals.js";
+import { withEscapes } from "../game/names.js";
 import { rowsOf } from "./lists.js";
 import { Reading } from "./reading.js";
 
@@ -43,6 +44,11 @@ export const network = {
     links: linksOf(game.rows.map((row, i) => row.slice(i + 1).map((cost) => typedText(cost)))),
   }),
 };
+
+/** The source as it is shown. It is no player, so the document has no name for it. */
+export function sourceName({ source = "" }) {
+  return withEscapes(source.trim()) || "Source";
+}
 
 /** Links by "i-j", from rows of what stands right of the diagonal. */
 function linksOf(rows) {

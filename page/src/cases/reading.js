@@ -1,6 +1,6 @@
 // Reads what a person typed into the cells of a case, and keeps what is wrong, cell by cell.
 import { lcm } from "../exact/rational.js";
-import { readNumber } from "../exact/decimals.js";
+import { countText, readNumber } from "../exact/decimals.js";
 import { remarksOf, withEscapes } from "../game/names.js";
 
 const MOST_SCALE = 65536n;
@@ -78,7 +78,7 @@ export class Reading {
     if (!isWhole) return this.fault(cell, `${what} is a whole number.`);
     const number = value.toNumber();
     if (number >= low && number <= high) return number;
-    return this.fault(cell, `${what} is from ${low} to ${high.toLocaleString("en")}.`);
+    return this.fault(cell, `${what} is from ${low} to ${countText(high)}.`);
   }
 
   /** Names, each with its cell; an empty one is the word with its number, or, in a list with names, still open. */

@@ -103,8 +103,9 @@ export function withoutPlayer(state, player) {
 export function tableOf(text, names = [], order = "size", mark = ".") {
   const numbers = numbersIn(text);
   if (numbers) return ofNumbers(numbers, names, order, mark);
-  const kept = cellsOf(text).filter((row) => row.some(Boolean));
-  return kept.length ? listOf(kept) : { fault: "There is nothing in this list." };
+  const rows = cellsOf(text), kept = rows.filter((row) => row.some(Boolean));
+  const lines = new Map(rows.map((row, k) => [row, `Line ${k + 1}: `]));
+  return kept.length ? listOf(kept, (row) => lines.get(row)) : { fault: "There is nothing in this list." };
 }
 
 /** A table of numbers alone, as other programs have it. */
@@ -141,19 +142,22 @@ function withoutHeading(rows) {
   return rows.length > 1 && rows[0][1] && !isNumber(rows[0]) && isNumber(rows[1]) ? rows.slice(1) : rows;
 }
 
-function listOf(all) {
+/** `lineOf(row)` says which line of the text it is. */
+function listOf(all, lineOf) {
   const rows = withoutHeading(all), long = rows.find((row) => row.slice(2).some(Boolean));
   if (long) {
-    return { fault: `A line has a group and one number, and here one has more: “${withEscapes(long.join("; "))
-      .slice(0, 60)}”. Members of a group have + between them.` };
+    const shown = withEscapes(long.join("; ")).slice(0, 60);
+    return { fault: `${lineOf(long)}A line has a group and one number, and here one has more: “${shown}”. Members of a `
+      + "group have + between them." };
   }
   const isNumber = ([group]) => !readNumber(group).fault;
   if (rows.some(isNumber) && rows.every((row) => !row[1])) {
-    const [other] = rows.find(([group]) => readNumber(group).fault);
-    return { fault: `“${withEscapes(other.slice(0, 40))}” is no number, and the others have no group beside them.` };
+    const row = rows.find(([group]) => readNumber(group).fault), other = withEscapes(row[0].slice(0, 40));
+    return { fault: `${lineOf(row)}“${other}” is no number, and the others have no group beside them.` };
   }
-  const read = rows.map(([group, number = ""]) => {
-    return { members: group.normalize("NFC").split("+").map((member) => member.trim()), number };
+  const read = rows.map((row) => {
+    const [group, number = ""] = row, members = group.normalize("NFC").split("+").map((member) => member.trim());
+    return { members, number, line: lineOf(row) };
   });
   const names = [...new Set(read.filter(({ members }) => members.length === 1).map(({ members }) => members[0]))];
   if (!names.length) return { fault: "There is no line of a player alone. A group is its members with + between." };
@@ -166,12 +170,12 @@ function listOf(all) {
 
 function placedList(read, names) {
   const numbers = Array(2 ** names.length).fill(""), places = new Map(names.map((name, i) => [name, i]));
-  for (const { members, number } of read) {
+  for (const { members, number, line } of read) {
     const stranger = members.find((member) => !places.has(member)), group = withEscapes(members.join(" + "));
-    if (stranger !== undefined) return { fault: `There is no line for “${withEscapes(stranger)}” alone.` };
+    if (stranger !== undefined) return { fault: `${line}There is no line for “${withEscapes(stranger)}” alone.` };
     const mask = maskOf(members.map((member) => places.get(member)));
-    if (membersOf(mask).length < members.length) return { fault: `${group}: a member stands twice.` };
-    if (numbers[mask] !== "") return { fault: `${group} stands twice.` };
+    if (membersOf(mask).length < members.length) return { fault: `${line}${group}: a member stands twice.` };
+    if (numbers[mask] !== "") return { fault: `${line}${group} stands twice.` };
     numbers[mask] = number;
   }
   return { state: { names, numbers } };

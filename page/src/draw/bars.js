@@ -1,6 +1,7 @@
 // Bars of what each gets or pays, with marks at what it is worth alone and at what it adds to all others.
 import { shortText } from "../exact/decimals.js";
 import { Rational, ZERO } from "../exact/rational.js";
+import { spoken } from "../exact/decimals.js";
 import { chart } from "./chart.js";
 import { figure } from "./figure.js";
 
@@ -40,7 +41,7 @@ export function barsPicture(game, rows, points, { show, wide }) {
 
 export function bars(game, rows, points, settings) {
   const drawn = game.kind === "airport" && rows.length > MOST_ROWS ? byType(game, rows) : rows;
-  return figure("bars", "shares", barsPicture(game, drawn, points, settings));
+  return figure("bars", "shares", barsPicture(game, drawn, points, settings), settings.remark);
 }
 
 /** One row for all landings of a type that need the same, from the least. */
@@ -57,5 +58,6 @@ function byType({ amounts }, rows) {
 }
 
 export function tickText(tick) {
-  return Number(tick.toPrecision(10)).toLocaleString("en").replace(/,/g, "\u202f").replace("-", "−");
+  return Number(tick.toPrecision(10)).toLocaleString("en").replace(/,/g, "\u202f")
+    .replace(".", spoken.mark).replace("-", "−");
 }

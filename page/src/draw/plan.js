@@ -21,14 +21,14 @@ function spotsOf(children) {
 }
 
 /** `links` are [end, player, cost] in the order of joining, players from 1 and the source 0. */
-export function planPicture(game, links, { show, wide }) {
+export function planPicture(game, links, { show, wide, source = "Source" }) {
   const children = new Map([[0, []]]), cost = new Map();
   for (const [end, player, price] of links) {
     children.set(Number(player), []);
     children.get(Number(end)).push(Number(player));
     cost.set(Number(player), Rational.of(price));
   }
-  const { spots, rows, deepest } = spotsOf(children), names = ["Source", ...game.shown];
+  const { spots, rows, deepest } = spotsOf(children), names = [source, ...game.shown];
   const label = Math.min(150, Math.max(...names.map((name) => widthOf(name))) + 24);
   const step = Math.max(118, Math.min(200, (wide - label - 20) / Math.max(1, deepest)));
   const x = (point) => 14 + spots.get(point).depth * step, y = (point) => 26 + spots.get(point).row * ROW;

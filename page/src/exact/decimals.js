@@ -43,6 +43,11 @@ export function decimal(value, places, options) {
   return decimalOf(stepsOf(value, places), places, options);
 }
 
+/** How many there are, as numbers are shown: no comma that might stand in front of decimals. */
+export function countText(count) {
+  return decimalOf(BigInt(count), 0);
+}
+
 /** A fraction for the eye: "3/2", "−7". */
 export function fractionText(value) {
   return value.toString().replace("-", "−");

@@ -1,17 +1,20 @@
 // The panels below a case: the answer, its settings, the reasons and the evidence.
+import { sourceName } from "../cases/matrices.js";
 import { answerParts } from "./answer.js";
 import { beyondParts } from "./beyond.js";
 import { button, copy, el, refill } from "./dom.js";
 import { evidenceParts } from "./evidence.js";
-import { filledText } from "./filled.js";
+import { filledLines, filledText, isFilled } from "./filled.js";
 import { formatOf } from "./format.js";
 import { otherAmounts } from "./other-amounts.js";
 import { paperPart } from "./paper.js";
 import { takesPerHead } from "./questions.js";
-import { todayOf } from "./today.js";
 import { tablesOf } from "./shares-table.js";
 import { csvButton, tabbed } from "./table-lines.js";
+import { todayOf } from "./today.js";
+import { fillsPart } from "./two-fills.js";
 import { whyParts } from "./why.js";
+import { pairPart } from "./why-pair.js";
 
 const PLACES = [0, 1, 2, 3, 4, 6];
 const MARKS = [[".", "point"], [",", "comma"]];
@@ -29,9 +32,9 @@ export class AnswerView {
     return formatOf(this.session.places, this.session.mark);
   }
 
-  /** What was typed for another case is of no use here. */
-  clear() {
-    this.typed = {};
+  /** What was typed for another case is of no use here; `typed` is what was for this one. */
+  clear(typed = {}) {
+    this.typed = typed;
     for (const id of ["answer-settings", "answer-body", "answer-more", "why-body", "evidence-body"]) refill(at(id));
     this.hush();
   }
@@ -58,12 +61,15 @@ export class AnswerView {
     refill(at("answer-settings"), result.refusal ? [] : this.settings(result));
     const filled = filledText(session);
     const today = todayOf(session, rows);
-    refill(at("answer-body"), answerParts(result, { rows, format, proposal, today, wide, filled }));
+    refill(at("answer-body"), answerParts(result, {
+      rows, format, proposal, today, wide, filled,
+      remark: filledLines(session, rows), source: sourceName(session.typed),
+    }));
     this.say();
     if (result.refusal) return;
-    this.showMore(result, rows, format);
+    this.showMore(result, rows, format, filled);
     const why = whyParts(result);
-    refill(at("why-body"), why);
+    refill(at("why-body"), why, why.length > 0 && this.pair);
     at("why").hidden = !why.length;
     refill(at("evidence-body"), evidenceParts(result, session.kind.id, filled, session.file));
   }
@@ -92,16 +98,19 @@ export class AnswerView {
 
   /** The parts with fields of their own are kept while answers come, and made anew for another game or other decimals.
    * */
-  showMore(result, rows, format) {
+  showMore(result, rows, format, filled) {
     const { session } = this;
-    const key = [result.text, format.places, format.mark].join("\n");
+    const key = [result.text, format.places, format.mark, filled].join("\n");
     if (this.shownMore === key && at("answer-more").childElementCount) return;
     this.shownMore = key;
     const settings = {
       rows, format, mark: session.readMark(), typed: this.typed,
-      ask: (task, what) => session.checker.ask(task, what),
+      ask: (task, what) => session.checker.ask(task, what), assumed: (groups) => isFilled(session, groups),
     };
-    refill(at("answer-more"), otherAmounts(result, settings), paperPart(this.session, this.typed));
+    session.pair = "";
+    this.pair = pairPart(result, { ...settings, onSaid: (sentence) => { session.pair = sentence; } });
+    refill(at("answer-more"), fillsPart(session, settings), otherAmounts(result, settings),
+      paperPart(this.session, this.typed));
   }
 
   settings({ game, points }) {

@@ -12,7 +12,8 @@ import { missingText } from "./questions.js";
 import { sharesTable } from "./shares-table.js";
 import { typesTable } from "./types-table.js";
 
-/** All parts of an answer. `settings` are {rows, format, proposal, wide}. */
+/** All parts of an answer. `settings` are {rows, format, proposal, wide, source}, and of what the page
+ * filled in {filled, remark}: what is said of it, and what of the picture. */
 export function answerParts(result, settings) {
   const { game, points, refusal } = result, { proposal, wide, filled } = settings;
   if (refusal) return [refused(refusal)];
@@ -49,12 +50,12 @@ function refused({ sentence, place }) {
     el("p", {}, sentence), place && el("p", { class: "where" }, `Place: ${place}`));
 }
 
-function pictures({ game, bird }, points, { rows, format, wide }) {
+function pictures({ game, bird }, points, { rows, format, wide, remark, source }) {
   const narrow = points.filter(({ key }) => !["core", "buyers", "sellers"].includes(key));
   return [
-    bars(game, rows, narrow, { ...format, wide }),
+    bars(game, rows, narrow, { ...format, wide, remark }),
     game.n === 3 && triangle(game, points, { wide }),
-    ...(bird ? [el("h3", {}, "The cheapest network"), plan(game, bird.tree, { ...format, wide })] : []),
+    ...(bird ? [el("h3", {}, "The cheapest network"), plan(game, bird.tree, { ...format, wide, source })] : []),
   ];
 }
 

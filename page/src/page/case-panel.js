@@ -37,7 +37,7 @@ export function casePanel(kind, typed, settings) {
       reading.asked && sumQuestion(reading.asked, typed, settings),
       doubtNotes(reading, settings), emptyCells(reading, grid), faultList(reading, grid),
       reading.isTooFine && finenessHelp(settings));
-    refill(made, reading.text && documentOf(kind, reading.text));
+    refill(made, reading.text && documentOf(kind, reading.text, settings));
   }
 
   return { element, tell };
@@ -93,9 +93,12 @@ function emptyCells({ empty: { count, first } }, grid) {
   return count > 0 && button(said, goTo, { class: "fault gentle" });
 }
 
-function documentOf(kind, text) {
+function documentOf(kind, text, { caseText }) {
   return el("div", {}, shown("The document that this makes", text),
     el("p", { class: "tools" },
-      button("Save it", () => download(`${kind.id}-game.json`, `${text}\n`), { class: "quiet" }),
-      button("Copy it", (event) => copy(text, event.target), { class: "quiet" })));
+      button("Save the case", () => download(`${kind.id}-case.json`, caseText()), { class: "quiet" }),
+      button("Save the document", () => download(`${kind.id}-game.json`, `${text}\n`), { class: "quiet" }),
+      button("Copy it", (event) => copy(text, event.target), { class: "quiet" })),
+    el("p", { class: "hint screen" }, "The page opens a case with what was filled in, the decimal mark, heading, unit ",
+      "and your proposal. The program reads the document alone."));
 }

@@ -8,11 +8,14 @@ import { textOfFile, textPlace } from "./text-place.js";
 const OF_A_LINE = "This is the game of a line, and all below is worked out anew. Whether the line’s own shares are "
   + "right is said at the end, under “Check a line that you got”.";
 
-/** What is said above the case of a line: where it is checked, and that it has other shares than the page finds. */
-function notesOf({ other }, isLine) {
+const UNKNOWN = "This file doesn’t say which numbers were assumed; a case that the page saved does.";
+
+/** What is said above what was opened: of a line where it is checked, and whether it has other shares than the page
+ * finds; of a table that nothing is known of cells that were filled. */
+function notesOf({ other, notes }, isLine, isTable) {
   const told = other && `The line says of its game: ${other} The page finds other shares, which stand below. `
     + "Somebody has changed the line, or it is of another game.";
-  return [isLine && OF_A_LINE, told].filter(Boolean);
+  return [isLine && OF_A_LINE, told, ...(notes ?? (isTable ? [UNKNOWN] : []))].filter(Boolean);
 }
 
 export class Documents {
@@ -23,7 +26,7 @@ export class Documents {
     this.helper = new Helper();
     this.message = document.getElementById("document-message");
     refill(document.getElementById("document-body"), textPlace({
-      title: "A document", hint: "JSON, as {\"game\":{…}}; a line of the program does as well.", rows: 8,
+      title: "A document", hint: "JSON, as {\"game\":{…}}; a line of the program or a saved case does, too.", rows: 8,
       onText: (text, from) => this.open(text, { from }),
     }));
   }
@@ -51,9 +54,11 @@ export class Documents {
 
   openCase(kind, found, { text, doubt, isChecked, from: { digest, ...from } }) {
     const hasCertificate = /"certificate"\s*:/.test(text), isLine = hasCertificate && !isChecked;
-    const notes = isChecked ? [] : notesOf(found, isLine);
-    const file = from.name && !hasCertificate ? { name: from.name, digest } : null; // a line isn't the game's file
-    this.onOpen(kind, kind.unpack?.(found.typed) ?? found.typed, { ...found, doubt, notes, file });
+    const notes = isChecked ? [] : notesOf(found, isLine, kind.isTable);
+    const { measure, texts, more, settings, isCase } = found, typed = kind.unpack?.(found.typed) ?? found.typed;
+    const isGame = from.name && !hasCertificate && !isCase; // a line or a case isn't the game's file
+    const file = isGame ? { name: from.name, digest } : null;
+    this.onOpen(kind, { ...typed, ...more }, { measure, texts, ...settings, doubt, notes, file });
     if (isLine) this.onLine(text, from);
   }
 

@@ -1,4 +1,5 @@
 // Texts that are handed on: to save, to copy, to look at, and their fingerprint.
+import { countText } from "../exact/decimals.js";
 import { button, copy, download, el } from "./dom.js";
 
 const MOST_SHOWN = 3000;
@@ -10,7 +11,7 @@ export function fileButtons(text, name) {
 }
 
 export function shown(title, text) {
-  const isLong = text.length > MOST_SHOWN, count = text.length.toLocaleString("en");
+  const isLong = text.length > MOST_SHOWN, count = countText(text.length);
   return el("details", { class: `file${isLong ? " long" : ""}` },
     el("summary", {}, title, el("small", {}, ` ${count} characters`)),
     el("pre", { tabindex: "0", role: "region", "aria-label": title },

@@ -1,4 +1,6 @@
-// What the page filled in by itself, in a sentence: it has to be told wherever the answer goes.
+// What the page filled in by itself, in sentences: it has to be told wherever the answer goes.
+import { maskOf } from "../game/groups.js";
+import { listed } from "../tell/words.js";
 
 /** The sentence for the cells of a case; null where nothing was filled. */
 export function filledText({ kind, typed }) {
@@ -6,12 +8,32 @@ export function filledText({ kind, typed }) {
   return kind.isTable ? ofTable(kind, typed) : kind.isNetwork ? ofNetwork(typed) : null;
 }
 
-function ofTable(kind, { names, filled }) {
+/** Whether the page filled the number of one of these groups. */
+export function isFilled({ kind, typed }, groups) {
+  return Boolean(kind.isTable && typed.filled?.length && groups.some((group) => typed.filled.includes(maskOf(group))));
+}
+
+/** Whose line in the picture of what each adds stands on a filled number, in a sentence. */
+export function filledLines(session, rows) {
+  const everyone = rows.flatMap(({ players }) => players), names = (some) => listed(some.map(({ label }) => label));
+  const isIn = ({ players }) => isFilled(session, [everyone.filter((i) => !players.includes(i))]);
+  const whose = rows.filter(isIn), others = rows.filter((row) => !isIn(row));
+  if (!whose.length) return "";
+  const who = !others.length ? "each" : whose.length > others.length ? `all but ${names(others)}` : names(whose);
+  return `The line “adds to the ${session.kind.isCost ? "cost" : "worth"} of all others” of ${who} stands on a number `
+    + "that the page filled.";
+}
+
+function ofTable(kind, { names, filled, how }) {
   if (!filled.length) return null;
-  const split = kind.isCost ? "cheapest" : "best";
-  const all = 2 ** names.length - 1, were = filled.length === 1 ? "wasn’t" : "weren’t";
-  return `Of the ${all} numbers ${filled.length} ${were} given: the page took each group’s ${split} split into `
-    + "groups that have a number.";
+  const split = kind.isCost ? "cheapest" : "best", all = 2 ** names.length - 1;
+  const were = filled.length === 1 ? "wasn’t" : "weren’t";
+  const given = `Of the ${all} numbers ${filled.length} ${were} given`;
+  if (how === "larger") {
+    return `${given}: the page took the cheapest of each group’s splits into groups that have a number, and of the `
+      + "larger groups that hold it.";
+  }
+  return `${given}: the page took each group’s ${split} split into groups that have a number.`;
 }
 
 function ofNetwork({ names, filled }) {

@@ -1,4 +1,5 @@
 // The page: puts its parts together.
+import { caseText } from "../cases/case-file.js";
 import { caseNamed } from "../cases/cases.js";
 import { costs } from "../cases/tables.js";
 import { AnswerView } from "./answer-view.js";
@@ -29,52 +30,78 @@ const paper = new Paper(session, view);
 
 // ---- Cases
 
-/** Opens a case. `before` is what an undo brings back, `notes` are said above the grid, `file` is that of its game. */
-function openCase(kind, typed, settings = {}) {
-  const { measure, texts, todays, entry, before = null, notes = [], doubt = "", file = null } = settings;
+/** Opens a case. `before` is what an undo brings back, `notes` are said above the grid; `paper` is what was typed below
+ * the answer, as the heading; among the settings, `file` is that of its game. */
+function openCase(kind, typed, { before = null, notes = [], doubt = "", paper, ...settings } = {}) {
   const now = session.kind && nowTyped();
   if (now) kept.set(session.kind, now);
-  session.open(kind, typed, { measure, texts, todays, entry, doubt, file });
-  view.clear();
+  session.open(kind, typed, { ...settings, doubt });
+  view.clear(paper);
   panel = casePanel(kind, typed, {
-    mark: () => session.entryMark(), setEntry: (mark) => session.setEntry(mark), before,
-    notes: doubt ? [doubt, ...notes] : notes,
+    ...asked(kind), before, notes: doubt ? [doubt, ...notes] : notes,
     onChange: (wait) => {
       isUnsaved = true;
       session.changed(wait);
     },
     onReset: (next, what) => openCase(kind, next, { before: { what, ...nowTyped() } }),
-    onUndo: (back) => {
-      const { what, isBack } = back;
-      openCase(kind, back.typed, { ...back, before: { ...nowTyped(), what, isBack: !isBack } });
-    },
-    snapshot: () => structuredClone(nowTyped()),
-    readList: (what) => session.reader.ask("readList", { ...what, mark: session.entryMark() }),
-    readCells: (text) => session.reader.ask("readCells", { text }),
-    help: (task, what) => session.reader.ask(task, what),
+    onUndo: (back) => undo(kind, back),
+    snapshot: () => structuredClone(cellsNow()),
     coarsen: (how) => coarsen(kind, how),
-    asTable: (table, said) => openCase(costs, table, { notes: said, doubt }),
+    asTable: (table, said) => {
+      openCase(costs, table, { notes: said, doubt, before: replaced(costs, "Make a table of costs") });
+    },
   });
   at("case-title").textContent = kind.title;
   refill(at("case-body"), panel.element);
   showView(kind.id);
 }
 
+/** What a case asks for: marks, workers, and itself as a file. */
+function asked(kind) {
+  return {
+    mark: () => session.entryMark(), setEntry: (mark) => session.setEntry(mark),
+    readList: (what) => session.reader.ask("readList", { ...what, mark: session.entryMark() }),
+    readCells: (text) => session.reader.ask("readCells", { text }),
+    help: (task, what) => session.reader.ask(task, what),
+    caseText: () => {
+      const { shown: [[by] = [], other], mark, text } = session.reading;
+      return caseText({ ...nowTyped(), mark: session.mark, entry: by && !other ? by : mark, text });
+    },
+  };
+}
+
+/** Brings back what stood there before a step. Within a case these are its cells: heading, unit and decimals stay. */
+function undo(kind, back) {
+  const { paper, places } = nowTyped(), { what, isBack } = back, now = back.paper ? nowTyped() : cellsNow();
+  openCase(kind, back.typed, { paper, places, ...back, before: { ...now, what, isBack: !isBack } });
+}
+
+/** What a case takes the place of, for an undo; null where nothing stood there but its worked example. */
+function replaced(kind, what) {
+  const old = session.kind === kind ? nowTyped() : kept.get(kind);
+  return old && JSON.stringify(old.typed) !== JSON.stringify(kind.example()) ? { ...old, what } : null;
+}
+
 /** Makes the numbers of a case coarser, as the user chose, or gives a fault in words. */
 async function coarsen(kind, how) {
-  const before = nowTyped(), { typed, measure, entry, doubt } = before;
+  const before = cellsNow(), { typed, measure, entry, doubt } = before, { paper, places } = nowTyped();
   const what = { id: kind.id, typed: kind.pack?.(typed) ?? typed, mark: session.entryMark(), how };
   const { typed: changed, notes, fault } = await session.reader.ask("coarser", what);
   if (fault || session.typed !== typed) return fault;
   const next = { ...typed, ...(kind.unpack?.(changed) ?? changed) };
-  openCase(kind, next, { measure, entry, notes, doubt, before: { ...before, what: WAYS[how] } });
+  openCase(kind, next, { measure, entry, notes, doubt, paper, places, before: { ...before, what: WAYS[how] } });
   return undefined;
 }
 
 /** What stands in the cells of the case that is shown. */
-function nowTyped() {
+function cellsNow() {
   const { typed, measure, texts, todays, entry, doubt, file } = session;
   return { typed, measure, texts, todays, entry, doubt, file };
+}
+
+/** The same with the decimals, and what was typed below the answer. */
+function nowTyped() {
+  return { ...cellsNow(), places: session.places, paper: view.typed };
 }
 
 /** Shows a part of the page; a case as it was left. */
@@ -122,7 +149,10 @@ function begin() {
     onCase: (kind) => show(kind.id), onDocument: () => show("document"), onCheck: () => show("verify"),
   }));
   const documents = new Documents({
-    mark: () => session.mark, onOpen: openCase, onLine: (text, from) => verify.setLine(text, from),
+    mark: () => session.mark, onLine: (text, from) => verify.setLine(text, from),
+    onOpen: (kind, typed, settings) => {
+      openCase(kind, typed, { ...settings, before: replaced(kind, "Open a document") });
+    },
   });
   const verify = verifyPanel({
     format: () => view.format(),

@@ -1,5 +1,6 @@
 // The grid of a network: what a link between each two places costs.
 import { readNumber } from "../exact/decimals.js";
+import { sourceName } from "../cases/matrices.js";
 import { withEscapes } from "../game/names.js";
 import { cellInput, moveByKeys, pasteCells } from "./cells.js";
 import { button, cellOf, el, refill } from "./dom.js";
@@ -23,6 +24,7 @@ class NetworkGrid {
     this.element = el("div", {}, this.holder, this.tools, this.help);
     moveByKeys(this.holder, (cell, step) => {
       const [what, place] = cell.split(".");
+      if (what === "source") return "names.0";
       if (what === "names") return `names.${Number(place) + step}`;
       const [i, j] = place.split("-").map(Number);
       return `links.${i}-${j + step}`;
@@ -38,9 +40,12 @@ class NetworkGrid {
   }
 
   show() {
-    const { typed } = this, names = ["Source", ...typed.names.map((name, i) => withEscapes(name) || `Place ${i + 1}`)];
+    const { typed } = this, places = typed.names.map((name, i) => withEscapes(name) || `Place ${i + 1}`);
+    const names = [sourceName(typed), ...places];
     const ends = names.slice(0, -1), none = el("td", { class: "tool" });
-    const titles = ends.map((name) => el("th", { scope: "col", class: "number" }, `to ${name}`));
+    const titles = ends.map((name, j) => {
+      return el("th", { scope: "col", class: "number" }, "to ", j ? name : this.sourceInput());
+    });
     const rows = typed.names.map((name, k) => el("tr", {},
       el("th", { scope: "row" }, this.nameInput(name, k)),
       ends.map((other, j) => {
@@ -52,6 +57,14 @@ class NetworkGrid {
     refill(this.tools, typed.names.length < this.kind.most
       ? button("Add a place", () => this.add(), { class: "quiet" })
       : el("span", { class: "hint" }, "16 places is the most."));
+  }
+
+  /** The source is no player: its name is for show, and isn't asked about. */
+  sourceInput() {
+    return cellInput({
+      cell: "source", value: this.typed.source ?? "", label: "Name of the source", placeholder: "Source",
+      onInput: (text) => this.change(() => (this.typed.source = text)),
+    });
   }
 
   nameInput(name, k) {
@@ -124,7 +137,7 @@ const NONE = /^[-–—x]?$/i; // of a link that can't be built
 /** A block of numbers: a triangle or a square, whose other half is the same links again; with names in front where it
  * is pasted over one, and with a heading or without. */
 function pasteLinks(kind, typed, cell, block) {
-  const [what, place] = cell.split("."), isNamed = what === "names";
+  const [what, place] = (cell === "source" ? "names.0" : cell).split("."), isNamed = what === "names";
   let rows = withoutHeading(block);
   let names = isNamed ? rows.map(([name]) => name) : [];
   if (isNamed) rows = rows.map((row) => row.slice(1));

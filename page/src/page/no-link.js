@@ -11,8 +11,8 @@ export function noLinkHelp(typed, { mark, help, remember, setLinks, asTable }) {
   const said = el("div", { "aria-live": "polite" });
   const tell = (notes) => refill(said, notes.map((note) => el("p", { class: "note" }, note)));
   const ask = (task, use) => async (only = null) => {
-    const { names, links } = typed, before = JSON.stringify(links);
-    const found = await help(task, { names: [...names], links: given(typed, task), mark: mark(), only });
+    const { names, links, source } = typed, before = JSON.stringify(links);
+    const found = await help(task, { names: [...names], links: given(typed, task), source, mark: mark(), only });
     if (JSON.stringify(typed.links) !== before) return; // somebody types on
     if (found.fault) tell([found.fault]);
     else use(found);

@@ -1,30 +1,36 @@
 // The same game with other amounts: several estates side by side, and who bears an overrun.
 import { Rational } from "../exact/rational.js";
-import { decimalOf, fractionText } from "../exact/decimals.js";
+import { fractionText } from "../exact/decimals.js";
 import { listed } from "../tell/words.js";
+import { changesOf, changesTable, movedHint, ruleIn } from "./changes.js";
 import { button, el, refill } from "./dom.js";
-import { MOVED, totalsOf, withSum } from "./format.js";
+import { totalsOf } from "./format.js";
+import { leavingPart } from "./who-leaves.js";
 
+const PER_HEAD = "Prenucleolus per head", EVEN = ["Shapley shares", PER_HEAD];
 const MOST_OVERRUN = 12; // players of other games than tables
 
-/** The parts for this game; `ask(task, what)` goes to a worker, `typed` keeps what was typed. */
-export function otherAmounts({ game, text }, { rows, format, typed, mark, ask }) {
-  const view = { game, text, rows, format, typed, mark, ask };
+/** The parts for this game. `settings` are {rows, format, typed, mark, ask, assumed}: `ask(task, what)` goes to a
+ * worker, `typed` keeps what was typed, and `assumed(groups)` says whether the page filled the number of any. */
+export function otherAmounts({ game, text }, settings) {
+  const view = { game, text, ...settings };
   if (game.kind === "bankruptcy") return estatesPart(view);
   const isTable = game.isTable(), isOther = ["airport", "tree"].includes(game.kind) && game.n <= MOST_OVERRUN;
-  if ((isTable || isOther) && !game.ballots && game.n > 1) return overrunPart(view);
+  if ((isTable || isOther) && !game.ballots && game.n > 1) return [overrunPart(view), leavingPart(view)];
   const isLarge = game.kind === "tree" && game.n > MOST_OVERRUN; // of a runway the answer says it, with all it lacks
   return isLarge && el("p", { class: "hint screen" }, "If the whole costs more than planned: who bears it is worked ",
     `out for up to ${MOST_OVERRUN} players, and here are ${game.n}.`);
 }
 
 /** A part that opens, with one field, and what comes of it. */
-function part({ title, hint, label, key, task, show }, { text, rows, typed, mark, ask }) {
+function part({ title, hint, label, key, task, show, placeholder = "" }, { text, rows, typed, mark, ask }) {
   const found = el("div", { class: "found", "aria-live": "polite" });
   const workOut = async () => {
-    if (!(typed[key] ?? "").trim()) return refill(found);
+    const put = (...parts) => (found.classList.remove("stale"), refill(found, parts)), now = typed[key] ?? "";
+    if (!now.trim()) return put();
     try {
-      return refill(found, show(await ask(task, { text, rows, typed: typed[key], mark })));
+      const answer = await ask(task, { text, rows, typed: now, mark });
+      return now === typed[key] && put(show(answer));
     } catch (fault) {
       return fault.message === "stopped" || refill(found, el("p", { class: "bad" }, fault.message));
     }
@@ -32,7 +38,10 @@ function part({ title, hint, label, key, task, show }, { text, rows, typed, mark
   const work = () => { typed.working = workOut(); }; // paper waits for it
   const field = el("input", {
     type: "text", value: typed[key] ?? "", "aria-label": label, "data-cell": key, autocomplete: "off", maxlength: 200,
-    on: { input: (event) => { typed[key] = event.target.value; }, change: work },
+    placeholder, on: { change: work, input: (event) => {
+      typed[key] = event.target.value;
+      found.classList.add("stale");
+    } },
   });
   const details = el("details", { class: "other", open: Boolean(typed.open?.[key]), on: {
     toggle: () => { typed.open = { ...typed.open, [key]: details.open }; },
@@ -68,10 +77,6 @@ function estatesTable(found, { rows, format }) {
   return [...notes, tableOf(["Estate", ...titles], lines), movedHint(columns), ...faults];
 }
 
-function movedHint(columns, more = "") {
-  return columns.some(({ isMoved }) => isMoved) && el("p", { class: "hint" }, MOVED + more);
-}
-
 function tableOf(heads, lines) {
   return el("div", { class: "scroll" }, el("table", { class: "shares small" },
     el("thead", {}, el("tr", {}, heads.map((head, k) => el("th", { scope: "col", class: k ? "number" : "" }, head)))),
@@ -87,33 +92,43 @@ function overrunPart(view) {
     title: costs ? "If the whole costs more than planned" : "If all together gain more, or less",
     key: "more", task: "overrun",
     label: costs ? "It costs more by" : "They gain more by",
-    hint: "The whole changes, and what each group could do by itself stays. Who bears it depends on the rule: so a "
-      + "contract should name the rule for it beforehand.",
+    placeholder: "37.15 or 10 %",
+    hint: "An amount or a percentage. The whole changes, and what each group could do by itself stays. Who bears it "
+      + "depends on the rule: so a contract should name the rule for it beforehand.",
     show: (found) => overrunTable(found, view),
   }, view);
 }
 
-function overrunTable({ fault, more, rules, ...core }, { game, rows, format }) {
+function overrunTable({ fault, more, whole, rules, ...core }, view) {
   if (fault) return el("p", { class: "bad" }, fault);
-  const change = Rational.of(more), columns = rules.map((rule) => overrunColumn(rule, rows, format));
-  const sentences = columns.map((column) => el("p", {}, overrunSentence(column, rows, change, game, format)));
-  const name = el("th", { scope: "col", rowspan: "2" }, game.costs ? "Who pays" : "Who gets");
-  const titles = columns.map(({ title }) => el("th", { scope: "colgroup", colspan: "3", class: "number" }, title));
-  const parts = columns.flatMap(() => ["before", "after", "change"]);
-  const cells = (r) => columns.flatMap(({ texts, differences }) => texts.map((text, k) => {
-    const exact = k === 2 && r < rows.length && !format.isExact(differences[r]) && differences[r];
-    return el("td", { class: k === 2 ? "number change" : "number" }, text[r],
-      exact && el("small", { class: "exact" }, fractionText(exact)));
-  }));
-  const lines = [...rows.map(({ label }) => label), "together"].map((label, r) => {
-    return el("tr", { class: label === "together" ? "sum" : "" }, el("th", { scope: "row" }, label), cells(r));
-  });
-  return [...sentences, unstable(core, game), el("div", { class: "scroll" }, el("table",
-    { class: "shares small overrun" },
-    el("thead", {}, el("tr", {}, name, titles),
-      el("tr", {}, parts.map((part) => el("th", { scope: "col", class: "number" }, part)))),
-    el("tbody", {}, lines), leavingRow(columns, format))),
-  movedHint(columns, " A change is that of the numbers shown.")];
+  const { game, rows, format } = view, change = Rational.of(more), before = Rational.of(whole);
+  const columns = rules.map((rule) => changesOf(rule, rows, format)), verb = game.costs ? "It costs" : "They gain";
+  const head = `${verb} ${sizeOf(change, format)}: ${format.show(before.plus(change))} in place of `
+    + `${format.show(before)}.`;
+  return [
+    el("p", {}, el("b", {}, head)),
+    ...columns.map((column) => el("p", {}, overrunSentence(column, rows, change, game, format))),
+    unstable(core, game), changesTable(columns, view), promises(columns, game),
+  ];
+}
+
+/** "37.15 less". */
+function sizeOf(change, { show }) {
+  return `${show(change.abs())} ${change.isNegative() ? "less" : "more"}`;
+}
+
+/** Which rules keep everybody from paying less in every case, and what is meant by the one per head. */
+function promises(columns, { costs }) {
+  const isPerHead = columns.some(({ title }) => title === PER_HEAD);
+  return [
+    el("p", { class: "hint" }, "Where nothing but the whole changes, each bears an equal part of it by the Shapley ",
+      "shares and the prenucleolus per head, in every case (Young, Okada and Hashimoto 1982). So by these nobody ",
+      costs ? "pays less where the whole costs more. " : "gets less where all together gain more. ",
+      "The nucleolus doesn’t promise that (Megiddo 1974)."),
+    isPerHead && el("p", { class: "hint" }, "The prenucleolus per head counts what a group gains per member, and ",
+      "looks at all divisions of the whole. The nucleolus per head of the answer looks only at those by which nobody ",
+      costs ? "pays more" : "gets less", " than alone, so it may be another."),
+  ];
 }
 
 /** Where no division keeps all groups any more: that has to be known before a rule is agreed on. */
@@ -123,45 +138,34 @@ function unstable({ wasStable, isStable }, { costs }) {
     + `would ${costs ? "pay less" : "get more"} by itself.`);
 }
 
-/** Whether a group does better by itself before, and after. */
-function leavingRow(columns, { show }) {
-  const text = (found) => (found
-    ? el("span", { class: "bad" }, `Yes: ${found.who}, by ${show(Rational.of(found.by))}`)
-    : el("span", { class: "good" }, "No"));
-  return el("tfoot", {}, el("tr", { class: "verdict" },
-    el("th", { scope: "row" }, "Can a group do better by itself?"),
-    columns.flatMap(({ leaving }) => {
-      return [...leaving.map((found) => el("td", { class: "number" }, text(found))), el("td")];
-    })));
-}
-
-/** What a rule makes of it: the shares before and after, and the changes of what is shown, as texts. */
-function overrunColumn({ title, before, after, leaving }, rows, format) {
-  const [old, fresh] = [before, after].map((shares) => totalsOf(rows, shares.map(Rational.of)));
-  const differences = fresh.map((value, r) => value.minus(old[r]));
-  const isMoved = [old, fresh].some((totals) => format.isMoved(totals, rows));
-  const signed = (step) => `${step > 0n ? "+" : ""}${decimalOf(step, format.places, format)}`;
-  const [first, then] = [old, fresh].map((totals) => format.steps(totals, rows));
-  const changes = withSum(then.map((step, r) => step - first[r])).map(signed);
-  const texts = [first, then].map((steps) => withSum(steps).map(format.text));
-  return { title, differences, leaving, isMoved, texts: [...texts, changes] };
-}
-
-function overrunSentence({ title, differences, texts }, rows, change, game, { show, isExact }) {
+function overrunSentence(column, rows, change, game, format) {
+  const { differences, texts, title, worst } = column, { show, isExact } = format;
   const isUp = (value) => value.isNegative() !== change.isNegative() && !value.isZero();
   const against = differences.map((value, r) => ({ value, r })).filter(({ value }) => isUp(value));
-  const verb = game.costs ? "pays" : "gets";
-  const name = `By the ${title.replace(/^[NP]/, (letter) => letter.toLowerCase())}`;
+  const [verb, costs] = game.costs ? ["pays", "costs"] : ["gets", "gains"], name = `By the ${ruleIn(column)}`;
   if (against.length) {
     const told = against.map(({ value, r }) => {
       const size = texts[2][r].replace(/^[+−]/, "");
       return `${rows[r].label} ${verb} ${size} ${value.isNegative() ? "less" : "more"}`;
     });
-    return `${name}: although the whole changes by ${show(change)}, ${listed(told)}.`;
+    const although = `although the whole ${costs} ${sizeOf(change, format)}`;
+    return `${name}: ${although}, ${listed(told)}.${reasonOf(worst, format)}`;
   }
-  const isEven = differences.every((value) => value.equals(differences[0]));
+  const isEven = differences.every((value) => value.equals(differences[0])), isAlways = EVEN.includes(title);
   const each = isExact(differences[0]) ? "" : ` (${fractionText(differences[0])})`;
-  if (isEven) return `${name} all bear the same: ${show(differences[0])}${each} each.`;
+  const where = isAlways ? ", as in every case" : " here";
+  if (isEven) return `${name} all bear the same${where}: ${show(differences[0])}${each} each.`;
   const way = change.isNegative() ? "more" : "less";
   return `${name} nobody ${verb} ${way} here.`;
+}
+
+/** Why a share may go against the change: other groups are looked at first. */
+function reasonOf(worst, { show }) {
+  const [old, fresh] = worst ?? [], told = ({ who, by }) => {
+    const gain = Rational.of(by).negated();
+    return `${who} (${show(gain.abs())} ${gain.isNegative() ? "lost" : "gained"})`;
+  };
+  if (!worst || old.who === fresh.who) return "";
+  return " The rule looks first at those who gain least by joining, and these are others then: before, "
+    + `${told(old)}; after, ${told(fresh)}. The rest may be moved either way.`;
 }

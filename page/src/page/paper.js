@@ -1,5 +1,6 @@
 // What is printed: one page for a council or a court, the check of a line, or everything.
 import { groupLabel } from "../cases/tables.js";
+import { countText } from "../exact/decimals.js";
 import { masksBySize } from "../game/groups.js";
 import { button, el, refill } from "./dom.js";
 import { dayText, showSheet } from "./sheet.js";
@@ -79,7 +80,7 @@ export class Paper {
     const { kind, typed } = this.session, names = typed?.names ?? [], count = 2 ** names.length - 1;
     const filled = new Set(typed?.filled), remark = (mask) => (filled.has(mask) ? ", filled by the page" : "");
     if (!kind?.isTable || count <= ON_SCREEN) return null;
-    const all = count.toLocaleString("en");
+    const all = countText(count);
     if (count > MOST_GROUPS) {
       return el("p", { class: "hint" }, `Of ${all} groups the first ${ON_SCREEN} are printed; the file has all.`);
     }

@@ -3,6 +3,7 @@ import { button, el } from "./dom.js";
 
 const MOST_SHOWN = 20000; // letters; a longer list is read at once, since it would keep the area busy
 
+/** `onList(text, order, close)` takes a list; one that is refused is left to be mended. */
 export function pasteBox(onList) {
   const paste = (event) => {
     const text = event.clipboardData?.getData("text/plain") ?? "";
@@ -17,10 +18,7 @@ export function pasteBox(onList) {
   const order = el("select", { "aria-label": "The order of numbers alone" },
     el("option", { value: "size" }, "by size: 1, 2, 3, 1+2, 1+3, 2+3, 1+2+3"),
     el("option", { value: "mask" }, "by masks: 1, 2, 1+2, 3, 1+3, 2+3, 1+2+3"));
-  const use = (text) => {
-    box.open = false;
-    onList(text, order.value);
-  };
+  const use = (text) => onList(text, order.value, () => { box.open = false; });
   const box = el("details", { class: "inline" }, el("summary", {}, "Paste a whole list"),
     el("p", { class: "hint" }, "A line for each group: its members with + between, and its number. The players are ",
       "those with a line of their own. Or numbers alone, a line each, without the group of nobody."),

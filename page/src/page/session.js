@@ -31,7 +31,9 @@ export class Session {
    * and `made`, the document that the page makes of it. */
   open(kind, typed, settings = {}) {
     const { measure = "plain", texts = [], todays = null, entry = this.own, doubt = "", file = null } = settings;
-    Object.assign(this, { kind, typed, measure, texts, todays, entry, doubt, places: kind.places ?? 2 });
+    const { places = kind.places ?? 2, mark = this.mark } = settings;
+    Object.assign(this, { kind, typed, measure, texts, todays, entry, doubt, places, mark });
+    spoken.mark = mark;
     Object.assign(this, { reading: null, result: null, judged: {}, proposal: proposalOf([], [], entry) });
     this.changed(0);
     this.file = file;

@@ -1,17 +1,18 @@
 // The one printed page: who, how much, a picture, the reasons, what is agreed on, and how to check it.
-import { fractionText } from "../exact/decimals.js";
+import { sourceName } from "../cases/matrices.js";
+import { countText, fractionText } from "../exact/decimals.js";
 import { barsPicture } from "../draw/bars.js";
 import { planPicture } from "../draw/plan.js";
 import { dealsOf, powerPicture, priceOf, pricesPicture, tradesTable } from "../draw/ranges.js";
 import { trianglePicture } from "../draw/triangle.js";
 import { Rational } from "../exact/rational.js";
-import { sourceOf } from "../tell/rule-names.js";
+import { ruleFile, sourceOf } from "../tell/rule-names.js";
 import { Namer } from "../tell/words.js";
 import { lead, solutionOf } from "./answer.js";
 import { beyondSheet } from "./beyond.js";
 import { el, refill } from "./dom.js";
 import { knownDigest } from "./files.js";
-import { filledText } from "./filled.js";
+import { filledLines, filledText } from "./filled.js";
 import { formatOf, MOVED, totalsOf, withSum } from "./format.js";
 import { contextOf } from "./shares-table.js";
 import { airlineLines } from "./table-lines.js";
@@ -161,9 +162,9 @@ function halves(count, heads, line, sum) {
 
 // ---- The picture
 
-function pictureOf({ result, rows, format }) {
+function pictureOf({ result, rows, format, ...session }) {
   const { game, points, bird } = result, solution = solutionOf(result), few = rows.length <= MOST_PICTURED;
-  const settings = { ...format, wide: WIDE };
+  const settings = { ...format, wide: WIDE, source: sourceName(session.typed) };
   const holder = (drawn, said) => el("figure", { style: `--high: ${highOf(drawn)}mm` }, drawn,
     said && el("figcaption", { class: "hint" }, said));
   if (game.ballots) return few ? holder(powerOf(game, points, format)) : null;
@@ -174,7 +175,7 @@ function pictureOf({ result, rows, format }) {
   if (!solution) return null;
   if (bird && few) return holder(planPicture(game, bird.tree, settings));
   if (game.n === 3) return holder(trianglePicture(game, [solution], settings).drawn, AREA);
-  return few ? holder(barsPicture(game, rows, [solution], settings)) : null;
+  return few ? holder(barsPicture(game, rows, [solution], settings), filledLines(session, rows)) : null;
 }
 
 /** How high a picture is on paper, across the whole page. */
@@ -192,7 +193,7 @@ function powerOf(game, points, { show }) {
 
 // ---- The reasons
 
-function reasonsOf({ result }) {
+function reasonsOf({ result, pair }) {
   const { reasons, answer, rule, game, points } = result;
   if (game.ballots || !reasons) {
     return el("section", {}, el("h2", {}, "How it was found"), el("p", {}, game.ballots ? POWER : PRICES));
@@ -207,7 +208,8 @@ function reasonsOf({ result }) {
     el("p", {}, sentences.join(" ")),
     behind.length > 0 && el("ul", { class: "levels" }, behind.map((text) => el("li", {}, text))),
     el("p", {}, isCore && "By these shares no group does better by itself. ",
-      `No other division meets the principle: there is just one ${rule} (${sourceOf(game.perHead)}).`));
+      `No other division meets the principle: there is just one ${rule} (${sourceOf(game.perHead)}).`),
+    pair && el("p", {}, pair));
 }
 
 /** What the levels behind the first say: who is worst off, and what is settled, or that alone, as there is room. */
@@ -243,22 +245,23 @@ function numbersOf({ file, kind, result: { text } }) {
 }
 
 function agreedOf(view) {
-  const { result: { text }, rows, doubt } = view, filled = filledText(view);
+  const { result: { text }, rows, doubt, fills } = view, filled = filledText(view);
   const isShort = text.length <= (rows.length > MOST_PICTURED ? MOST_ALONE : MOST_DOCUMENT);
-  const what = el("p", {}, numbersOf(view), filled && ` ${filled}`);
+  const what = el("p", {}, numbersOf(view), filled && ` ${filled}`, fills?.text === text && ` ${fills.sentence}`);
   return el("section", {}, el("h2", {}, doubt ? "Not agreed on" : "What is agreed on"),
     doubt && el("p", {}, doubt), what,
     isShort ? el("p", { class: "document" }, text)
-      : el("p", { class: "hint" }, `The file has ${text.length.toLocaleString("en")} characters, and isn’t printed. `
+      : el("p", { class: "hint" }, `The file has ${countText(text.length)} characters, and isn’t printed. `
         + "Keep it with this page."),
     !doubt && el("p", { class: "sign" }, "Agreed on by", el("span"), "on", el("span", { class: "short" })));
 }
 
-function checkOf({ result: { rule, line, game }, doubt }) {
+function checkOf({ result: { rule, answer, line, game }, kind, doubt }) {
   const foot = document.querySelector("footer p").textContent;
   if (doubt) return el("section", {}, el("p", { class: "hint" }, foot));
   const steps = line && !game.ballots
-    ? `${OPEN}, choose “I got an answer and doubt it”, and give it the agreed file and the line with the certificate. `
+    ? `${OPEN}, choose “I got an answer and doubt it”, and give it the agreed file and the line with the certificate, `
+      + `${kind.id}-${ruleFile(answer, game.perHead)}.json. `
       + `Two checkers, apart from each other, say whether these shares are the ${rule} of the agreed game. `
       + "It goes by hand, too: the page lists the eight conditions under “What a yes means”."
     : `${OPEN}, choose “Open or paste a document”, and give it the agreed file: it works the answer out anew.`;

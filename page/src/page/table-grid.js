@@ -1,6 +1,7 @@
 // The grid of a table: the players, and a cell for each group, by size. Of many groups a page is shown at a time.
 import { groupLabel, packed, unpacked, withoutPlayer, withPlayer } from "../cases/tables.js";
 import { masksBySize, membersOf } from "../game/groups.js";
+import { countText } from "../exact/decimals.js";
 import { withEscapes } from "../game/names.js";
 import { cellInput, moveByKeys, pasteCells } from "./cells.js";
 import { button, cellOf, copy, el, refill } from "./dom.js";
@@ -24,7 +25,7 @@ class TableGrid {
     const [players, tools, list] = ["players", "tools", "groups"].map((name) => el("div", { class: name }));
     this.message = el("div", { class: "note", role: "status" });
     Object.assign(this, { players, tools, list, start: 0, wanted: "" });
-    this.element = el("div", {}, players, tools, list, this.message);
+    this.element = el("div", {}, players, tools, this.message, list);
     this.order = masksBySize(typed.names.length);
     moveByKeys(list, (cell, step) => `numbers.${this.order[this.placeOf(cell) + step]}`);
     pasteCells(list, (cell, rows, text) => this.paste(cell, rows, text), readCells);
@@ -36,6 +37,7 @@ class TableGrid {
   }
 
   change(next) {
+    this.filling = (this.filling ?? 0) + 1; // what is being filled is of the old table
     Object.assign(this.typed, next);
     this.order = masksBySize(this.typed.names.length);
     this.start = 0;
@@ -167,22 +169,29 @@ class TableGrid {
   showTools() {
     refill(this.tools, this.order.length > PAGE && this.pager(),
       button("Copy the list for a spreadsheet", (event) => copy(this.spreadsheet(), event.target), { class: "quiet" }),
-      button(`Fill the empty ones by the ${this.kind.isCost ? "cheapest" : "best"} split`, () => this.fillSplits(), {
+      button(`Fill the empty ones by the ${this.kind.isCost ? "cheapest" : "best"} split`, () => this.fillBy("split"), {
         class: "quiet", title: "Each group without a number takes that of its best split into groups that have one",
       }),
-      pasteBox((text, order) => this.takeList(text, order)));
+      this.kind.isCost && button("Fill them no dearer than a larger group", () => this.fillBy("larger"), {
+        class: "quiet", title: "The cheapest of the splits of a group, and of the larger groups that hold it",
+      }),
+      pasteBox((text, order, close) => this.takeList(text, order, close)));
+  }
+
+  fillBy(how) {
+    return this.fillSplits(false, how);
   }
 
   /** Fills the empty groups; `again` those that were filled before. */
-  async fillSplits(again = false) {
+  async fillSplits(again = false, how = this.typed.how) {
     const mine = (this.filling = (this.filling ?? 0) + 1), { filled } = this.typed;
-    const what = { typed: packed(this.typed), mark: this.mark(), costs: Boolean(this.kind.isCost), filled, again };
-    const { state, filled: fresh, notes, fault } = await this.help("fillSplits", what);
+    const what = { typed: packed(this.typed), mark: this.mark(), costs: Boolean(this.kind.isCost), filled, how, again };
+    const { state, filled: fresh, notes, above = [], fault } = await this.help("fillSplits", what);
     if (mine !== this.filling) return;
     if (state && !again) this.remember("Fill the empty ones");
-    if (state) Object.assign(this.typed, unpacked(state), { filled: fresh });
+    if (state) Object.assign(this.typed, unpacked(state), { filled: fresh, how });
     this.showGroups();
-    this.say(fault ?? notes.join(" "));
+    this.say(fault ?? notes.join(" "), namedGroups(above));
     this.onChange(0);
   }
 
@@ -197,7 +206,7 @@ class TableGrid {
         this.go(0);
       } },
     });
-    const end = Math.min(this.start + PAGE, masks.length), all = masks.length.toLocaleString("en");
+    const end = Math.min(this.start + PAGE, masks.length), all = countText(masks.length);
     return el("span", { class: "pager" },
       el("label", {}, "Groups with ", find),
       button("‹", turn(-PAGE), { "aria-label": "Groups before", disabled: this.start === 0 }),
@@ -225,10 +234,12 @@ class TableGrid {
     return `${this.order.map((mask) => `${groupLabel(names, mask)}\t${numbers[mask] ?? ""}`).join("\n")}\n`;
   }
 
-  async takeList(text, order = "size") {
+  /** Takes a list, and then `close`s where it was pasted. */
+  async takeList(text, order = "size", close = () => {}) {
     this.say("Reading the list …");
     const { state, fault, told, isOdd } = await this.readList({ text, names: this.ownNames(), order });
-    if (!state) return this.say(fault);
+    if (!state) return this.say(fault, " Nothing was taken.");
+    close();
     this.remember("Use this list");
     this.change({ ...unpacked(state), filled: undefined });
     const { names, numbers } = this.typed, lacking = this.order.filter((mask) => !numbers[mask]).length;
@@ -256,6 +267,13 @@ class TableGrid {
   say(...parts) {
     refill(this.message, parts);
   }
+}
+
+/** Groups that cost more than a larger one, each with it; of very many the first ones. */
+function namedGroups(above) {
+  const named = above.filter(Boolean), rest = above.length - named.length;
+  return named.length > 0 && el("details", { class: "named" }, el("summary", {}, "Which, and the larger groups"),
+    el("ul", {}, named.map((text) => el("li", {}, text)), rest > 0 && el("li", {}, `and ${rest} more`)));
 }
 
 /** Which group a number was read as, where the orders differ. */

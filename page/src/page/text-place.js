@@ -1,4 +1,5 @@
 // A place to drop, choose or paste a text.
+import { countText } from "../exact/decimals.js";
 import { withEscapes } from "../game/names.js";
 import { button, el } from "./dom.js";
 
@@ -23,7 +24,7 @@ export async function textOfFile(file) {
 
 /** What is said of where a text is from; nothing of one that was pasted. */
 function fromText({ name, size, given }) {
-  const file = name && `${name}, ${size.toLocaleString("en")} bytes`;
+  const file = name && `${name}, ${countText(size)} bytes`;
   return [file, given !== undefined && "without what the mail program added"].filter(Boolean).join(", ");
 }
 

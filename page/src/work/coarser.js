@@ -49,7 +49,7 @@ function scaling(values, mark) {
 }
 
 /** What was typed with each number changed. */
-function mapNumbers(kind, typed, change) {
+export function mapNumbers(kind, typed, change) {
   if (kind.isTable) return { ...typed, numbers: typed.numbers.map((text, mask) => (mask ? change(text) : text)) };
   if (kind.isMarket) return { ...typed, values: typed.values.map((row) => row.map(change)) };
   if (kind.isNetwork) {

@@ -1,6 +1,7 @@
 // Help for links that don't exist: the ways through the others, or a table of what each group's cheapest network costs.
 import { lcm, Rational } from "../exact/rational.js";
 import { readNumber, shortText, typedText } from "../exact/decimals.js";
+import { sourceName } from "../cases/matrices.js";
 import { withEscapes } from "../game/names.js";
 
 /** The costs that were typed, by "i-j", those of empty cells being null; or a fault in words. */
@@ -16,13 +17,13 @@ function linksOf({ names, links, mark }) {
   return { n, cost: (i, j) => costs.get(i < j ? `${i}-${j}` : `${j}-${i}`) };
 }
 
-function placeName(names, i) {
-  return i ? withEscapes(names[i - 1].trim()) || `Place ${i}` : "Source";
+function placeName(names, i, source) {
+  return i ? withEscapes(names[i - 1].trim()) || `Place ${i}` : sourceName({ source });
 }
 
 /** Fills each empty cell by the cheapest way over links that exist, or of them those with the keys `only`: {links,
  * ways, notes}, or {fault}. */
-export function fillLinks({ names, links, mark, only = null }) {
+export function fillLinks({ names, links, source, mark, only = null }) {
   const { n, cost, fault } = linksOf({ names, links, mark });
   if (fault) return { fault };
   const ways = Array.from({ length: n + 1 }, (_, i) => Array.from({ length: n + 1 }, (_, j) => {
@@ -41,7 +42,7 @@ export function fillLinks({ names, links, mark, only = null }) {
   for (let i = 0; i <= n; i++) {
     for (let j = i + 1; j <= n; j++) {
       if (cost(i, j) || (only && !only.includes(`${i}-${j}`))) continue;
-      const which = `${placeName(names, i)} – ${placeName(names, j)}`;
+      const which = `${placeName(names, i, source)} – ${placeName(names, j)}`;
       if (!ways[i][j]) lacking.push(which);
       else {
         filled[`${i}-${j}`] = typedText(ways[i][j], mark);

@@ -1,15 +1,14 @@
 // The same game with another amount to divide: several estates side by side, and an overrun.
-import { parseJson, writeJson } from "../exact/json.js";
+import { parseJson } from "../exact/json.js";
 import { Rational } from "../exact/rational.js";
 import { readNumber, shortText } from "../exact/decimals.js";
 import { Game } from "../game/game.js";
-import { membersOf } from "../game/groups.js";
 import { withEscapes } from "../game/names.js";
 import { nameByRows, Namer } from "../tell/words.js";
-import { answer, solutionOf } from "./answers.js";
+import { solutionOf } from "./answers.js";
+import { amountsOf, byEachRule, isStable, sideOf, worstOf } from "./changes.js";
 
 const MOST_ESTATES = 12;
-const MOST_PER_HEAD = 8;
 
 const UNIT = /^\s*(?:[A-Z]{3}|\p{Sc})\s*(?=[\d-])|(?<=[\d-])\s*(?:[A-Z]{3}|\p{Sc})\s*$/gu;
 
@@ -67,46 +66,13 @@ function changeOf(typed, whole, mark) {
 /** Who bears it where the whole costs, or is worth, more: for each rule the shares before and after, and whether a
  * group does better by itself. */
 export function overrun({ text, rows, typed, mark }) {
-  const game = nameByRows(new Game(parseJson(text).game), rows), full = 2 ** game.n - 1;
+  const game = nameByRows(new Game(parseJson(text).game), rows), amounts = amountsOf(game);
   const { more, fault } = changeOf(typed, game.whole(), mark);
   if (fault) return { fault };
-  const amounts = Array.from({ length: full }, (_, k) => game.told(membersOf(k + 1)));
   const after = [...amounts.slice(0, -1), amounts.at(-1).plus(more)];
-  const isPrenucleolus = [amounts, after].some((one) => solutionOf(tableOf(game, one)).key === "prenucleolus");
-  const isStable = (one) => answer("core", writeJson({ game: tableOf(game, one) })).status === 0;
-  const rules = [
-    [isPrenucleolus ? "prenucleolus" : "nucleolus", isPrenucleolus ? "Prenucleolus" : "Nucleolus", {}],
-    ["shapley", "Shapley shares", {}],
-  ];
-  if (game.n <= MOST_PER_HEAD) rules.push(["prenucleolus", "Prenucleolus per head", { excess: "per-head" }]);
-  return {
-    whole: String(amounts.at(-1)), more: String(more), wasStable: isStable(amounts), isStable: isStable(after),
-    rules: rules.map(([word, title, measure]) => {
-      const [before, then] = [amounts, after].map((one) => sharesOf(game, one, word, measure));
-      const leaving = [[amounts, before], [after, then]].map(([one, shares]) => leavingOf(game, one, shares));
-      return { title, before, after: then, leaving };
-    }),
-  };
-}
-
-/** Which group does better by itself, and by how much: {who, by}; null where none does. */
-function leavingOf(game, amounts, shares) {
-  const given = shares.map((share) => Rational.of(share).toDocument());
-  const { tree } = answer("propose", writeJson({ game: tableOf(game, amounts), shares: given }));
-  if (tree.answer !== "blocked") return null;
-  const who = new Namer(game).group(tree.coalition.map((player) => Number(player) - 1));
-  return { who: who.replace(/ (alone|together)$/, ""), by: tree.excess };
-}
-
-function sharesOf(game, amounts, word, measure) {
-  return solutionOf({ ...tableOf(game, amounts), ...measure }, word).shares;
-}
-
-/** A game as a table, with the amounts of all groups in the order of their masks. */
-function tableOf(game, amounts) {
-  const isWhole = amounts.every((amount) => Rational.of(amount).isWhole());
-  return {
-    class: game.costs ? "cost-table" : "table", players: BigInt(game.n), ...(isWhole ? {} : { version: 2n }),
-    worths: amounts.map((amount) => amount.toDocument()),
-  };
+  const sides = [amounts, after].map((one) => sideOf(game, one)), [wasStable, isStableNow] = sides.map(isStable);
+  const [nucleolus, ...others] = byEachRule(sides);
+  const worst = [worstOf(sides[0], nucleolus.before), worstOf(sides[1], nucleolus.after)];
+  const rules = [{ ...nucleolus, worst }, ...others];
+  return { whole: String(amounts.at(-1)), more: String(more), wasStable, isStable: isStableNow, rules };
 }

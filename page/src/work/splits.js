@@ -1,44 +1,56 @@
 // Groups that nobody has put a number on: what they cost, or are worth, by their best split into groups that have one.
 import { lcm, Rational } from "../exact/rational.js";
 import { readNumber, typedText } from "../exact/decimals.js";
-import { packed, unpacked } from "../cases/tables.js";
+import { groupLabel, packed, unpacked } from "../cases/tables.js";
 import { plural } from "../tell/words.js";
 
 const MOST_SCALE = 65536n;
+const MOST_NAMED = 300; // groups that are named
 
 /** Fills the empty groups of a table, and anew those that were `filled` before (`again` only these, so that a cell may
- * be emptied): {state, filled, notes}, or {fault}.
- * Costs take the cheapest split, gains the best. What all together cost or gain is never filled: it is divided. */
-export function fillSplits({ typed, mark, costs, filled = [], again = false }) {
+ * be emptied): {state, filled, notes, above}, or {fault}. `above` names groups that cost more than larger ones.
+ * Costs take the cheapest split, gains the best; `how` may be "larger": then no group costs more than a larger one that
+ * holds it. What all together cost or gain is never filled: it is divided. */
+export function fillSplits({ typed, mark, costs, filled = [], how = "split", again = false }) {
   const { names, numbers: given } = unpacked(typed), old = new Set(filled), all = given.length - 1;
   const numbers = given.map((text, mask) => (old.has(mask) ? "" : text));
-  const { values, scale, fault } = scaledValues(numbers, mark);
+  const { values, scale, by, fault } = scaledValues(numbers, mark);
   if (fault) return { fault };
-  const best = bestSplits(values, costs), fresh = [], hasWhole = values[all] !== null;
+  const best = bestSplits(how === "larger" ? heldByLarger(values).map(({ value }) => value) : values, costs);
+  const fresh = [], hasWhole = values[all] !== null;
   const texts = numbers.map((text, mask) => {
     if (!mask || mask === all || values[mask] !== null || best[mask] === null || (again && !old.has(mask))) return text;
     fresh.push(mask);
-    return typedText(new Rational(BigInt(best[mask]), scale), mark);
+    values[mask] = best[mask];
+    return typedText(new Rational(BigInt(best[mask]), scale), by);
   });
   const lacking = texts.filter((text, mask) => mask && mask !== all && !text.trim()).length;
-  const above = countAbove(hasWhole ? best : [...best.slice(0, -1), null], fresh);
-  const notes = notesOf(fresh.length, lacking, hasWhole, above, costs);
-  return { state: packed({ names, numbers: texts }), filled: fresh, notes };
+  const above = abovesOf(values, fresh, { names, texts });
+  const notes = notesOf({ count: fresh.length, lacking, hasWhole, above: above.length, costs, how });
+  return { state: packed({ names, numbers: texts }), filled: fresh, notes, above };
 }
 
-/** How many of the filled groups cost more (gain more) than a larger group that holds them. */
-function countAbove(values, fresh) {
-  const least = [...values];
+/** For each group the least number of a group that holds it, itself or a larger one: {value, mask}. */
+function heldByLarger(values) {
+  const least = values.map((value, mask) => ({ value, mask }));
   for (let bit = 1; bit < least.length; bit *= 2) {
     for (let mask = least.length - 1; mask > 0; mask--) {
-      const other = mask & bit ? null : least[mask | bit] ?? null;
-      if (other !== null && (least[mask] === null || other < least[mask])) least[mask] = other;
+      const other = least[mask | bit], own = least[mask];
+      if (other.value !== null && (own.value === null || other.value < own.value)) least[mask] = other;
     }
   }
-  return fresh.filter((mask) => least[mask] < values[mask]).length;
+  return least;
 }
 
-/** What was typed as whole numbers over a scale; null where nothing was. */
+/** The filled groups that cost more (gain more) than a larger group that holds them, with the one that costs least. */
+function abovesOf(values, fresh, { names, texts }) {
+  const least = heldByLarger(values), told = (mask) => `${groupLabel(names, mask)}: ${texts[mask]}`;
+  const found = fresh.filter((mask) => least[mask].value < values[mask]);
+  return found.map((mask, k) => (k < MOST_NAMED ? `${told(mask)} (${told(least[mask].mask)})` : ""));
+}
+
+/** What was typed as whole numbers over a scale, null where nothing was; `by` is the decimal mark that all of it shows,
+ * or else the one that was given. */
 function scaledValues(numbers, mark) {
   const known = new Map(), read = numbers.map((text, mask) => {
     if (!mask || !text.trim()) return null;
@@ -49,7 +61,9 @@ function scaledValues(numbers, mark) {
   let scale = 1n;
   for (const { value } of known.values()) scale = scale > MOST_SCALE ? scale : lcm(scale, value.den);
   if (scale > MOST_SCALE) return { fault: "The numbers are too fine: they have no common denominator to 65,536." };
-  return { scale, values: read.map((one) => one && Number((one.value.num * scale) / one.value.den)) };
+  const marks = new Set([...known.values()].map(({ by }) => by).filter(Boolean));
+  const values = read.map((one) => one && Number((one.value.num * scale) / one.value.den));
+  return { scale, values, by: marks.size === 1 ? [...marks][0] : mark };
 }
 
 /** The best sum of groups with numbers that split each group, which may be its own number; null where there is none. A
@@ -68,15 +82,16 @@ function bestSplits(values, costs) {
   return best;
 }
 
-function notesOf(count, lacking, hasWhole, above, costs) {
+function notesOf({ count, lacking, hasWhole, above, costs, how }) {
   if (!count && !lacking && hasWhole) return ["No group is empty."];
-  const split = costs ? "cheapest split" : "best split", notes = [];
+  const split = costs ? "cheapest split" : "best split", notes = [], isLarger = how === "larger";
   const [cost, less] = costs ? ["cost", "less"] : ["gain", "more"];
   if (count) {
-    notes.push(`${plural(count, "group was", "groups were")} filled, each by its ${split} into groups that have a `
-      + "number. They are marked, and follow when another number changes. "
-      + `That says: together they would ${cost} no ${less} than apart. Where a group could, the shares may `
-      + "change, those of the nucleolus too.");
+    const way = `its ${split} into groups that have a number${isLarger ? ", or a larger group that holds it" : ""}`;
+    notes.push(`${plural(count, "group was", "groups were")} filled, each by ${way}. They are marked, and follow when `
+      + "another number changes. "
+      + `That says: together they would ${cost} no ${less} than ${isLarger ? "so" : "apart"}. Where a group could, the `
+      + "shares may change, those of the nucleolus too.");
   }
   if (above) {
     notes.push(`${above} of them ${cost} more than a larger group that holds them.${costs

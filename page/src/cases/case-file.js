@@ -1,0 +1,75 @@
+// A case as the page saves it: the document, and what a document has no place for, as which numbers were assumed.
+import { isObject, writeJson } from "../exact/json.js";
+import { maskOf, membersOf } from "../game/groups.js";
+
+const WORD = "coop-page", VERSION = 1n;
+const isText = (one) => typeof one === "string" && one.length <= 200;
+const isMark = (one) => one === "." || one === ",";
+
+/** What may stand beside the document, each with its test. */
+const TESTS = {
+  filled: isObject, decimals: (one) => typeof one === "bigint" && one >= 0n && one <= 6n, mark: isMark, entry: isMark,
+  heading: isText, unit: isText, source: isText, proposal: (one) => Array.isArray(one) && one.every(isText),
+};
+
+/** The file of a case: `text` is its document, `mark` that of what is shown, `entry` that of the cells. */
+export function caseText({ typed, text, texts, places, mark, entry, paper: { heading, unit } }) {
+  const proposal = texts.some(Boolean) ? texts : undefined;
+  const settings = { filled: filledTree(typed), decimals: places, mark, entry, heading, unit, source: typed.source };
+  const kept = Object.entries({ ...settings, proposal }).filter(([, one]) => one !== undefined && one !== "");
+  return `{"${WORD}":${VERSION},\n"document":${text}${kept.map(([key, one]) => {
+    return `,\n"${key}":${writeJson(one)}`;
+  }).join("")}}\n`;
+}
+
+/** Groups by their players, links by their ends (the source is 0) and how they were filled. */
+function filledTree({ filled = [], how = "split" }) {
+  if (!Array.isArray(filled)) {
+    const links = Object.entries(filled).map(([key, way]) => [...key.split("-").map(Number), way]);
+    return links.length ? { links } : undefined;
+  }
+  return filled.length ? { how, groups: filled.map((mask) => membersOf(mask).map((i) => i + 1)) } : undefined;
+}
+
+export function isCaseFile(tree) {
+  return isObject(tree) && WORD in tree;
+}
+
+/** What is wrong with the form of a case: {sentence, place}; null where nothing is. */
+export function faultOfCase(tree) {
+  if (tree[WORD] > VERSION) {
+    return { sentence: "A later version of this page has saved this case. Its document can be opened by itself.",
+      place: WORD };
+  }
+  if (tree[WORD] !== VERSION) return spoilt(WORD);
+  if (!isObject(tree.document)) return spoilt("document");
+  const key = Object.keys(TESTS).find((one) => one in tree && !TESTS[one](tree[one]));
+  return key ? spoilt(key) : null;
+}
+
+function spoilt(place) {
+  return { sentence: "This case isn’t as the page saved it, so it isn’t opened. Its document can be.", place };
+}
+
+/** Which cells of a case were filled, as what was typed has it: {filled, how}, or {fault} with its place. */
+export function filledOf(kind, names, tree) {
+  if (tree === undefined) return {};
+  const key = kind.isTable ? "groups" : "links", list = Array.isArray(tree[key]) ? tree[key] : [null];
+  const isRight = !kind.isTable && !kind.isNetwork ? () => false : kind.isTable ? isGroup : isLink;
+  const wrong = list.findIndex((one) => !Array.isArray(one) || !isRight(one, BigInt(names?.length ?? 0)));
+  if (wrong >= 0) return { fault: spoilt(`filled, ${key}, item ${wrong + 1}`) };
+  if (kind.isNetwork) return { filled: Object.fromEntries(list.map(([i, j, how]) => [`${i}-${j}`, how])) };
+  const how = tree.how === "larger" && kind.isCost ? "larger" : "split";
+  return { how, filled: [...new Set(list.map((group) => maskOf(group.map((i) => Number(i) - 1))))] };
+}
+
+/** A group of players that isn't that of all. */
+function isGroup(group, n) {
+  const isRising = group.every((i, k) => typeof i === "bigint" && i > (group[k - 1] ?? 0n) && i <= n);
+  return isRising && group.length > 0 && group.length < n;
+}
+
+function isLink([i, j, how], n) {
+  const areEnds = [i, j].every((end) => typeof end === "bigint") && i >= 0n && i < j && j <= n;
+  return areEnds && ["way", "number"].includes(how);
+}

@@ -1,0 +1,65 @@
+// What the others pay, or get, if one leaves, and what the one who leaves has to be told.
+import { Rational } from "../exact/rational.js";
+import { capital } from "../tell/words.js";
+import { changesOf, changesTable, ruleIn } from "./changes.js";
+import { el, refill } from "./dom.js";
+import { totalsOf } from "./format.js";
+
+/** `view` are {game, text, rows, format, typed, ask, assumed}; `typed.leaves` keeps who was chosen. */
+export function leavingPart(view) {
+  const { game, text, rows, typed, ask } = view;
+  if (rows.length < 2) return null;
+  const found = el("div", { class: "found", "aria-live": "polite" });
+  const work = async () => {
+    const row = rows.find(({ label }) => label === typed.leaves);
+    if (!row) return refill(found);
+    try {
+      return refill(found, leavingParts(await ask("leave", { text, who: row.players }), row, view));
+    } catch (fault) {
+      return fault.message === "stopped" || refill(found, el("p", { class: "bad" }, fault.message));
+    }
+  };
+  const names = ["", ...rows.map(({ label }) => label)];
+  const choice = el("select", { "aria-label": "Who leaves?", "data-cell": "leaves", on: { change: (event) => {
+    typed.leaves = event.target.value;
+    work();
+  } } }, names.map((name) => el("option", { value: name, selected: name === typed.leaves }, name || "choose one")));
+  const details = el("details", { class: "other leaves", open: Boolean(typed.open?.leaves), on: {
+    toggle: () => { typed.open = { ...typed.open, leaves: details.open }; },
+  } }, el("summary", {}, "If one leaves"),
+  el("p", { class: "hint" }, `What each group ${game.costs ? "costs" : "gains"} by itself stays, and the case too.`),
+  el("p", { class: "tools" }, el("label", {}, el("span", { class: "field" }, "Who leaves? "), choice)), found);
+  if (typed.open?.leaves) work();
+  return details;
+}
+
+function leavingParts(found, gone, view) {
+  const { rows, game, format, assumed } = view, { label } = gone, [verb, cost] = game.costs ? ["pays", "cost"]
+    : ["gets", "gain"];
+  const place = new Map(found.stay.map((i, k) => [i, k]));
+  const stay = rows.filter((row) => row !== gone).map((row) => {
+    return { ...row, players: row.players.map((i) => place.get(i)) };
+  });
+  const columns = found.rules.map((rule) => changesOf(rule, stay, format));
+  const [whole, rest, alone] = [found.whole, found.rest, found.alone].map(Rational.of), { show } = format;
+  const facts = `Without ${label} the others ${cost} ${show(rest)}, and all together ${show(whole)}: ${label} adds `
+    + `${show(whole.minus(rest))}. Alone ${label} ${cost}s ${show(alone)}.`;
+  const isAssumed = assumed([found.stay, gone.players]);
+  return [
+    el("p", {}, facts, isAssumed && " What the others, or those who leave, have by themselves was filled by the page, "
+      + "and nobody has put a number on it."),
+    ...columns.map((column) => el("p", {}, ofRule(column, { label, verb, alone, game, format }))),
+    changesTable(columns, { rows: stay, game, format }),
+  ];
+}
+
+/** What the one who leaves loses or gains by one rule, and the others together. */
+function ofRule(column, { label, verb, alone, game, format: { show } }) {
+  const own = Rational.of(column.own), others = Rational.sum(column.differences), way = (value) => {
+    return value.isNegative() ? "less" : "more";
+  };
+  const told = (value) => (value.isZero() ? "the same" : `${show(value.abs())} ${way(value)}`);
+  const verbs = game.costs ? "pay" : "get";
+  return capital(`by the ${ruleIn(column)} ${label} ${verb} ${show(own)}, and alone ${told(alone.minus(own))}; the `
+    + `others together then ${verbs} ${told(others)}.`);
+}

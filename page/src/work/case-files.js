@@ -1,0 +1,58 @@
+// What is opened: a document, a line, or a case as the page saved it.
+import { JsonFault, parseJson, writeJson } from "../exact/json.js";
+import { readNumber, typedText } from "../exact/decimals.js";
+import { caseNamed } from "../cases/cases.js";
+import { faultOfCase, filledOf, isCaseFile } from "../cases/case-file.js";
+import { packed } from "../cases/tables.js";
+import { openDocument } from "./cases.js";
+import { mapNumbers } from "./coarser.js";
+import { fillSplits } from "./splits.js";
+
+const OF_A_CASE = "This case is as the page saved it. The program reads its document alone.";
+const NOT_FOLLOWING = "The cells that the file calls filled have other numbers than the page would fill in, so they "
+  + "stand here as typed ones.";
+
+/** A text as a case: as openDocument has it, and of a saved case `more` of what was typed, `settings`, and `notes`. */
+export function openText({ text, mark }) {
+  const tree = text.includes('"coop-page"') ? treeOf(text) : null;
+  return isCaseFile(tree) ? openCase(tree, mark) : openDocument({ text, mark });
+}
+
+function treeOf(text) {
+  try {
+    return parseJson(text);
+  } catch (fault) {
+    if (fault instanceof JsonFault) return null;
+    throw fault;
+  }
+}
+
+function openCase(tree, spoken) {
+  const fault = faultOfCase(tree);
+  if (fault) return { refusal: fault };
+  const { entry = spoken, mark = spoken, decimals, heading, unit, source, proposal = [] } = tree;
+  const found = openDocument({ text: writeJson(tree.document), mark });
+  if (found.refusal) {
+    const { sentence, place } = found.refusal;
+    return { refusal: { sentence, place: place ? `document, ${place}` : "document" } };
+  }
+  const kind = caseNamed(found.id), plain = kind.unpack?.(found.typed) ?? found.typed;
+  const byMark = (text, { value } = readNumber(text)) => (value ? typedText(value, entry) : text);
+  const typed = mapNumbers(kind, plain, (text) => byMark(text));
+  const { fault: wrong, ...filled } = filledOf(kind, typed.names, tree.filled);
+  if (wrong) return { refusal: wrong };
+  const isFollowing = !kind.isTable || follows(kind, typed, filled, entry);
+  return {
+    ...found, isCase: true, typed: kind.pack?.(typed) ?? typed, texts: proposal,
+    more: { ...(isFollowing ? filled : {}), ...(source && kind.isNetwork ? { source } : {}) },
+    settings: { entry, mark, places: decimals && Number(decimals), paper: { heading, unit } },
+    notes: [OF_A_CASE, ...(isFollowing ? [] : [NOT_FOLLOWING])],
+  };
+}
+
+/** Whether the filled cells have the numbers that the page would fill in: else these would change at the next key. */
+function follows(kind, typed, { filled, how }, mark) {
+  if (!filled) return true;
+  const { state } = fillSplits({ typed: packed(typed), mark, costs: kind.isCost, filled, how, again: true });
+  return state?.numbers === packed(typed).numbers;
+}

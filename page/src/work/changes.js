@@ -1,0 +1,98 @@
+// What each rule makes of two games side by side: where some leave, or where other numbers were filled in.
+import { parseJson, writeJson } from "../exact/json.js";
+import { Rational } from "../exact/rational.js";
+import { caseNamed } from "../cases/cases.js";
+import { Game } from "../game/game.js";
+import { maskOf, membersOf, without } from "../game/groups.js";
+import { Namer } from "../tell/words.js";
+import { answer, solutionOf } from "./answers.js";
+import { fillSplits } from "./splits.js";
+
+const MOST_PER_HEAD = 8;
+
+/** A game by what its groups cost or gain, in the order of the masks. */
+export function sideOf({ n, costs, shown, named }, amounts) {
+  return { n, costs, shown, named, amounts };
+}
+
+export function amountsOf(game) {
+  return Array.from({ length: 2 ** game.n - 1 }, (_, k) => game.told(membersOf(k + 1)));
+}
+
+function treeOf({ n, costs, amounts }) {
+  const isWhole = amounts.every((amount) => amount.isWhole());
+  return {
+    class: costs ? "cost-table" : "table", players: BigInt(n), ...(isWhole ? {} : { version: 2n }),
+    worths: amounts.map((amount) => amount.toDocument()),
+  };
+}
+
+/** Whether some division satisfies all groups. */
+export function isStable(side) {
+  return answer("core", writeJson({ game: treeOf(side) })).status === 0;
+}
+
+/** By each rule the shares of both games, and which group does better by itself. */
+export function byEachRule(sides) {
+  const isPrenucleolus = sides.some((side) => solutionOf(treeOf(side)).key === "prenucleolus");
+  const rules = [
+    [isPrenucleolus ? "prenucleolus" : "nucleolus", isPrenucleolus ? "Prenucleolus" : "Nucleolus", {}],
+    ["shapley", "Shapley shares", {}],
+  ];
+  const isSmall = sides.every(({ n }) => n <= MOST_PER_HEAD);
+  if (isSmall) rules.push(["prenucleolus", "Prenucleolus per head", { excess: "per-head" }]);
+  return rules.map(([word, title, measure]) => {
+    const [before, after] = sides.map((side) => solutionOf({ ...treeOf(side), ...measure }, word).shares);
+    return { title, before, after, leaving: [leavingOf(sides[0], before), leavingOf(sides[1], after)] };
+  });
+}
+
+/** Which group does better by itself, and by how much: {who, by}; null where none does. */
+function leavingOf(side, shares) {
+  const given = shares.map((share) => Rational.of(share).toDocument());
+  const { tree } = answer("propose", writeJson({ game: treeOf(side), shares: given }));
+  if (tree.answer !== "blocked") return null;
+  const who = new Namer(side).group(tree.coalition.map((player) => Number(player) - 1));
+  return { who: who.replace(/ (alone|together)$/, ""), by: tree.excess };
+}
+
+/** Which group gains least by joining, and by how much it would do better by leaving: {who, by}. */
+export function worstOf(side, shares) {
+  const sums = [Rational.of(0)];
+  let worst = null;
+  side.amounts.slice(0, -1).forEach((amount, k) => {
+    const mask = k + 1, rest = mask & (mask - 1);
+    sums[mask] = sums[rest].plus(Rational.of(shares[31 - Math.clz32(mask & -mask)]));
+    const by = side.costs ? sums[mask].minus(amount) : amount.minus(sums[mask]);
+    if (!worst || worst.by.less(by)) worst = { mask, by };
+  });
+  const who = new Namer(side).group(membersOf(worst.mask));
+  return { who: who.replace(/ (alone|together)$/, ""), by: String(worst.by) };
+}
+
+/** What those who stay pay or get where `who` leave, by each rule; `own` is what those who leave paid or got. */
+export function leave({ text, who }) {
+  const game = new Game(parseJson(text).game), stay = without(game.n, who), amounts = amountsOf(game);
+  const rest = Array.from({ length: 2 ** stay.length - 1 }, (_, k) => {
+    return amounts[maskOf(membersOf(k + 1).map((i) => stay[i])) - 1];
+  });
+  const small = { ...sideOf(game, rest), n: stay.length, shown: stay.map((i) => game.shown[i]) };
+  const rules = byEachRule([sideOf(game, amounts), small]).map(({ before, ...rule }) => {
+    const own = Rational.sum(who.map((i) => Rational.of(before[i])));
+    return { ...rule, own: String(own), before: stay.map((i) => before[i]) };
+  });
+  return { whole: String(game.whole()), alone: String(game.told(who)), rest: String(rest.at(-1)), stay, rules };
+}
+
+/** The shares by the two ways to fill a table of costs, the one that was taken first; null where the numbers are the
+ * same by both. */
+export function compareFills({ id, typed, mark, filled, how = "split" }) {
+  const kind = caseNamed(id), other = how === "split" ? "larger" : "split";
+  const { state } = fillSplits({ typed, mark, costs: kind.isCost, filled, how: other, again: true });
+  if (!state || state.numbers === typed.numbers) return null;
+  const sides = [typed, state].map((one) => {
+    const game = new Game(kind.read(one, mark).tree);
+    return sideOf(game, amountsOf(game));
+  });
+  return { how, rules: byEachRule(sides) };
+}
