@@ -38,8 +38,8 @@ export function wordLine({ title, isYes, sentence, items = [] }) {
     items.length > 0 && el("ul", { class: "differences" }, items.map((item) => el("li", {}, item))));
 }
 
-/** `name` is the case, by which files are named; `filled` says what the page filled in; `file` was opened, if any. */
-export function evidenceParts(result, name, filled, file) {
+/** `name` is the case, by which files are named; `filled` says what the page filled in; `opened` is a file, if any. */
+export function evidenceParts(result, name, filled, opened) {
   if (!result.line) return withoutCertificate(result, name);
   const { program, anew } = result.checks, { line, game, answer, rule } = result, text = `${result.text}\n`;
   const file = `${name}-${ruleFile(answer, game.perHead)}.json`;
@@ -51,8 +51,8 @@ export function evidenceParts(result, name, filled, file) {
     el("ol", { class: "steps" },
       el("li", {}, "Agree on the game’s file first, before anyone knows an answer. ",
         fileButtons(text, `${name}-game.json`), fingerprint(text),
-        file?.made === result.text && el("p", { class: "hint" }, `The same game stands in ${file.name}, which was `,
-          `opened here${file.digest ? ` and has the SHA-256 ${file.digest}` : ""}: who agreed on that file keeps it.`),
+        opened?.made === result.text && el("p", { class: "hint" }, `The same game stands in ${opened.name}, which was `,
+          `opened here${opened.digest ? ` and has the SHA-256 ${opened.digest}` : ""}: who agreed on that keeps it.`),
         filled && el("p", { class: "hint" }, `${filled} The file doesn’t say which.`)),
       el("li", {}, "Send the line: the answer with its evidence. ", fileButtons(line, file)),
       el("li", {}, "Whoever gets it opens this page and checks below: is it the agreed game, and does the certificate ",
