@@ -138,7 +138,7 @@ const types = [
     expect("rows", await page.run("document.querySelectorAll('.shares tbody')[0].rows.length"), 20);
     const drawn = "[...document.querySelectorAll('.bars svg text')].map((one) => one.textContent)";
     const texts = (await page.run(drawn)).join("\n");
-    expect("bars", texts, /DH8, needs 20.5\neach of 5\n→\nA320, needs 40\neach of 5\n→\nB744, needs 60\neach of 15/);
+    expect("bars", texts, /DH8, needs 20.50\neach of 5\n→\nA320, needs 40\neach of 5\n→\nB744, needs 60\neach of 15/);
     expect("in the picture itself", texts, /A bar is what one landing pays/);
   }],
 ];
