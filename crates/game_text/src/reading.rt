@@ -7,10 +7,8 @@ ghost use Rattle.serde_json.specs.Find.{get};
 ghost use Rattle.json_trees.specs.Trees.{passes};
 ghost use Rattle.certificate_texts.specs.Certificates.{has_form, certificate_of};
 ghost use Rattle.game_text.specs.Documents.{game_tree, certificate_tree, family_for};
-ghost use Rattle.game_text.specs.Descriptions.{description_of, game_of, is_cost};
-ghost use Rattle.game_text.specs.Games.{description_in};
+ghost use Rattle.game_text.specs.Classes.{description_of, game_of, is_cost, description_in, players};
 ghost use Rattle.game_text.specs.Kept.{IsKept};
-ghost use Rattle.game_text.specs.Limits.{players};
 ghost use Rattle.document_parts.specs.Scales.{scale_of, IsScaleOf};
 ghost use Rattle.document_parts.specs.Names.{names_of};
 ghost use Rattle.game_text.specs.Names.{has_names};
@@ -22,12 +20,10 @@ ghost use Rattle.game_text.specs.Readings.{IsTreeFault, IsLateReading, IsLateFau
 ghost use Rattle.game_text.specs.Readings.{IsGameReading, IsGameFault, IsProposal, IsProposalFault};
 ghost use Rattle.game_text.specs.Readings.{IsShareReading, IsShareFault, IsCertificateReading, IsCertificateFault};
 
-use crate::building::game_of;
+use crate::classes::{Game, game_of, has_numbers, players};
 use crate::command::Command;
 use crate::document::Document;
 use crate::fault::TextFault;
-use crate::game::Game;
-use crate::limits::{has_numbers, players};
 use crate::shape::shaped_game;
 use crate::shaped::SizedGame;
 use certificate_texts::{certificate_of, family_of};

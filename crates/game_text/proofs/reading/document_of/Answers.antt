@@ -7,8 +7,8 @@ use Rattle.kinds.specs.declared.refusal.Refusal.{Refusal}
 use Rattle.kinds.specs.declared.refusal.Refusal.TheVariants.{Shape}
 use Rattle.std.proofs.lemmas.Bool.{and_left, and_right, and_from}
 use Rattle.document_parts.specs.Scales.{scale_of, if_scale}
-use Rattle.game_text.specs.Shape.{class_of, is_game_shaped}
-use Rattle.game_text.specs.Limits.{has_players, players, has_numbers_as, has_numbers}
+use Rattle.game_text.specs.Classes.{class_of, has_players, players, has_numbers_as, has_numbers}
+use Rattle.game_text.specs.Shape.{is_game_shaped}
 use Rattle.game_text.specs.Readings.{HasSizes}
 use Rattle.game_text.proofs.Choices.{passed_if, failed_if}
 use Rattle.game_text.proofs.Chain.{few_players, bad_number, fault_behind_numbers, behind_numbers}

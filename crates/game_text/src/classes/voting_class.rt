@@ -1,0 +1,65 @@
+//! Weighted voting games: a quota, and a weight for each player. They are integers in both versions, so the scale is 1.
+ghost use Rattle.std.specs.Prelude.{◌≡◌, MatchResult, Some, None, if◌then◌else◌};
+ghost use Rattle.serde_json.specs.View.{view};
+ghost use Rattle.document_parts.specs.Sizes.{is_short_list_size};
+ghost use Rattle.game_text.specs.Classes.{class_of};
+ghost use Rattle.game_text.specs.Classes.VotingClass.{is_voting_shaped, voting_players, has_voting_numbers};
+ghost use Rattle.game_text.specs.Readings.{HasSizes, IsBuilt, IsBuildFault};
+ghost use Rattle.game_text.specs.declared.classes.Class.TheVariants.{Voting};
+
+use crate::classes::Game;
+use crate::fault::TextFault;
+use document_parts::{SmallCost, is_short_list_size, number_at, numbers_at};
+use json_trees::{ArrayOf, Number, each_at, has, has_only_keys, parts_at};
+use kinds::Refusal;
+use serde_json::Value;
+use std::alloc::Global;
+use voting::{VotingFault, VotingGame};
+
+/// Whether it has the keys and kinds of a voting game.
+pub(crate) fn is_shaped(game: &Value) -> bool
+    ensures { result ≡ is_voting_shaped (view game.now) }
+{
+    has_only_keys(
+        &["class", "excess", "names", "quota", "version", "weights"],
+        game,
+    ) && has(game, "quota", &Number)
+        && has(game, "weights", &ArrayOf(Number))
+}
+
+/// The number of players, one for each weight, where there are 1 to 32.
+pub(crate) fn players(game: &Value) -> Option<usize>
+    ensures { let n = voting_players (view game.now) in result ≡ (if is_short_list_size n then Some n else None) }
+{
+    let n = parts_at(game, "weights").len();
+    if is_short_list_size(n) { Some(n) } else { None }
+}
+
+/// Whether the quota and each weight are integers within their limits, whatever the scale.
+pub(crate) fn has_numbers(game: &Value, _: u32) -> bool
+    ensures { result ≡ has_voting_numbers (view game.now) }
+{
+    has(game, "quota", &SmallCost(1)) && each_at(game, "weights", &SmallCost(1))
+}
+
+/// The game that is described. It is refused for weights of above 1,000 in all, and for a quota below 1 or above their
+/// sum.
+pub(crate) fn voting_of(alloc: Global, game: &Value) -> Result<Game, TextFault>
+    requires class { class_of (view game.now) ≡ Some Voting }
+    requires sizes { HasSizes (view game.now) }
+    ensures { MatchResult result (IsBuilt (view game.now)) (IsBuildFault (view game.now)) }
+{
+    let quota = number_at(game, "quota", 1);
+    let weights = numbers_at(alloc, game, "weights", 1)?;
+    match VotingGame::new(alloc, quota, weights) {
+        Ok(game) => {
+            // Its laws say that the weights reach the quota, and are few enough together.
+            game.quota();
+            Ok(Game::Voting(game))
+        }
+        Err(VotingFault::Players) => Err(TextFault::Refused(Refusal::Players)),
+        Err(VotingFault::Number) => Err(TextFault::Refused(Refusal::Number)),
+        Err(VotingFault::Quota) => Err(TextFault::Refused(Refusal::Quota)),
+        Err(VotingFault::Memory) => Err(TextFault::Memory),
+    }
+}
