@@ -17,7 +17,7 @@ mod version;
 
 pub use excess::{MeasureWord, measure_of};
 pub use names::{Names, know_sparse, names_of};
-pub use numbers::{Numbers, costs_of, worths_of};
+pub use numbers::{Numbers, read_costs, read_worths};
 pub use rows::in_rows;
 pub use shares::{has_share_numbers, has_shares_for, shares_as_worth};
 pub use sizes::{is_list_size, is_short_list_size};

@@ -46,9 +46,10 @@ fn raise(numbers: &mut Vec<i64>, factor: u32) -> bool
 /// # Errors
 ///
 /// Where memory was not found.
-pub fn worths_of(alloc: Global, values: &[&Value]) -> Result<Option<Numbers>, OutOfMemory>
+pub fn read_worths(alloc: Global, values: &[&Value]) -> Result<Option<Numbers>, OutOfMemory>
     ensures none { IfOk result (λ o. IfNone o (are_worths (seen values.now) ≡ false)) }
-    ensures some { IfOk result (λ o. IfSome o (λ n. AreWorths (seen values.now) n.scale n.items.items)) }
+    ensures within { IfOk result (λ o. IfSome o (λ n. are_worths (seen values.now) ≡ true)) }
+    ensures numbers { IfOk result (λ o. IfSome o (λ n. AreWorths (seen values.now) n.scale n.items.items)) }
 {
     let mut scale = 1;
     let mut items = Vec::with_capacity(alloc, values.len())?;
@@ -76,12 +77,12 @@ fn are_from_zero(numbers: &[i64]) -> bool
 /// # Errors
 ///
 /// Where memory was not found.
-pub fn costs_of(alloc: Global, values: &[&Value]) -> Result<Option<Numbers>, OutOfMemory>
+pub fn read_costs(alloc: Global, values: &[&Value]) -> Result<Option<Numbers>, OutOfMemory>
     ensures none { IfOk result (λ o. IfNone o (are_costs (seen values.now) ≡ false)) }
-    ensures costs { IfOk result (λ o. IfSome o (λ n. are_costs (seen values.now) ≡ true)) }
-    ensures some { IfOk result (λ o. IfSome o (λ n. AreWorths (seen values.now) n.scale n.items.items)) }
+    ensures within { IfOk result (λ o. IfSome o (λ n. are_costs (seen values.now) ≡ true)) }
+    ensures numbers { IfOk result (λ o. IfSome o (λ n. AreWorths (seen values.now) n.scale n.items.items)) }
 {
-    let Some(numbers) = worths_of(alloc, values)? else {
+    let Some(numbers) = read_worths(alloc, values)? else {
         return Ok(None);
     };
     if !are_from_zero(&numbers.items) {

@@ -6,7 +6,7 @@ use Rattle.json_trees.specs.Fractions.{fraction_of}
 use Rattle.document_parts.specs.Numbers.{seen, with_fraction}
 use Rattle.document_parts.proofs.NumbersRead.{IsRead, stops, stops_in_front, goes_on, small_read, positive_read}
 use Rattle.document_parts.proofs.NumbersRead.{seen_more, bad_value, all_seen}
-use Rattle.document_parts.proofs.numbers.worths_of.Goals as goal
+use Rattle.document_parts.proofs.numbers.read_worths.Goals as goal
 
 pub with_scale-requires-clause-some : goal.with_scale-requires-clause-some
 with_scale-requires-clause-some c =
@@ -54,7 +54,12 @@ loop-value-preserved c =
     (sym (seen_more vs i c.value-item.result c.loop-value-test.true c.value-item.is))
     (subst (IsRead (take i (seen vs) ++ d ∷ []) m) (sym items) read)
 
-pub returns-clause-some : goal.returns-clause-some
-returns-clause-some c =
+pub returns-clause-within : goal.returns-clause-within
+returns-clause-within c =
+    (all_seen c.args.values.now c.loop-value.value-index c.loop-value.scale c.loop-value.items.items
+    c.loop-value-test.false c.loop-value.invariant).worths
+
+pub returns-clause-numbers : goal.returns-clause-numbers
+returns-clause-numbers c =
     all_seen c.args.values.now c.loop-value.value-index c.loop-value.scale c.loop-value.items.items
     c.loop-value-test.false c.loop-value.invariant

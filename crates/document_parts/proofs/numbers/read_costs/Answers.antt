@@ -3,7 +3,7 @@ use Rattle.std.specs.List.{list_all}
 use Rattle.document_parts.specs.Numbers.{seen, are_worths, AreWorths}
 use Rattle.document_parts.specs.Signs.{is_from_zero}
 use Rattle.document_parts.proofs.Costs.{no_worths, costs_by}
-use Rattle.document_parts.proofs.numbers.costs_of.Goals as goal
+use Rattle.document_parts.proofs.numbers.read_costs.Goals as goal
 
 pub returns-in_default-clause-none : goal.returns-in_default-clause-none
 returns-in_default-clause-none c =
@@ -16,8 +16,8 @@ returns-then-not-are_from_zero-clause-none c =
     costs_by (seen c.args.values.now) _ _ read ∙ ap (list_all is_from_zero) (sym c.deref.ensures.value)
     ∙ sym c.are_from_zero.ensures ∙ c.if-not-are_from_zero.true
 
-pub returns-clause-costs : goal.returns-clause-costs
-returns-clause-costs c =
+pub returns-clause-within : goal.returns-clause-within
+returns-clause-within c =
     let read : AreWorths (seen c.args.values.now) c.in-Some.numbers.scale c.in-Some.numbers.items.items = search rules in
     costs_by (seen c.args.values.now) _ _ read ∙ ap (list_all is_from_zero) (sym c.deref.ensures.value)
     ∙ sym c.are_from_zero.ensures ∙ c.if-not-are_from_zero.false
