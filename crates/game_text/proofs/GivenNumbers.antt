@@ -2,7 +2,7 @@
 use Rattle.std.proofs.Common.{◌≡◌, ◌&&◌, ◌||◌, ◌≤◌, ◌-◌, ◌^◌, ℕ, ℤ, pos, List, [], ◌∷◌, ◌++◌, length, map, codes}
 use Rattle.std.proofs.Common.{take, drop, get_or, Bool, true, false, Option, Some, None, is_some, option_map, if◌then◌else◌}
 use Rattle.std.proofs.Common.{slice_index_or}
-use Rattle.std.proofs.lemmas.List.Edits.{remove}
+use Rattle.std.specs.List.{remove}
 use Rattle.std.proofs.Common.{refl, sym, ap, ap₂, ◌∙◌, subst, arith}
 use Rattle.std.specs.Prelude.{unwrap_or, option_and_then}
 use Rattle.std.specs.List.{list_all, range_with_len}
@@ -249,6 +249,32 @@ module _ (k n : ℕ) (names : List (List ℕ)) (game : Data) (zs : List ℤ)
         ∙ number_by_pair k n names (number_at k (codes "default") game) s sparse
         (map (number_or_zero k) (if_there default)))
         ∙ sym (ap (λ o. numbers_by k o n names game) there)
+
+  abbrev masked : List Data → List (Option ℕ)
+  masked ds = map (λ pair. mask_of n names (pair_members pair)) ds
+
+  -- what a table that lists pairs makes of them
+  pub paired_table : (d : Data) → get (codes "sparse") game ≡ Some d → (ds : List Data) (m : ℕ) → ds ≡ parts d
+      → m ≡ length ds
+      → (if are_coalitions (masked ds)
+      then Some (map (number_of_mask (masked ds) zs (get_or zs m (pos 0))) (range_with_len 1 (2 ^ n - 1))) else None)
+      ≡ (if are_coalitions (masks_by n names game)
+      then Some (numbers_by k (get (codes "sparse") game) n names game) else None)
+  paired_table d there ds m e f =
+      let same : ds ≡ sparse = e ∙ ap (λ o. unwrap_or (option_map parts o) []) (sym there) in
+      ap₂
+      (λ es j. if are_coalitions (masked es)
+      then Some (map (number_of_mask (masked es) zs (get_or zs j (pos 0))) (range_with_len 1 (2 ^ n - 1))) else None)
+      same (f ∙ ap length same)
+      ∙ ap (λ (l : List ℤ). if are_coalitions (masks_by n names game) then Some l else None) (numbers_in_pairs d there)
+
+  pub enough_for : (d : Data) → get (codes "sparse") game ≡ Some d → (ds : List Data) (m : ℕ) → ds ≡ parts d
+      → m ≡ length ds → m ≤ length zs
+  enough_for d there ds m e f =
+      let same : ds ≡ sparse = e ∙ ap (λ o. unwrap_or (option_map parts o) []) (sym there) in
+      let size = ap length same in
+      let enough = pairs_enough d there in
+      omega (arith, f, size, enough)
 
 pub table_shape : (game : Data) → IsTableClass (class_of game) → HasSizes game → is_table_shaped game ≡ true
 table_shape game t h =

@@ -159,10 +159,10 @@ fn table_numbers(
         (λ o. option_map (λ v. v.items) o ≡ (if are_coalitions (masks_by count names.now tree)
         then Some (numbers_by (scale_of tree) (get (codes "sparse") tree) count names.now tree) else None)) }
 {
-    if game.get("sparse").is_none() {
-        return Ok(Some(numbers));
+    match game.get("sparse") {
+        Some(pairs) => sparse_numbers(alloc, count, names, parts(pairs), &numbers),
+        None => Ok(Some(numbers)),
     }
-    sparse_numbers(alloc, count, names, parts_at(game, "sparse"), &numbers)
 }
 
 /// The table, by its numbers. None where a pair of a sparse table has no coalition, or two have the same.
