@@ -1,5 +1,7 @@
 pub mod Choices
 pub mod Sizes
+pub mod OwnNumbers
+pub mod GivenNumbers
 pub mod PlainTrees
 pub mod GameTrees
 pub mod Laws

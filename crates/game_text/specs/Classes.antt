@@ -9,6 +9,10 @@
 --   players            the number of players
 --   has_numbers_as     each number of a game of a class, times a scale, is within its limits
 --   has_numbers        the scale of the game, and each of its numbers times the scale, is within its limits
+--   own_values_as      the values that are the numbers of a game of a class, in the order in which they are read
+--   are_numbers_as     numbers are within the limits of a class, times their scale
+--   own_values         the values that are the numbers of a game
+--   own_numbers        the numbers of a game, times its scale
 --   masks              the coalitions that a sparse table names
 --   no_test            the test of a class that makes none
 --   own_as             the test that a class makes of a game, its numbers times a scale
@@ -33,7 +37,7 @@ pub mod MarketClass
 pub mod VotingClass
 use Rattle.std.specs.Prelude.{ℕ, List, [], codes, Bool, false, ◌&&◌, Option, Some}
 use Rattle.std.specs.Prelude.{None, option_and_then, if◌then◌else◌, nat_le, unwrap_or, true, unsigned_abs, ℤ}
-use Rattle.std.specs.Prelude.{length, ⊤}
+use Rattle.std.specs.Prelude.{length, map, ⊤}
 use Rattle.std.specs.Str.{bytes_eq}
 use Rattle.serde_json.specs.Data.{Data}
 use Rattle.serde_json.specs.Find.{get, as_str}
@@ -44,19 +48,20 @@ use Rattle.matrices.specs.Rows.{entries_of}
 use Rattle.tree_games.specs.Trees.{tree_game}
 use Rattle.assignment_games.specs.Assignments.{assignment_game}
 use Rattle.document_parts.specs.Sizes.{is_list_size, is_short_list_size}
-use Rattle.document_parts.specs.Scales.{scale_of}
+use Rattle.document_parts.specs.Scales.{scale_of, table_numbers_in, matrix_numbers_in}
+use Rattle.document_parts.specs.Numbers.{are_worths, are_costs}
 use Rattle.document_parts.specs.Names.{names_of}
 use Rattle.document_parts.specs.TableNumbers.{masks_by, numbers_by}
 use Rattle.document_parts.specs.Members.{are_coalitions}
-use Rattle.document_parts.specs.ScaledNumbers.{number_at, costs_at}
+use Rattle.document_parts.specs.ScaledNumbers.{number_or_zero, number_at, costs_at}
 use Rattle.kinds.specs.declared.refusal.Refusal.{Refusal}
 use Rattle.kinds.specs.declared.refusal.Refusal.TheVariants.{Shape, Coalition, Estate, Matrix, Quota}
 use Rattle.game_text.specs.Classes.TableClass.{is_table_shaped, players_at, has_table_players, has_table_numbers}
-use Rattle.game_text.specs.Classes.AirportClass.{is_airport_shaped, airport_players, has_airport_numbers}
+use Rattle.game_text.specs.Classes.AirportClass.{is_airport_shaped, airport_players, airport_values, has_airport_numbers}
 use Rattle.game_text.specs.Classes.BankruptcyClass.{is_bankruptcy_shaped, bankruptcy_players, has_bankruptcy_numbers}
-use Rattle.game_text.specs.Classes.BankruptcyClass.{claims_cover}
+use Rattle.game_text.specs.Classes.BankruptcyClass.{bankruptcy_values, claims_cover}
 use Rattle.game_text.specs.Classes.MatrixClass.{is_matrix_shaped, has_matrix_numbers, rows_of}
-use Rattle.game_text.specs.Classes.VotingClass.{is_voting_shaped, voting_players, has_voting_numbers, is_quota}
+use Rattle.game_text.specs.Classes.VotingClass.{is_voting_shaped, voting_players, voting_values, has_voting_numbers, is_quota}
 use Rattle.game_text.specs.Classes.TreeClass.{tree_players, has_tree_players, are_links}
 use Rattle.game_text.specs.Classes.AssignmentClass.{assignment_players, has_assignment_players, are_even}
 use Rattle.game_text.specs.Classes.MarketClass.{has_market_players}
@@ -146,6 +151,37 @@ has_numbers_as k (Some Voting) game = has_voting_numbers game
 -- the scale is at most 65,536, and each number of the game times the scale is within its limits
 abbrev pub has_numbers : Data → Bool
 has_numbers game = nat_le (scale_of game) 65536 && has_numbers_as (scale_of game) (class_of game) game
+
+-- the values that are the numbers of a game of the class, in the order in which they are read
+abbrev pub own_values_as : Option Class → Data → List Data
+own_values_as None game = []
+own_values_as (Some Table) game = table_numbers_in game
+own_values_as (Some Cost) game = table_numbers_in game
+own_values_as (Some Airport) game = airport_values game
+own_values_as (Some Bankruptcy) game = bankruptcy_values game
+own_values_as (Some Tree) game = matrix_numbers_in game
+own_values_as (Some Assignment) game = matrix_numbers_in game
+own_values_as (Some Market) game = matrix_numbers_in game
+own_values_as (Some Voting) game = voting_values game
+
+-- numbers are within the limits of the class, times their scale
+abbrev pub are_numbers_as : Option Class → List Data → Bool
+are_numbers_as None ds = false
+are_numbers_as (Some Table) ds = are_worths ds
+are_numbers_as (Some Cost) ds = are_worths ds
+are_numbers_as (Some Airport) ds = are_costs ds
+are_numbers_as (Some Bankruptcy) ds = are_costs ds
+are_numbers_as (Some Tree) ds = are_costs ds
+are_numbers_as (Some Assignment) ds = are_costs ds
+are_numbers_as (Some Market) ds = are_costs ds
+are_numbers_as (Some Voting) ds = are_costs ds
+
+abbrev pub own_values : Data → List Data
+own_values game = own_values_as (class_of game) game
+
+-- the numbers of a game, times its scale
+abbrev pub own_numbers : Data → List ℤ
+own_numbers game = map (number_or_zero (scale_of game)) (own_values game)
 
 -- ---- tests
 

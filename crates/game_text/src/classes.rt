@@ -1,12 +1,13 @@
 //! The list of classes: the class that a document names, and the game of a class. Each class has its arm in each
 //! `match` here, and a module of its own.
 ghost use Rattle.std.specs.Prelude.{◌≡◌, codes, true, false, Some, None, if◌then◌else◌, ◌≤◌};
-ghost use Rattle.std.specs.Prelude.{length, MatchResult};
+ghost use Rattle.std.specs.Prelude.{length, MatchResult, IfOk, IfSome, IfNone};
 ghost use Rattle.std.specs.Str.{bytes_eq};
 ghost use Rattle.serde_json.specs.View.{view};
 ghost use Rattle.document_parts.specs.Names.{names_of};
 ghost use Rattle.game_text.specs.Classes.{class_named, class_of, is_shaped_as, players, is_cost, description_in};
-ghost use Rattle.game_text.specs.Classes.{game_of, has_players, has_numbers_as};
+ghost use Rattle.game_text.specs.Classes.{game_of, has_players, are_numbers_as, own_values, own_numbers};
+ghost use Rattle.document_parts.specs.Numbers.{AreWorths};
 ghost use Rattle.game_text.specs.declared.classes.Class.TheVariants.{Tree, Assignment, Market, Voting};
 ghost use Rattle.game_text.specs.Shape.{is_shaped};
 ghost use Rattle.game_text.specs.Readings.{IsBuilt, IsBuildFault};
@@ -30,7 +31,8 @@ use bankruptcy::BankruptcyGame;
 use bankruptcy_class::bankruptcy_of;
 use big_assignment::MarketGame;
 use coalitions::Coalition;
-use document_parts::Names;
+use document_parts::{Names, Numbers};
+use fractions::OutOfMemory;
 use market_class::market_of;
 use serde_json::Value;
 use std::alloc::Global;
@@ -64,7 +66,7 @@ pub enum Class {
 }
 
 /// The function of this name in the module of the class. The module of each class has `is_shaped`, `players` and
-/// `has_numbers`; both tables share theirs.
+/// `numbers`; both tables share theirs.
 macro_rules! by_class {
     ($class:expr, $function:ident($($argument:expr),*)) => {
         match $class {
@@ -129,28 +131,39 @@ pub(crate) fn players(game: &ShapedGame) -> Option<usize>
     by_class!(game.class, players(game.tree))
 }
 
-/// Whether each number of the game, times the scale, is within its limits.
-pub(crate) fn has_numbers(game: &ShapedGame, scale: u32) -> bool
-    ensures { result ≡ has_numbers_as scale (class_of (view game.now.tree.now)) (view game.now.tree.now) }
+/// The numbers of the game, times their scale, where this and each of them are within the limits of the class.
+pub(crate) fn numbers(alloc: Global, game: &ShapedGame) -> Result<Option<Numbers>, OutOfMemory>
+    ensures none { let tree = view game.now.tree.now in
+        IfOk result (λ o. IfNone o (are_numbers_as (class_of tree) (own_values tree) ≡ false)) }
+    ensures within { let tree = view game.now.tree.now in
+        IfOk result (λ o. IfSome o (λ n. are_numbers_as (class_of tree) (own_values tree) ≡ true)) }
+    ensures numbers { let tree = view game.now.tree.now in
+        IfOk result (λ o. IfSome o (λ n. AreWorths (own_values tree) n.scale n.items.items)) }
 {
-    by_class!(game.class, has_numbers(game.tree, scale))
+    by_class!(game.class, numbers(alloc, game.tree))
 }
 
-/// The game that a tree describes, its numbers times the scale, or the refusal of its class.
-pub(crate) fn game_of(alloc: Global, game: &SizedGame, names: &Names) -> Result<Game, TextFault>
+/// The game that a tree describes, by its numbers, or the refusal of its class.
+pub(crate) fn game_of(
+    alloc: Global,
+    game: &SizedGame,
+    names: &Names,
+    numbers: Vec<i64>,
+) -> Result<Game, TextFault>
     requires named { length names.now ≤ players (view game.now.tree.now) }
     requires names { names.now ≡ names_of (view game.now.tree.now) }
+    requires numbers { numbers.items ≡ own_numbers (view game.now.tree.now) }
     ensures { MatchResult result (IsBuilt (view game.now.tree.now)) (IsBuildFault (view game.now.tree.now)) }
 {
     match game.class {
-        Class::Table => worths_of(alloc, game.tree, game.players(), names, game.scale()),
-        Class::Cost => costs_of(alloc, game.tree, game.players(), names, game.scale()),
-        Class::Airport => airport_of(alloc, game.tree, game.scale()),
-        Class::Bankruptcy => bankruptcy_of(alloc, game.tree, game.scale()),
-        Class::Tree => tree_of(alloc, game.tree, game.scale()),
-        Class::Assignment => assignment_of(alloc, game.tree, game.scale()),
-        Class::Market => market_of(alloc, game.tree, game.scale()),
-        Class::Voting => voting_of(alloc, game.tree),
+        Class::Table => worths_of(alloc, game.tree, game.players(), names, numbers),
+        Class::Cost => costs_of(alloc, game.tree, game.players(), names, numbers),
+        Class::Airport => airport_of(alloc, game.tree, numbers),
+        Class::Bankruptcy => bankruptcy_of(alloc, game.tree, numbers),
+        Class::Tree => tree_of(alloc, game.tree, numbers),
+        Class::Assignment => assignment_of(alloc, game.tree, numbers),
+        Class::Market => market_of(alloc, game.tree, numbers),
+        Class::Voting => voting_of(alloc, game.tree, numbers),
     }
 }
 

@@ -3,6 +3,7 @@
 --   airport_keys          the keys
 --   is_airport_shaped     the keys and kinds
 --   airport_players       the number of players
+--   airport_values        the costs
 --   has_airport_numbers   each number is within its limits
 use Rattle.std.specs.Prelude.{ℕ, List, [], ◌∷◌, length, codes, Bool, ◌&&◌}
 use Rattle.std.specs.List.{list_all}
@@ -25,6 +26,10 @@ is_airport_shaped game =
 -- one player for each cost
 abbrev pub airport_players : Data → ℕ
 airport_players game = length (parts_at (codes "costs") game)
+
+-- the costs
+abbrev pub airport_values : Data → List Data
+airport_values game = parts_at (codes "costs") game
 
 -- each cost is from 0, and below 2^40 times the scale k
 abbrev pub has_airport_numbers : ℕ → Data → Bool

@@ -4,15 +4,17 @@
 --   voting_keys          the keys
 --   is_voting_shaped     the keys and kinds
 --   voting_players       the number of players
+--   voting_values        the quota, and then the weights
 --   has_voting_numbers   each number is within its limits
 --   is_quota             the weights sum to at most 1,000, and the quota is from 1 to their sum
-use Rattle.std.specs.Prelude.{ℕ, List, [], ◌∷◌, length, codes, Bool, ◌&&◌, nat_lt, nat_le}
+use Rattle.std.specs.Prelude.{ℕ, List, [], ◌∷◌, ◌++◌, length, codes, Bool, ◌&&◌, nat_lt, nat_le}
 use Rattle.std.specs.Prelude.{sum}
 use Rattle.std.specs.List.{list_all}
 use Rattle.serde_json.specs.Data.{Data}
 use Rattle.serde_json.specs.Find.{get}
 use Rattle.json_trees.specs.Keys.{has_only_keys}
 use Rattle.json_trees.specs.Trees.{passes, is_number, is_array_of, parts_at}
+use Rattle.document_parts.specs.Scales.{if_there}
 use Rattle.document_parts.specs.Sizes.{is_cost}
 
 -- the keys of a voting game
@@ -29,6 +31,10 @@ is_voting_shaped game =
 -- one player for each weight
 abbrev pub voting_players : Data → ℕ
 voting_players game = length (parts_at (codes "weights") game)
+
+-- the quota, and then the weights
+abbrev pub voting_values : Data → List Data
+voting_values game = if_there (get (codes "quota") game) ++ parts_at (codes "weights") game
 
 -- the quota and each weight are integers from 0, below 2^40
 abbrev pub has_voting_numbers : Data → Bool

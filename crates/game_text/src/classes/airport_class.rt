@@ -1,18 +1,19 @@
 //! Airport games: a cost for each player.
-ghost use Rattle.std.specs.Prelude.{◌≡◌, MatchResult, Some, None, if◌then◌else◌};
+ghost use Rattle.std.specs.Prelude.{◌≡◌, true, false, MatchResult, IfOk, IfSome, IfNone, Some, None, if◌then◌else◌};
 ghost use Rattle.serde_json.specs.View.{view};
-ghost use Rattle.document_parts.specs.Scales.{scale_of};
+ghost use Rattle.document_parts.specs.Numbers.{are_costs, AreWorths};
 ghost use Rattle.document_parts.specs.Sizes.{is_list_size};
-ghost use Rattle.game_text.specs.Classes.{class_of};
-ghost use Rattle.game_text.specs.Classes.AirportClass.{is_airport_shaped, airport_players, has_airport_numbers};
+ghost use Rattle.game_text.specs.Classes.{class_of, own_numbers};
+ghost use Rattle.game_text.specs.Classes.AirportClass.{is_airport_shaped, airport_players, airport_values};
 ghost use Rattle.game_text.specs.Readings.{HasSizes, IsBuilt, IsBuildFault};
 ghost use Rattle.game_text.specs.declared.classes.Class.TheVariants.{Airport};
 
 use crate::classes::Game;
 use crate::fault::TextFault;
 use airport::{AirportFault, AirportGame};
-use document_parts::{SmallCost, has_texts, is_list_size, numbers_at};
-use json_trees::{ArrayOf, Numeric, each_at, has, has_only_keys, parts_at};
+use document_parts::{Numbers, add_values, read_costs, has_texts, is_list_size};
+use fractions::OutOfMemory;
+use json_trees::{ArrayOf, Numeric, has, has_only_keys, parts_at};
 use kinds::Refusal;
 use serde_json::Value;
 use std::alloc::Global;
@@ -34,21 +35,25 @@ pub(crate) fn players(game: &Value) -> Option<usize>
     if is_list_size(n) { Some(n) } else { None }
 }
 
-/// Whether each cost times the scale is within its limits.
-pub(crate) fn has_numbers(game: &Value, scale: u32) -> bool
-    ensures { result ≡ has_airport_numbers scale (view game.now) }
+/// The costs times their scale, where this and each of them are within their limits.
+pub(crate) fn numbers(alloc: Global, game: &Value) -> Result<Option<Numbers>, OutOfMemory>
+    ensures none { IfOk result (λ o. IfNone o (are_costs (airport_values (view game.now)) ≡ false)) }
+    ensures within { IfOk result (λ o. IfSome o (λ n. are_costs (airport_values (view game.now)) ≡ true)) }
+    ensures numbers { IfOk result
+        (λ o. IfSome o (λ n. AreWorths (airport_values (view game.now)) n.scale n.items.items)) }
 {
-    each_at(game, "costs", &SmallCost(scale))
+    let mut costs = Vec::new(alloc);
+    add_values(&mut costs, parts_at(game, "costs"))?;
+    read_costs(alloc, &costs)
 }
 
-/// The game that is described, its costs times the scale.
-pub(crate) fn airport_of(alloc: Global, game: &Value, scale: u32) -> Result<Game, TextFault>
+/// The game that is described, by its costs.
+pub(crate) fn airport_of(alloc: Global, game: &Value, costs: Vec<i64>) -> Result<Game, TextFault>
     requires class { class_of (view game.now) ≡ Some Airport }
     requires sizes { HasSizes (view game.now) }
-    requires scale { scale ≡ scale_of (view game.now) }
+    requires numbers { costs.items ≡ own_numbers (view game.now) }
     ensures { MatchResult result (IsBuilt (view game.now)) (IsBuildFault (view game.now)) }
 {
-    let costs = numbers_at(alloc, game, "costs", scale)?;
     match AirportGame::new(alloc, costs) {
         Ok(costs) => Ok(Game::Airport(costs)),
         Err(AirportFault::Players) => Err(TextFault::Refused(Refusal::Players)),

@@ -1,8 +1,7 @@
 //! Markets: what each buyer and each seller are worth together, for up to 32 buyers and 32 sellers.
 ghost use Rattle.std.specs.Prelude.{◌≡◌, MatchResult, Some, None, if◌then◌else◌};
 ghost use Rattle.serde_json.specs.View.{view};
-ghost use Rattle.document_parts.specs.Scales.{scale_of};
-ghost use Rattle.game_text.specs.Classes.{class_of};
+ghost use Rattle.game_text.specs.Classes.{class_of, own_numbers};
 ghost use Rattle.game_text.specs.Classes.AssignmentClass.{assignment_players};
 ghost use Rattle.game_text.specs.Classes.MarketClass.{has_market_players};
 ghost use Rattle.game_text.specs.Readings.{HasSizes, IsBuilt, IsBuildFault};
@@ -10,10 +9,10 @@ ghost use Rattle.game_text.specs.declared.classes.Class.TheVariants.{Market};
 
 use crate::classes::Game;
 use crate::classes::assignment_class::sellers_at;
-pub(crate) use crate::classes::matrix_class::{has_numbers, is_shaped};
+pub(crate) use crate::classes::matrix_class::{is_shaped, numbers};
 use crate::fault::TextFault;
 use big_assignment::{MarketFault, MarketGame};
-use document_parts::{is_short_list_size, rows_at};
+use document_parts::{in_rows, is_short_list_size};
 use json_trees::parts_at;
 use kinds::Refusal;
 use serde_json::Value;
@@ -33,14 +32,14 @@ pub(crate) fn players(game: &Value) -> Option<usize>
     }
 }
 
-/// The market that is described, its numbers times the scale. It is refused where the rows differ in length.
-pub(crate) fn market_of(alloc: Global, game: &Value, scale: u32) -> Result<Game, TextFault>
+/// The market that is described, by its entries. It is refused where the rows differ in length.
+pub(crate) fn market_of(alloc: Global, game: &Value, entries: Vec<i64>) -> Result<Game, TextFault>
     requires class { class_of (view game.now) ≡ Some Market }
     requires sizes { HasSizes (view game.now) }
-    requires scale { scale ≡ scale_of (view game.now) }
+    requires numbers { entries.items ≡ own_numbers (view game.now) }
     ensures { MatchResult result (IsBuilt (view game.now)) (IsBuildFault (view game.now)) }
 {
-    let rows = rows_at(alloc, game, "matrix", scale)?;
+    let rows = in_rows(alloc, parts_at(game, "matrix"), &entries)?;
     match MarketGame::new(alloc, rows) {
         Ok(market) => Ok(Game::Market(market)),
         Err(MarketFault::Players) => Err(TextFault::Refused(Refusal::Players)),

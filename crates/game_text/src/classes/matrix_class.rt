@@ -1,13 +1,17 @@
 //! Games by a matrix: rows of numbers.
-ghost use Rattle.std.specs.Prelude.{◌≡◌, codes};
+ghost use Rattle.std.specs.Prelude.{◌≡◌, codes, true, false, IfOk, IfSome, IfNone};
 ghost use Rattle.serde_json.specs.Find.{get};
 ghost use Rattle.serde_json.specs.View.{view};
 ghost use Rattle.json_trees.specs.Trees.{passes, is_array_of, is_numeric};
-ghost use Rattle.game_text.specs.Classes.MatrixClass.{is_matrix_shaped, has_matrix_numbers};
+ghost use Rattle.document_parts.specs.Scales.{matrix_numbers_in};
+ghost use Rattle.document_parts.specs.Numbers.{are_costs, AreWorths};
+ghost use Rattle.game_text.specs.Classes.MatrixClass.{is_matrix_shaped};
 
-use document_parts::{SmallCost, has_texts};
-use json_trees::{ArrayOf, Numeric, each_at, has, has_only_keys};
+use document_parts::{Numbers, add_rows, read_costs, has_texts};
+use fractions::OutOfMemory;
+use json_trees::{ArrayOf, Numeric, has, has_only_keys, parts_at};
 use serde_json::Value;
+use std::alloc::Global;
 
 // Whether there are rows of numbers, which may be texts where texts are allowed.
 fn has_rows(game: &Value, texts: bool) -> bool
@@ -24,9 +28,14 @@ pub(crate) fn is_shaped(game: &Value) -> bool
     has_only_keys(&["class", "excess", "matrix", "names", "version"], game) && has_rows(game, texts)
 }
 
-/// Whether each entry times the scale is within its limits.
-pub(crate) fn has_numbers(game: &Value, scale: u32) -> bool
-    ensures { result ≡ has_matrix_numbers scale (view game.now) }
+/// The entries, row by row, times their scale, where this and each of them are within their limits.
+pub(crate) fn numbers(alloc: Global, game: &Value) -> Result<Option<Numbers>, OutOfMemory>
+    ensures none { IfOk result (λ o. IfNone o (are_costs (matrix_numbers_in (view game.now)) ≡ false)) }
+    ensures within { IfOk result (λ o. IfSome o (λ n. are_costs (matrix_numbers_in (view game.now)) ≡ true)) }
+    ensures numbers { IfOk result
+        (λ o. IfSome o (λ n. AreWorths (matrix_numbers_in (view game.now)) n.scale n.items.items)) }
 {
-    each_at(game, "matrix", &ArrayOf(SmallCost(scale)))
+    let mut entries = Vec::new(alloc);
+    add_rows(&mut entries, parts_at(game, "matrix"))?;
+    read_costs(alloc, &entries)
 }

@@ -1,27 +1,33 @@
 //! Tables of worths and of costs: a number for each coalition, all listed or some in pairs.
-ghost use Rattle.std.specs.Prelude.{◌≡◌, Some, None, MatchResult, IfSome, if◌then◌else◌};
-ghost use Rattle.std.specs.Prelude.{◌^◌, ◌<◌, ◌≤◌, codes, length, unwrap_or};
+ghost use Rattle.std.specs.Prelude.{◌≡◌, true, false, Some, None, MatchResult, IfOk, IfSome, IfNone, if◌then◌else◌};
+ghost use Rattle.std.specs.Prelude.{◌^◌, ◌<◌, ◌≤◌, codes, length, map, option_map, unwrap_or};
 ghost use Rattle.serde_json.specs.Find.{get};
 ghost use Rattle.serde_json.specs.View.{view};
 ghost use Rattle.json_trees.specs.Trees.{passes, is_array_of};
 ghost use Rattle.worth_tables.specs.Tables.{table};
-ghost use Rattle.document_parts.specs.Scales.{scale_of};
-ghost use Rattle.game_text.specs.Classes.{class_of, players, masks, table_numbers};
+ghost use Rattle.document_parts.specs.Numbers.{are_worths, AreWorths};
+ghost use Rattle.document_parts.specs.Scales.{scale_of, table_numbers_in};
+ghost use Rattle.document_parts.specs.ScaledNumbers.{number_or_zero};
+ghost use Rattle.document_parts.specs.TableNumbers.{masks_by, numbers_by};
+ghost use Rattle.game_text.specs.Classes.{class_of, players, masks, table_numbers, own_numbers};
 ghost use Rattle.document_parts.specs.Names.{names_of};
 ghost use Rattle.document_parts.specs.Members.{are_coalitions};
 ghost use Rattle.game_text.specs.Readings.{HasSizes, IsTableClass, IsBuilt, IsBuildFault};
 ghost use Rattle.game_text.specs.Classes.TableClass.{is_table_shaped, is_sparse_pair, lists_worths, lists_coalitions};
 ghost use Rattle.game_text.specs.Classes.TableClass.{players_at, table_players, has_items, has_worths_for};
-ghost use Rattle.game_text.specs.Classes.TableClass.{has_table_players, has_table_numbers};
+ghost use Rattle.game_text.specs.Classes.TableClass.{has_table_players};
 ghost use Rattle.game_text.specs.declared.classes.Class.TheVariants.{Table, Cost};
 ghost use Rattle.game_text.specs.declared.fault.TextFault.TheVariants.{Memory};
 
 use crate::classes::Game;
 use crate::fault::TextFault;
-use document_parts::{Names, has_texts, small_number, table_numbers};
+use document_parts::{
+    Names, Numbers, add_at, add_seconds, add_values, has_texts, read_worths, sparse_numbers,
+};
+use fractions::OutOfMemory;
 use json_trees::{
-    ArrayOf, Form, Member, Number, Numeric, PairOf, SecondOf, each_at, has, has_if_there,
-    has_only_keys, integer, parts,
+    ArrayOf, Member, Number, Numeric, PairOf, has, has_if_there, has_only_keys, integer, parts,
+    parts_at,
 };
 use kinds::Refusal;
 use serde_json::Value;
@@ -122,50 +128,64 @@ pub(crate) fn players(game: &Value) -> Option<usize>
     }
 }
 
-/// A number that times the scale is below 2^40 in size.
-#[derive(Clone, Copy, Debug)]
-struct SmallWorth(u32);
+/// The numbers of all coalitions, or those of the pairs and then that of all others, times their scale, where this and
+/// each of them are within their limits.
+pub(crate) fn numbers(alloc: Global, game: &Value) -> Result<Option<Numbers>, OutOfMemory>
+    ensures none { IfOk result (λ o. IfNone o (are_worths (table_numbers_in (view game.now)) ≡ false)) }
+    ensures within { IfOk result (λ o. IfSome o (λ n. are_worths (table_numbers_in (view game.now)) ≡ true)) }
+    ensures numbers { IfOk result
+        (λ o. IfSome o (λ n. AreWorths (table_numbers_in (view game.now)) n.scale n.items.items)) }
+{
+    let mut values = Vec::new(alloc);
+    add_values(&mut values, parts_at(game, "worths"))?;
+    add_seconds(&mut values, parts_at(game, "sparse"))?;
+    add_at(&mut values, game, "default")?;
+    read_worths(alloc, &values)
+}
 
-impl Form for SmallWorth {
-    ghost use Rattle.game_text.specs.Classes.TableClass.{is_worth};
-
-    ghost form = { λ f. is_worth f.0 };
-
-    fn fits(&self, value: &Value) -> bool {
-        small_number(value, self.0).is_some()
+/// The number of each coalition. None where a pair of a sparse table has no coalition, or two have the same.
+fn table_numbers(
+    alloc: Global,
+    game: &Value,
+    count: u32,
+    names: &Names,
+    numbers: Vec<i64>,
+) -> Result<Option<Vec<i64>>, OutOfMemory>
+    requires few { count ≤ 16 }
+    requires named { length names.now ≤ count }
+    requires shaped { is_table_shaped (view game.now) ≡ true }
+    requires numbers { numbers.items ≡ map (number_or_zero (scale_of (view game.now))) (table_numbers_in (view game.now)) }
+    ensures { let tree = view game.now in IfOk result
+        (λ o. option_map (λ v. v.items) o ≡ (if are_coalitions (masks_by count names.now tree)
+        then Some (numbers_by (scale_of tree) (get (codes "sparse") tree) count names.now tree) else None)) }
+{
+    match game.get("sparse") {
+        Some(pairs) => sparse_numbers(alloc, count, names, parts(pairs), &numbers),
+        None => Ok(Some(numbers)),
     }
 }
 
-/// Whether each number of a table, times the scale, is within its limits.
-pub(crate) fn has_numbers(game: &Value, scale: u32) -> bool
-    ensures { result ≡ has_table_numbers scale (view game.now) }
-{
-    each_at(game, "worths", &SmallWorth(scale))
-        && each_at(game, "sparse", &SecondOf(SmallWorth(scale)))
-        && has_if_there(game, "default", &SmallWorth(scale))
-}
-
-/// The table, its numbers times the scale. None where a pair of a sparse table has no coalition, or two have the same.
+/// The table, by its numbers. None where a pair of a sparse table has no coalition, or two have the same.
 fn table_of(
     alloc: Global,
     game: &Value,
     count: usize,
     names: &Names,
-    scale: u32,
+    numbers: Vec<i64>,
 ) -> Result<Option<TableGame>, TextFault>
     requires class { IsTableClass (class_of (view game.now)) }
     requires sizes { HasSizes (view game.now) }
     requires count { count ≡ players (view game.now) }
     requires named { length names.now ≤ players (view game.now) }
     requires names { names.now ≡ names_of (view game.now) }
-    requires scale { scale ≡ scale_of (view game.now) }
-    ensures { MatchResult result
-        (λ o. o ≡ (if are_coalitions (masks (view game.now))
-        then Some (table (players (view game.now)) (table_numbers scale (view game.now))) else None))
+    requires numbers { numbers.items ≡ own_numbers (view game.now) }
+    ensures { let tree = view game.now in MatchResult result
+        (λ o. o ≡ (if are_coalitions (masks tree)
+        then Some (table (players tree) (table_numbers (scale_of tree) tree)) else None))
         (λ e. e ≡ Memory) }
 {
     let count = count as u32;
-    let Some(worths) = table_numbers(alloc, game, count, names, scale)? else {
+    let Some(worths) = table_numbers(alloc, game, count, names, numbers)? else {
         return Ok(None);
     };
     match TableGame::new(alloc, count, worths) {
@@ -182,17 +202,17 @@ pub(crate) fn worths_of(
     game: &Value,
     count: usize,
     names: &Names,
-    scale: u32,
+    numbers: Vec<i64>,
 ) -> Result<Game, TextFault>
     requires class { class_of (view game.now) ≡ Some Table }
     requires sizes { HasSizes (view game.now) }
     requires count { count ≡ players (view game.now) }
     requires named { length names.now ≤ players (view game.now) }
     requires names { names.now ≡ names_of (view game.now) }
-    requires scale { scale ≡ scale_of (view game.now) }
+    requires numbers { numbers.items ≡ own_numbers (view game.now) }
     ensures { MatchResult result (IsBuilt (view game.now)) (IsBuildFault (view game.now)) }
 {
-    match table_of(alloc, game, count, names, scale) {
+    match table_of(alloc, game, count, names, numbers) {
         Ok(Some(worths)) => Ok(Game::Table(worths)),
         Ok(None) => Err(TextFault::Refused(Refusal::Coalition)),
         Err(e) => Err(e),
@@ -205,17 +225,17 @@ pub(crate) fn costs_of(
     game: &Value,
     count: usize,
     names: &Names,
-    scale: u32,
+    numbers: Vec<i64>,
 ) -> Result<Game, TextFault>
     requires class { class_of (view game.now) ≡ Some Cost }
     requires sizes { HasSizes (view game.now) }
     requires count { count ≡ players (view game.now) }
     requires named { length names.now ≤ players (view game.now) }
     requires names { names.now ≡ names_of (view game.now) }
-    requires scale { scale ≡ scale_of (view game.now) }
+    requires numbers { numbers.items ≡ own_numbers (view game.now) }
     ensures { MatchResult result (IsBuilt (view game.now)) (IsBuildFault (view game.now)) }
 {
-    match table_of(alloc, game, count, names, scale) {
+    match table_of(alloc, game, count, names, numbers) {
         Ok(Some(costs)) => Ok(Game::Cost(CostGame::new(costs))),
         Ok(None) => Err(TextFault::Refused(Refusal::Coalition)),
         Err(e) => Err(e),
