@@ -22,7 +22,7 @@ use Rattle.real_shares.proofs.CoreOver.{collection_blocks_over}
 use Rattle.real_shares.proofs.RealNumbers.{are_ordered}
 use Rattle.report.specs.Limits.{HasSmallNumbers}
 use Rattle.coop.specs.Judgement.{printed}
-use Rattle.game_text.specs.Descriptions.{game_of}
+use Rattle.game_text.specs.Classes.{game_of}
 use Rattle.game_text.specs.Documents.{Contents}
 use Rattle.report.specs.declared.answer.Answer.{Answer}
 use Rattle.report.specs.declared.answer.Answer.TheVariants.{Usage}

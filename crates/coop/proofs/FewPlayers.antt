@@ -8,19 +8,17 @@ use Rattle.serde_json.specs.Data.{Data}
 use Rattle.serde_json.specs.Find.{get}
 use Rattle.json_trees.specs.Trees.{integer}
 use Rattle.document_parts.specs.Scales.{scale_of}
-use Rattle.game_text.specs.Shape.{class_of}
-use Rattle.game_text.specs.TableClass.{table_players}
-use Rattle.game_text.specs.MatrixClass.{rows_of}
-use Rattle.game_text.specs.Limits.{has_players_as}
+use Rattle.game_text.specs.Classes.{class_of, has_players_as, game_of, description_as, description_of}
+use Rattle.game_text.specs.Classes.TableClass.{table_players}
+use Rattle.game_text.specs.Classes.MatrixClass.{rows_of}
 use Rattle.game_text.specs.Documents.{game_tree}
 use Rattle.game_text.specs.Denominators.{tree_refusal}
-use Rattle.game_text.proofs.MatrixRows.{points_in, players_in}
+use Rattle.game_text.proofs.Laws.MatrixRows.{points_in, players_in}
 use Rattle.game_text.proofs.Passed.{passed_tests}
 use Rattle.game_text.specs.declared.command.Command.{Command}
-use Rattle.game_text.specs.Descriptions.{game_of, description_as, description_of}
-use Rattle.game_text.specs.declared.class.Class.{Class}
-use Rattle.game_text.specs.declared.class.Class.TheVariants.{Table, Cost, Airport, Bankruptcy, Tree}
-use Rattle.game_text.specs.declared.class.Class.TheVariants.{Assignment, Market, Voting}
+use Rattle.game_text.specs.declared.classes.Class.{Class}
+use Rattle.game_text.specs.declared.classes.Class.TheVariants.{Table, Cost, Airport, Bankruptcy, Tree, Assignment}
+use Rattle.game_text.specs.declared.classes.Class.TheVariants.{Market, Voting}
 use Rattle.coop.specs.Classes.{is_no_market}
 use Rattle.coop.specs.Finding.{HasFewPlayers}
 use Rattle.coop.specs.Limits.{core_limit}

@@ -2,7 +2,7 @@
 use Rattle.std.proofs.Common.{◌≡◌, ℕ, List, length, Option, Some, IfSome, subst, ap, ◌≤◌}
 use Rattle.std.proofs.Common.{arith}
 use Rattle.definitions.specs.Games.{Allocation}
-use Rattle.game_text.specs.Descriptions.{game_of}
+use Rattle.game_text.specs.Classes.{game_of}
 use Rattle.game_text.specs.Documents.{Contents}
 use Rattle.game_text.specs.Refusals.{IsDocument}
 use Rattle.game_text.specs.Text.{document_limit}

@@ -13,7 +13,7 @@ use Rattle.checker.specs.Meaning.{Means}
 use Rattle.kohlberg.specs.declared.verdicts.Reason.{Reason}
 use Rattle.kohlberg.specs.declared.verdicts.Verdict.TheVariants.{Yes, No}
 use Rattle.checker.proofs.Judged.{not_certified}
-use Rattle.game_text.specs.Descriptions.{game_of}
+use Rattle.game_text.specs.Classes.{game_of}
 use Rattle.game_text.specs.Documents.{Contents}
 use Rattle.game_text.specs.Denominators.{contents_of, tree_refusal}
 use Rattle.game_text.specs.Refusals.{IsDocument, IsRefused, IsTreeRefused}

@@ -11,7 +11,7 @@ use Rattle.real_shares.proofs.Soundness.{IsNucleolusOverGroups-from_certificate}
 use Rattle.real_shares.proofs.ForReals.{IsNucleolusForReals-from_certificate}
 use Rattle.kohlberg.specs.Certificate.{CertificateData}
 use Rattle.kohlberg.specs.Solved.{IsSolved}
-use Rattle.game_text.specs.Descriptions.{Description, game_of, is_cost}
+use Rattle.game_text.specs.Classes.{Description, game_of, is_cost}
 use Rattle.game_text.specs.Documents.{Contents}
 use Rattle.coop.specs.Limits.{nucleolus_limit}
 use Rattle.coop.specs.Chosen.{IsChosen}

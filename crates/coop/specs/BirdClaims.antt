@@ -5,7 +5,7 @@
 use Rattle.std.specs.Prelude.{ℕ, ℤ, List}
 use Rattle.definitions.specs.Games.{Allocation}
 use Rattle.tree_games.specs.Trees.{IsBird}
-use Rattle.game_text.specs.Descriptions.{Description, tree}
+use Rattle.game_text.specs.Classes.{Description, tree}
 use Rattle.game_text.specs.Documents.{Contents}
 use Rattle.report.specs.declared.answer.Answer.{Answer}
 use Rattle.report.specs.declared.answer.Answer.TheVariants.{Bird}

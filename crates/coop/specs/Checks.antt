@@ -14,7 +14,7 @@ use Rattle.fractions.specs.Fraction.{IsReduced}
 use Rattle.kohlberg.specs.declared.verdicts.Verdict.{Verdict as CheckVerdict}
 use Rattle.kohlberg.specs.declared.verdicts.Verdict.TheVariants.{No}
 use Rattle.kohlberg.specs.declared.verdicts.Reason.TheVariants.{OutsideAbove}
-use Rattle.game_text.specs.Descriptions.{game_of}
+use Rattle.game_text.specs.Classes.{game_of}
 use Rattle.game_text.specs.Documents.{Contents}
 use Rattle.report.specs.declared.answer.Answer.{Answer}
 use Rattle.report.specs.declared.answer.Answer.TheVariants.{Verdict, Usage}

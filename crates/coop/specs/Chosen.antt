@@ -10,7 +10,7 @@ use Rattle.definitions.specs.declared.Mode.TheVariants.{Players}
 use Rattle.kohlberg.specs.Certificate.{CertificateData}
 use Rattle.airport_scheme.specs.Levels.{AreSchemeLevels}
 use Rattle.talmud.specs.Levels.{AreRuleLevels}
-use Rattle.game_text.specs.Descriptions.{Description, airport, bankruptcy}
+use Rattle.game_text.specs.Classes.{Description, airport, bankruptcy}
 
 -- With plain excess, the certificate of an airport game is in mode players, and its levels are those of the scheme for
 -- some order of the players by their costs (Littlechild 1974). That of a bankruptcy game is in mode players too, and

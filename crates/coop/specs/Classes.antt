@@ -5,7 +5,7 @@
 --   is_no_market         the game is of another class than a market
 --   serves_class         the command serves the class of the game
 use Rattle.std.specs.Prelude.{Bool, true, false}
-use Rattle.game_text.specs.Descriptions.{Description, tree, market}
+use Rattle.game_text.specs.Classes.{Description, tree, market}
 use Rattle.game_text.specs.declared.command.Command.{Command}
 use Rattle.game_text.specs.declared.command.Command.TheVariants.{Bird, Matching}
 

@@ -5,7 +5,7 @@
 --   IsComplete      a run on a document that its command serves ends with an answer, or for want of memory
 use Rattle.std.specs.Prelude.{◌≡◌, ◌⊎◌, ◌≤◌, ℕ, List, true, Option, Some, ⊤}
 use Rattle.ports.specs.Causes.{CountRose}
-use Rattle.game_text.specs.Descriptions.{game_of}
+use Rattle.game_text.specs.Classes.{game_of}
 use Rattle.game_text.specs.Documents.{Contents}
 use Rattle.game_text.specs.Refusals.{IsDocument}
 use Rattle.game_text.specs.declared.command.Command.{Command}

@@ -6,7 +6,7 @@
 use Rattle.std.specs.Prelude.{◌≡◌, ◌<◌, ◌≤◌, ℕ, Bool}
 use Rattle.convexity.specs.Answers.{IsAnswer}
 use Rattle.convexity.specs.declared.answers.ConvexAnswer.{ConvexAnswer}
-use Rattle.game_text.specs.Descriptions.{game_of, is_cost}
+use Rattle.game_text.specs.Classes.{game_of, is_cost}
 use Rattle.game_text.specs.Documents.{Contents}
 use Rattle.report.specs.declared.answer.Answer.{Answer}
 use Rattle.report.specs.declared.answer.Answer.TheVariants.{Convex, Usage}

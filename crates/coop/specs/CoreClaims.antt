@@ -24,8 +24,8 @@ use Rattle.real_shares.specs.Claims.{InCoreForReals, HasNoCoreForReals}
 use Rattle.balanced.specs.declared.CoreAnswer.{CoreAnswer}
 use Rattle.balanced.specs.declared.CoreAnswer.TheVariants.{Point, Empty}
 use Rattle.tree_games.specs.Trees.{IsBird}
-use Rattle.game_text.specs.Descriptions.{Description, table, cost, airport, bankruptcy, tree}
-use Rattle.game_text.specs.Descriptions.{assignment, market, voting, game_of, is_cost}
+use Rattle.game_text.specs.Classes.{Description, table, cost, airport, bankruptcy, tree, assignment, market, voting}
+use Rattle.game_text.specs.Classes.{game_of, is_cost}
 use Rattle.game_text.specs.Documents.{Contents}
 use Rattle.report.specs.declared.answer.Answer.{Answer}
 use Rattle.report.specs.declared.answer.Answer.TheVariants.{CorePoint, EmptyCore, Usage}

@@ -11,8 +11,7 @@ use Rattle.definitions.specs.declared.Measure.{Measure}
 use Rattle.tree_games.specs.Trees.{tree_game}
 use Rattle.assignment_games.specs.Assignments.{assignment_game}
 use Rattle.kohlberg.specs.Solved.{IsSolved}
-use Rattle.game_text.specs.Descriptions.{Description, table, cost, airport, bankruptcy, tree}
-use Rattle.game_text.specs.Descriptions.{assignment, market, voting}
+use Rattle.game_text.specs.Classes.{Description, table, cost, airport, bankruptcy, tree, assignment, market, voting}
 use Rattle.nested_programs.specs.Answer.{LacksImputation}
 use Rattle.nested_programs.specs.declared.found.Found.{Found}
 use Rattle.nested_programs.specs.declared.found.Found.TheVariants as found

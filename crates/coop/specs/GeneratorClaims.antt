@@ -10,8 +10,7 @@ use Rattle.definitions.specs.declared.Family.TheVariants.{Imputations}
 use Rattle.definitions.specs.declared.Measure.TheVariants.{Plain}
 use Rattle.fractions.specs.Fraction.{Fraction, IsReduced}
 use Rattle.worth_core.specs.Measured.{IsMeasuredBound}
-use Rattle.game_text.specs.Descriptions.{game_of, is_cost}
-use Rattle.game_text.specs.OfClass.{IsOfClass}
+use Rattle.game_text.specs.Classes.{game_of, is_cost, IsOfClass}
 use Rattle.kinds.specs.declared.kind.Kind.{Kind}
 use Rattle.coop_gen.specs.Generated.{generated}
 use Rattle.report.specs.declared.summary.Summary.{Summary}

@@ -45,9 +45,8 @@ use Rattle.definitions.specs.declared.Family.{Family}
 use Rattle.definitions.specs.declared.Family.TheVariants.{Imputations, Preimputations}
 use Rattle.kohlberg.specs.Certificate.{CertificateData}
 use Rattle.real_shares.specs.Claims.{IsNucleolusForReals, IsNucleolusOverGroups}
-use Rattle.game_text.specs.Descriptions.{game_of, is_cost}
+use Rattle.game_text.specs.Classes.{game_of, is_cost, IsOfClass}
 use Rattle.game_text.specs.Documents.{Contents}
-use Rattle.game_text.specs.OfClass.{IsOfClass}
 use Rattle.game_text.specs.Refusals.{IsDocument, IsRefused}
 use Rattle.game_text.specs.declared.command.Command.{Command}
 use Rattle.game_text.specs.declared.command.Command.TheVariants.{Nucleolus as NucleolusWord}

@@ -14,7 +14,7 @@ use Rattle.definitions.specs.Coalitions.{grand_coalition}
 use Rattle.definitions.specs.Games.{Game, Allocation, amount, excess, IsEfficient, IsChosenBlocker, InCore}
 use Rattle.real_shares.specs.Claims.{InCoreForReals}
 use Rattle.fractions.specs.Fraction.{Fraction, IsRatio}
-use Rattle.game_text.specs.Descriptions.{game_of, is_cost}
+use Rattle.game_text.specs.Classes.{game_of, is_cost}
 use Rattle.game_text.specs.Documents.{Contents}
 use Rattle.report.specs.declared.answer.Answer.{Answer}
 use Rattle.report.specs.declared.answer.Answer.TheVariants.{InCore as Core, NotEfficient, Blocked}

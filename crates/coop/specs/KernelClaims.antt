@@ -13,7 +13,7 @@ use Rattle.definitions.specs.declared.Measure.TheVariants.{Plain}
 use Rattle.real_shares.specs.Claims.{InPrekernelForReals}
 use Rattle.kernel_test.specs.Answers.{IsKernelAnswer}
 use Rattle.kernel_test.specs.declared.KernelAnswer.TheVariants.{Differs}
-use Rattle.game_text.specs.Descriptions.{game_of, is_cost}
+use Rattle.game_text.specs.Classes.{game_of, is_cost}
 use Rattle.game_text.specs.Documents.{Contents}
 use Rattle.report.specs.declared.answer.Answer.{Answer}
 use Rattle.report.specs.declared.answer.Answer.TheVariants.{NotEfficient, Prekernel, NotPrekernel, Usage}

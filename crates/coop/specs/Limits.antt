@@ -6,8 +6,7 @@
 use Rattle.std.specs.Prelude.{ℕ}
 use Rattle.definitions.specs.declared.Measure.{Measure}
 use Rattle.definitions.specs.declared.Measure.TheVariants.{Plain, PerHead}
-use Rattle.game_text.specs.Descriptions.{Description, table, cost, airport, bankruptcy}
-use Rattle.game_text.specs.Descriptions.{tree, assignment, market, voting}
+use Rattle.game_text.specs.Classes.{Description, table, cost, airport, bankruptcy, tree, assignment, market, voting}
 
 -- the most players of a game whose nucleolus is answered: the programs per head are those of few players, and with
 -- plain excess airport and bankruptcy games have schemes of their own

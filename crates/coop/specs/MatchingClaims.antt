@@ -8,7 +8,7 @@ use Rattle.definitions.specs.Sides.{IsBestFor, IsBuyer, IsSeller}
 use Rattle.assignment_games.specs.Assignments.{assignment_game}
 use Rattle.big_assignment.specs.Solutions.{IsOptimalMatching}
 use Rattle.big_assignment.specs.declared.solution.Solution.{Solution}
-use Rattle.game_text.specs.Descriptions.{Description, market}
+use Rattle.game_text.specs.Classes.{Description, market}
 use Rattle.game_text.specs.Documents.{Contents}
 use Rattle.report.specs.declared.answer.Answer.{Answer}
 use Rattle.report.specs.declared.answer.Answer.TheVariants.{Matching}

@@ -6,7 +6,7 @@ use Rattle.std.specs.Prelude.{◌≡◌, ◌≤◌, ⊤, pos, length, false, Non
 use Rattle.serde_json.specs.Data.{Data, depth}
 use Rattle.serde_json.specs.Written.{compact_text, has_float}
 use Rattle.json_texts.specs.Exact.{IsExact}
-use Rattle.game_text.specs.Descriptions.{description_of}
+use Rattle.game_text.specs.Classes.{description_of}
 use Rattle.game_text.specs.Documents.{Contents, game_tree}
 use Rattle.document_parts.specs.Excess.{measure_of}
 use Rattle.document_parts.specs.Scales.{scale_of}

@@ -14,7 +14,7 @@ use Rattle.definitions.specs.Games.{Allocation, IsSame}
 use Rattle.definitions.specs.Certificates.{Certifies}
 use Rattle.definitions.specs.declared.Family.{Family}
 use Rattle.kohlberg.specs.Certificate.{CertificateData}
-use Rattle.game_text.specs.Descriptions.{description_of, game_of}
+use Rattle.game_text.specs.Classes.{description_of, game_of}
 use Rattle.game_text.specs.Documents.{Contents}
 use Rattle.document_parts.specs.Excess.{measure_of}
 use Rattle.document_parts.specs.Scales.{scale_of}

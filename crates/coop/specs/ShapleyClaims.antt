@@ -6,8 +6,8 @@
 use Rattle.std.specs.Prelude.{◌≡◌, ◌<◌, ◌≤◌, ℕ, Bool}
 use Rattle.definitions.specs.Games.{Allocation}
 use Rattle.definitions.specs.Shapley.{IsShapley}
-use Rattle.game_text.specs.Descriptions.{Description, table, cost, airport, bankruptcy, tree}
-use Rattle.game_text.specs.Descriptions.{assignment, market, voting, game_of, is_cost}
+use Rattle.game_text.specs.Classes.{Description, table, cost, airport, bankruptcy, tree, assignment, market, voting}
+use Rattle.game_text.specs.Classes.{game_of, is_cost}
 use Rattle.game_text.specs.Documents.{Contents}
 use Rattle.report.specs.declared.answer.Answer.{Answer}
 use Rattle.report.specs.declared.answer.Answer.TheVariants.{Shapley, Usage}

@@ -2,8 +2,7 @@
 ghost use Rattle.std.specs.Prelude.{◌≡◌, length, IfOk};
 ghost use Rattle.definitions.specs.Measures.{IsMeasurable};
 ghost use Rattle.checker.specs.Meaning.{IsVerdict};
-ghost use Rattle.game_text.specs.Descriptions.{game_of};
-ghost use Rattle.game_text.specs.Games.{description_in};
+ghost use Rattle.game_text.specs.Classes.{game_of, description_in};
 ghost use Rattle.game_text.specs.Readings.{contents_in};
 ghost use Rattle.report.specs.Limits.{IsPrintable};
 ghost use Rattle.coop.specs.Checks.{Checks, HasLowestExcess, IsComplete};

@@ -1,6 +1,6 @@
 //! The classes of games that a command serves.
 ghost use Rattle.std.specs.Prelude.{◌≡◌};
-ghost use Rattle.game_text.specs.Games.{description_in};
+ghost use Rattle.game_text.specs.Classes.{description_in};
 ghost use Rattle.coop.specs.Classes.{is_market, is_tree, is_no_market, serves_class};
 
 use game_text::{Command, Game};

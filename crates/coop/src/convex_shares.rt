@@ -1,8 +1,7 @@
 //! Whether the game of a document is convex, and its shares where it is.
 ghost use Rattle.std.specs.Prelude.{◌≤◌, IfOk};
 ghost use Rattle.convexity.specs.Answers.{IsAnswer};
-ghost use Rattle.game_text.specs.Descriptions.{game_of};
-ghost use Rattle.game_text.specs.Games.{description_in};
+ghost use Rattle.game_text.specs.Classes.{game_of, description_in};
 ghost use Rattle.game_text.specs.Readings.{contents_in};
 ghost use Rattle.report.specs.Limits.{IsPrintable};
 ghost use Rattle.coop.specs.ConvexClaims.{SaysOfConvex};

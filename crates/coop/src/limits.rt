@@ -1,6 +1,6 @@
 //! How many players a game may have for a command.
 ghost use Rattle.std.specs.Prelude.{◌≡◌};
-ghost use Rattle.game_text.specs.Games.{description_in};
+ghost use Rattle.game_text.specs.Classes.{description_in};
 ghost use Rattle.coop.specs.Limits.{nucleolus_limit, check_limit, core_limit};
 
 use game_text::Game;

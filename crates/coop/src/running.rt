@@ -2,7 +2,7 @@
 ghost use Rattle.std.specs.Prelude.{◌≡◌, ◌⊎◌, ℕ, List, [], ◌∷◌, map, string_bytes, true, IfOk};
 ghost use Rattle.report.specs.Limits.{IsScale, IsPrintable};
 ghost use Rattle.game_text.specs.declared.command.Command.{Command};
-ghost use Rattle.game_text.specs.Games.{description_in};
+ghost use Rattle.game_text.specs.Classes.{description_in};
 ghost use Rattle.game_text.specs.Readings.{contents_in};
 ghost use Rattle.coop.specs.Classes.{serves_class};
 ghost use Rattle.coop.specs.Headline.{Says, AnswersTo};

@@ -1,8 +1,7 @@
 //! The Shapley shares of the game of a document.
 ghost use Rattle.std.specs.Prelude.{◌<◌, ◌≤◌, ◌↔◌, IfOk, IsErrOf};
 ghost use Rattle.definitions.specs.Shapley.{IsShapley};
-ghost use Rattle.game_text.specs.Descriptions.{game_of};
-ghost use Rattle.game_text.specs.Games.{description_in};
+ghost use Rattle.game_text.specs.Classes.{game_of, description_in};
 ghost use Rattle.game_text.specs.Readings.{contents_in};
 ghost use Rattle.report.specs.Limits.{IsPrintable};
 ghost use Rattle.coop.specs.ReadBack.{IsNoNucleolus};

@@ -2,8 +2,7 @@
 ghost use Rattle.std.specs.Prelude.{◌≡◌, ◌≤◌, true, IfOk};
 ghost use Rattle.definitions.specs.Games.{IsShares};
 ghost use Rattle.kohlberg.specs.Certificate.{IsCertificate};
-ghost use Rattle.game_text.specs.Descriptions.{game_of};
-ghost use Rattle.game_text.specs.Games.{description_in};
+ghost use Rattle.game_text.specs.Classes.{game_of, description_in};
 ghost use Rattle.game_text.specs.Readings.{contents_in};
 ghost use Rattle.report.specs.Limits.{IsPrintable};
 ghost use Rattle.coop.specs.Needs.{IsAccepted};

@@ -3,8 +3,7 @@ use Rattle.std.proofs.Common.{◌≡◌, ℕ, ◌+◌, ◌-◌, ◌/◌, refl, a
 use Rattle.std.proofs.lemmas.List.FromFn.{length-map-range_with_len}
 use Rattle.tree_games.proofs.Nearest.{tree_is_game}
 use Rattle.assignment_games.proofs.Games.{assignment_is_game}
-use Rattle.game_text.specs.Descriptions.{game_of}
-use Rattle.game_text.specs.OfClass.{IsOfClass}
+use Rattle.game_text.specs.Classes.{game_of, IsOfClass}
 use Rattle.kinds.specs.declared.kind.Kind.{Kind}
 use Rattle.kinds.specs.declared.kind.Kind.TheVariants.{Table, Airport, Bankruptcy, Tree, Assignment}
 use Rattle.drawn_games.proofs.Sizes.{rows_count, tree_sizes, pair_sellers}

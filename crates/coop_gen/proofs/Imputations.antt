@@ -1,6 +1,6 @@
 -- In a generated game of every kind the players are worth no more alone, added, than all, so that it has an imputation.
 use Rattle.std.proofs.Common.{ℕ, ◌+◌, ◌-◌, ◌/◌, ◌≤◌, sum, refl, arith}
-use Rattle.game_text.specs.Descriptions.{game_of}
+use Rattle.game_text.specs.Classes.{game_of}
 use Rattle.kinds.specs.declared.kind.Kind.{Kind}
 use Rattle.kinds.specs.declared.kind.Kind.TheVariants.{Table, Airport, Bankruptcy, Tree, Assignment}
 use Rattle.drawn_games.proofs.Alone.{table_imputations, airport_imputations}

@@ -3,7 +3,7 @@
 --   HasKindSize kind n     the kind has games of n players
 --   generated kind n seed  the description of the game
 use Rattle.std.specs.Prelude.{ℕ, ◌+◌, ◌-◌, ◌/◌, ◌≤◌, sum}
-use Rattle.game_text.specs.Descriptions.{Description, table, airport, bankruptcy, tree, assignment}
+use Rattle.game_text.specs.Classes.{Description, table, airport, bankruptcy, tree, assignment}
 use Rattle.kinds.specs.declared.kind.Kind.{Kind}
 use Rattle.kinds.specs.declared.kind.Kind.TheVariants.{Table, Airport, Bankruptcy, Tree, Assignment}
 use Rattle.drawn_games.specs.Draws.{short_draw}

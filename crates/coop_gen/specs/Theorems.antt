@@ -1,7 +1,6 @@
 -- What is proved of generated games.
 use Rattle.std.specs.Prelude.{◌≡◌, ℕ}
-use Rattle.game_text.specs.Descriptions.{game_of}
-use Rattle.game_text.specs.OfClass.{IsOfClass}
+use Rattle.game_text.specs.Classes.{game_of, IsOfClass}
 use Rattle.kinds.specs.declared.kind.Kind.{Kind}
 use Rattle.coop_gen.specs.Generated.{HasKindSize, generated}
 use Rattle.drawn_games.specs.Imputations.{HasImputations}

@@ -1,6 +1,6 @@
 //! The game of a kind, a number of players and a seed.
 ghost use Rattle.std.specs.Prelude.{◌≡◌, ◌↔◌, ◌^◌, ◌<◌, IfOk, IsTrue};
-ghost use Rattle.game_text.specs.Games.{description_in};
+ghost use Rattle.game_text.specs.Classes.{description_in};
 ghost use Rattle.coop_gen.specs.Generated.{HasKindSize, generated};
 
 use drawn_games::{airport, assignment, bankruptcy, table, tree};

@@ -1,9 +1,10 @@
--- The scale of a game, number by number.
+-- The least common denominator of numbers.
 use Rattle.std.proofs.Common.{◌≡◌, ℕ, ◌+◌, ◌*◌, ◌/◌, ◌%◌, ◌<◌, ◌≤◌, ℤ, pos}
 use Rattle.std.proofs.Common.{unsigned_abs}
 use Rattle.std.proofs.Common.{List, [], ◌∷◌, ◌++◌, length, get_or, map, Bool, true, false}
 use Rattle.std.proofs.Common.{nat_le, if◌then◌else◌}
-use Rattle.std.proofs.Common.{Option, Some, None, option_and_then, refl, sym, ap, ◌∙◌, subst, arith}
+use Rattle.std.proofs.Common.{Option, Some, None, option_and_then, option_map, refl, sym, ap, ◌∙◌, subst, arith}
+use Rattle.std.proofs.Common.{int_div, ◌*ℤ◌}
 use Rattle.std.specs.Prelude.{unwrap_or}
 use native.Mathlib.Nat.{one-dvd}
 use Rattle.std.proofs.lemmas.Bool.{leb-true, leb-false, le-leb}
@@ -11,8 +12,6 @@ use Rattle.std.proofs.lemmas.Int.{ints}
 use Rattle.std.proofs.lemmas.Nat.Gcd.{dvd_refl, dvd_trans, dvd_antisymm, dvd_of_mod-eq-zero, le_of_dvd}
 use Rattle.serde_json.specs.Data.{Data}
 use Rattle.serde_json.specs.Find.{as_str}
-use Rattle.serde_json.specs.View.{view}
-use Rattle.serde_json.specs.declared.value.Value.{Value}
 use Rattle.fractions.specs.Divisors.{gcd}
 use Rattle.fractions.specs.Fraction.{Fraction, IsReduced}
 use Rattle.worth_core.specs.Multiples.{IsLeastMultiple}
@@ -20,38 +19,41 @@ use Rattle.worth_core.proofs.LeastMultiples.{least_multiple}
 use Rattle.json_trees.specs.Fractions.{whole_fraction, written_fraction, fraction_or_zero}
 use Rattle.json_trees.specs.Trees.{integer}
 use Rattle.json_trees.proofs.Fractions.{written_or_zero}
-use Rattle.json_trees.proofs.Values.{rest, rest_step}
 use Rattle.document_parts.specs.CommonMultiples.{lcm, least_denominator}
-use Rattle.document_parts.specs.Scales.{all_parts, game_numbers, scale_of, if_scale, with_number, with_numbers}
+use Rattle.document_parts.specs.Scales.{if_scale}
+use Rattle.document_parts.specs.ScaledNumbers.{if_small}
+use Rattle.document_parts.specs.Numbers.{with_fraction}
+use Rattle.definitions.proofs.Cancel.{quot_exact}
+use Rattle.fractions.proofs.Ratios.{apart}
 
 -- ---- least common multiples
 
-abbrev den : Data → ℕ
+abbrev pub den : Data → ℕ
 den d = unsigned_abs (fraction_or_zero d).den
 
-abbrev least : List Data → ℕ
+abbrev pub least : List Data → ℕ
 least ds = least_denominator (map fraction_or_zero ds)
 
 positive_of : (f : Fraction) → IsReduced f → 0 < unsigned_abs f.den
 positive_of f r = let p = r.positive in omega (arith, ints)
 
-den_positive : (d : Data) → 0 < den d
+pub den_positive : (d : Data) → 0 < den d
 den_positive d = positive_of (fraction_or_zero d) (written_or_zero d (as_str d))
 
-lcm_is : (a b : ℕ) → 0 < a → 0 < b → IsLeastMultiple a b (lcm a b)
+pub lcm_is : (a b : ℕ) → 0 < a → 0 < b → IsLeastMultiple a b (lcm a b)
 lcm_is a b p q = least_multiple a b p q
 
-least_positive : (ds : List Data) → 0 < least ds
+pub least_positive : (ds : List Data) → 0 < least ds
 least_positive [] = omega arith
 least_positive (d ∷ ds) = (lcm_is (den d) (least ds) (den_positive d) (least_positive ds)).positive
 
-with_one : (k : ℕ) → 0 < k → lcm k 1 ≡ k
+pub with_one : (k : ℕ) → 0 < k → lcm k 1 ≡ k
 with_one k p = let m = lcm_is k 1 p (omega arith) in dvd_antisymm (m.least k (dvd_refl k) (one-dvd k)) m.left
 
-one_with : (k : ℕ) → 0 < k → lcm 1 k ≡ k
+pub one_with : (k : ℕ) → 0 < k → lcm 1 k ≡ k
 one_with k p = let m = lcm_is 1 k (omega arith) p in dvd_antisymm (m.least k (one-dvd k) (dvd_refl k)) m.right
 
-lcm_assoc : (a b c : ℕ) → 0 < a → 0 < b → 0 < c → lcm (lcm a b) c ≡ lcm a (lcm b c)
+pub lcm_assoc : (a b c : ℕ) → 0 < a → 0 < b → 0 < c → lcm (lcm a b) c ≡ lcm a (lcm b c)
 lcm_assoc a b c p q r =
     let one = lcm_is a b p q in
     let two = lcm_is b c q r in
@@ -72,7 +74,7 @@ none_above k h = choose (nat_le k 65536) (λ e. let le = leb-true k 65536 e in o
     choose true f = absurd (f refl)
     choose false f = refl
 
-some_below : (k : ℕ) → k ≤ 65536 → Some k ≡ if_scale k
+pub some_below : (k : ℕ) → k ≤ 65536 → Some k ≡ if_scale k
 some_below k h = ap (λ (b : Bool). if b then Some k else None) (sym (le-leb k 65536 h))
 
 -- a denominator that is too large
@@ -98,78 +100,40 @@ whole_den : (o : Option ℤ)
 whole_den None = refl
 whole_den (Some z) = refl
 
-no_text_den : (d : Data) → None ≡ as_str d → den d ≡ 1
+-- what is no text has the denominator 1
+pub no_text_den : (d : Data) → as_str d ≡ None → den d ≡ 1
 no_text_den d e =
     subst
     (λ (o : Option (List ℕ)). unsigned_abs
-    (unwrap_or (written_fraction d o) (record { num = pos 0; den = pos 1 })).den ≡ 1) e
+    (unwrap_or (written_fraction d o) (record { num = pos 0; den = pos 1 })).den ≡ 1) (sym e)
     (whole_den (integer d))
-
--- and so is that of what is no text
-pub no_text_keeps_scale : (k : ℕ) (d : Data) → 0 < k → k ≤ 65536 → None ≡ as_str d → Some k ≡ with_number k d
-no_text_keeps_scale k d p h e = some_below k h ∙ ap if_scale (sym (ap (lcm k) (no_text_den d e) ∙ with_one k p))
-
--- ---- all numbers
-
--- the first number and then the rest: b is whether the first keeps within the limit
-first_and_rest : (k : ℕ) (d : Data) (ds : List Data) (b : Bool) → 0 < k → nat_le (lcm k (den d)) 65536 ≡ b
-    → ((m : ℕ) → 0 < m → m ≤ 65536 → with_numbers m ds ≡ if_scale (lcm m (least ds)))
-    → option_and_then (λ m. with_numbers m ds) (if b then Some (lcm k (den d)) else None)
-    ≡ if_scale (lcm k (lcm (den d) (least ds)))
-first_and_rest k d ds true p e ih =
-    let one = lcm_is k (den d) p (den_positive d) in
-    ih (lcm k (den d)) one.positive (leb-true (lcm k (den d)) 65536 e)
-    ∙ ap if_scale (lcm_assoc k (den d) (least ds) p (den_positive d) (least_positive ds))
-first_and_rest k d ds false p e ih =
-    let above = leb-false (lcm k (den d)) 65536 e in
-    let one = lcm_is k (den d) p (den_positive d) in
-    let all = lcm_is (lcm k (den d)) (least ds) one.positive (least_positive ds) in
-    let le = le_of_dvd all.positive all.left in
-    let same = lcm_assoc k (den d) (least ds) p (den_positive d) (least_positive ds) in
-    none_above (lcm k (lcm (den d) (least ds))) (omega (arith, above, le, same))
-
-numbers_are : (k : ℕ) (ds : List Data) → 0 < k → k ≤ 65536 → with_numbers k ds ≡ if_scale (lcm k (least ds))
-numbers_are k [] p h = some_below k h ∙ ap if_scale (sym (with_one k p))
-numbers_are k (d ∷ ds) p h =
-    first_and_rest k d ds (nat_le (lcm k (den d)) 65536) p refl (λ m q r. numbers_are m ds q r)
-
-pub scale_is : (game : Data) → with_numbers 1 (game_numbers game) ≡ if_scale (scale_of game)
-scale_is game =
-    numbers_are 1 (game_numbers game) (omega arith) (omega arith)
-    ∙ ap if_scale (one_with (least (game_numbers game)) (least_positive (game_numbers game)))
 
 -- ---- one list after another
 
-append_step : (ds es : List Data) (o : Option ℕ)
-    → ((m : ℕ) → with_numbers m (ds ++ es) ≡ option_and_then (λ n. with_numbers n es) (with_numbers m ds))
-    → option_and_then (λ m. with_numbers m (ds ++ es)) o
-    ≡ option_and_then (λ n. with_numbers n es) (option_and_then (λ m. with_numbers m ds) o)
-append_step ds es None ih = refl
-append_step ds es (Some m) ih = ih m
+pub least_append : (ds es : List Data) → least (ds ++ es) ≡ lcm (least ds) (least es)
+least_append [] es = sym (one_with (least es) (least_positive es))
+least_append (d ∷ ds) es =
+    ap (lcm (den d)) (least_append ds es)
+    ∙ sym (lcm_assoc (den d) (least ds) (least es) (den_positive d) (least_positive ds) (least_positive es))
 
-with_append : (k : ℕ) (ds es : List Data)
-    → with_numbers k (ds ++ es) ≡ option_and_then (λ n. with_numbers n es) (with_numbers k ds)
-with_append k [] es = refl
-with_append k (d ∷ ds) es = append_step ds es (with_number k d) (λ m. with_append m ds es)
+pub least_more : (ds : List Data) (d : Data) → least (ds ++ d ∷ []) ≡ lcm (least ds) (den d)
+least_more ds d = least_append ds (d ∷ []) ∙ ap (lcm (least ds)) (with_one (den d) (den_positive d))
 
-pub none_front : (k : ℕ) (ds es : List Data) → None ≡ with_numbers k ds → None ≡ with_numbers k (ds ++ es)
-none_front k ds es e = sym (with_append k ds es ∙ ap (option_and_then (λ n. with_numbers n es)) (sym e))
+-- ---- a fraction beside a scale
 
-pub some_front : (k m : ℕ) (ds es : List Data) → Some m ≡ with_numbers k ds
-    → with_numbers m es ≡ with_numbers k (ds ++ es)
-some_front k m ds es e = sym (with_append k ds es ∙ ap (option_and_then (λ n. with_numbers n es)) (sym e))
+pub whole_with : (k : ℕ) (z : ℤ) → 0 < k → k ≤ 65536
+    → with_fraction k (record { num = z; den = pos 1 }) ≡ option_map (λ y. (k, y)) (if_small (Some (z *ℤ pos k)))
+whole_with k z p h =
+    ap (option_and_then (λ m. option_map (λ y. (m, y)) (if_small (Some (z *ℤ int_div (pos m) (pos 1))))))
+    (ap if_scale (with_one k p) ∙ sym (some_below k h))
+    ∙ ap (λ y. option_map (λ w. (k, w)) (if_small (Some (z *ℤ y))))
+    (quot_exact (pos k) (pos 1) (pos k) (ap pos (once k)) (apart (pos 1) (omega (arith, ints))))
+  where
+    once : (k : ℕ) → k ≡ 1 * k
+    once k = omega arith
 
--- ---- turn by turn
-
--- the numbers of one pair, or of one row, more
-module _ (f : Data → List Data) (whole : Option ℕ) (vs : List Value) (i s : ℕ) (v : Value) (h : i < length vs)
-    (at : v ≡ get_or vs i v) (goes : whole ≡ with_numbers s (all_parts f (rest vs i))) where
-  parts_turn : whole ≡ with_numbers s (f (view v) ++ all_parts f (rest vs (i + 1)))
-  parts_turn = goes ∙ ap (λ ds. with_numbers s (all_parts f ds)) (rest_step vs i v h at)
-
-  pub no_parts : None ≡ with_numbers s (f (view v)) → None ≡ whole
-  no_parts e = none_front s (f (view v)) (all_parts f (rest vs (i + 1))) e ∙ sym parts_turn
-
-  pub parts_more : (m : ℕ) → Some m ≡ with_numbers s (f (view v))
-      → whole ≡ with_numbers m (all_parts f (rest vs (i + 1)))
-  parts_more m e = parts_turn ∙ sym (some_front s m (f (view v)) (all_parts f (rest vs (i + 1))) e)
+pub whole_step : (k : ℕ) (o : Option ℤ) → 0 < k → k ≤ 65536
+    → option_map (λ y. (k, y)) (option_and_then (λ z. if_small (Some (z *ℤ pos k))) o)
+    ≡ option_and_then (with_fraction k) (whole_fraction o)
+whole_step k None p h = refl
+whole_step k (Some z) p h = sym (whole_with k z p h)

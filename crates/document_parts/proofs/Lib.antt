@@ -4,3 +4,8 @@ pub mod Filling
 pub mod Payments
 pub mod LeastDenominators
 pub mod CommonScales
+pub mod Raising
+pub mod NumbersRead
+pub mod InPlace
+pub mod PartsRead
+pub mod Costs

@@ -8,6 +8,8 @@ pub mod Names
 pub mod Members
 pub mod TableNumbers
 pub mod Slots
+pub mod Signs
+pub mod Numbers
 pub mod Shares
 pub mod Denominators
 pub use Rattle.serde_json.specs.Data

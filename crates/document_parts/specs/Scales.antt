@@ -13,17 +13,15 @@
 --   scale_of            their least common denominator
 --   IsScaleOf           the same, said of a number
 --   if_scale            a scale, where it is at most 65,536
---   with_number         the least common multiple of a scale and the denominator of a number, within that limit
---   with_numbers        the same with the denominators of some numbers
-use Rattle.std.specs.Prelude.{ℕ, ℤ, codes, List, [], ◌∷◌, ◌++◌, map, unsigned_abs, Option}
-use Rattle.std.specs.Prelude.{Some, None, option_and_then, nat_le, if◌then◌else◌}
+use Rattle.std.specs.Prelude.{ℕ, ℤ, codes, List, [], ◌∷◌, ◌++◌, map, Option}
+use Rattle.std.specs.Prelude.{Some, None, nat_le, if◌then◌else◌}
 use Rattle.serde_json.specs.Data.{Data}
 use Rattle.serde_json.specs.Find.{get}
 use Rattle.fractions.specs.Fraction.{Fraction}
 use Rattle.json_trees.specs.Fractions.{fraction_or_zero}
 use Rattle.json_trees.specs.Trees.{parts, parts_at}
 use Rattle.worth_core.specs.LeastDenominators.{IsLeastDenominator}
-use Rattle.document_parts.specs.CommonMultiples.{lcm, least_denominator}
+use Rattle.document_parts.specs.CommonMultiples.{least_denominator}
 
 -- ---- the numbers of a game
 
@@ -77,12 +75,3 @@ IsScaleOf game k = IsLeastDenominator (game_fractions game) k
 
 abbrev pub if_scale : ℕ → Option ℕ
 if_scale k = if nat_le k 65536 then Some k else None
-
--- the least common multiple of k and the denominator of a number, where it is at most 65,536
-abbrev pub with_number : ℕ → Data → Option ℕ
-with_number k d = if_scale (lcm k (unsigned_abs (fraction_or_zero d).den))
-
--- the least common multiple of k and the denominators of numbers, taken one by one, where each is at most 65,536
-abbrev pub with_numbers : ℕ → List Data → Option ℕ
-with_numbers k [] = Some k
-with_numbers k (d ∷ ds) = option_and_then (λ m. with_numbers m ds) (with_number k d)

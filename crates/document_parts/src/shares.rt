@@ -108,24 +108,18 @@ fn signed_shares(
         (λ o. o ≡ (if keep_limits written.now then Some (as_worth are_payments (over_least written.now)) else None)) }
 {
     match over_least(alloc, written) {
-        Ok(Some(shares)) if are_payments => match negated(alloc, &shares) {
-            Ok(turned) => Ok(Some(turned)),
-            Err(e) => Err(e),
-        },
+        Ok(Some(shares)) if are_payments => negated(alloc, &shares),
         found => found,
     }
 }
 
-/// The shares with their signs turned.
-fn negated(alloc: Global, shares: &Shares) -> Result<Shares, OutOfMemory>
-    ensures { IfOk result (λ x. x ≡ negated shares.now) }
+/// The shares with their signs turned, which keep within the limits of `Shares` as well.
+fn negated(alloc: Global, shares: &Shares) -> Result<Option<Shares>, OutOfMemory>
+    ensures { IfOk result (λ o. o ≡ Some (negated shares.now)) }
 {
     let mut num = Vec::new(alloc);
     for i in 0..shares.players() {
         num.push(-shares.num(i))?;
     }
-    match Shares::new(num, shares.den()) {
-        Some(turned) => Ok(turned),
-        None => unreachable!(),
-    }
+    Ok(Shares::new(num, shares.den()))
 }

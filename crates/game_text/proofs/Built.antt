@@ -3,15 +3,12 @@ use Rattle.std.proofs.Common.{◌≡◌, ℕ, Bool, true, false, Option, Some, N
 use Rattle.std.proofs.Common.{ap, ◌∙◌}
 use Rattle.serde_json.specs.Data.{Data}
 use Rattle.document_parts.specs.Scales.{scale_of}
-use Rattle.game_text.specs.Shape.{class_of}
-use Rattle.game_text.specs.OwnTests.{own_as, own_test}
-use Rattle.game_text.specs.Descriptions.{description_as, description_of}
-use Rattle.game_text.specs.Games.{description_in}
+use Rattle.game_text.specs.Classes.{class_of, own_as, own_test, description_as, description_of, description_in}
 use Rattle.game_text.specs.Readings.{IsBuilt}
 use Rattle.game_text.specs.Refusals.{unless}
 use Rattle.game_text.specs.Steps.{own_refusal}
-use Rattle.game_text.specs.declared.class.Class.{Class}
-use Rattle.game_text.specs.declared.game.Game.{Game}
+use Rattle.game_text.specs.declared.classes.Class.{Class}
+use Rattle.game_text.specs.declared.classes.Game.{Game}
 use Rattle.kinds.specs.declared.refusal.Refusal.{Refusal}
 use Rattle.game_text.proofs.Choices.{passed_if, failed_if}
 

@@ -7,12 +7,10 @@ use Rattle.serde_json.specs.Data.{Data}
 use Rattle.serde_json.specs.View.{view}
 use Rattle.document_parts.specs.Scales.{scale_of}
 use Rattle.game_text.specs.Text.{document_limit, IsTextOf}
-use Rattle.game_text.specs.Shape.{class_of, is_shaped}
-use Rattle.game_text.specs.Limits.{has_players, has_numbers}
+use Rattle.game_text.specs.Classes.{class_of, has_players, has_numbers, own_test, description_in}
+use Rattle.game_text.specs.Shape.{is_shaped}
 use Rattle.game_text.specs.Names.{has_names}
-use Rattle.game_text.specs.OwnTests.{own_test}
 use Rattle.game_text.specs.Documents.{game_tree}
-use Rattle.game_text.specs.Games.{description_in}
 use Rattle.game_text.specs.Refusals.{unless, has_needed_numbers}
 use Rattle.game_text.specs.Refusals.{has_needed_shares, has_needed_form, IsRefused}
 use Rattle.game_text.specs.Denominators.{needed_keep_limits, contents_of, tree_refusal}
@@ -25,7 +23,7 @@ use Rattle.game_text.specs.declared.command.Command.{Command}
 use Rattle.game_text.specs.declared.document.Document.{Document}
 use Rattle.game_text.specs.declared.fault.TextFault.{TextFault}
 use Rattle.game_text.specs.declared.fault.TextFault.TheVariants.{Refused, Memory}
-use Rattle.game_text.specs.declared.game.Game.{Game}
+use Rattle.game_text.specs.declared.classes.Game.{Game}
 use Rattle.game_text.specs.declared.reading.Said.{Said}
 use Rattle.kinds.specs.declared.refusal.Refusal.{Refusal}
 use Rattle.kinds.specs.declared.refusal.Refusal.TheVariants.{TooLong, NotJson, Shape, Players, Number}

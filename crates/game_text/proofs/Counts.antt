@@ -8,16 +8,13 @@ use Rattle.serde_json.specs.Data.{Data}
 use Rattle.fractions.specs.Fraction.{Fraction}
 use Rattle.worth_core.specs.LeastDenominators.{numerator_over}
 use Rattle.json_trees.specs.Trees.{parts_at}
-use Rattle.game_text.specs.Shape.{class_of}
-use Rattle.game_text.specs.Limits.{players}
-use Rattle.game_text.specs.Descriptions.{game_of, is_cost, description_of}
+use Rattle.game_text.specs.Classes.{class_of, players, game_of, is_cost, description_of, description_in}
 use Rattle.document_parts.specs.Scales.{scale_of}
 use Rattle.document_parts.specs.CommonMultiples.{least_denominator}
 use Rattle.document_parts.specs.Denominators.{over_least, keep_limits}
 use Rattle.game_text.specs.Denominators.{shares_of}
 use Rattle.document_parts.specs.Shares.{as_worth, has_shares_for, scaled_share, scaled_shares}
 use Rattle.game_text.specs.Documents.{game_tree, certificate_for}
-use Rattle.game_text.specs.Games.{description_in}
 use Rattle.game_text.specs.Refusals.{unless}
 use Rattle.game_text.specs.Steps.{proposal_refusal, certificate_refusal, needed_refusal}
 use Rattle.game_text.specs.Readings.{IsTreeReading, IsTreeFault}

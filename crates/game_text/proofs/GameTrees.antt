@@ -13,7 +13,7 @@ use Rattle.json_trees.specs.Keys.{has_only_keys}
 use Rattle.json_trees.specs.Trees.{parts, parts_at, passes, passes_if_there, is_number, is_numeric, is_text}
 use Rattle.json_trees.specs.Trees.{is_array_of, are_two, integer, is_member, second_passes, first_parts}
 use Rattle.json_trees.specs.Trees.{pair_members}
-use Rattle.game_text.specs.AirportClass.{airport_keys}
+use Rattle.game_text.specs.Classes.AirportClass.{airport_keys}
 use Rattle.std.specs.Ordering.{int_eq}
 use Rattle.fractions.specs.Fraction.{Fraction}
 use Rattle.worth_core.specs.LeastDenominators.{numerator_over}
@@ -21,21 +21,19 @@ use Rattle.json_trees.specs.Fractions.{whole_fraction, fraction_of}
 use Rattle.document_parts.specs.ScaledNumbers.{if_small, small_number}
 use Rattle.document_parts.specs.Version.{is_version, has_texts}
 use Rattle.document_parts.specs.Excess.{is_measure}
-use Rattle.game_text.specs.Shape.{class_named, class_of, is_shaped_as, is_game_shaped}
-use Rattle.game_text.specs.TableClass.{is_sparse_pair, table_keys, lists_worths, lists_coalitions}
-use Rattle.game_text.specs.TableClass.{is_table_shaped, table_players, players_at, has_worths_for}
-use Rattle.game_text.specs.TableClass.{has_worth, has_table_numbers, is_worth}
-use Rattle.game_text.specs.BankruptcyClass.{bankruptcy_keys}
-use Rattle.game_text.specs.VotingClass.{voting_keys}
-use Rattle.game_text.specs.MatrixClass.{matrix_keys, is_matrix_shaped, has_matrix_numbers}
-use Rattle.game_text.specs.Limits.{players, has_numbers_as}
+use Rattle.game_text.specs.Classes.{class_named, class_of, is_shaped_as, players, has_numbers_as, masks}
+use Rattle.game_text.specs.Shape.{is_game_shaped}
+use Rattle.game_text.specs.Classes.TableClass.{is_sparse_pair, table_keys, lists_worths, lists_coalitions}
+use Rattle.game_text.specs.Classes.TableClass.{is_table_shaped, table_players, players_at, has_worths_for, has_worth}
+use Rattle.game_text.specs.Classes.TableClass.{has_table_numbers, is_worth}
+use Rattle.game_text.specs.Classes.BankruptcyClass.{bankruptcy_keys}
+use Rattle.game_text.specs.Classes.MatrixClass.{matrix_keys, is_matrix_shaped, has_matrix_numbers}
 use Rattle.document_parts.specs.Sizes.{if_integer, is_small_cost, is_cost}
 use Rattle.document_parts.specs.Names.{names_of}
-use Rattle.game_text.specs.Coalitions.{masks}
 use Rattle.document_parts.specs.Members.{player_of, join, joined, mask_of, is_mask, are_coalitions}
 use Rattle.json_trees.specs.Players.{numbered_player}
-use Rattle.game_text.specs.declared.class.Class.{Class}
-use Rattle.game_text.specs.declared.class.Class.TheVariants.{Airport, Bankruptcy, Voting}
+use Rattle.game_text.specs.declared.classes.Class.{Class}
+use Rattle.game_text.specs.declared.classes.Class.TheVariants.{Airport, Bankruptcy}
 use Rattle.game_text.proofs.PlainTrees.{IsPlain, plain_text, plain_integer, plain_array, all_plain}
 use Rattle.game_text.proofs.PlainTrees.{plain_known, has_members, IsPlainAt, either}
 
@@ -65,7 +63,7 @@ small_some f (Some x) h = refl
 plain_worth : (k m : ℕ) (d : Data) → is_worth k d ≡ true → IsPlain m d
 plain_worth k m d h = plain_fraction m d (small_some (numerator_over (pos k)) (fraction_of d) h)
 
-plain_cost : (k m : ℕ) (d : Data) → is_cost k d ≡ true → IsPlain m d
+pub plain_cost : (k m : ℕ) (d : Data) → is_cost k d ≡ true → IsPlain m d
 plain_cost k m d h = plain_worth k m d (integer_if is_small_cost (small_number k d) h)
 
 -- ---- coalitions of a sparse table
@@ -155,7 +153,7 @@ plain_pairs t k n names (pair ∷ pairs) h w m =
 
 -- ---- what stands at a key
 
-at_there : (test : Data → Bool) (key : List ℕ) (d e : Data) → passes test (get key d) ≡ true → get key d ≡ Some e
+pub at_there : (test : Data → Bool) (key : List ℕ) (d e : Data) → passes test (get key d) ≡ true → get key d ≡ Some e
     → test e ≡ true
 at_there test key d e h g = subst (λ o. passes test o ≡ true) g h
 
@@ -166,7 +164,7 @@ at_if_there test key d e h g = subst (λ o. passes_if_there test o ≡ true) g h
 parts_there : (key : List ℕ) (d e : Data) → get key d ≡ Some e → parts_at key d ≡ parts e
 parts_there key d e g = ap (λ o. unwrap_or (option_map parts o) []) g
 
-plain_numbers : (kind test : Data → Bool) → ((e : Data) → test e ≡ true → IsPlain 0 e) → (key : List ℕ) (d : Data)
+pub plain_numbers : (kind test : Data → Bool) → ((e : Data) → test e ≡ true → IsPlain 0 e) → (key : List ℕ) (d : Data)
     → passes (is_array_of kind) (get key d) ≡ true → list_all test (parts_at key d) ≡ true → IsPlainAt 1 key d
 plain_numbers kind test good key d h w e g =
     let kinds =
@@ -174,7 +172,7 @@ plain_numbers kind test good key d h w e g =
     plain_array 0 e kinds.0
     (all_plain 0 test good (parts e) (subst (λ l. list_all test l ≡ true) (parts_there key d e g) w))
 
-plain_names : (m : ℕ) (d : Data) → passes_if_there (is_array_of is_text) (get (codes "names") d) ≡ true
+pub plain_names : (m : ℕ) (d : Data) → passes_if_there (is_array_of is_text) (get (codes "names") d) ≡ true
     → IsPlainAt (m + 1) (codes "names") d
 plain_names m d h e g =
     let kinds =
@@ -190,7 +188,7 @@ measure_text (string s) h = refl
 measure_text (array ds) h = absurd (false≢true h)
 measure_text (object ms) h = absurd (false≢true h)
 
-plain_excess : (m : ℕ) (d : Data) → passes_if_there is_measure (get (codes "excess") d) ≡ true
+pub plain_excess : (m : ℕ) (d : Data) → passes_if_there is_measure (get (codes "excess") d) ≡ true
     → IsPlainAt m (codes "excess") d
 plain_excess m d h e g = plain_text m e (measure_text e (at_if_there is_measure (codes "excess") d e h g))
 
@@ -202,7 +200,7 @@ class_text (string s) c h = refl
 class_text (array ds) c h = absurd (cc h)
 class_text (object ms) c h = absurd (cc h)
 
-plain_class : (m : ℕ) (d : Data) (c : Class) → class_of d ≡ Some c → IsPlainAt m (codes "class") d
+pub plain_class : (m : ℕ) (d : Data) (c : Class) → class_of d ≡ Some c → IsPlainAt m (codes "class") d
 plain_class m d c h e g =
     plain_text m e (class_text e c (subst (λ o. option_and_then class_named (option_and_then as_str o) ≡ Some c) g h))
 
@@ -216,10 +214,10 @@ member_of : (key : List ℕ) (d : Data) (o : Option Data) → get key d ≡ o �
 member_of key d None g h = absurd (false≢true h)
 member_of key d (Some e) g h = has_members key d e g
 
-is_object : (d : Data) (c : Class) → class_of d ≡ Some c → is_some (as_object d) ≡ true
+pub is_object : (d : Data) (c : Class) → class_of d ≡ Some c → is_some (as_object d) ≡ true
 is_object d c h = member_of (codes "class") d (get (codes "class") d) refl (has_class (get (codes "class") d) c h)
 
--- ---- airport, bankruptcy and voting
+-- ---- airports and estates
 
 front_shaped : (game : Data) → is_game_shaped game ≡ true
     → ((passes_if_there (is_array_of is_text) (get (codes "names") game)
@@ -243,15 +241,15 @@ words_shaped game h =
     && passes_if_there is_measure (get (codes "excess") game))
     (passes_if_there is_version (get (codes "version") game)) (front_shaped game h).0).0
 
-named : (game : Data) → is_game_shaped game ≡ true
+pub named : (game : Data) → is_game_shaped game ≡ true
     → passes_if_there (is_array_of is_text) (get (codes "names") game) ≡ true
 named game h = (words_shaped game h).0
 
-measured : (game : Data) → is_game_shaped game ≡ true
+pub measured : (game : Data) → is_game_shaped game ≡ true
     → passes_if_there is_measure (get (codes "excess") game) ≡ true
 measured game h = (words_shaped game h).1
 
-versioned : (game : Data) → is_game_shaped game ≡ true
+pub versioned : (game : Data) → is_game_shaped game ≡ true
     → passes_if_there is_version (get (codes "version") game) ≡ true
 versioned game h =
     (and_parts
@@ -264,7 +262,7 @@ integer_of_version : (o : Option ℤ)
 integer_of_version None h = absurd (false≢true h)
 integer_of_version (Some z) h = refl
 
-plain_version : (m : ℕ) (d : Data) → passes_if_there is_version (get (codes "version") d) ≡ true
+pub plain_version : (m : ℕ) (d : Data) → passes_if_there is_version (get (codes "version") d) ≡ true
     → IsPlainAt m (codes "version") d
 plain_version m d h e g =
     plain_integer m e (integer_of_version (integer e) (at_if_there is_version (codes "version") d e h g))
@@ -276,7 +274,7 @@ shaped_as game c e h = subst (λ o. is_shaped_as o game ≡ true) e (front_shape
 deeper : (m k : ℕ) (d : Data) → m ≤ k → IsPlain m d → IsPlain k d
 deeper m k d h p = record { whole = p.whole; integers = p.integers; shallow = omega (arith, h, p.shallow) }
 
-at_deeper : (m k : ℕ) (key : List ℕ) (d : Data) → m ≤ k → IsPlainAt m key d → IsPlainAt k key d
+pub at_deeper : (m k : ℕ) (key : List ℕ) (d : Data) → m ≤ k → IsPlainAt m key d → IsPlainAt k key d
 at_deeper m k key d h p e g = deeper m k e h (p e g)
 
 pub plain_airport : (k : ℕ) (game : Data) → IsOrdered game → class_of game ≡ Some Airport → is_game_shaped game ≡ true
@@ -323,37 +321,6 @@ plain_bankruptcy k game o c h w =
           (
             plain_excess 3 game (measured game h),
             (plain_names 2 game (named game h), (plain_version 3 game (versioned game h), tt)),
-          ),
-        ),
-      ),
-    )
-
-pub plain_voting : (k : ℕ) (game : Data) → IsOrdered game → class_of game ≡ Some Voting → is_game_shaped game ≡ true
-    → has_numbers_as k (Some Voting) game ≡ true → IsPlain 4 game
-plain_voting k game o c h w =
-    let shape =
-    and_parts (has_only_keys voting_keys game && passes is_number (get (codes "quota") game))
-    (passes (is_array_of is_number) (get (codes "weights") game)) (shaped_as game Voting c h) in
-    let front = and_parts (has_only_keys voting_keys game) (passes is_number (get (codes "quota") game)) shape.0 in
-    let numbers =
-    and_parts (passes (is_cost 1) (get (codes "quota") game))
-    (list_all (is_cost 1) (parts_at (codes "weights") game)) w in
-    plain_known 3 voting_keys game o (is_object game Voting c) front.0 (
-      plain_class 3 game Voting c,
-      (
-        plain_excess 3 game (measured game h),
-        (
-          plain_names 2 game (named game h),
-          (
-            (λ e g. plain_cost 1 3 e (at_there (is_cost 1) (codes "quota") game e numbers.0 g)),
-            (
-              plain_version 3 game (versioned game h),
-              (
-                at_deeper 1 3 (codes "weights") game (omega arith)
-                    (plain_numbers is_number (is_cost 1) (plain_cost 1 0) (codes "weights") game shape.1 numbers.1),
-                tt,
-              ),
-            ),
           ),
         ),
       ),

@@ -18,9 +18,8 @@ use Rattle.json_trees.specs.Keys.{has_only_keys}
 use Rattle.json_trees.specs.Trees.{passes}
 use Rattle.json_texts.specs.Newlines.{without_newline}
 use Rattle.document_parts.specs.Scales.{scale_of}
-use Rattle.game_text.specs.Shape.{class_of, document_keys, is_game_shaped, has_needed, is_shaped}
-use Rattle.game_text.specs.Limits.{has_players, has_numbers, has_numbers_as}
-use Rattle.game_text.specs.OwnTests.{own_test}
+use Rattle.game_text.specs.Classes.{class_of, has_players, has_numbers, has_numbers_as, own_test}
+use Rattle.game_text.specs.Shape.{document_keys, is_game_shaped, has_needed, is_shaped}
 use Rattle.game_text.specs.Documents.{game_tree}
 use Rattle.game_text.specs.Refusals.{has_needed_numbers}
 use Rattle.game_text.specs.Readings.{IsTreeReading, IsTreeFault}

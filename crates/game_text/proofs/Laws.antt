@@ -1,39 +1,98 @@
 -- What holds of the game that a document of a class describes: the list of classes.
-use Rattle.std.proofs.Common.{◌≡◌, ℕ, ◌+◌, ◌-◌, List, length, map, codes, true, Option}
-use Rattle.std.proofs.Common.{Some, None}
-use Rattle.std.proofs.Common.{unsigned_abs, refl, sym, ap, ap₂, ◌∙◌}
-use Rattle.std.specs.Prelude.{⊤, unwrap_or}
-use Rattle.std.proofs.lemmas.Bool.{false≢true, and_parts}
+pub mod MatrixRows
+pub mod MarketRows
+pub mod Votes
+use Rattle.std.specs.Prelude.{unwrap_or, option_and_then, ⊤}
+use Rattle.std.proofs.Common.{◌≡◌, ℕ, ◌+◌, ◌-◌, ◌≤◌, true, codes, ◌&&◌, nat_lt, nat_le}
+use Rattle.std.proofs.Common.{Option, Some, None, IfSome, arith, List, length, map, unsigned_abs, refl}
+use Rattle.std.proofs.Common.{sym, ap, ap₂, ◌∙◌}
+use Rattle.std.proofs.lemmas.Bool.{false≢true, and_parts, ltb-true, leb-true}
 use Rattle.std.proofs.lemmas.List.{length-map}
 use Rattle.serde_json.specs.Data.{Data}
+use Rattle.serde_json.specs.Find.{get}
 use Rattle.tree_games.proofs.Nearest.{tree_is_game}
 use Rattle.assignment_games.proofs.Games.{assignment_is_game}
 use Rattle.json_texts.specs.Exact.{IsOrdered}
-use Rattle.json_trees.specs.Trees.{parts_at}
+use Rattle.json_trees.specs.Trees.{integer, parts_at}
+use Rattle.document_parts.specs.Sizes.{is_list_size, is_short_list_size}
 use Rattle.document_parts.specs.ScaledNumbers.{number_or_zero, numbers_at}
-use Rattle.document_parts.specs.Sizes.{is_short_list_size}
-use Rattle.game_text.specs.TableClass.{players_at}
-use Rattle.game_text.specs.AirportClass.{airport_players}
-use Rattle.game_text.specs.BankruptcyClass.{bankruptcy_players}
-use Rattle.game_text.specs.MatrixClass.{rows_of}
-use Rattle.game_text.specs.AssignmentClass.{sellers_at}
-use Rattle.game_text.specs.VotingClass.{voting_players}
-use Rattle.game_text.specs.Shape.{class_of, is_game_shaped}
-use Rattle.game_text.specs.Limits.{has_players_as, players_as, has_numbers_as}
-use Rattle.game_text.specs.OwnTests.{own_as}
-use Rattle.game_text.specs.Descriptions.{game_of, description_as}
-use Rattle.game_text.specs.OfClass.{IsOfClass}
-use Rattle.game_text.specs.declared.class.Class.{Class}
-use Rattle.game_text.specs.declared.class.Class.TheVariants.{Table, Cost, Airport, Bankruptcy, Tree}
-use Rattle.game_text.specs.declared.class.Class.TheVariants.{Assignment, Market, Voting}
 use Rattle.kinds.specs.declared.refusal.Refusal.{Refusal}
 use Rattle.kinds.specs.declared.refusal.Refusal.TheVariants.{TooLong, NotJson}
-use Rattle.game_text.proofs.PlayerCounts.{IsCount, table_range, of_table, listed, of_points, of_pairs}
-use Rattle.game_text.proofs.PlayerCounts.{short_listed, of_sides, of_voters}
-use Rattle.game_text.proofs.MatrixRows.{row_count, seller_count_of, points_in, entries_in, links_hold}
+use Rattle.game_text.specs.Classes.TableClass.{has_worths_for, players_at}
+use Rattle.game_text.specs.Classes.AirportClass.{airport_players}
+use Rattle.game_text.specs.Classes.BankruptcyClass.{bankruptcy_players}
+use Rattle.game_text.specs.Classes.MatrixClass.{rows_of}
+use Rattle.game_text.specs.Classes.AssignmentClass.{sellers_at}
+use Rattle.game_text.specs.Classes.VotingClass.{voting_players}
+use Rattle.game_text.specs.Classes.{has_players_as, players_as, class_of, has_numbers_as, own_as, game_of}
+use Rattle.game_text.specs.Classes.{description_as, IsOfClass}
+use Rattle.game_text.specs.declared.classes.Class.{Class}
+use Rattle.game_text.specs.declared.classes.Class.TheVariants.{Table, Cost, Airport, Bankruptcy, Tree, Assignment}
+use Rattle.game_text.specs.declared.classes.Class.TheVariants.{Market, Voting}
+use Rattle.game_text.specs.Readings.{IsTableClass}
+use Rattle.game_text.specs.Shape.{is_game_shaped}
+use Rattle.game_text.proofs.Sizes.{IsPlayers, players_range, of_both_tables}
+use Rattle.game_text.proofs.Laws.MatrixRows.{row_count, seller_count_of, points_in, entries_in, links_hold}
 use Rattle.game_text.proofs.PlainTrees.{IsPlain}
-use Rattle.game_text.proofs.GameTrees.{shaped_as, plain_table, plain_airport, plain_bankruptcy}
-use Rattle.game_text.proofs.GameTrees.{plain_matrix, plain_voting}
+use Rattle.game_text.proofs.GameTrees.{shaped_as, plain_table, plain_airport, plain_bankruptcy, plain_matrix}
+use Rattle.game_text.proofs.Laws.Votes.{plain_voting}
+
+-- ---- the numbers of players within the limits of the classes are 1 to 64
+
+abbrev pub IsCount : ℕ → Type 0
+IsCount n = (1 ≤ n) × (n ≤ 64)
+
+at_table : (game : Data) (o : Option ℕ) → IfSome o IsPlayers → has_worths_for game o ≡ true
+    → IsPlayers (unwrap_or o 0)
+at_table game None r h = absurd (false≢true h)
+at_table game (Some n) r h = r
+
+pub table_range : (game : Data) → has_worths_for game (players_at game) ≡ true
+    → IsPlayers (unwrap_or (players_at game) 0)
+table_range game h =
+    at_table game (players_at game) (players_range (option_and_then integer (get (codes "players") game))) h
+
+pub listed : (n : ℕ) → is_list_size n ≡ true → IsCount n
+listed n h =
+    let range = and_parts (nat_lt 0 n) (nat_le n 64) h in
+    (ltb-true 0 n range.0, leb-true n 64 range.1)
+
+pub short_listed : (n : ℕ) → is_short_list_size n ≡ true → (1 ≤ n) × (n ≤ 32)
+short_listed n h =
+    let range = and_parts (nat_lt 0 n) (nat_le n 32) h in
+    (ltb-true 0 n range.0, leb-true n 32 range.1)
+
+pub of_table : (n : ℕ) → IsPlayers n → IsCount n
+of_table n h = (h.0, omega (arith, h.1))
+
+pub of_voters : (n : ℕ) → (1 ≤ n) × (n ≤ 32) → IsCount n
+of_voters n h = (h.0, omega (arith, h.1))
+
+pub of_points : (n : ℕ) → (nat_le 2 n && nat_le n 17) ≡ true → IsCount (n - 1)
+of_points n h =
+    let range = and_parts (nat_le 2 n) (nat_le n 17) h in
+    let some = leb-true 2 n range.0 in
+    let few = leb-true n 17 range.1 in
+    (omega (arith, some), omega (arith, some, few))
+
+pub of_sides : (n m : ℕ) → (1 ≤ n) × (n ≤ 32) → (1 ≤ m) × (m ≤ 32) → IsCount (n + m)
+of_sides n m h k = (omega (arith, h.0), omega (arith, h.1, k.1))
+
+pub of_pairs : (n m : ℕ) → (nat_le 1 n && nat_le 1 m && nat_le (n + m) 16) ≡ true → IsCount (n + m)
+of_pairs n m h =
+    let front = and_parts (nat_le 1 n && nat_le 1 m) (nat_le (n + m) 16) h in
+    let some = leb-true 1 n (and_parts (nat_le 1 n) (nat_le 1 m) front.0).0 in
+    let few = leb-true (n + m) 16 front.1 in
+    (omega (arith, some), omega (arith, few))
+
+-- a table has at most 16
+pub table_counted : (c : Option Class) (game : Data) → IsTableClass c → has_players_as c game ≡ true
+    → players_as c game ≤ 16
+table_counted c game t h =
+    of_both_tables (λ c. has_players_as c game ≡ true → players_as c game ≤ 16) (λ h. (table_range game h).1)
+    (λ h. (table_range game h).1) c t h
+
+-- ---- laws
 
 -- a refusal of the tree is behind the first two
 abbrev pub IsOfTree : Option Refusal → Type 0

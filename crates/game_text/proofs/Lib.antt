@@ -1,9 +1,7 @@
 pub mod Choices
 pub mod Sizes
-pub mod PlayerCounts
-pub mod MatrixRows
-pub mod MarketRows
-pub mod Votes
+pub mod OwnNumbers
+pub mod GivenNumbers
 pub mod PlainTrees
 pub mod GameTrees
 pub mod Laws

@@ -3,11 +3,8 @@ use Rattle.std.proofs.Common.{◌≡◌, ℕ, List, nat_le, None, sym, ap, subst
 use Rattle.std.proofs.lemmas.Bool.{and_parts}
 use Rattle.serde_json.specs.Data.{Data}
 use Rattle.document_parts.specs.Scales.{scale_of}
-use Rattle.game_text.specs.Shape.{class_of}
-use Rattle.game_text.specs.Limits.{has_numbers_as, has_numbers}
-use Rattle.game_text.specs.Descriptions.{description_of}
+use Rattle.game_text.specs.Classes.{class_of, has_numbers_as, has_numbers, description_of, IsOfClass}
 use Rattle.game_text.specs.Documents.{Contents, game_tree}
-use Rattle.game_text.specs.OfClass.{IsOfClass}
 use Rattle.game_text.specs.Refusals.{has_needed_numbers, IsDocument}
 use Rattle.game_text.specs.Denominators.{tree_refusal}
 use Rattle.game_text.specs.declared.command.Command.{Command}

@@ -4,9 +4,8 @@ use Rattle.std.proofs.Common.{subst}
 use Rattle.std.specs.Prelude.{⊤}
 use Rattle.serde_json.specs.Data.{Data}
 use Rattle.game_text.specs.Shape.{is_shaped}
-use Rattle.game_text.specs.Limits.{has_players, has_numbers}
+use Rattle.game_text.specs.Classes.{has_players, has_numbers, own_test}
 use Rattle.game_text.specs.Names.{has_names}
-use Rattle.game_text.specs.OwnTests.{own_test}
 use Rattle.game_text.specs.Documents.{game_tree}
 use Rattle.game_text.specs.Refusals.{unless, has_needed_numbers}
 use Rattle.game_text.specs.Denominators.{tree_refusal}

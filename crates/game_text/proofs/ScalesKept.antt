@@ -7,10 +7,9 @@ use Rattle.serde_json.specs.Data.{Data}
 use Rattle.serde_json.specs.View.{view}
 use Rattle.json_trees.proofs.Fractions.{written_reduced}
 use Rattle.game_text.specs.Documents.{game_tree}
-use Rattle.game_text.specs.Limits.{has_numbers, has_numbers_as}
+use Rattle.game_text.specs.Classes.{has_numbers, has_numbers_as, class_of}
 use Rattle.game_text.specs.Refusals.{has_needed_numbers}
 use Rattle.document_parts.specs.Scales.{game_numbers, game_fractions, scale_of, IsScaleOf}
-use Rattle.game_text.specs.Shape.{class_of}
 use Rattle.game_text.specs.Readings.{IsTreeReading, IsTreeFault}
 use Rattle.game_text.specs.declared.command.Command.{Command}
 use Rattle.game_text.specs.declared.document.Document.{Document}

@@ -23,11 +23,11 @@ use Rattle.worth_tables.specs.Tables.{table, IsTable, AreSmall}
 use Rattle.document_parts.proofs.LeastDenominators.{if_true}
 use Rattle.json_trees.specs.Trees.{parts, parts_at, passes, passes_if_there, is_numeric}
 use Rattle.json_trees.specs.Trees.{is_array_of, integer, pair_members}
-use Rattle.game_text.specs.Shape.{class_of, is_shaped_as}
+use Rattle.game_text.specs.Classes.{class_of, is_shaped_as, has_players_as, players_as, players, has_numbers_as}
+use Rattle.game_text.specs.Classes.{has_numbers, table_numbers}
 use Rattle.document_parts.specs.TableNumbers.{masks_by, sparse_number, sparse_numbers, numbers_by}
-use Rattle.game_text.specs.TableClass.{is_sparse_pair, is_table_shaped, lists_worths, lists_coalitions}
-use Rattle.game_text.specs.TableClass.{table_players, players_at, has_items, has_worths_for}
-use Rattle.game_text.specs.Limits.{has_players_as, players_as, players, has_numbers_as, has_numbers}
+use Rattle.game_text.specs.Classes.TableClass.{is_sparse_pair, is_table_shaped, lists_worths, lists_coalitions}
+use Rattle.game_text.specs.Classes.TableClass.{table_players, players_at, has_items, has_worths_for}
 use Rattle.document_parts.specs.Scales.{scale_of}
 use Rattle.document_parts.specs.ScaledNumbers.{is_small, if_small, small_number, number_or_zero}
 use Rattle.document_parts.specs.ScaledNumbers.{number_at, numbers_at, second_number}
@@ -38,10 +38,9 @@ use Rattle.document_parts.specs.Sizes.{is_small_cost, if_integer, is_cost}
 use Rattle.document_parts.specs.Names.{names_of}
 use Rattle.game_text.proofs.Choices.{passed_if}
 use Rattle.document_parts.specs.Members.{is_mask, mask_of, are_coalitions}
-use Rattle.game_text.specs.Descriptions.{table_numbers}
 use Rattle.game_text.specs.Readings.{HasSizes, IsTableClass}
-use Rattle.game_text.specs.declared.class.Class.{Class}
-use Rattle.game_text.specs.declared.class.Class.TheVariants.{Table, Cost, Airport, Bankruptcy}
+use Rattle.game_text.specs.declared.classes.Class.{Class}
+use Rattle.game_text.specs.declared.classes.Class.TheVariants.{Table, Cost, Airport, Bankruptcy}
 use Rattle.definitions.proofs.Alls.{unsigned_abs-pos_all}
 
 pub all_map : {X Y : Type 0} (P : Y → Type 0) (f : X → Y) (test : X → Bool) → ((x : X) → test x ≡ true → P (f x))

@@ -19,8 +19,7 @@ use Rattle.worth_core.specs.LeastDenominators.{over}
 use Rattle.kohlberg.specs.Certificate.{CertificateData}
 use Rattle.document_parts.specs.Excess.{measure_of}
 use Rattle.document_parts.specs.Scales.{scale_of}
-use Rattle.game_text.specs.Limits.{players}
-use Rattle.game_text.specs.Descriptions.{Description, description_of, is_cost}
+use Rattle.game_text.specs.Classes.{players, Description, description_of, is_cost}
 use Rattle.document_parts.specs.Shares.{scaled_shares, as_worth}
 use Rattle.certificate_texts.specs.Shape.{family_of}
 use Rattle.certificate_texts.specs.Certificates.{certificate_of}

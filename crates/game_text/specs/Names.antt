@@ -5,7 +5,7 @@ use Rattle.serde_json.specs.Data.{Data}
 use Rattle.serde_json.specs.Find.{get}
 use Rattle.json_trees.specs.Trees.{parts_at}
 use Rattle.document_parts.specs.Names.{names_of, are_names, are_known}
-use Rattle.game_text.specs.Limits.{players}
+use Rattle.game_text.specs.Classes.{players}
 
 -- one name for each player, where there are names, and the sparse table uses no other
 abbrev pub has_names : Data → Bool

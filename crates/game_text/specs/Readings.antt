@@ -18,21 +18,19 @@ use Rattle.definitions.specs.Games.{Allocation}
 use Rattle.kohlberg.specs.Certificate.{CertificateData}
 use Rattle.document_parts.specs.Excess.{measure_of}
 use Rattle.game_text.specs.Shape.{is_game_shaped}
-use Rattle.game_text.specs.Limits.{has_players, has_numbers}
-use Rattle.game_text.specs.Descriptions.{description_of}
-use Rattle.game_text.specs.Games.{description_in}
+use Rattle.game_text.specs.Classes.{has_players, has_numbers, description_of, description_in}
 use Rattle.game_text.specs.Denominators.{shares_of, shares_for, contents_of, tree_refusal}
 use Rattle.game_text.specs.Documents.{Contents, family_for, certificate_for}
 use Rattle.game_text.specs.Refusals.{IsRefused, IsDocument}
 use Rattle.game_text.specs.Steps.{own_refusal, game_refusal, proposal_refusal}
 use Rattle.game_text.specs.Steps.{share_refusal, certificate_refusal, late_refusal}
-use Rattle.game_text.specs.declared.class.Class.{Class}
-use Rattle.game_text.specs.declared.class.Class.TheVariants.{Table, Cost}
+use Rattle.game_text.specs.declared.classes.Class.{Class}
+use Rattle.game_text.specs.declared.classes.Class.TheVariants.{Table, Cost}
 use Rattle.game_text.specs.declared.command.Command.{Command}
 use Rattle.game_text.specs.declared.document.Document.{Document}
 use Rattle.game_text.specs.declared.fault.TextFault.{TextFault}
 use Rattle.game_text.specs.declared.fault.TextFault.TheVariants.{Refused, Memory}
-use Rattle.game_text.specs.declared.game.Game.{Game}
+use Rattle.game_text.specs.declared.classes.Game.{Game}
 use Rattle.game_text.specs.declared.reading.Said.{Said}
 use Rattle.kinds.specs.declared.refusal.Refusal.{Refusal}
 

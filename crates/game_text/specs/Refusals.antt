@@ -18,9 +18,8 @@ use Rattle.serde_json.specs.Find.{get}
 use Rattle.json_trees.specs.Trees.{passes}
 use Rattle.game_text.specs.Text.{document_limit, IsTextOf, IsNotJson}
 use Rattle.game_text.specs.Shape.{is_shaped}
-use Rattle.game_text.specs.Limits.{players, has_players, has_numbers}
+use Rattle.game_text.specs.Classes.{players, has_players, has_numbers, own_test}
 use Rattle.game_text.specs.Names.{has_names}
-use Rattle.game_text.specs.OwnTests.{own_test}
 use Rattle.document_parts.specs.Scales.{scale_of}
 use Rattle.document_parts.specs.Shares.{has_share_numbers, has_shares_for, scaled_shares}
 use Rattle.document_parts.specs.Shares.{has_small_terms, IsDenominatorOf}

@@ -10,8 +10,7 @@
 use Rattle.std.specs.Prelude.{Option, None}
 use Rattle.serde_json.specs.Data.{Data}
 use Rattle.game_text.specs.Names.{has_names}
-use Rattle.game_text.specs.OwnTests.{own_test}
-use Rattle.game_text.specs.Limits.{players}
+use Rattle.game_text.specs.Classes.{own_test, players}
 use Rattle.document_parts.specs.Scales.{scale_of}
 use Rattle.document_parts.specs.Shares.{has_shares_for, scaled_shares}
 use Rattle.document_parts.specs.Denominators.{keep_limits}

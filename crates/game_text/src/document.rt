@@ -1,5 +1,5 @@
 //! A document that isn't refused.
-use crate::game::Game;
+use crate::classes::Game;
 use definitions::{Family, Measure};
 use kohlberg::Certificate;
 use serde_json::Value;

@@ -1,16 +1,15 @@
 //! From the bytes of a document to what it says, or to its refusal.
 ghost use Rattle.std.specs.Prelude.{◌≡◌, Some, None, MatchResult, IfOk, IfSome, if◌then◌else◌};
 ghost use Rattle.std.specs.Prelude.{◌^◌, ◌<◌, ◌≤◌, pos, ◌≤ℤ◌};
-ghost use Rattle.std.specs.Prelude.{codes, length};
+ghost use Rattle.std.specs.Prelude.{codes, length, option_map, true};
 ghost use Rattle.serde_json.specs.View.{view};
 ghost use Rattle.serde_json.specs.Find.{get};
 ghost use Rattle.json_trees.specs.Trees.{passes};
 ghost use Rattle.certificate_texts.specs.Certificates.{has_form, certificate_of};
-ghost use Rattle.game_text.specs.Documents.{game_tree, certificate_tree, family_for};
-ghost use Rattle.game_text.specs.Descriptions.{description_of, game_of, is_cost};
-ghost use Rattle.game_text.specs.Games.{description_in};
+ghost use Rattle.game_text.specs.Documents.{certificate_tree, family_for};
+ghost use Rattle.game_text.specs.Classes.{description_of, game_of, is_cost, description_in, players, own_numbers};
+ghost use Rattle.game_text.specs.Shape.{is_shaped};
 ghost use Rattle.game_text.specs.Kept.{IsKept};
-ghost use Rattle.game_text.specs.Limits.{players};
 ghost use Rattle.document_parts.specs.Scales.{scale_of, IsScaleOf};
 ghost use Rattle.document_parts.specs.Names.{names_of};
 ghost use Rattle.game_text.specs.Names.{has_names};
@@ -22,19 +21,16 @@ ghost use Rattle.game_text.specs.Readings.{IsTreeFault, IsLateReading, IsLateFau
 ghost use Rattle.game_text.specs.Readings.{IsGameReading, IsGameFault, IsProposal, IsProposalFault};
 ghost use Rattle.game_text.specs.Readings.{IsShareReading, IsShareFault, IsCertificateReading, IsCertificateFault};
 
-use crate::building::game_of;
+use crate::classes::{Game, game_of, numbers, players};
 use crate::command::Command;
 use crate::document::Document;
 use crate::fault::TextFault;
-use crate::game::Game;
-use crate::limits::{has_numbers, players};
 use crate::shape::shaped_game;
 use crate::shaped::SizedGame;
 use certificate_texts::{certificate_of, family_of};
 use definitions::{Family, Measure};
 use document_parts::{
-    Names, has_share_numbers, has_shares_for, know_sparse, measure_of, names_of, scale_of,
-    shares_as_worth,
+    Names, has_share_numbers, has_shares_for, know_sparse, measure_of, names_of, shares_as_worth,
 };
 use fractions::OutOfMemory;
 use kinds::Refusal;
@@ -49,6 +45,9 @@ use worth_core::Shares;
 /// the game, from 1 to 65,536; it is 1 where they are all integers.
 ///
 /// The kept tree of the game holds no float, is nested at most 8 deep, and is written in no more bytes than were read.
+///
+/// It stands apart from its callers, so that its stack is given back before they go on.
+#[inline(never)]
 pub fn read_document(alloc: Global, bytes: &[u8], command: Command) -> Result<Document, TextFault>
     ensures reading { MatchResult result (IsReading command bytes.now) (IsFault command bytes.now) }
     ensures count { IfOk result
@@ -96,12 +95,13 @@ fn document_of(alloc: Global, command: Command, tree: Value) -> Result<Document,
     let Some(count) = players(&shaped) else {
         return Err(TextFault::Refused(Refusal::Players));
     };
-    let Some(scale) = scale_of(shaped.tree) else {
+    let Some(numbers) = numbers(alloc, &shaped)? else {
         return Err(TextFault::Refused(Refusal::Number));
     };
-    if !has_numbers(&shaped, scale) || !has_needed_numbers(command, &tree) {
+    if !has_needed_numbers(command, &tree) {
         return Err(TextFault::Refused(Refusal::Number));
     }
+    let scale = numbers.scale;
     let game = SizedGame {
         class: shaped.class,
         tree: shaped.tree,
@@ -114,19 +114,23 @@ fn document_of(alloc: Global, command: Command, tree: Value) -> Result<Document,
         tree: &tree,
         game,
     }
-    .said();
-    match said {
-        Ok(said) => Ok(Document {
-            game: said.game,
-            tree: game_out_of(tree),
-            measure: said.measure,
-            scale: i64::from(scale),
-            family: said.family,
-            shares: said.shares,
-            certificate: said.certificate,
-        }),
-        Err(e) => Err(e),
-    }
+    .said(numbers.items);
+    let said = match said {
+        Ok(said) => said,
+        Err(e) => return Err(e),
+    };
+    let Some(tree) = game_out_of(tree) else {
+        return Err(TextFault::Refused(Refusal::Shape));
+    };
+    Ok(Document {
+        game: said.game,
+        tree,
+        measure: said.measure,
+        scale: i64::from(scale),
+        family: said.family,
+        shares: said.shares,
+        certificate: said.certificate,
+    })
 }
 
 fn has_needed_numbers(command: Command, tree: &Value) -> bool
@@ -136,21 +140,22 @@ fn has_needed_numbers(command: Command, tree: &Value) -> bool
 }
 
 /// The tree of the game, taken out of the tree of a document, so that none of it is copied.
-fn game_out_of(tree: Value) -> Value
-    ensures { view result ≡ game_tree (view tree) }
+fn game_out_of(tree: Value) -> Option<Value>
+    ensures { option_map view result ≡ get (codes "game") (view tree) }
 {
     match tree {
-        Value::Object(mut members) => members.remove("game").unwrap_or(Value::Null),
-        _ => Value::Null,
+        Value::Object(mut members) => members.remove("game"),
+        _ => None,
     }
 }
 
 /// The game, where its names are right, and what its class tests of it.
-fn right_game(alloc: Global, game: &SizedGame) -> Result<Game, TextFault>
+fn right_game(alloc: Global, game: &SizedGame, numbers: Vec<i64>) -> Result<Game, TextFault>
+    requires { numbers.items ≡ own_numbers (view game.now.tree.now) }
     ensures { MatchResult result (IsGameReading (view game.now.tree.now)) (IsGameFault (view game.now.tree.now)) }
 {
     match right_names(alloc, game.tree, game.players()) {
-        Ok(Some(names)) => game_of(alloc, game, &names),
+        Ok(Some(names)) => game_of(alloc, game, &names, numbers),
         Ok(None) => Err(TextFault::Refused(Refusal::Names)),
         Err(OutOfMemory) => Err(TextFault::Memory),
     }
@@ -174,11 +179,13 @@ fn right_names<'a>(
     }
 }
 
+/// The family that the command needs, which a document of its shape names.
 fn needed_family(command: Command, tree: &Value) -> Option<Family>
+    requires { is_shaped command (view tree.now) ≡ true }
     ensures { result ≡ family_for command (view tree.now) }
 {
     if command.needs().answer {
-        Some(family_of(tree).unwrap_or(Family::Imputations))
+        family_of(tree)
     } else {
         None
     }
@@ -206,13 +213,15 @@ struct Reading<'a> {
 }
 
 impl Reading<'_> {
-    /// What the document says.
-    fn said(&self) -> Result<Said, TextFault>
+    /// What the document says, where these are the numbers of its game.
+    fn said(&self, numbers: Vec<i64>) -> Result<Said, TextFault>
+        requires shaped { is_shaped self.now.command (view self.now.tree.now) ≡ true }
+        requires numbers { numbers.items ≡ own_numbers (view self.now.game.tree.now) }
         ensures { MatchResult result
             (IsLateReading self.now.command (view self.now.game.tree.now) (view self.now.tree.now))
             (IsLateFault self.now.command (view self.now.game.tree.now) (view self.now.tree.now)) }
     {
-        match right_game(self.alloc, &self.game) {
+        match right_game(self.alloc, &self.game, numbers) {
             Ok(described) => self.said_of(described),
             Err(e) => Err(e),
         }
@@ -220,7 +229,8 @@ impl Reading<'_> {
 
     /// What a document says whose game is right, where what the command needs beside it is right too.
     fn said_of(&self, described: Game) -> Result<Said, TextFault>
-        requires { IsGameReading (view self.now.game.tree.now) described }
+        requires shaped { is_shaped self.now.command (view self.now.tree.now) ≡ true }
+        requires described { IsGameReading (view self.now.game.tree.now) described }
         ensures { MatchResult result
             (IsLateReading self.now.command (view self.now.game.tree.now) (view self.now.tree.now))
             (IsLateFault self.now.command (view self.now.game.tree.now) (view self.now.tree.now)) }

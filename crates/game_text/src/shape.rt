@@ -1,14 +1,12 @@
 //! The kinds, keys and words of a document.
-ghost use Rattle.std.specs.Prelude.{◌≡◌, codes, true, false, Some, None, IfSome, IfNone, if◌then◌else◌};
-ghost use Rattle.std.specs.Str.{bytes_eq};
+ghost use Rattle.std.specs.Prelude.{◌≡◌, codes, true, false, Some, None, IfSome, IfNone};
 ghost use Rattle.serde_json.specs.Find.{get};
 ghost use Rattle.serde_json.specs.View.{view};
-ghost use Rattle.game_text.specs.Shape.{class_named, class_of, is_shaped_as, is_game_shaped};
-ghost use Rattle.game_text.specs.Shape.{has_shares, has_needed, is_shaped};
+ghost use Rattle.game_text.specs.Classes.{class_named, class_of, is_shaped_as};
+ghost use Rattle.game_text.specs.Shape.{is_game_shaped, has_shares, has_needed, is_shaped};
 ghost use Rattle.game_text.specs.Documents.{game_tree};
-ghost use Rattle.game_text.specs.declared.class.Class.TheVariants.{Tree, Assignment, Market, Voting};
 
-use crate::class::{Class, by_class};
+use crate::classes::{Class, class_named, is_shaped_as};
 use crate::command::Command;
 use crate::shaped::ShapedGame;
 use certificate_texts::{CertificateShape, family_of};
@@ -16,54 +14,12 @@ use document_parts::{MeasureWord, VersionNumber};
 use json_trees::{ArrayOf, Member, Text, has, has_if_there, has_only_keys};
 use serde_json::Value;
 
-/// The class that a word names, of the classes from the tree game on.
-fn later_class_named(word: &str) -> Option<Class>
-    ensures { result ≡ (if bytes_eq word.now (codes "tree") then Some Tree
-        else (if bytes_eq word.now (codes "assignment") then Some Assignment
-        else (if bytes_eq word.now (codes "market") then Some Market
-        else (if bytes_eq word.now (codes "voting") then Some Voting else None)))) }
-{
-    if word == "tree" {
-        Some(Class::Tree)
-    } else if word == "assignment" {
-        Some(Class::Assignment)
-    } else if word == "market" {
-        Some(Class::Market)
-    } else if word == "voting" {
-        Some(Class::Voting)
-    } else {
-        None
-    }
-}
-
-fn class_named(word: &str) -> Option<Class>
-    ensures { result ≡ class_named word.now }
-{
-    if word == "table" {
-        Some(Class::Table)
-    } else if word == "cost-table" {
-        Some(Class::Cost)
-    } else if word == "airport" {
-        Some(Class::Airport)
-    } else if word == "bankruptcy" {
-        Some(Class::Bankruptcy)
-    } else {
-        later_class_named(word)
-    }
-}
-
 /// The class that a game names.
 fn class_of(game: &Value) -> Option<Class>
     ensures { result ≡ class_of (view game.now) }
 {
     let word = game.get("class").and_then(Value::as_str)?;
     class_named(word)
-}
-
-fn is_shaped_as(class: Class, game: &Value) -> bool
-    ensures { result ≡ is_shaped_as (Some class) (view game.now) }
-{
-    by_class!(class, is_shaped(game))
 }
 
 /// Whether a game that names the class has the keys and kinds of it.

@@ -2,11 +2,11 @@
 ghost use Rattle.std.specs.Prelude.{◌≡◌, ◌≤◌, true, Some};
 ghost use Rattle.serde_json.specs.View.{view};
 ghost use Rattle.document_parts.specs.Scales.{scale_of};
-ghost use Rattle.game_text.specs.Shape.{class_of, is_game_shaped};
-ghost use Rattle.game_text.specs.Limits.{players};
+ghost use Rattle.game_text.specs.Classes.{class_of, players};
+ghost use Rattle.game_text.specs.Shape.{is_game_shaped};
 ghost use Rattle.game_text.specs.Readings.{HasSizes};
 
-use crate::class::Class;
+use crate::classes::Class;
 use serde_json::Value;
 
 /// A game with the keys and kinds of its class.

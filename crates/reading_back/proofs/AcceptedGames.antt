@@ -6,11 +6,10 @@ use Rattle.serde_json.specs.Data.{Data}
 use Rattle.serde_json.specs.Find.{get}
 use Rattle.json_trees.specs.Keys.{has_only_keys}
 use Rattle.json_trees.specs.Trees.{passes}
-use Rattle.game_text.specs.Shape.{class_of, document_keys, is_game_shaped, has_needed, is_shaped}
+use Rattle.game_text.specs.Classes.{class_of, has_players, has_numbers, has_numbers_as, own_test}
+use Rattle.game_text.specs.Shape.{document_keys, is_game_shaped, has_needed, is_shaped}
 use Rattle.document_parts.specs.Scales.{game_numbers, game_fractions, scale_of}
-use Rattle.game_text.specs.Limits.{has_players, has_numbers, has_numbers_as}
 use Rattle.game_text.specs.Names.{has_names}
-use Rattle.game_text.specs.OwnTests.{own_test}
 use Rattle.game_text.specs.Documents.{game_tree}
 use Rattle.game_text.specs.Refusals.{has_needed_numbers}
 use Rattle.game_text.specs.Denominators.{tree_refusal}

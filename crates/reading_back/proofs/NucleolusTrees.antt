@@ -13,10 +13,8 @@ use Rattle.json_trees.specs.Keys.{has_only_keys}
 use Rattle.json_trees.specs.Trees.{passes, parts_at}
 use Rattle.certificate_texts.specs.Shape.{family_of, is_certificate}
 use Rattle.game_text.specs.Shape.{document_keys, is_game_shaped, has_shares, has_needed, is_shaped}
-use Rattle.game_text.specs.Limits.{players, has_players, has_numbers}
+use Rattle.game_text.specs.Classes.{players, has_players, has_numbers, own_test, game_of, is_cost, description_of}
 use Rattle.game_text.specs.Names.{has_names}
-use Rattle.game_text.specs.OwnTests.{own_test}
-use Rattle.game_text.specs.Descriptions.{game_of, is_cost, description_of}
 use Rattle.document_parts.specs.Scales.{scale_of}
 use Rattle.document_parts.specs.Shares.{has_share_numbers, has_shares_for, scaled_shares, as_worth}
 use Rattle.document_parts.specs.Denominators.{keep_limits, over_least}

@@ -7,7 +7,7 @@ use Rattle.serde_json.specs.Data.{Data}
 use Rattle.definitions.specs.Games.{Allocation, IsShares}
 use Rattle.definitions.specs.declared.Family.{Family}
 use Rattle.kohlberg.specs.Certificate.{CertificateData, IsCertificate}
-use Rattle.game_text.specs.Descriptions.{game_of, is_cost, description_of}
+use Rattle.game_text.specs.Classes.{game_of, is_cost, description_of}
 use Rattle.game_text.specs.Documents.{Contents, game_tree}
 use Rattle.document_parts.specs.Excess.{measure_of}
 use Rattle.document_parts.specs.Scales.{scale_of}

@@ -1,5 +1,4 @@
-use Rattle.game_text.specs.Descriptions.{game_of}
-use Rattle.game_text.specs.Games.{description_in}
+use Rattle.game_text.specs.Classes.{game_of, description_in}
 use Rattle.coop.proofs.PrintableAnswers.{verdict_fine}
 use Rattle.coop.proofs.check.check_document.Goals as goal
 

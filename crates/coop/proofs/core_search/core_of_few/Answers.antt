@@ -1,5 +1,5 @@
 use Rattle.std.proofs.Common.{◌≡◌, ◌≤◌, true, sym, subst}
-use Rattle.game_text.specs.Descriptions.{Description, game_of}
+use Rattle.game_text.specs.Classes.{Description, game_of}
 use Rattle.coop.specs.Classes.{is_no_market}
 use Rattle.coop.specs.Limits.{core_limit}
 use Rattle.coop.specs.Finding.{HasFewPlayers}

@@ -2,7 +2,7 @@ use Rattle.std.proofs.Common.{refl, sym, ap, subst, ◌∙◌}
 use Rattle.definitions.specs.Games.{IsNucleolus}
 use Rattle.definitions.specs.declared.Family.TheVariants.{Imputations}
 use Rattle.definitions.specs.declared.Measure.TheVariants.{Plain}
-use Rattle.game_text.specs.Descriptions.{game_of, is_cost}
+use Rattle.game_text.specs.Classes.{game_of, is_cost}
 use Rattle.drawn_games.specs.Imputations.{HasImputations}
 use Rattle.coop_gen.proofs.Imputations.{generated_imputations}
 use Rattle.coop_gen.proofs.Classes.{generated_of_class}

@@ -1,5 +1,5 @@
 use Rattle.std.proofs.Common.{refl, arith, rules}
-use Rattle.game_text.specs.Descriptions.{game_of}
+use Rattle.game_text.specs.Classes.{game_of}
 use Rattle.game_text.specs.Readings.{contents_in}
 use Rattle.coop.proofs.Solved.{is_solution}
 use Rattle.coop.proofs.NoImputation.{is_above, no_imputation}

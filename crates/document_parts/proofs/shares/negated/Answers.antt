@@ -2,18 +2,17 @@ use Rattle.std.proofs.Common.{◌≡◌, ◌<◌, ◌≤◌, List, length, get_o
 use Rattle.std.proofs.Common.{◌-ℤ◌, to_z, of_z, ap, rules, ◌∙◌, arith}
 use Rattle.std.specs.Int.{w128}
 use Rattle.std.proofs.lemmas.Result.{IfOk-from_err}
-use Rattle.document_parts.proofs.Payments.{turned_shares}
+use Rattle.document_parts.proofs.Payments.{turned_made}
 use Rattle.json_trees.proofs.Pushed.{map_pushed}
 use Rattle.document_parts.proofs.shares.negated.Goals as goal
 
-pub unreachable-requires : goal.unreachable-requires
-unreachable-requires c =
+pub returns : goal.returns
+returns c =
     let kept : to_z w128 (of_z w128 c.den.result) ≡ c.den.result = search rules in
     let over : length c.args.shares.now.shares ≤ c.loop-i.i =
     omega (arith, c.players-i-end.ensures.count, c.loop-i-test.false) in
-    c.in-None.ensures
-    (turned_shares c.args.shares.now c.loop-i.num.items _ c.loop-i.i c.players-i-end.ensures.shares
-    c.loop-i.invariant over (kept ∙ c.den.ensures.value))
+    turned_made c.args.shares.now c.loop-i.num.items _ c.loop-i.i c.new.result c.players-i-end.ensures.shares
+    c.loop-i.invariant over (kept ∙ c.den.ensures.value) c.new.ensures
 
 pub returns-in_err-push : goal.returns-in_err-push
 returns-in_err-push c = IfOk-from_err c.from_residual.result _ c.from_residual.ensures.0

@@ -7,7 +7,8 @@ use Rattle.json_trees.specs.Keys.{has_only_keys}
 use Rattle.json_trees.specs.Trees.{passes, passes_if_there, is_array_of, is_text}
 use Rattle.document_parts.specs.Excess.{is_measure}
 use Rattle.document_parts.specs.Version.{is_version}
-use Rattle.game_text.specs.Shape.{document_keys, class_of, is_shaped_as, is_game_shaped, has_needed, is_shaped}
+use Rattle.game_text.specs.Shape.{document_keys, is_game_shaped, has_needed, is_shaped}
+use Rattle.game_text.specs.Classes.{class_of, is_shaped_as}
 use Rattle.game_text.specs.declared.command.Command.{Command}
 use Rattle.game_text.proofs.shape.shaped_game.Goals as goal
 

@@ -8,7 +8,7 @@ use Rattle.json_trees.specs.Trees.{passes}
 use Rattle.certificate_texts.specs.Certificates.{has_form, certificate_of}
 use Rattle.document_parts.specs.Scales.{scale_of}
 use Rattle.game_text.specs.Documents.{certificate_tree}
-use Rattle.game_text.specs.Limits.{players}
+use Rattle.game_text.specs.Classes.{players}
 use Rattle.game_text.specs.Needs.{needs, if_needed, given}
 use Rattle.game_text.specs.Readings.{IsCertificateReading}
 use Rattle.game_text.specs.Refusals.{unless}

@@ -5,8 +5,7 @@ use Rattle.definitions.specs.Games.{Allocation}
 use Rattle.document_parts.specs.Scales.{scale_of}
 use Rattle.document_parts.specs.Shares.{has_shares_for, scaled_shares, as_worth}
 use Rattle.document_parts.specs.Denominators.{over_least, keep_limits}
-use Rattle.game_text.specs.Descriptions.{description_of, is_cost}
-use Rattle.game_text.specs.Limits.{players}
+use Rattle.game_text.specs.Classes.{description_of, is_cost, players}
 use Rattle.game_text.specs.Readings.{IsProposal}
 use Rattle.game_text.specs.Refusals.{unless}
 use Rattle.game_text.specs.Steps.{proposal_refusal}

@@ -1,0 +1,44 @@
+-- Bankruptcy games in a document: an estate, and a claim for each player.
+--
+--   bankruptcy_keys          the keys
+--   is_bankruptcy_shaped     the keys and kinds
+--   bankruptcy_players       the number of players
+--   bankruptcy_values        the estate, and then the claims
+--   has_bankruptcy_numbers   each number is within its limits
+--   claims_cover             the estate is at most the sum of the claims
+use Rattle.std.specs.Prelude.{ℕ, List, [], ◌∷◌, ◌++◌, length, codes, Bool, ◌&&◌, nat_le, sum}
+use Rattle.std.specs.List.{list_all}
+use Rattle.serde_json.specs.Data.{Data}
+use Rattle.serde_json.specs.Find.{get}
+use Rattle.json_trees.specs.Keys.{has_only_keys}
+use Rattle.json_trees.specs.Trees.{passes, is_numeric, is_array_of, parts_at}
+use Rattle.document_parts.specs.Version.{has_texts}
+use Rattle.document_parts.specs.Scales.{if_there}
+use Rattle.document_parts.specs.Sizes.{is_cost}
+
+-- the keys of a bankruptcy game
+abbrev pub bankruptcy_keys : List (List ℕ)
+bankruptcy_keys =
+    codes "class" ∷ codes "claims" ∷ codes "estate" ∷ codes "excess" ∷ codes "names" ∷ codes "version" ∷ []
+
+-- an estate and a list of claims
+abbrev pub is_bankruptcy_shaped : Data → Bool
+is_bankruptcy_shaped game =
+    has_only_keys bankruptcy_keys game && passes (is_numeric (has_texts game)) (get (codes "estate") game)
+    && passes (is_array_of (is_numeric (has_texts game))) (get (codes "claims") game)
+
+-- one player for each claim
+abbrev pub bankruptcy_players : Data → ℕ
+bankruptcy_players game = length (parts_at (codes "claims") game)
+
+-- the estate, and then the claims
+abbrev pub bankruptcy_values : Data → List Data
+bankruptcy_values game = if_there (get (codes "estate") game) ++ parts_at (codes "claims") game
+
+-- the estate and each claim are from 0, and below 2^40 times the scale k
+abbrev pub has_bankruptcy_numbers : ℕ → Data → Bool
+has_bankruptcy_numbers k game =
+    passes (is_cost k) (get (codes "estate") game) && list_all (is_cost k) (parts_at (codes "claims") game)
+
+abbrev pub claims_cover : ℕ → List ℕ → Bool
+claims_cover estate claims = nat_le estate (sum claims)
