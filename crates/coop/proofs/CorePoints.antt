@@ -27,7 +27,7 @@ use Rattle.game_text.specs.Documents.{Contents}
 use Rattle.report.specs.declared.answer.Answer.{Answer}
 use Rattle.report.specs.declared.answer.Answer.TheVariants.{Usage}
 use Rattle.report.specs.declared.answer.UsageKind.TheVariants.{Players as too_many}
-use Rattle.coop.specs.Limits.{core_limit}
+use Rattle.coop.specs.Classes.{core_limit}
 use Rattle.coop.specs.CoreClaims.{FindsCore, SaysOfCore}
 
 -- the point of a scheme is in the core, and is the nucleolus

@@ -1,6 +1,6 @@
 pub mod Right
 pub mod Needs
-pub mod FewPlayers
+pub mod PlayerLimits
 pub mod Solved
 pub mod NoImputation
 pub mod CorePoints

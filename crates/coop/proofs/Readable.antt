@@ -11,7 +11,7 @@ use Rattle.definitions.specs.Games.{Allocation, IsAllocation, IsShares}
 use Rattle.definitions.specs.Certificates.{Level, Certifies}
 use Rattle.definitions.specs.declared.Family.{Family}
 use Rattle.kohlberg.specs.Certificate.{CertificateData, IsCertificate}
-use Rattle.game_text.specs.Classes.{Description, table, cost, airport, bankruptcy, tree, assignment, market, voting}
+use Rattle.game_text.specs.Classes.{tree}
 use Rattle.game_text.specs.Classes.{description_of, game_of, is_cost}
 use Rattle.game_text.specs.Documents.{Contents, game_tree}
 use Rattle.game_text.specs.Denominators.{contents_of, tree_refusal}
@@ -34,13 +34,12 @@ use Rattle.reading_back.proofs.SameLevels.{same_certify}
 use Rattle.coop.specs.Needs.{IsAccepted}
 use Rattle.coop.specs.ReadBack.{SaysSame, CanBeChecked}
 use Rattle.kohlberg.specs.Solved.{HasFew, IsLowest, IsSolved}
-use Rattle.definitions.specs.declared.Measure.{Measure}
-use Rattle.definitions.specs.declared.Measure.TheVariants.{Plain, PerHead}
 use Rattle.document_parts.specs.Excess.{measure_of}
 use Rattle.coop.specs.Classes.{serves_class}
-use Rattle.coop.specs.Limits.{nucleolus_limit, check_limit}
+use Rattle.coop.specs.Limits.{check_limit}
 use Rattle.coop.specs.Headline.{IsTaken}
 use Rattle.definitions.proofs.Families.{allocation_of}
+use Rattle.coop.proofs.PlayerLimits.{within_check}
 
 -- ---- the levels
 
@@ -58,19 +57,6 @@ all_few : (n : ℕ) → n ≤ 64 → (ls : List Level) → AllByRecursion (HasFe
     → AllByRecursion (λ l. length l.coalitions + length l.earlier + length l.bounds ≤ 128) ls
 all_few n few [] h = tt
 all_few n few (l ∷ ls) h = (omega (arith, h.0), all_few n few ls h.1)
-
--- ---- the players
-
-within_check : (measure : Measure) (d : Description) → nucleolus_limit measure d ≤ check_limit measure
-within_check PerHead d = omega arith
-within_check Plain (table n worths) = omega arith
-within_check Plain (cost n costs) = omega arith
-within_check Plain (airport costs) = omega arith
-within_check Plain (bankruptcy estate claims) = omega arith
-within_check Plain (tree rows) = omega arith
-within_check Plain (assignment rows) = omega arith
-within_check Plain (market rows) = omega arith
-within_check Plain (voting quota weights) = omega arith
 
 -- ---- the line
 

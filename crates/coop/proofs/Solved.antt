@@ -13,8 +13,7 @@ use Rattle.kohlberg.specs.Certificate.{CertificateData}
 use Rattle.kohlberg.specs.Solved.{IsSolved}
 use Rattle.game_text.specs.Classes.{Description, game_of, is_cost}
 use Rattle.game_text.specs.Documents.{Contents}
-use Rattle.coop.specs.Limits.{nucleolus_limit}
-use Rattle.coop.specs.Chosen.{IsChosen}
+use Rattle.coop.specs.Classes.{nucleolus_limit, IsChosen}
 use Rattle.coop.specs.Headline.{IsTaken, IsSolution}
 
 measurable : (measure : Measure) (d : Description) (n : ℕ) → n ≤ nucleolus_limit measure d → IsMeasurable measure n

@@ -13,9 +13,9 @@ use Rattle.game_text.specs.declared.command.Command.TheVariants.{Nucleolus, Pren
 use Rattle.game_text.specs.declared.command.Command.TheVariants.{Shapley, Bird, Convex, Kernel, Matching}
 use Rattle.coop.specs.Words.{IsCommand}
 use Rattle.coop.specs.Classes.{serves_class}
-use Rattle.coop.specs.Limits.{check_limit, core_limit}
+use Rattle.coop.specs.Limits.{check_limit}
+use Rattle.coop.specs.Classes.{core_limit, shapley_limit}
 use Rattle.coop.specs.Headline.{IsTaken}
-use Rattle.coop.specs.ShapleyClaims.{shapley_limit}
 use Rattle.coop.specs.ConvexClaims.{convex_limit}
 use Rattle.coop.specs.KernelClaims.{kernel_limit}
 use Rattle.coop.specs.declared.status.Status.{Status}

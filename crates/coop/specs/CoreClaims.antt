@@ -3,8 +3,6 @@
 -- The answers exclude one another: no core point stands beside a balanced collection of excess worth. No other answer
 -- is right, so the negative answer comes exactly where the core of a game that hasn't too many players is empty.
 --
---   IsSchemePoint   the point of an airport or bankruptcy game is its nucleolus, and that of a tree game has
---                   Bird's shares
 --   IsSaidOf        what a solver says of the core
 --   IsCorePoint     a point of the core, among fractions and among real shares, as it is printed
 --   IsEmptyCore     a collection of few coalitions that shows that the core is empty, with both numbers as they
@@ -12,38 +10,23 @@
 --   IsShown         the answer is such a collection
 --   FindsCore       the answer is right for a game that has no more players than are answered
 --   SaysOfCore      the answer is right for the game of a document
-use Rattle.std.specs.Prelude.{◌≡◌, ◌<◌, ◌≤◌, ⊤, Bool, ℕ, ℤ, List, length, ◌*ℤ◌}
+use Rattle.std.specs.Prelude.{◌≡◌, ◌<◌, ◌≤◌, Bool, ℤ, length, ◌*ℤ◌}
 use Rattle.definitions.specs.Sums.{weighted_sum}
 use Rattle.definitions.specs.Coalitions.{grand_coalition}
-use Rattle.definitions.specs.Games.{Game, Allocation, InCore, IsNucleolus}
+use Rattle.definitions.specs.Games.{Game, Allocation, InCore}
 use Rattle.definitions.specs.Balanced.{IsBalancedOfExcessWorth}
-use Rattle.definitions.specs.declared.Family.TheVariants.{Imputations}
-use Rattle.definitions.specs.declared.Measure.TheVariants.{Plain}
 use Rattle.balanced_collections.specs.Collections.{CollectionData, ShowsEmpty}
 use Rattle.real_shares.specs.Claims.{InCoreForReals, HasNoCoreForReals}
 use Rattle.balanced.specs.declared.CoreAnswer.{CoreAnswer}
 use Rattle.balanced.specs.declared.CoreAnswer.TheVariants.{Point, Empty}
-use Rattle.tree_games.specs.Trees.{IsBird}
-use Rattle.game_text.specs.Classes.{Description, table, cost, airport, bankruptcy, tree, assignment, market, voting}
+use Rattle.game_text.specs.Classes.{Description}
 use Rattle.game_text.specs.Classes.{game_of, is_cost}
 use Rattle.game_text.specs.Documents.{Contents}
 use Rattle.report.specs.declared.answer.Answer.{Answer}
 use Rattle.report.specs.declared.answer.Answer.TheVariants.{CorePoint, EmptyCore, Usage}
 use Rattle.report.specs.declared.answer.UsageKind.TheVariants.{Players}
 use Rattle.coop.specs.Judgement.{printed}
-use Rattle.coop.specs.Limits.{core_limit}
-
--- the point of an airport or bankruptcy game is its nucleolus, and that of a tree game has Bird's shares; that of
--- another may be any
-abbrev pub IsSchemePoint : Description → Allocation → Type 0
-IsSchemePoint (table n worths) x = ⊤
-IsSchemePoint (cost n costs) x = ⊤
-IsSchemePoint (airport costs) x = IsNucleolus Imputations Plain (game_of (airport costs)) x
-IsSchemePoint (bankruptcy estate claims) x = IsNucleolus Imputations Plain (game_of (bankruptcy estate claims)) x
-IsSchemePoint (tree rows) x = (edges : List (ℕ × ℕ × ℤ)) × IsBird rows x edges
-IsSchemePoint (assignment rows) x = ⊤
-IsSchemePoint (market rows) x = ⊤
-IsSchemePoint (voting quota weights) x = ⊤
+use Rattle.coop.specs.Classes.{core_limit, IsSchemePoint}
 
 abbrev pub IsSaidOf : Description → CoreAnswer → Type 0
 IsSaidOf d (Point x) = InCore (game_of d) x × IsSchemePoint d x

@@ -2,20 +2,16 @@
 --
 --   IsFoundFor      what a solver finds: shares and a certificate, or that there is no imputation
 --   IsChosenFound   what is found for an airport or bankruptcy game with plain excess is its scheme's
---   HasFewPlayers   a game without a scheme of its own has at most 16 players, and is no market, which is
---                   matched instead
-use Rattle.std.specs.Prelude.{◌≤◌, ⊤, length}
+use Rattle.std.specs.Prelude.{⊤}
 use Rattle.definitions.specs.Games.{Game}
 use Rattle.definitions.specs.declared.Family.{Family}
 use Rattle.definitions.specs.declared.Measure.{Measure}
-use Rattle.tree_games.specs.Trees.{tree_game}
-use Rattle.assignment_games.specs.Assignments.{assignment_game}
 use Rattle.kohlberg.specs.Solved.{IsSolved}
-use Rattle.game_text.specs.Classes.{Description, table, cost, airport, bankruptcy, tree, assignment, market, voting}
+use Rattle.game_text.specs.Classes.{Description}
 use Rattle.nested_programs.specs.Answer.{LacksImputation}
 use Rattle.nested_programs.specs.declared.found.Found.{Found}
 use Rattle.nested_programs.specs.declared.found.Found.TheVariants as found
-use Rattle.coop.specs.Chosen.{IsChosen}
+use Rattle.coop.specs.Classes.{IsChosen}
 
 -- what a solver finds for the family by the measure
 abbrev pub IsFoundFor : Family → Measure → Game → Found → Type 0
@@ -26,14 +22,3 @@ IsFoundFor family measure g (found.NoImputation alone total) = LacksImputation f
 abbrev pub IsChosenFound : Measure → Description → Found → Type 0
 IsChosenFound measure d (found.Point x c) = IsChosen measure d x c
 IsChosenFound measure d (found.NoImputation alone total) = ⊤
-
--- a game without a scheme of its own has at most 16 players, and is no market
-abbrev pub HasFewPlayers : Description → Type 0
-HasFewPlayers (table n worths) = n ≤ 16
-HasFewPlayers (cost n costs) = n ≤ 16
-HasFewPlayers (airport costs) = ⊤
-HasFewPlayers (bankruptcy estate claims) = ⊤
-HasFewPlayers (tree rows) = (tree_game rows).players ≤ 16
-HasFewPlayers (assignment rows) = (assignment_game rows).players ≤ 16
-HasFewPlayers (market rows) = ⊥
-HasFewPlayers (voting quota weights) = length weights ≤ 16

@@ -60,9 +60,8 @@ use Rattle.report.specs.declared.answer.Answer.TheVariants.{Nucleolus, NoImputat
 use Rattle.report.specs.declared.answer.UsageKind.TheVariants.{Words, Class, Players}
 use Rattle.coop.specs.Words.{IsCommand, IsNoCommand}
 use Rattle.coop.specs.Classes.{serves_class}
-use Rattle.coop.specs.Limits.{nucleolus_limit}
+use Rattle.coop.specs.Classes.{nucleolus_limit, IsChosen}
 use Rattle.coop.specs.Judgement.{printed, JudgesAll}
-use Rattle.coop.specs.Chosen.{IsChosen}
 use Rattle.coop.specs.Checks.{Checks}
 use Rattle.coop.specs.CoreClaims.{SaysOfCore}
 use Rattle.coop.specs.ShapleyClaims.{SaysOfShapley}

@@ -11,7 +11,6 @@ pub mod GeneratorRuns
 pub mod ConvexClaims
 pub mod KernelClaims
 pub mod MatchingClaims
-pub mod Chosen
 pub mod Headline
 pub mod ReadBack
 pub mod Completeness

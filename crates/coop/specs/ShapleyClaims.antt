@@ -1,29 +1,16 @@
 -- The right answer on the Shapley shares of the game of a document.
 --
---   shapley_limit    the most players of a game whose Shapley shares are answered, by its class
 --   IsShapleyAnswer  the Shapley shares, as they are printed
 --   SaysOfShapley    the answer is right for the game of a document: the shares, or that it has more players
-use Rattle.std.specs.Prelude.{◌≡◌, ◌<◌, ◌≤◌, ℕ, Bool}
+use Rattle.std.specs.Prelude.{◌≡◌, ◌<◌, ◌≤◌, Bool}
 use Rattle.definitions.specs.Games.{Allocation}
 use Rattle.definitions.specs.Shapley.{IsShapley}
-use Rattle.game_text.specs.Classes.{Description, table, cost, airport, bankruptcy, tree, assignment, market, voting}
 use Rattle.game_text.specs.Classes.{game_of, is_cost}
 use Rattle.game_text.specs.Documents.{Contents}
 use Rattle.report.specs.declared.answer.Answer.{Answer}
 use Rattle.report.specs.declared.answer.Answer.TheVariants.{Shapley, Usage}
 use Rattle.report.specs.declared.answer.UsageKind.TheVariants.{Players}
-
--- the most players of a game whose Shapley shares are answered: the steps of an airport's costs and the sums of votes
--- are few, and the coalitions of another game many
-abbrev pub shapley_limit : Description → ℕ
-shapley_limit (table n worths) = 16
-shapley_limit (cost n costs) = 16
-shapley_limit (airport costs) = 32
-shapley_limit (bankruptcy estate claims) = 16
-shapley_limit (tree rows) = 16
-shapley_limit (assignment rows) = 16
-shapley_limit (market rows) = 16
-shapley_limit (voting quota weights) = 32
+use Rattle.coop.specs.Classes.{shapley_limit}
 
 -- each share is the mean of what its player adds, over all orders of the players, who aren't too many; and the shares
 -- are printed as payments where the numbers of the game are costs

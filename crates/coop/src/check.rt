@@ -1,13 +1,14 @@
 //! The verdict on the certificate of a document.
 ghost use Rattle.std.specs.Prelude.{◌≡◌, length, IfOk};
 ghost use Rattle.definitions.specs.Measures.{IsMeasurable};
-ghost use Rattle.checker.specs.Meaning.{IsVerdict};
 ghost use Rattle.game_text.specs.Classes.{game_of, description_in};
 ghost use Rattle.game_text.specs.Readings.{contents_in};
-ghost use Rattle.report.specs.Limits.{IsPrintable};
 ghost use Rattle.coop.specs.Checks.{Checks, HasLowestExcess, IsComplete};
 ghost use Rattle.coop.specs.ReadBack.{IsNoNucleolus};
+ghost use Rattle.checker.specs.Meaning.{IsVerdict};
+ghost use Rattle.report.specs.Limits.{IsPrintable};
 
+use crate::classes::kept_where_slow;
 use crate::limits::check_limit;
 use crate::solve::keep_their_limits;
 use checker::{Reason, Verdict, check};
@@ -17,7 +18,6 @@ use kohlberg::Certificate;
 use report::{Answer, UsageKind};
 use std::alloc::Global;
 use worth_core::{Family, Measure, Shares, Worth};
-use worth_tables::KeptWorths;
 
 /// The verdict on what a document says is the nucleolus of its game, or the prenucleolus, by the measure that it says;
 /// or that the game has more players than are checked by it.
@@ -45,8 +45,7 @@ pub(crate) fn check_document(alloc: Global, document: &Document) -> Result<Answe
     Ok(Answer::Verdict(verdict))
 }
 
-// The checker's verdict. It asks for each worth at each level: those of a tree game, which finds them anew each time,
-// are kept.
+// The checker's verdict.
 fn verdict_on(
     alloc: Global,
     game: &Game,
@@ -61,12 +60,10 @@ fn verdict_on(
     ensures { IfOk result (IsVerdict certificate.now.mode family measure (game_of (description_in game.now))
         shares.now certificate.now.levels) }
 {
-    if let Game::Tree(game) = game {
-        game.points(); // There are at most 17, by its type.
-        let kept = KeptWorths::new(alloc, game)?;
-        return Ok(check(&kept, family, measure, shares, certificate));
+    match kept_where_slow(alloc, game)? {
+        Some(kept) => Ok(check(&kept, family, measure, shares, certificate)),
+        None => Ok(check(game, family, measure, shares, certificate)),
     }
-    Ok(check(game, family, measure, shares, certificate))
 }
 
 // The excess that a verdict carries is in lowest terms by its type; this call says so.

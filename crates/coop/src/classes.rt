@@ -1,9 +1,25 @@
-//! The classes of games that a command serves.
-ghost use Rattle.std.specs.Prelude.{◌≡◌};
-ghost use Rattle.game_text.specs.Classes.{description_in};
-ghost use Rattle.coop.specs.Classes.{is_market, is_tree, is_no_market, serves_class};
+//! What the commands do with each class of games: the list of classes.
+ghost use Rattle.std.specs.Prelude.{◌≡◌, ◌≤◌, IfOk, ◌<◌, ◌↔◌, IsErrOf, IfSome};
+ghost use Rattle.definitions.specs.declared.Measure.{Measure};
+ghost use Rattle.definitions.specs.Shapley.{IsShapley};
+ghost use Rattle.game_text.specs.Classes.{description_in, game_of};
+ghost use Rattle.coop.specs.Classes.{is_market, is_tree, is_no_market, serves_class, nucleolus_limit, core_limit};
+ghost use Rattle.coop.specs.Classes.{HasFewPlayers, shapley_limit};
+ghost use Rattle.coop.specs.Finding.{IsFoundFor, IsChosenFound};
+ghost use Rattle.coop.specs.CoreClaims.{IsSaidOf};
 
+use crate::core_search::{by_program, core_point};
+use crate::limits::{FEW_PER_HEAD, FEW_PLAYERS, MANY_PLAYERS};
+use crate::shapley_values::votes_of;
+use crate::solve::{by_programs, found_point};
+use balanced::CoreAnswer;
+use fractions::OutOfMemory;
 use game_text::{Command, Game};
+use nested_programs::Found;
+use shapley::{ShapleyFault, airport_shapley, shapley};
+use std::alloc::Global;
+use worth_core::{Family, Measure, Shares};
+use worth_tables::KeptWorths;
 
 /// Whether the command serves the class of the game: only `matching` serves a market, and `bird` serves tree games
 /// alone.
@@ -40,4 +56,111 @@ fn is_no_market(game: &Game) -> bool
     ensures { result ≡ is_no_market (description_in game.now) }
 {
     !matches!(game, Game::Market(_))
+}
+
+/// The most players of a game whose nucleolus is answered: 8 with excess per head. With plain excess they are 64 for an
+/// airport or bankruptcy game, which has a scheme of its own, and 16 for another.
+pub(crate) fn nucleolus_limit(measure: Measure, game: &Game) -> u32
+    ensures { result ≡ nucleolus_limit measure (description_in game.now) }
+{
+    match (measure, game) {
+        (Measure::PerHead, _) => FEW_PER_HEAD,
+        (Measure::Plain, Game::Airport(_) | Game::Bankruptcy(_)) => MANY_PLAYERS,
+        (Measure::Plain, _) => FEW_PLAYERS,
+    }
+}
+
+/// The most players of a game whose core is answered: 16 for a voting game, and 64, which no game exceeds, for another.
+pub(crate) fn core_limit(game: &Game) -> u32
+    ensures { result ≡ core_limit (description_in game.now) }
+{
+    if matches!(game, Game::Voting(_)) {
+        FEW_PLAYERS
+    } else {
+        MANY_PLAYERS
+    }
+}
+
+/// What the scheme of the game's class finds with plain excess, or else the nested programs.
+pub(crate) fn found_plainly(
+    alloc: Global,
+    game: &Game,
+    family: Family,
+) -> Result<Found, OutOfMemory>
+    requires { HasFewPlayers (description_in game.now) }
+    ensures found { IfOk result (IsFoundFor family Measure.Plain (game_of (description_in game.now))) }
+    ensures chosen { IfOk result (IsChosenFound Measure.Plain (description_in game.now)) }
+{
+    match game {
+        Game::Airport(game) => {
+            let solution = airport_scheme::solve(alloc, game)?;
+            Ok(found_point(solution))
+        }
+        Game::Bankruptcy(game) => {
+            let solution = talmud::solve(alloc, game)?;
+            Ok(found_point(solution))
+        }
+        Game::Table(game) => by_programs(alloc, game, family, Measure::Plain),
+        Game::Cost(_) | Game::Tree(_) | Game::Assignment(_) | Game::Voting(_) => {
+            // Each worth is asked for many times, and only a table keeps them.
+            let kept = KeptWorths::new(alloc, game)?;
+            by_programs(alloc, &kept, family, Measure::Plain)
+        }
+        Game::Market(_) => unreachable!(),
+    }
+}
+
+/// What the scheme of the game's class says, or else the balanced program.
+pub(crate) fn said_of(alloc: Global, game: &Game) -> Result<CoreAnswer, OutOfMemory>
+    requires { HasFewPlayers (description_in game.now) }
+    ensures { IfOk result (IsSaidOf (description_in game.now)) }
+{
+    match game {
+        Game::Airport(game) => Ok(core_point(airport_scheme::solve(alloc, game)?)),
+        Game::Bankruptcy(game) => Ok(core_point(talmud::solve(alloc, game)?)),
+        Game::Tree(game) => Ok(CoreAnswer::Point(game.bird(alloc)?.0)),
+        Game::Table(_) | Game::Cost(_) | Game::Assignment(_) | Game::Voting(_) => {
+            // Each worth is asked for many times.
+            by_program(alloc, &KeptWorths::new(alloc, game)?)
+        }
+        Game::Market(_) => unreachable!(),
+    }
+}
+
+/// The shares of an airport game by the steps of its costs, those of a voting game by its sums of weights, and those of
+/// another by its coalitions.
+pub(crate) fn shares_of(alloc: Global, game: &Game) -> Result<Shares, ShapleyFault>
+    ensures value { IfOk result (IsShapley (game_of (description_in game.now))) }
+    ensures too_many { IsErrOf result ShapleyFault.TooMany
+        ↔ (shapley_limit (description_in game.now) < (game_of (description_in game.now)).players) }
+{
+    match game {
+        Game::Airport(game) => airport_shapley(alloc, game),
+        Game::Voting(game) => votes_of(alloc, game),
+        _ => shapley(alloc, game),
+    }
+}
+
+/// The same game with its worths kept, where it finds each anew when it is asked, as a tree game does: the checker asks
+/// for each at each level.
+pub(crate) fn kept_where_slow(
+    alloc: Global,
+    game: &Game,
+) -> Result<Option<KeptWorths<'_, Game>>, OutOfMemory>
+    ensures same { IfOk result (λ o. IfSome o (λ kept. kept ≡ game.now)) }
+    ensures few { IfOk result (λ o. IfSome o (λ kept. (game_of (description_in kept)).players ≤ FEW_PLAYERS)) }
+{
+    match game {
+        Game::Tree(tree) => {
+            tree.points(); // There are at most 17, by its type.
+            Ok(Some(KeptWorths::new(alloc, game)?))
+        }
+        Game::Table(_)
+        | Game::Cost(_)
+        | Game::Airport(_)
+        | Game::Bankruptcy(_)
+        | Game::Assignment(_)
+        | Game::Market(_)
+        | Game::Voting(_) => Ok(None),
+    }
 }

@@ -1,29 +1,27 @@
 //! The core of the game of a document.
 ghost use Rattle.std.specs.Prelude.{◌≡◌, ◌≤◌, true, IfOk};
 ghost use Rattle.kohlberg.specs.Certificate.{IsCertificate};
-ghost use Rattle.balanced_collections.specs.Collections.{ShowsEmpty};
-ghost use Rattle.balanced.specs.Answer.{IsFound};
 ghost use Rattle.game_text.specs.Classes.{game_of, description_in};
 ghost use Rattle.game_text.specs.Readings.{contents_in};
-ghost use Rattle.report.specs.Limits.{IsPrintable};
-ghost use Rattle.coop.specs.Classes.{is_no_market};
-ghost use Rattle.coop.specs.CoreClaims.{IsSaidOf, IsShown, FindsCore, SaysOfCore};
-ghost use Rattle.coop.specs.Limits.{core_limit};
+ghost use Rattle.coop.specs.Classes.{is_no_market, core_limit};
+ghost use Rattle.coop.specs.CoreClaims.{IsShown, FindsCore, SaysOfCore};
 ghost use Rattle.coop.specs.Needs.{IsAccepted};
 ghost use Rattle.coop.specs.ReadBack.{IsNoNucleolus};
-ghost use Rattle.coop.specs.Finding.{HasFewPlayers};
+ghost use Rattle.balanced_collections.specs.Collections.{ShowsEmpty};
+ghost use Rattle.balanced.specs.Answer.{IsFound};
+ghost use Rattle.report.specs.Limits.{IsPrintable};
 
+use crate::classes::{core_limit, said_of};
 use crate::judge::printed_amount;
-use crate::limits::{FEW_PLAYERS, core_limit};
+use crate::limits::FEW_PLAYERS;
 use crate::solve::keep_their_limits;
 use balanced::{Collection, CoreAnswer, CoreFault, core_of};
 use fractions::OutOfMemory;
-use game_text::{Document, Game};
+use game_text::Document;
 use kohlberg::Certificate;
 use report::{Answer, UsageKind};
 use std::alloc::Global;
 use worth_core::{Shares, Worth};
-use worth_tables::KeptWorths;
 
 /// A point of the core of the game of a document, or a collection that shows that the core is empty; or that the game
 /// has more players than are answered: 16 for a voting game.
@@ -61,25 +59,8 @@ fn core_of_few(alloc: Global, document: &Document) -> Result<Answer, OutOfMemory
     }
 }
 
-// What the scheme of the game's class says, or else the balanced program.
-fn said_of(alloc: Global, game: &Game) -> Result<CoreAnswer, OutOfMemory>
-    requires { HasFewPlayers (description_in game.now) }
-    ensures { IfOk result (IsSaidOf (description_in game.now)) }
-{
-    match game {
-        Game::Airport(game) => Ok(point(airport_scheme::solve(alloc, game)?)),
-        Game::Bankruptcy(game) => Ok(point(talmud::solve(alloc, game)?)),
-        Game::Tree(game) => Ok(CoreAnswer::Point(game.bird(alloc)?.0)),
-        Game::Table(_) | Game::Cost(_) | Game::Assignment(_) | Game::Voting(_) => {
-            // Each worth is asked for many times.
-            by_program(alloc, &KeptWorths::new(alloc, game)?)
-        }
-        Game::Market(_) => unreachable!(),
-    }
-}
-
-// The point of a scheme.
-fn point(solution: (Shares, Certificate)) -> CoreAnswer
+/// The point of a scheme.
+pub(crate) fn core_point(solution: (Shares, Certificate)) -> CoreAnswer
     ensures point { result ≡ CoreAnswer.Point solution.0 }
     ensures certificate { IsCertificate solution.1 }
 {
@@ -87,8 +68,8 @@ fn point(solution: (Shares, Certificate)) -> CoreAnswer
     CoreAnswer::Point(solution.0)
 }
 
-// What the balanced program says of a game of few players.
-fn by_program<W: Worth>(alloc: Global, game: &W) -> Result<CoreAnswer, OutOfMemory>
+/// What the balanced program says of a game of few players.
+pub(crate) fn by_program<W: Worth>(alloc: Global, game: &W) -> Result<CoreAnswer, OutOfMemory>
     requires { (W.game game.now).players ≤ FEW_PLAYERS }
     ensures { IfOk result (IsFound (W.game game.now)) }
 {

@@ -4,14 +4,16 @@ ghost use Rattle.definitions.specs.Games.{IsNucleolus};
 ghost use Rattle.definitions.specs.Certificates.{Certifies};
 ghost use Rattle.definitions.specs.declared.Family.TheVariants.{Imputations};
 ghost use Rattle.definitions.specs.declared.Measure.TheVariants.{Plain};
-ghost use Rattle.coop_gen.specs.Generated.{HasKindSize};
-ghost use Rattle.drawn_games.specs.Imputations.{HasImputations};
 ghost use Rattle.game_text.specs.Classes.{game_of, description_in};
-ghost use Rattle.report.specs.Limits.{IsFineIfThere};
-ghost use Rattle.coop.specs.Finding.{HasFewPlayers, IsFoundFor};
+ghost use Rattle.coop_gen.specs.Generated.{HasKindSize};
+ghost use Rattle.coop.specs.Classes.{HasFewPlayers};
+ghost use Rattle.coop.specs.Finding.{IsFoundFor};
 ghost use Rattle.coop.specs.GeneratorClaims.{IsGreatestExcess, IsSummaryOf};
+ghost use Rattle.drawn_games.specs.Imputations.{HasImputations};
+ghost use Rattle.report.specs.Limits.{IsFineIfThere};
 
-use crate::solve::{by_programs, found_plainly};
+use crate::classes::{found_plainly, kept_where_slow};
+use crate::solve::by_programs;
 use checker::{Verdict, check};
 use coalitions::Coalition;
 use coop_gen::generate;
@@ -22,7 +24,6 @@ use nested_programs::Found;
 use report::Summary;
 use std::alloc::Global;
 use worth_core::{Family, Measure, Shares, Worth, measured_bound};
-use worth_tables::KeptWorths;
 
 /// What is said of the nucleolus of a generated game, after the checker has said yes to its certificate.
 pub(crate) fn summary_of(
@@ -48,8 +49,8 @@ pub(crate) fn summary_of(
     })
 }
 
-// The nucleolus of a game that has imputations, and its greatest excess. Each worth is asked for many times: those of a
-// tree game, which finds a worth anew each time, are kept.
+// The nucleolus of a game that has imputations, and its greatest excess. Where the game finds each worth anew, they are
+// kept for the programs and the checker alike.
 fn solved(alloc: Global, game: &Game) -> Result<(Shares, Option<Frac>), OutOfMemory>
     requires few { HasFewPlayers (description_in game.now) }
     requires imputations { HasImputations (game_of (description_in game.now)) }
@@ -57,8 +58,7 @@ fn solved(alloc: Global, game: &Game) -> Result<(Shares, Option<Frac>), OutOfMem
     ensures greatest { IfOk result (λ s. IsGreatestExcess (game_of (description_in game.now)) s.0 s.1) }
     ensures fine { IfOk result (λ s. IsFineIfThere s.1) }
 {
-    if let Game::Tree(game) = game {
-        let kept = KeptWorths::new(alloc, game)?;
+    if let Some(kept) = kept_where_slow(alloc, game)? {
         let found = by_programs(alloc, &kept, Family::Imputations, Measure::Plain)?;
         return Ok(checked(&kept, found));
     }

@@ -1,17 +1,17 @@
 //! The Shapley shares of the game of a document.
-ghost use Rattle.std.specs.Prelude.{◌<◌, ◌≤◌, ◌↔◌, IfOk, IsErrOf};
+ghost use Rattle.std.specs.Prelude.{◌<◌, ◌≤◌, IfOk, IsErrOf};
 ghost use Rattle.definitions.specs.Shapley.{IsShapley};
-ghost use Rattle.game_text.specs.Classes.{game_of, description_in};
 ghost use Rattle.game_text.specs.Readings.{contents_in};
-ghost use Rattle.report.specs.Limits.{IsPrintable};
 ghost use Rattle.coop.specs.ReadBack.{IsNoNucleolus};
+ghost use Rattle.coop.specs.ShapleyClaims.{SaysOfShapley};
+ghost use Rattle.report.specs.Limits.{IsPrintable};
 ghost use Rattle.voting.specs.Voting.{voting_game};
-ghost use Rattle.coop.specs.ShapleyClaims.{shapley_limit, SaysOfShapley};
 
+use crate::classes::shares_of;
 use fractions::OutOfMemory;
-use game_text::{Document, Game};
+use game_text::Document;
 use report::{Answer, UsageKind};
-use shapley::{ShapleyFault, airport_shapley, shapley};
+use shapley::ShapleyFault;
 use std::alloc::Global;
 use voting::{VotingGame, voting_shapley};
 use worth_core::Shares;
@@ -32,25 +32,11 @@ pub(crate) fn shapley_document(alloc: Global, document: &Document) -> Result<Ans
     }
 }
 
-// The shares of an airport game by the steps of its costs, those of a voting game by its sums of weights, and those of
-// another by its coalitions.
-fn shares_of(alloc: Global, game: &Game) -> Result<Shares, ShapleyFault>
-    ensures value { IfOk result (IsShapley (game_of (description_in game.now))) }
-    ensures too_many { IsErrOf result ShapleyFault.TooMany
-        ↔ (shapley_limit (description_in game.now) < (game_of (description_in game.now)).players) }
-{
-    match game {
-        Game::Airport(game) => airport_shapley(alloc, game),
-        Game::Voting(game) => votes_of(alloc, game),
-        _ => shapley(alloc, game),
-    }
-}
-
 // The most players of a voting game.
 const MOST_VOTERS: u32 = 32;
 
-// The shares of a voting game, which never has too many players.
-fn votes_of(alloc: Global, game: &VotingGame) -> Result<Shares, ShapleyFault>
+/// The shares of a voting game, which never has too many players.
+pub(crate) fn votes_of(alloc: Global, game: &VotingGame) -> Result<Shares, ShapleyFault>
     ensures value { IfOk result (IsShapley (voting_game game.now)) }
     ensures few { ¬ (IsErrOf result ShapleyFault.TooMany) }
     ensures players { (voting_game game.now).players ≤ MOST_VOTERS }

@@ -1,20 +1,20 @@
 //! The nucleolus of the game of a document.
 ghost use Rattle.std.specs.Prelude.{◌≡◌, ◌≤◌, true, IfOk};
 ghost use Rattle.definitions.specs.Games.{IsShares};
+ghost use Rattle.definitions.specs.declared.Measure.{Measure};
 ghost use Rattle.kohlberg.specs.Certificate.{IsCertificate};
 ghost use Rattle.game_text.specs.Classes.{game_of, description_in};
 ghost use Rattle.game_text.specs.Readings.{contents_in};
-ghost use Rattle.report.specs.Limits.{IsPrintable};
 ghost use Rattle.coop.specs.Needs.{IsAccepted};
 ghost use Rattle.coop.specs.ReadBack.{CanBeRead};
-ghost use Rattle.definitions.specs.declared.Measure.{Measure};
-ghost use Rattle.coop.specs.Classes.{is_no_market};
-ghost use Rattle.coop.specs.Limits.{nucleolus_limit};
-ghost use Rattle.coop.specs.Finding.{HasFewPlayers, IsFoundFor, IsChosenFound};
+ghost use Rattle.coop.specs.Classes.{is_no_market, nucleolus_limit};
+ghost use Rattle.coop.specs.Finding.{IsFoundFor, IsChosenFound};
 ghost use Rattle.coop.specs.Headline.{Solves};
+ghost use Rattle.report.specs.Limits.{IsPrintable};
 
+use crate::classes::{found_plainly, nucleolus_limit};
 use crate::judge::printed_worth;
-use crate::limits::{FEW_PER_HEAD, FEW_PLAYERS, nucleolus_limit};
+use crate::limits::{FEW_PER_HEAD, FEW_PLAYERS};
 use fractions::OutOfMemory;
 use game_text::{Document, Game};
 use kohlberg::Certificate;
@@ -22,7 +22,6 @@ use nested_programs::{Found, NestedFault};
 use report::{Answer, UsageKind};
 use std::alloc::Global;
 use worth_core::{Family, Measure, Shares, Worth};
-use worth_tables::KeptWorths;
 
 /// The nucleolus of the game of a document, or its prenucleolus, by the measure that the document says, with its
 /// certificate and the document's tree, which it takes; or that there is no imputation; or that the game has more
@@ -81,36 +80,8 @@ fn found_for(
     }
 }
 
-/// What the scheme of the game's class finds with plain excess, or else the nested programs.
-pub(crate) fn found_plainly(
-    alloc: Global,
-    game: &Game,
-    family: Family,
-) -> Result<Found, OutOfMemory>
-    requires { HasFewPlayers (description_in game.now) }
-    ensures found { IfOk result (IsFoundFor family Measure.Plain (game_of (description_in game.now))) }
-    ensures chosen { IfOk result (IsChosenFound Measure.Plain (description_in game.now)) }
-{
-    match game {
-        Game::Airport(game) => {
-            let solution = airport_scheme::solve(alloc, game)?;
-            Ok(point(solution))
-        }
-        Game::Bankruptcy(game) => {
-            let solution = talmud::solve(alloc, game)?;
-            Ok(point(solution))
-        }
-        Game::Table(game) => by_programs(alloc, game, family, Measure::Plain),
-        Game::Cost(_) | Game::Tree(_) | Game::Assignment(_) | Game::Voting(_) => {
-            // Each worth is asked for many times, and only a table keeps them.
-            let kept = KeptWorths::new(alloc, game)?;
-            by_programs(alloc, &kept, family, Measure::Plain)
-        }
-        Game::Market(_) => unreachable!(),
-    }
-}
-
-fn point(solution: (Shares, Certificate)) -> Found
+/// The point and the certificate of a scheme.
+pub(crate) fn found_point(solution: (Shares, Certificate)) -> Found
     ensures { result ≡ Found.Point solution.0 solution.1 }
 {
     Found::Point(solution.0, solution.1)

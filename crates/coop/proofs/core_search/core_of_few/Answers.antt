@@ -1,9 +1,8 @@
 use Rattle.std.proofs.Common.{◌≡◌, ◌≤◌, true, sym, subst}
 use Rattle.game_text.specs.Classes.{Description, game_of}
 use Rattle.coop.specs.Classes.{is_no_market}
-use Rattle.coop.specs.Limits.{core_limit}
-use Rattle.coop.specs.Finding.{HasFewPlayers}
-use Rattle.coop.proofs.FewPlayers.{few_players}
+use Rattle.coop.specs.Classes.{core_limit, HasFewPlayers}
+use Rattle.coop.proofs.PlayerLimits.{few_players}
 use Rattle.real_shares.proofs.ForReals.{core_point_for_reals}
 use Rattle.game_text.specs.Readings.{contents_in}
 use Rattle.coop.proofs.core_search.core_of_few.Goals as goal
