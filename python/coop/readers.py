@@ -12,7 +12,7 @@ from . import filling, games
 from .errors import BadInput
 from .game import MOST_IN_A_TABLE, Game
 from .masks import mask_of, members
-from .sheets import AS_SEEN, HEAD, Layout, Row, amount_of, fixed_rows, rows_of_numbers
+from .sheets import AS_SEEN, HEAD, Cell, Layout, Row, amount_of, by_mark, fixed_rows, rows_of_numbers
 from .vectors import in_mask_order
 
 
@@ -137,10 +137,20 @@ def left_out(text: str, layout: Layout) -> list[str]:
 
 
 def claims(text: str, estate: Any, *, digits: Optional[int] = None, layout: Layout = AS_SEEN) -> Game:
-    """An estate from lines of a name and a claim."""
-    rows = fixed_rows(text, 2, "Adler,1200.50", layout)
+    """An estate from lines of a name and a claim. An estate that is a text is read by the mark in front of decimals
+    that the claims have; where neither tells it surely, as 400.000, it is refused."""
+    rows = fixed_rows(text, 2, "Adler,1200.50", layout, estate_beside(estate))
     amounts = [amount_of(row, 1, digits, HEAD * (row is rows[0])) for row in rows]
-    return games.bankruptcy(estate, amounts, named_once(rows), digits=digits)
+    try:
+        whole = by_mark(estate.strip(), rows[0].mark, digits) if isinstance(estate, str) else estate
+    except BadInput as fault:
+        raise BadInput(f"the estate: {fault}") from None
+    return games.bankruptcy(whole, amounts, named_once(rows), digits=digits)
+
+
+def estate_beside(estate: Any) -> list[Cell]:
+    """What an estate tells of the mark in front of decimals, with its place."""
+    return [("the estate", estate.strip())] if isinstance(estate, str) else []
 
 
 def landings(text: str, *, digits: Optional[int] = None, layout: Layout = AS_SEEN) -> Game:

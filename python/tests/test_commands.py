@@ -96,6 +96,12 @@ class Scripts(unittest.TestCase):
         self.refused(script("from-claims", "--estate", "9", text="A;480.000\n"), "480 or 480000", "--decimal")
         found = script("from-claims", "--estate", "9", "--decimal", "comma", "--head", text="Name;Claim\nA;480.000\n")
         self.assertEqual(json.loads(found[1])["game"]["claims"], [480000])
+        found = script("from-claims", "--head", "--estate", "400.000", text="Name;Claim\nA;440.123,83\n")
+        self.assertEqual(json.loads(found[1])["game"]["estate"], 400000)
+        self.refused(script("from-claims", "--estate", "400.000", text="A;480000\n"), "400 or 400000", "--decimal")
+        self.refused(script("overrun", PROPOSAL, "1.500"), "the amount: 1.500 may be 1.5 or 1500")
+        self.refused(script("proposal", PROPOSAL, "1.500", "1", "2"), "the share of player 1: 1.500 may be")
+        self.refused(script("proposal", PROPOSAL, "light=1", "medium=1.500", "heavy=2"), "the share of medium: 1.500")
         game = json.loads(script("from-costs", "--head", text="Group\tkEUR\na\t3387,4\n")[1])["game"]
         self.assertEqual(game["sparse"], [[["a"], "16937/5"]])
         game = json.loads(script("from-landings", text="Aer;20,50;1\n")[1])["game"]

@@ -8,7 +8,7 @@ from typing import Callable
 from coop import BadInput
 from coop.filling import cheapest, told
 from coop.readers import claims, groups, landings, left_out, vectors
-from coop.sheets import Layout, notes
+from coop.sheets import Layout, notes, typed
 from coop.styles import EXACT
 
 COSTS = "a,3\nb,4\nc,5\na+b,6\na+b+c,9\n"
@@ -127,6 +127,44 @@ class Sheets(unittest.TestCase):
                 self.claims(text)
         with self.assertRaisesRegex(BadInput, "'12.5' is no number with a comma"):
             self.claims("A;12.5\n", Layout(decimal="comma"))
+
+    def test_the_estate_is_read_as_the_claims_are(self) -> None:
+        comma = Layout(decimal="comma")
+        for text, estate, layout, wanted in (
+            ("A;40.123,83\nB;900.000\n", "400.000", Layout(), 400000),
+            ("A;1.200,50\nB;900\n", "1.500", Layout(), 1500),
+            ("A;480.000\nB;400.000\n", "500.000", comma, 500000),
+            ("A;480.000\nB;400.000\n", "500.000,50", Layout(), "1000001/2"),
+            ("A,480.50\nB,400\n", "400.000", Layout(), 400),
+            ("A,480\nB,400\n", "1,5", Layout(), "3/2"),
+            ("A;480\nB;400\n", "200/3", Layout(), "200/3"),
+            ("A;1.200,50\nB;900\n", "2000/3", Layout(), "2000/3"),
+            ("A,480\nB,400\n", "400.000", Layout(decimal="point"), 400),
+        ):
+            self.assertEqual(claims(text, estate, layout=layout).tree["estate"], wanted, (text, estate))
+        for text, estate, layout, sentence in (
+            ("A,480\nB,400\n", "400.000", Layout(), "the estate: 400.000 may be 400 or 400000.*--decimal"),
+            ("A;480\nB;400\n", "1.500", Layout(), "the estate: 1.500 may be 1.5 or 1500"),
+            ("A;480.000\nB;400.000\n", "500.000", Layout(), "line 1: 480.000 may be"),
+            ("A;40.123,83\n", "12.5", Layout(), "40.123,83 in line 1 and 12.5 in the estate have two marks"),
+            ("A;480\n", "12.50", comma, "the estate: '12.50' is no number with a comma"),
+            ("A;480\n", "much", Layout(), "the estate: 'much' is no number"),
+        ):
+            with self.assertRaisesRegex(BadInput, sentence):
+                claims(text, estate, layout=layout)
+        self.assertEqual(notes("A;480.000\nB;1\n", 2, Layout(), [("the estate", "1.500,25")]), [])
+
+    def test_typed_numbers(self) -> None:
+        """A number beside a document is refused where it may be two."""
+        for word, wanted in (("400", 400), ("12.50", Fraction(25, 2)), ("0.125", Fraction(1, 8)), ("1234.500", 1234.5)):
+            self.assertEqual(typed(word, "the amount"), wanted)
+        for word, sentence in (
+            ("400.000", "the amount: 400.000 may be 400 or 400000: write 400 or 400000"),
+            ("-1.500", "the amount: -1.500 may be -1.5 or -1500: write -3/2 or -1500"),
+            ("12,50", "the amount: '12,50' is no number; write 12"),
+        ):
+            with self.assertRaisesRegex(BadInput, sentence):
+                typed(word, "the amount")
 
     def test_notes(self) -> None:
         self.assertEqual(
