@@ -6,6 +6,7 @@ Where the numbers of a file don't tell which, as 480.000, the mark has to be nam
 from __future__ import annotations
 
 import csv
+import io
 import re
 from dataclasses import dataclass, replace
 from fractions import Fraction
@@ -52,8 +53,8 @@ AS_SEEN = Layout()
 
 
 def cells_of(text: str, separator: str) -> Iterator[Row]:
-    """The rows of a text that aren't empty."""
-    reader = csv.reader(text.splitlines(), delimiter=separator, skipinitialspace=separator == " ")
+    """The rows of a text that aren't empty. A break within quotes stays in its cell."""
+    reader = csv.reader(io.StringIO(text, newline=""), delimiter=separator, skipinitialspace=separator == " ")
     try:
         for cells in reader:
             if any(cell.strip() for cell in cells):

@@ -127,8 +127,38 @@ class Sameness(Files):
         self.assertIn("the players: 1 in the line, 3 in", verdict(coop.bankruptcy(1, {"a": 1}), first)[0])
         swapped = coop.bankruptcy(100, {"Br\u00fcnn KG": 80, "Adler": 90, "Chopra": 70})
         text, is_same = verdict(first, swapped)
-        self.assertIn("the same numbers by name, but the players stand in another order:\n", text)
+        self.assertEqual(
+            text,
+            "the same numbers by name, but the players stand in another order:\n"
+            "  player 1: Adler in the line, Br\u00fcnn KG in the agreed document\n"
+            "  player 2: Br\u00fcnn KG in the line, Adler in the agreed document\n",
+        )
         self.assertFalse(is_same)
+
+    def test_players_in_another_order(self) -> None:
+        """Of each class numbers are compared by name, and only those that differ so are told."""
+        head = "the same numbers by name, but the players stand in another order:\n  player 1: b in the line, a in"
+        for one, two in (
+            (coop.table({"b": 2, "a": 1, "a+b": 9}), coop.table({"a": 1, "b": 2, "a+b": 9})),
+            (coop.airport({"b": "5/2", "a": 1}), coop.airport({"a": 1, "b": "5/2"})),
+            (coop.voting(3, {"b": 2, "a": 1}), coop.voting(3, {"a": 1, "b": 2})),
+            (
+                coop.tree([[0, 4, 3], [4, 0, 1], [3, 1, 0]], ["b", "a"]),
+                coop.tree([[0, 3, 4], [3, 0, 1], [4, 1, 0]], ["a", "b"]),
+            ),
+            (
+                coop.assignment([[3, 4], [1, 2]], ["b", "a", "x", "y"]),
+                coop.assignment([[1, 2], [3, 4]], ["a", "b", "x", "y"]),
+            ),
+        ):
+            text, is_same = verdict(one, two)
+            self.assertEqual((text[: len(head)], text.count("\n"), is_same), (head, 3, False))
+        other = verdict(coop.airport({"b": 3, "a": 1}), coop.airport({"a": 1, "b": 2}))[0]
+        told_first = "another game, by 1 difference by name:\n  the cost of b: 3 in the line, 2 in the agreed document\n"
+        self.assertTrue(other.startswith(told_first), other)
+        self.assertIn("and the players stand in another order:\n  player 1: b in", other)
+        crossed = verdict(coop.assignment([[1]], ["a", "b"]), coop.assignment([[1]], ["b", "a"]))[0]
+        self.assertIn("the name of player 1: a in the line", crossed)
 
     def test_the_same_written_otherwise(self) -> None:
         """By worths or by items, by version and measure; and the keys of a game that no program takes stay told."""

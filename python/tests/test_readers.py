@@ -154,6 +154,13 @@ class Sheets(unittest.TestCase):
                 claims(text, estate, layout=layout)
         self.assertEqual(notes("A;480.000\nB;1\n", 2, Layout(), [("the estate", "1.500,25")]), [])
 
+    def test_a_break_within_a_name_stays(self) -> None:
+        for end in ("\n", "\r\n", "\r"):
+            text = f'A;100{end}{end}"Brandt{end}999";200{end}'
+            self.assertEqual(self.claims(text), {"A": 100, f"Brandt{end}999": 200})
+        with self.assertRaisesRegex(BadInput, "line 4: 'x' is no number"):
+            self.claims('A;100\n"Brandt\n999";200\nB;x\n')
+
     def test_typed_numbers(self) -> None:
         """A number beside a document is refused where it may be two."""
         for word, wanted in (("400", 400), ("12.50", Fraction(25, 2)), ("0.125", Fraction(1, 8)), ("1234.500", 1234.5)):
