@@ -3,9 +3,12 @@ import json
 import unittest
 from typing import Any, Optional
 
+import coop
 from coop.reasons import reasons
 from coop.styles import EXACT, Style
 from coop import BadInput
+
+from .asking import needs_program
 
 AIRPORT: dict[str, Any] = {"class": "airport", "costs": [2, 4, 6], "names": ["light", "medium", "heavy"]}
 TRIO = {"class": "table", "names": ["s", "p", "d"], "players": 3, "worths": [20, 30, 80, 0, 50, 65, 120]}
@@ -257,6 +260,29 @@ class Reasons(unittest.TestCase):
         self.assertIn("They pay: light: 1.00 EUR, medium: 1.50 EUR, heavy: 3.50 EUR. Together: 6.00 EUR.", text)
         self.assertNotIn("rounded", text)
         self.assertIn("(Numbers are rounded", said(FOUR, say=Style(0))[0])
+
+    @needs_program
+    def test_a_share_is_rounded_once(self) -> None:
+        """The sentences have the table's decimals, which add up; what is calculated from others is about."""
+        cases = [
+            (coop.bankruptcy(200, {"A": 100, "B": 100, "C": 100}), ["66.67", "66.67", "66.66"], ["leaves 66.66)"]),
+            (coop.bankruptcy(100, {"A": 100, "B": 100, "C": 100}), ["33.34", "33.33", "33.33"], ["about 33.33, as"]),
+            (coop.bankruptcy(4, {"A": "2.01", "B": "2.01", "C": 30}), ["1.01", "1.00", "1.99"], ["of 2.01 is 1.00"]),
+            (coop.airport({"A": 1, "B": 1, "C": 1}), ["0.34", "0.33", "0.33"], ["A pays 0.34; and B and C pay 0.33"]),
+            (coop.airport({"A": 1, "B": 1, "C": 2}), ["0.33", "0.33", "1.34"], ["A and B pay 0.33 each", "about 1.0"]),
+        ]
+        for game, wanted, sentences in cases:
+            answer = coop.nucleolus(game)
+            self.assertIsInstance(answer, coop.Nucleolus)
+            text = said(json.loads(answer.line), say=Style(2))[0]
+            self.assertIn(f"A: {wanted[0]}, B: {wanted[1]}, C: {wanted[2]}. Together", text)
+            for sentence in sentences:
+                self.assertIn(sentence, text)
+        shapley = said({"answer": "shapley", "shares": ["2/3", "2/3", "2/3"]}, say=Style(2))[0]
+        self.assertIn("player 1: 0.67 - player 2: 0.67 - player 3: 0.66", shapley)
+        beside = {"game": AIRPORT, "shares": ["2/3", "8/3", "8/3"]}
+        blocked = said({"answer": "blocked", "coalition": [3], "excess": "1"}, beside, Style(0))[0]
+        self.assertIn("It pays 2, where", blocked)
 
     def test_names_are_safe(self) -> None:
         game = {**AIRPORT, "names": ["light\n\n  heavy: 0", "medium\u202e", "heavy"]}
