@@ -269,7 +269,7 @@ class Reasons(unittest.TestCase):
             (coop.bankruptcy(100, {"A": 100, "B": 100, "C": 100}), ["33.34", "33.33", "33.33"], ["about 33.33, as"]),
             (coop.bankruptcy(4, {"A": "2.01", "B": "2.01", "C": 30}), ["1.01", "1.00", "1.99"], ["of 2.01 is 1.00"]),
             (coop.airport({"A": 1, "B": 1, "C": 1}), ["0.34", "0.33", "0.33"], ["A pays 0.34; and B and C pay 0.33"]),
-            (coop.airport({"A": 1, "B": 1, "C": 2}), ["0.33", "0.33", "1.34"], ["A and B pay 0.33 each", "about 1.0"]),
+            (coop.airport({"A": 1, "B": 1, "C": 2}), ["0.34", "0.33", "1.33"], ["(about 1.00 more)", "about 0.67"]),
         ]
         for game, wanted, sentences in cases:
             answer = coop.nucleolus(game)
