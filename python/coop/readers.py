@@ -12,6 +12,7 @@ from . import filling, games
 from .errors import BadInput
 from .game import MOST_IN_A_TABLE, Game
 from .masks import mask_of, members
+from .names import looks, shown
 from .sheets import AS_SEEN, HEAD, Cell, Layout, Row, amount_of, by_mark, fixed_rows, rows_of_numbers
 from .vectors import in_mask_order
 
@@ -60,10 +61,20 @@ def names_of(rows: Sequence[tuple[Row, list[str]]]) -> list[str]:
     for row, group in rows:
         for member in group:
             if member not in names:
-                raise BadInput(f"line {row.line}: there is no line for {member} alone")
+                raise BadInput(f"line {row.line}: there is no line for {member} alone{look_alike(member, names)}")
     if len(names) > MOST_IN_A_TABLE:
         raise BadInput(f"{len(names)} players: a table has at most {MOST_IN_A_TABLE}")
     return games.checked_names(names)
+
+
+def look_alike(member: str, names: Sequence[str]) -> str:
+    """Which of the names a member that isn't among them may be meant for: one that looks like it, or that differs in
+    capitals alone."""
+    for name in names:
+        if looks(name) == looks(member):
+            return f", but one for {shown(name)}, which looks like it ({shown(member)}): is that the same player?"
+    near = next((name for name in names if name.casefold() == member.casefold()), None)
+    return f", but one for {near}: is that the same player?" if near else ""
 
 
 def once_each(rows: Sequence[tuple[Row, list[str], Fraction]], names: Sequence[str]) -> dict[int, Fraction]:

@@ -24,6 +24,17 @@ class Readers(unittest.TestCase):
         )
         self.assertEqual(groups("a,1\n", kind="table").game.kind, "table")
 
+    def test_a_name_that_looks_alike(self) -> None:
+        """A member without a line of its own, where the line of one that looks like it is there."""
+        for text, sentence in (
+            ("A,1\nB,1\n\u0421,1\nA+C,2\n", r"no line for C alone, but one for \\u0421, which looks like it \(C\)"),
+            ("A,1\nC,1\nA+\u0421,2\n", r"alone, but one for C, which looks like it \(\\u0421\)"),
+            ("A,1\nops,1\nA+Ops,2\n", "no line for Ops alone, but one for ops: is that"),
+            ("A,1\nA+C,2\n", "no line for C alone$"),
+        ):
+            with self.assertRaisesRegex(BadInput, sentence):
+                groups(text)
+
     def test_filling(self) -> None:
         costed = groups(COSTS, fill=True)
         self.assertEqual(

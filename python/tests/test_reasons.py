@@ -4,7 +4,7 @@ import unittest
 from typing import Any, Optional
 
 import coop
-from coop.reasons import reasons
+from coop.reasons import checked, reasons
 from coop.styles import EXACT, Style
 from coop import BadInput
 
@@ -291,6 +291,19 @@ class Reasons(unittest.TestCase):
             self.assertIn("light\\u000a\\u000a heavy: 0", text)
             self.assertNotIn("\u202e", text)
 
+    def test_a_line_that_is_none_to_check(self) -> None:
+        """Whose number is spoilt is told by name, and what to write, as by `check` and `scripts/slip`."""
+        for line, sentence in (
+            (solved(shares=[1, "1,5", "7/2"]), r'of medium\): "1,5" is no fraction text: write "3/2"'),
+            (solved(shares=[1, "3/2", 3.5]), r'of heavy\): 3.5 has a point.*: write "7/2"'),
+            (spoilt(1, excess="-1,5"), r'the excess of level 2\): "-1,5" is no fraction text.*: write "-3/2"'),
+        ):
+            for read in (reasons, checked):
+                with self.assertRaisesRegex(BadInput, sentence):
+                    read(json.dumps(line).encode(), where="s.json")
+        told = said({"number": 5, "refused": "Number"}, {"game": {"class": "airport", "costs": [1, 2.5]}})[0]
+        self.assertIn("$.game.costs[1] (the cost of player 2): 2.5 has a point", told)
+
     def test_what_is_refused(self) -> None:
         cases: list[tuple[bytes, Optional[bytes], str]] = [
             (b'{"answer":"yes","answer":"no"}', None, 'the key "answer" stands twice'),
@@ -305,7 +318,7 @@ class Reasons(unittest.TestCase):
             (b'{"number":8,"refused":"Estate"}', json.dumps({"game": AIRPORT}).encode(), "is it another one"),
             (b'{"number":99,"refused":"X"}', None, "no refusal"),
             (b'{"answer":"nucleolus","shares":[1]}', None, "no certificate"),
-            (json.dumps(solved(shares=[1, 2])).encode(), None, "shares has 2 items"),
+            (json.dumps(solved(shares=[1, 2])).encode(), None, "2 shares for 3 players"),
         ]
         for line, document, sentence in cases:
             with self.assertRaisesRegex(BadInput, sentence):
