@@ -10,6 +10,7 @@ from typing import Any, Iterable, Optional, Sequence
 
 from .errors import BadInput
 from .game import Game, numbers
+from .mail import spoilt
 from .names import safe
 
 MOST_BYTES = 1 << 26  # of a file: some documents of the 8 MB that the program takes
@@ -92,7 +93,7 @@ def parse(text: str, where: str) -> list[Any]:
         except BadInput as fault:
             raise BadInput(f"{where}: {fault}") from None
         except (ValueError, RecursionError) as fault:
-            raise BadInput(f"{where} is no JSON: {fault}") from None
+            raise BadInput(f"{where} is no JSON: {fault}{spoilt(text)}") from None
         trees.append(tree)
         rest = rest[end:].strip()
     return trees

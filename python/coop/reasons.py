@@ -10,6 +10,7 @@ from .documents import once
 from .errors import BadInput
 from .failures import failure
 from .game import Game, numbers
+from .mail import spoilt
 from .over import divided
 from .prose import filled
 from .sentences import Teller
@@ -60,7 +61,7 @@ def read(data: bytes, where: str) -> dict[str, Any]:
     except BadInput as fault:
         raise BadInput(f"{where}: {fault}") from None
     except (ValueError, RecursionError) as fault:
-        raise BadInput(f"{where} is no JSON: {fault}") from None
+        raise BadInput(f"{where} is no JSON: {fault}{spoilt(data.decode('utf-8', 'replace'))}") from None
     if type(tree) is not dict:
         raise BadInput(f"{where} is no object, as a document or a line is")
     return tree

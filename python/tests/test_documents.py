@@ -2,6 +2,7 @@
 import hashlib
 import json
 import os
+import quopri
 import tempfile
 import unittest
 import xml.etree.ElementTree as ElementTree
@@ -12,7 +13,7 @@ import coop
 from coop import BadInput
 from coop.documents import Point, points_in, read_documents, short_names
 from coop.pictures import picture
-from coop.reasons import checked
+from coop.reasons import checked, reasons
 from coop.report import report
 from coop.sameness import difference, game_of, told, verdict
 from coop.styles import Style
@@ -81,6 +82,30 @@ class Points(Files):
             self.points(twice)
         with self.assertRaisesRegex(BadInput, "2 shares for 3 players"):
             self.points(self.file("line", solved(), {"shares": [1, 2]}))
+
+
+class Mail(Files):
+    def test_what_mail_spoils_is_told(self) -> None:
+        """By the texts as they come: with > in front, broken, as quoted-printable, and below a greeting."""
+        line = json.dumps(solved())
+        halves = line[:60], line[60:]
+        spoilt_lines = {
+            f"> {halves[0]}\n> {halves[1]}\n": "put > in front of lines and broke its lines",
+            f"> {line}\n": "put > in front of lines): have it sent as a file",
+            quopri.encodestring(line.replace("light", "l=t").encode()).decode(): "quoted-printable",
+            line.replace("light", "li\nght"): "broke its lines",
+            f"Dear Ann,\n{line}\nYours, Ben\n": "put others around it",
+        }
+        for text, sentence in spoilt_lines.items():
+            for read in (lambda: game_of(self.file("line", text)), lambda: reasons(text.encode())):
+                with self.assertRaisesRegex(BadInput, "no JSON.*mail has spoilt it") as caught:
+                    read()
+                self.assertIn(sentence, str(caught.exception))
+                self.assertIn("button", str(caught.exception))
+        for text in ("", "{", "{'game':1}", "hello\nthere"):
+            with self.assertRaises(BadInput) as caught:
+                game_of(self.file("line", text))
+            self.assertNotIn("mail", str(caught.exception))
 
 
 class Sameness(Files):
