@@ -168,6 +168,11 @@ def points_in(documents: Sequence[Document], may_leave: bool = False) -> list[Po
     return numbered(labelled(points))
 
 
+def has_shares(documents: Sequence[Document]) -> bool:
+    """Whether one of the documents has shares."""
+    return any(key in document.tree for document in documents for key in ("shares", *KEYS))
+
+
 def shares_in(document: Document) -> Iterable[tuple[str, list[Fraction]]]:
     """The lists of shares of one document, each with its name."""
     if "shares" in document.tree:

@@ -34,5 +34,5 @@ def player(tree: Any, i: int) -> str:
     """The name of a player that is counted from 0, or else its number from 1."""
     game = tree.get("game") if type(tree) is dict else None
     names = game.get("names") if type(game) is dict else None
-    has_name = type(names) is list and i < len(names) and type(names[i]) is str and names[i]
-    return safe(names[i]) if has_name else f"player {i + 1}"
+    name = names[i] if isinstance(names, list) and i < len(names) else None
+    return safe(name) if isinstance(name, str) and name else f"player {i + 1}"

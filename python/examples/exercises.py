@@ -10,4 +10,4 @@ for number, (row, found) in enumerate(zip(worths, coop.many(("nucleolus", "shapl
     print(f"{number}. Ann, Ben, Cem, Ann+Ben, Ann+Cem, Ben+Cem and all three are worth {row}.")
     for answer in found:
         if isinstance(answer, (coop.Nucleolus, coop.Shapley)):
-            print(f"   {type(answer).__name__}: {', '.join(f'{name} {share}' for name, share in answer.shares.items())}")
+            print(f"   {type(answer).__name__}:", *(f"{name} {share}" for name, share in answer.shares.items()))

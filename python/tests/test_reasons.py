@@ -298,9 +298,10 @@ class Reasons(unittest.TestCase):
             (solved(shares=[1, "3/2", 3.5]), r'of heavy\): 3.5 has a point.*: write "7/2"'),
             (spoilt(1, excess="-1,5"), r'the excess of level 2\): "-1,5" is no fraction text.*: write "-3/2"'),
         ):
-            for read in (reasons, checked):
-                with self.assertRaisesRegex(BadInput, sentence):
-                    read(json.dumps(line).encode(), where="s.json")
+            with self.assertRaisesRegex(BadInput, sentence):
+                reasons(json.dumps(line).encode(), where="s.json")
+            with self.assertRaisesRegex(BadInput, sentence):
+                checked(json.dumps(line).encode(), "s.json")
         told = said({"number": 5, "refused": "Number"}, {"game": {"class": "airport", "costs": [1, 2.5]}})[0]
         self.assertIn("$.game.costs[1] (the cost of player 2): 2.5 has a point", told)
 
