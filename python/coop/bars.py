@@ -14,11 +14,10 @@ from .svg import (
     circle,
     clean,
     cut,
-    heading,
+    headed,
     line,
     number_column,
     number_text,
-    page,
     polygon,
     rectangle,
     text,
@@ -104,7 +103,6 @@ class Bars:
 
     def drawn(self) -> str:
         """The picture."""
-        self.parts += heading(self.game, self.title, self.style)
         top = self.draw_key() + 44
         bottom = top + self.row * self.game.n
         self.draw_axis(top, bottom)
@@ -114,7 +112,7 @@ class Bars:
         self.parts.append(line((self.left + LENGTH + GAP + 8, bottom + 1), (self.wide - 20, bottom + 1), 0.8))
         for right, numbers in zip(self.rights, self.numbers):
             self.parts.append(text(right, bottom + 19, numbers[-1], "end", weight="bold"))
-        return page(self.wide, bottom + 36, safe(self.title) or self.game.title(), self.parts)
+        return headed(self.game, self.title, self.style, self.wide, bottom + 36, self.parts)
 
     def draw_key(self) -> float:
         """What the bars and the marks are; gives where the key ends."""

@@ -10,7 +10,7 @@ from .levels import Level, Settled, Weights, is_split, level_of, reduced
 from .masks import is_alone, members
 from .prose import filled, with_items
 from .rules import rule_of
-from .styles import EXACT, Style
+from .styles import EXACT, Style, each
 
 SPLITS = (
     "At each of them one player alone, and all others together, are worst off of the groups that are still open. The "
@@ -18,7 +18,7 @@ SPLITS = (
     "settled what that player {gets}. In this order, with what the two groups {get}{per_head} {above} what they "
     "{alone} by themselves:"
 )
-ROUNDED = "(Numbers are rounded, and may not add up.)"
+ROUNDED = "(Numbers are rounded: the shares so that they add up; others may not.)"
 
 
 class Explainer:
@@ -27,6 +27,7 @@ class Explainer:
     def __init__(self, document: Any, say: Style = EXACT):
         self.game, self.answer, self.say = Game(document["game"]), document["answer"], say
         self.shares = [Fraction(share) for share in document["shares"]]
+        self.shown = each(self.shares, say)
         self.levels = [level_of(level) for level in document["certificate"]["levels"]]
         self.namer, self.settled = Namer(self.game), Settled(self.game.n)
         self.gets, self.get = ("pays", "pay") if self.game.costs else ("gets", "get")
@@ -68,17 +69,15 @@ class Explainer:
     def all_shares(self) -> str:
         """What each gets; of many players, those with equal shares together."""
         if self.game.n <= 12:
-            return ", ".join(f"{name}: {self.say(share)}" for name, share in zip(self.namer.names, self.shares))
-        equal = self.namer.equal(self.shares, range(self.game.n))
-        return "; ".join(
-            f"{self.namer.players(who, 64)}: {self.say(share)}{' each' * (len(who) > 1)}" for share, who in equal
-        )
+            return ", ".join(f"{name}: {share}" for name, share in zip(self.namer.names, self.shown))
+        equal = self.namer.equal(self.shares, self.shown, range(self.game.n))
+        return "; ".join(f"{self.namer.players(who, 64)}: {share}{' each' * (len(who) > 1)}" for share, who in equal)
 
     def what_they_get(self, ids: Iterable[int]) -> str:
         """What players get, equal shares together: "A gets 1; B and C get 2 each"."""
         parts = []
-        for share, who in self.namer.equal(self.shares, ids):
-            what = f"{self.get} {self.say(share)} each" if len(who) > 1 else f"{self.gets} {self.say(share)}"
+        for share, who in self.namer.equal(self.shares, self.shown, ids):
+            what = f"{self.get} {share} each" if len(who) > 1 else f"{self.gets} {share}"
             parts.append(f"{self.namer.players(who)} {what}")
         return "; ".join(parts)
 
@@ -101,7 +100,7 @@ class Explainer:
         for level in levels:
             i = next(members(group)[0] for group, _ in level.coalitions if is_alone(group))
             before.add(i)
-            items.append(f"{self.namer.names[i]} {self.gets} {self.say(self.shares[i])} ({self.say(-level.excess)})")
+            items.append(f"{self.namer.names[i]} {self.gets} {self.shown[i]} ({self.say(-level.excess)})")
             self.settled.add_level(level)
         text = with_items(f"Levels {start + 1} to {start + count}. {SPLITS.format(**words)}", items)
         if len(self.settled.players()) < self.game.n:

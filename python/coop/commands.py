@@ -11,7 +11,7 @@ from .amounts import MOST_SCALE
 from .errors import BadInput, CoopError
 from .game import Game
 from .names import visible, warning
-from .sheets import MARKS, SEPARATORS, Layout, notes
+from .sheets import MARKS, SEPARATORS, Cell, Layout, notes
 from .styles import MOST_PLACES, Style
 
 Output = Union[str, tuple[str, int]]
@@ -73,9 +73,9 @@ def layout_of(chosen: Any) -> Layout:
     return Layout(chosen.sep, chosen.decimal, chosen.head, getattr(chosen, "skip", 0))
 
 
-def say_notes(text: str, columns: int, layout: Layout) -> None:
+def say_notes(text: str, columns: int, layout: Layout, beside: Sequence[Cell] = ()) -> None:
     """Says on standard error what of a file may have been meant otherwise."""
-    for sentence in notes(text, columns, layout):
+    for sentence in notes(text, columns, layout, beside):
         say(sentence)
 
 

@@ -10,6 +10,7 @@ from typing import Any, Iterable, Optional, Sequence
 
 from .errors import BadInput
 from .game import Game, numbers
+from .mail import spoilt
 from .names import safe
 
 MOST_BYTES = 1 << 26  # of a file: some documents of the 8 MB that the program takes
@@ -92,7 +93,7 @@ def parse(text: str, where: str) -> list[Any]:
         except BadInput as fault:
             raise BadInput(f"{where}: {fault}") from None
         except (ValueError, RecursionError) as fault:
-            raise BadInput(f"{where} is no JSON: {fault}") from None
+            raise BadInput(f"{where} is no JSON: {fault}{spoilt(text)}") from None
         trees.append(tree)
         rest = rest[end:].strip()
     return trees
@@ -165,6 +166,11 @@ def points_in(documents: Sequence[Document], may_leave: bool = False) -> list[Po
         if len(point.shares) != players:
             raise BadInput(f"{point.name}: {len(point.shares)} shares for {players} players")
     return numbered(labelled(points))
+
+
+def has_shares(documents: Sequence[Document]) -> bool:
+    """Whether one of the documents has shares."""
+    return any(key in document.tree for document in documents for key in ("shares", *KEYS))
 
 
 def shares_in(document: Document) -> Iterable[tuple[str, list[Fraction]]]:

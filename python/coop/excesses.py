@@ -66,9 +66,14 @@ class Comparison:
         self.place = first_difference(*self.lists)
         self.pays, self.pay = ("pays", "pay") if game.costs else ("gets", "get")
 
+    def are_divisions(self) -> bool:
+        """Whether both share out the whole; else neither is better, for less to share out makes all lists greater."""
+        return all(sum(point.shares, Fraction(0)) == self.game.whole() for point in self.points)
+
     def better(self) -> Optional[Point]:
-        """The one whose list is less in the first place that differs."""
-        if self.place is None:
+        """The one whose list is less in the first place that differs; none where one of them doesn't share out the
+        whole."""
+        if self.place is None or not self.are_divisions():
             return None
         a, b = (some[self.place].excess for some in self.lists)
         return self.points[0] if a < b else self.points[1]
@@ -105,6 +110,8 @@ class Comparison:
 
     def verdict(self) -> list[str]:
         """Which of the two is better, and for whom the other is worse."""
+        if not self.are_divisions():
+            return ["So neither is better or worse: only divisions of the whole are compared by their lists."]
         better = self.better()
         if better is None or self.place is None:
             return ["Both have the same list of excesses."]

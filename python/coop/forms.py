@@ -5,7 +5,7 @@ from fractions import Fraction
 from typing import Any
 
 from .masks import mask_of
-from .refusals import FRACTION
+from .refusals import FRACTION, guessed
 from .shapes import brief
 from .slips import Refusal, need
 
@@ -57,11 +57,13 @@ def require_form(tree: Any, players: int, scale: int) -> None:
 def require_excess(text: str, place: str, scale: int) -> None:
     """An excess is a fraction text that fits, times the scale too."""
     value = Fraction(text) if FRACTION.fullmatch(text) else None
+    guess = guessed(text)
+    hint = f': write "{guess}"' if guess is not None and len(str(guess)) <= 40 else ""
     need(
         value is not None and str(value) == text,
         Refusal.Certificate,
         place,
-        f"{brief(text)} is no fraction text in lowest terms",
+        f"{brief(text)} is no fraction text in lowest terms{hint}",
     )
     for exact in (Fraction(text), Fraction(text) * scale):
         fits = -(2**127) <= exact.numerator < 2**127 and exact.denominator < 2**127

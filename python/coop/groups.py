@@ -99,9 +99,11 @@ class Namer:
             parts.append(f"{len(groups) - most} more groups, of {size} players")
         return parts
 
-    def equal(self, shares: Sequence[Fraction], ids: Iterable[int]) -> list[tuple[Fraction, list[int]]]:
-        """The players of each share: pairs of the share and a list of them."""
-        equal: dict[Fraction, list[int]] = {}
+    def equal(
+        self, shares: Sequence[Fraction], shown: Sequence[str], ids: Iterable[int]
+    ) -> list[tuple[str, list[int]]]:
+        """The players whose shares are equal and are shown alike: pairs of what is shown and a list of them."""
+        equal: dict[tuple[Fraction, str], list[int]] = {}
         for i in sorted(ids):
-            equal.setdefault(shares[i], []).append(i)
-        return list(equal.items())
+            equal.setdefault((shares[i], shown[i]), []).append(i)
+        return [(share, who) for (_, share), who in equal.items()]

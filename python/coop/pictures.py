@@ -4,7 +4,7 @@ from __future__ import annotations
 from typing import Optional, Sequence
 
 from .bars import bars
-from .documents import Point, without_measure
+from .documents import Document, Point, games_in, without_measure
 from .errors import BadInput
 from .game import Game
 from .styles import EXACT, Style
@@ -17,6 +17,16 @@ def game_of(points: Sequence[Point]) -> Game:
     if game is None:
         raise BadInput("no game: give the document beside the line")
     return game
+
+
+def core_alone(documents: Sequence[Document], title: str = "", style: Style = EXACT) -> str:
+    """The triangle with the core and no point, of documents of one game of three players."""
+    games = [game for _, game in games_in(documents)]
+    if not games or games[0].n != 3:
+        raise BadInput("no shares: give a line that has them, or a document with a proposal; of three a game will do")
+    if any(without_measure(game) != without_measure(games[0]) for game in games):
+        raise BadInput("no shares, and several games: the core alone is that of one")
+    return triangle(games[0], [], title, style)
 
 
 def picture(points: Sequence[Point], *, wants_bars: bool = False, title: str = "", style: Style = EXACT) -> str:

@@ -12,7 +12,8 @@ from . import filling, games
 from .errors import BadInput
 from .game import MOST_IN_A_TABLE, Game
 from .masks import mask_of, members
-from .sheets import AS_SEEN, HEAD, Layout, Row, amount_of, fixed_rows, rows_of_numbers
+from .names import looks, shown
+from .sheets import AS_SEEN, HEAD, Cell, Layout, Row, amount_of, by_mark, fixed_rows, rows_of_numbers
 from .vectors import in_mask_order
 
 
@@ -60,10 +61,20 @@ def names_of(rows: Sequence[tuple[Row, list[str]]]) -> list[str]:
     for row, group in rows:
         for member in group:
             if member not in names:
-                raise BadInput(f"line {row.line}: there is no line for {member} alone")
+                raise BadInput(f"line {row.line}: there is no line for {member} alone{look_alike(member, names)}")
     if len(names) > MOST_IN_A_TABLE:
         raise BadInput(f"{len(names)} players: a table has at most {MOST_IN_A_TABLE}")
     return games.checked_names(names)
+
+
+def look_alike(member: str, names: Sequence[str]) -> str:
+    """Which of the names a member that isn't among them may be meant for: one that looks like it, or that differs in
+    capitals alone."""
+    for name in names:
+        if looks(name) == looks(member):
+            return f", but one for {shown(name)}, which looks like it ({shown(member)}): is that the same player?"
+    near = next((name for name in names if name.casefold() == member.casefold()), None)
+    return f", but one for {near}: is that the same player?" if near else ""
 
 
 def once_each(rows: Sequence[tuple[Row, list[str], Fraction]], names: Sequence[str]) -> dict[int, Fraction]:
@@ -137,10 +148,20 @@ def left_out(text: str, layout: Layout) -> list[str]:
 
 
 def claims(text: str, estate: Any, *, digits: Optional[int] = None, layout: Layout = AS_SEEN) -> Game:
-    """An estate from lines of a name and a claim."""
-    rows = fixed_rows(text, 2, "Adler,1200.50", layout)
+    """An estate from lines of a name and a claim. An estate that is a text is read by the mark in front of decimals
+    that the claims have; where neither tells it surely, as 400.000, it is refused."""
+    rows = fixed_rows(text, 2, "Adler,1200.50", layout, estate_beside(estate))
     amounts = [amount_of(row, 1, digits, HEAD * (row is rows[0])) for row in rows]
-    return games.bankruptcy(estate, amounts, named_once(rows), digits=digits)
+    try:
+        whole = by_mark(estate.strip(), rows[0].mark, digits) if isinstance(estate, str) else estate
+    except BadInput as fault:
+        raise BadInput(f"the estate: {fault}") from None
+    return games.bankruptcy(whole, amounts, named_once(rows), digits=digits)
+
+
+def estate_beside(estate: Any) -> list[Cell]:
+    """What an estate tells of the mark in front of decimals, with its place."""
+    return [("the estate", estate.strip())] if isinstance(estate, str) else []
 
 
 def landings(text: str, *, digits: Optional[int] = None, layout: Layout = AS_SEEN) -> Game:

@@ -10,6 +10,7 @@ from .documents import once
 from .errors import BadInput
 from .failures import failure
 from .game import Game, numbers
+from .mail import spoilt
 from .over import divided
 from .prose import filled
 from .sentences import Teller
@@ -29,7 +30,7 @@ def reasons(
     if "refused" in tree:
         return refusal(tree, document) + "\n", 0
     if tree.get("answer") in CHECKED:
-        return certificate(line, tree, say, over)
+        return certificate(line, tree, say, over, where)
     tree = divided(tree, over)
     beside = divided(read(document, "the document"), over) if document is not None else tree
     if tree.get("answer") == "no":
@@ -60,7 +61,7 @@ def read(data: bytes, where: str) -> dict[str, Any]:
     except BadInput as fault:
         raise BadInput(f"{where}: {fault}") from None
     except (ValueError, RecursionError) as fault:
-        raise BadInput(f"{where} is no JSON: {fault}") from None
+        raise BadInput(f"{where} is no JSON: {fault}{spoilt(data.decode('utf-8', 'replace'))}") from None
     if type(tree) is not dict:
         raise BadInput(f"{where} is no object, as a document or a line is")
     return tree
@@ -73,17 +74,28 @@ def checked(line: bytes, where: str) -> dict[str, Any]:
         raise BadInput(f"{where}: the program answered {json.dumps(tree)}")
     if tree.get("answer") not in CHECKED or "certificate" not in tree:
         raise BadInput(f"{where} is no line of nucleolus or prenucleolus, with its certificate")
-    verdict = checking.verdict(line)
+    verdict = verdict_on(line, where)
     if verdict["answer"] == "no":
         raise BadInput(f"the certificate fails: {' '.join(failure(verdict, tree).split())}")
     return tree
 
 
-def certificate(line: bytes, tree: dict[str, Any], say: Style, over: int) -> tuple[str, int]:
+def verdict_on(line: bytes, where: str) -> dict[str, Any]:
+    """The verdict on a line. Of a line that isn't one to check its slip is told, with its place and what to write."""
+    try:
+        return checking.verdict(line)
+    except BadInput:
+        slip = slip_in(line, "check")
+        if slip is None:
+            raise
+        raise BadInput(f"{where}: {slip}") from None
+
+
+def certificate(line: bytes, tree: dict[str, Any], say: Style, over: int, where: str) -> tuple[str, int]:
     """A certificate, once it was checked; or the condition that it fails. Amounts are told over a number."""
     if "certificate" not in tree:
         raise BadInput("the line has no certificate to explain")
-    verdict = checking.verdict(line)
+    verdict = verdict_on(line, where)
     tree = divided(tree, over)
     if verdict["answer"] == "no":
         return failure(verdict, tree, say) + "\n", 1

@@ -227,7 +227,7 @@ def coalitions(game: Any, players: int) -> None:
             need(player not in ids, Refusal.Coalition, place, f"{brief(member)} stands twice in {brief(coalition)}")
             ids.append(player)
         first = seen.setdefault(frozenset(ids), i)
-        need(first == i, Refusal.Coalition, place, f"{brief(coalition)} stands in item {first} already")
+        need(first == i, Refusal.Coalition, place, f"{brief(coalition)} stands in item {first + 1} already")
 
 
 # ---- What a class asks

@@ -8,8 +8,8 @@ from fractions import Fraction
 from typing import Optional, Sequence
 
 from .game import Game
-from .groups import Namer
-from .styles import EXACT, Style
+from .groups import Namer, enumerated
+from .styles import EXACT, Style, each
 
 LITTLECHILD = (
     "The rule (Littlechild). The players come in the order of their costs. At each step the cost of a runway for them, "
@@ -51,7 +51,7 @@ def parts(done: int, end: int, players: int) -> int:
 
 def airport_rule(game: Game, shares: Sequence[Fraction], namer: Namer, say: Style) -> list[str]:
     """Littlechild's scheme."""
-    teller, items = AirportTeller(game, namer, say), []
+    teller, items = AirportTeller(game, namer, say, each(shares, say)), []
     for who, part in airport_steps(game.amounts):
         if any(shares[i] != part for i in who):
             return []
@@ -62,24 +62,35 @@ def airport_rule(game: Game, shares: Sequence[Fraction], namer: Namer, say: Styl
 class AirportTeller:
     """Tells step by step: how many have paid, what they paid together, and what each of the last step paid."""
 
-    def __init__(self, game: Game, namer: Namer, say: Style):
-        self.game, self.namer, self.say = game, namer, say
+    def __init__(self, game: Game, namer: Namer, say: Style, shown: Sequence[str]):
+        self.game, self.namer, self.say, self.shown = game, namer, say, shown
         self.done, self.paid = 0, Fraction(0)
         self.before: Optional[Fraction] = None
 
     def step(self, who: list[int], part: Fraction) -> str:
         """The sentence of a step, which is done then."""
-        say, done, end, several = self.say, self.done, self.done + len(who), len(who) > 1
-        text = f"{self.namer.players(who)} {'pay' if several else 'pays'} {say(part)}" + " each" * several
+        say, done, end = self.say, self.done, self.done + len(who)
+        same = [part] * self.game.n  # all of a step
+        text = enumerated([self.what_they_pay(some, share) for share, some in self.namer.equal(same, self.shown, who)])
         if self.before is not None and part > self.before:
-            text += f" ({say(part - self.before)} more)"
+            text += f" ({self.difference(part, self.before)} more)"
         text += f": {runway(done, end, self.game.n)} {say(self.game.amounts[who[-1]])}"
         if done:
             left = self.game.amounts[who[-1]] - self.paid
-            text += f", {those_before(done)} {'pays' if done == 1 else 'pay'} {say(self.paid)}, "
-            text += f"and {say(left)} {'is' if left == 1 else 'are'} left"
+            text += f", {those_before(done)} {'pays' if done == 1 else 'pay'} {say.about(self.paid)}, "
+            text += f"and {say.about(left)} {'is' if left == 1 else 'are'} left"
         self.done, self.paid, self.before = end, self.paid + part * len(who), part
         return text + self.division(done, end) + "."
+
+    def what_they_pay(self, who: Sequence[int], share: str) -> str:
+        """What some of a step pay, each as the share is shown."""
+        several = len(who) > 1
+        return f"{self.namer.players(who)} {'pay' if several else 'pays'} {share}" + " each" * several
+
+    def difference(self, last: Fraction, first: Fraction) -> str:
+        """By how much a share is above another: about, where one of them is rounded."""
+        is_about = self.say.is_rounded(last) or self.say.is_rounded(first)
+        return "about " * is_about + self.say(last - first)
 
     def division(self, done: int, end: int) -> str:
         """How what is left is divided."""
@@ -144,11 +155,11 @@ def estate_rule(game: Game, shares: Sequence[Fraction], namer: Namer, say: Style
         + f": together {f'the {say(amount)} that the estate lacks' if lacking else say(amount)}."
         + by_proportion(game, shares, say)
     )
-    items = [first]
+    items, shown = [first], each(shares, say)
     uncut = [i for i in range(game.n) if i not in capped]
-    for ids, what in ((uncut, f"{verb} half"), (capped, f"{verb} {say(t)}, as half of the claim is more")):
+    for ids, what in ((uncut, f"{verb} half"), (capped, f"{verb} {say.about(t)}, as half of the claim is more")):
         if ids:
-            claimants = [claimant(namer.names[i], claims[i], halves[i], lacking, say) for i in ids]
+            claimants = [claimant(namer.names[i], claims[i], halves[i], lacking, say, shown[i]) for i in ids]
             items.append(f"{what}: {'; '.join(claimants)}.")
     others = sum((halves[i] for i in uncut), Fraction(0))
     return items + [whence(t, amount, others, len(capped), say)] * (len(capped) > 1 or bool(capped and others))
@@ -171,7 +182,14 @@ def by_proportion(game: Game, shares: Sequence[Fraction], say: Style) -> str:
     return f" That isn't the division in proportion to the claims, by which each would get {told} of its {claim}."
 
 
-def claimant(name: str, claim: Fraction, part: Fraction, lacking: bool, say: Style) -> str:
-    """A claimant with half of its claim, and where it loses that, with what is left."""
-    left = f", and {say(claim)} - {say(part)} = {say(claim - part)} is left" * lacking
-    return f"{name} (half of {say(claim)} is {say(claim / 2)}{left})"
+def claimant(name: str, claim: Fraction, part: Fraction, lacking: bool, say: Style, share: str) -> str:
+    """A claimant with half of its claim, and where it loses that, with what is left: its share, as it is shown. Where
+    that isn't the half and is rounded it is told beside it."""
+    half = share if not lacking and 2 * part == claim else say(claim / 2)
+    if lacking and say.is_rounded(part):
+        left = f", and {say(claim)} less about {say(part)} leaves {share}"
+    elif lacking:
+        left = f", and {say(claim)} - {say(part)} = {share} is left"
+    else:
+        left = f", and it gets {share}" * (half != share and say.is_rounded(part))
+    return f"{name} (half of {say(claim)} is {half}{left})"

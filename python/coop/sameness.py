@@ -9,12 +9,14 @@ import json
 from fractions import Fraction
 from typing import Any, Iterator, NamedTuple, Optional, Sequence
 
+from .amounts import written
 from .documents import read_documents
 from .errors import BadInput
 from .game import KINDS, LISTS, SINGLE, Game
 from .groups import Namer
 from .masks import members
 from .names import looks, safe, shown
+from .variants import parts_of
 
 SPELLINGS = {"version", "excess", "players", "worths", "sparse", "default"}  # which may differ where the game doesn't
 MOST_TOLD = 10  # differences
@@ -70,8 +72,8 @@ def difference(first: Any, second: Any, place: str = "game") -> Optional[Differe
 # ---- As the program reads them
 
 
-def differences(first: Game, second: Game) -> Iterator[Difference]:
-    """All in which two games differ, each number by its player or its group."""
+def differences(first: Game, second: Game, counted: bool = True) -> Iterator[Difference]:
+    """All in which two games differ, each number by its player or its group, and where counted by its place too."""
     if first.kind != second.kind:
         yield Difference("the class", first.kind, second.kind)
     elif first.n != second.n or first.kind == "assignment" and len(first.rows) != len(second.rows):
@@ -82,7 +84,7 @@ def differences(first: Game, second: Game) -> Iterator[Difference]:
             words = {False: "plain", True: "per head"}
             yield Difference("the excess", words[first.per_head], words[second.per_head])
         yield from other_names(first, second)
-        for (place, a), (_, b) in zip(numbers_of(second, first), numbers_of(second, second)):
+        for (place, a), (_, b) in zip(numbers_of(second, first, counted), numbers_of(second, second, counted)):
             if a != b:
                 yield Difference(place, str(a), str(b))
 
@@ -113,8 +115,9 @@ def other_names(first: Game, second: Game) -> Iterator[Difference]:
             yield Difference(f"the name of player {i + 1}", safe(a), safe(b))
 
 
-def numbers_of(named: Game, game: Game) -> Iterator[tuple[str, Fraction]]:
-    """Each number of a game with its place, by the names of a game that has as many players."""
+def numbers_of(named: Game, game: Game, counted: bool = True) -> Iterator[tuple[str, Fraction]]:
+    """Each number of a game with its place, by the names of a game that has as many players. Where counted it is told
+    as which item it stands there."""
     namer = Namer(named)
     if game.is_table:
         what = "cost" if game.costs else "worth"
@@ -125,37 +128,73 @@ def numbers_of(named: Game, game: Game) -> Iterator[tuple[str, Fraction]]:
         if game.kind in SINGLE:
             yield f"the {SINGLE[game.kind]}", game.single
         for i, amount in enumerate(game.amounts):
-            yield f"the {what} of {namer.names[i]}" + f" (item {i + 1})" * named.named, amount
+            yield f"the {what} of {namer.names[i]}" + f" (item {i + 1})" * (named.named and counted), amount
     else:
         points = ["the source", *namer.names] if game.kind == "tree" else namer.names[len(game.rows) :]
         rows = points if game.kind == "tree" else namer.names
         for i, row in enumerate(game.rows):
             for j, amount in enumerate(row):
-                yield f"the entry of {rows[i]} and {points[j]} (row {i + 1}, column {j + 1})", amount
+                where = f" (row {i + 1}, column {j + 1})" * counted
+                yield f"the entry of {rows[i]} and {points[j]}{where}", amount
 
 
-def in_another_order(first: Game, second: Game) -> bool:
-    """Whether the same players have the same numbers in lists, in another order."""
-    if first.kind != second.kind or first.kind not in LISTS or not (first.named and second.named):
-        return False
-    single = [game.single if game.kind in SINGLE else None for game in (first, second)]
-    pairs = [dict(zip(game.names, game.amounts)) for game in (first, second)]
-    return first.names != second.names and pairs[0] == pairs[1] and single[0] == single[1]
+def in_order_of(game: Game, other: Game) -> Optional[Game]:
+    """The game with its players in the order of another game, whose players are the same by name; None where they
+    aren't, where they stand in that order already, and where a buyer is a seller there."""
+    are_named = game.named and other.named and len(set(game.names)) == game.n
+    if game.kind != other.kind or not are_named or game.names == other.names:
+        return None
+    if sorted(game.names) != sorted(other.names):
+        return None
+    order = [game.names.index(name) for name in other.names]
+    if game.kind in ("assignment", "market"):
+        buyers = len(game.rows)
+        if len(other.rows) != buyers or sorted(order[:buyers]) != list(range(buyers)):
+            return None
+    kept = {key: part for key, part in game.tree.items() if key not in ("sparse", "default")}
+    return Game({**kept, **as_written(parts_of(game, order)), "names": other.names})
+
+
+def as_written(tree: Any) -> Any:
+    """Parts of a game as a document has them."""
+    if isinstance(tree, dict):
+        return {key: as_written(part) for key, part in tree.items()}
+    if isinstance(tree, list):
+        return [as_written(part) for part in tree]
+    return written(tree) if isinstance(tree, Fraction) else tree
 
 
 def verdict(line: Game, agreed: Game) -> tuple[str, bool]:
     """The sentences on a line's game and the agreed one, and whether they are the same."""
+    moved = in_order_of(line, agreed)
+    if moved:
+        return told_by_name(line, moved, agreed), False
     found = list(differences(line, agreed))
     if not found:
         spelling = difference(line.tree, agreed.tree)
         how = f", though written otherwise (at {spelling.place})" if spelling else ""
         return f"the same game{how}:\n{told(agreed)}", True
     head = f"another game, by {len(found)} differences:\n" if len(found) > 1 else "another game:\n"
-    if in_another_order(line, agreed):
-        head = "the same numbers by name, but the players stand in another order:\n"
+    return head + listed(found), False
+
+
+def told_by_name(line: Game, moved: Game, agreed: Game) -> str:
+    """The sentences on a line's game whose players stand in another order than the agreed ones. Its numbers are
+    compared by name."""
+    pairs = enumerate(zip(line.names, agreed.names), 1)
+    places = [Difference(f"player {i}", safe(a), safe(b)) for i, (a, b) in pairs if a != b]
+    found = list(differences(moved, agreed, counted=False))
+    if not found:
+        return "the same numbers by name, but the players stand in another order:\n" + listed(places)
+    head = f"another game, by {len(found)} difference{'s' * (len(found) > 1)} by name:\n"
+    return head + listed(found) + "and the players stand in another order:\n" + listed(places)
+
+
+def listed(found: Sequence[Difference]) -> str:
+    """A row for each difference, to ten."""
     lines = [f"  {one.place}: {one.first} in the line, {one.second} in the agreed document" for one in found]
     more = [f"  and {len(lines) - MOST_TOLD} more"] * (len(lines) > MOST_TOLD)
-    return head + "".join(f"{text}\n" for text in [*lines[:MOST_TOLD], *more]), False
+    return "".join(f"{text}\n" for text in [*lines[:MOST_TOLD], *more])
 
 
 # ---- What was compared

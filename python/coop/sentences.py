@@ -10,7 +10,7 @@ from .game import KINDS, Game, number, numbers
 from .groups import Namer, times
 from .levels import group_of
 from .prose import filled, with_items
-from .styles import EXACT, Style
+from .styles import EXACT, Style, each
 
 USAGES = {
     "class": "The command doesn't serve the class of this game.",
@@ -75,17 +75,19 @@ class Teller:
         """What a group gets by the shares, where these are there."""
         if self.shares is None:
             return ""
-        total = self.say(sum((self.shares[player - 1] for player in players), Fraction(0)))
+        alone = each(self.shares, self.say)[players[0] - 1] if len(players) == 1 else ""
+        total = alone or self.say(sum((self.shares[player - 1] for player in players), Fraction(0)))
         it, verb = ("It", self.pays) if len(players) == 1 else ("They", self.pay)
         return f" {it} {verb} {total}{self.own(players)}."
 
     def all_shares(self, tree: Any) -> list[str]:
         """An item for each player's share; of many players, those with equal shares together."""
         shares = numbers(tree, "shares")
+        shown = each(shares, self.say)
         if self.namer is None or len(shares) <= 12:
-            return [f"{self.player(i + 1)}: {self.say(share)}" for i, share in enumerate(shares)]
-        equal = self.namer.equal(shares, range(len(shares)))
-        return [f"{self.namer.players(who, 64)}: {self.say(share)}" + " each" * (len(who) > 1) for share, who in equal]
+            return [f"{self.player(i + 1)}: {share}" for i, share in enumerate(shown)]
+        equal = self.namer.equal(shares, shown, range(len(shares)))
+        return [f"{self.namer.players(who, 64)}: {share}" + " each" * (len(who) > 1) for share, who in equal]
 
     # ---- Answers
 

@@ -6,6 +6,7 @@ Where the numbers of a file don't tell which, as 480.000, the mark has to be nam
 from __future__ import annotations
 
 import csv
+import io
 import re
 from dataclasses import dataclass, replace
 from fractions import Fraction
@@ -19,6 +20,10 @@ MARKS = {"point": ".", "comma": ","}
 OTHER = {".": ",", ",": "."}
 NUMBER = re.compile(r"-?([0-9]+)((?:[.,][0-9]+)+)(?:[eE][-+]?[0-9]+)?")
 HEAD = "; a line of headings is left out by --head"
+
+
+Cell = tuple[str, str]
+"""Where a number stands, as "line 3" or "the estate", and its text."""
 
 
 class Row(NamedTuple):
@@ -48,8 +53,8 @@ AS_SEEN = Layout()
 
 
 def cells_of(text: str, separator: str) -> Iterator[Row]:
-    """The rows of a text that aren't empty."""
-    reader = csv.reader(text.splitlines(), delimiter=separator, skipinitialspace=separator == " ")
+    """The rows of a text that aren't empty. A break within quotes stays in its cell."""
+    reader = csv.reader(io.StringIO(text, newline=""), delimiter=separator, skipinitialspace=separator == " ")
     try:
         for cells in reader:
             if any(cell.strip() for cell in cells):
@@ -77,8 +82,9 @@ def without_names(rows: list[Row], layout: Layout) -> tuple[list[Row], Layout]:
     return [Row(row.line, row.cells[layout.skip :]) for row in kept], layout
 
 
-def fixed_rows(text: str, columns: int, example: str, layout: Layout) -> list[Row]:
-    """The rows of a text, each of so many cells, as the example has them, with the number in the second."""
+def fixed_rows(text: str, columns: int, example: str, layout: Layout, beside: Sequence[Cell] = ()) -> list[Row]:
+    """The rows of a text, each of so many cells, as the example has them, with the number in the second. What is given
+    beside the file, as an estate, tells the mark in front of decimals too."""
     sign = SEPARATORS[layout.separator] if layout.separator else separator_of(text, columns)
     rows = list(cells_of(text, sign))
     for row in rows:
@@ -91,7 +97,7 @@ def fixed_rows(text: str, columns: int, example: str, layout: Layout) -> list[Ro
     rows = rows[1:] if layout.has_head else rows
     if not rows:
         raise BadInput("there is no line")
-    return marked(rows, [(row.line, row.cells[1]) for row in rows], sign, layout)
+    return marked(rows, [(f"line {row.line}", row.cells[1]) for row in rows], sign, layout, beside)
 
 
 def rows_of_numbers(text: str, layout: Layout) -> tuple[list[Row], Layout]:
@@ -100,41 +106,63 @@ def rows_of_numbers(text: str, layout: Layout) -> tuple[list[Row], Layout]:
     rows, found = without_names(list(cells_of(text, sign)), layout)
     if not rows:
         raise BadInput("there is no line")
-    return marked(rows, [(row.line, cell) for row in rows for cell in row.cells], sign, layout), found
+    return marked(rows, [(f"line {row.line}", cell) for row in rows for cell in row.cells], sign, layout), found
 
 
 # ---- Decimals
 
 
-def marked(rows: Sequence[Row], cells: Sequence[tuple[int, str]], sign: str, layout: Layout) -> list[Row]:
-    """The rows with the mark in front of decimals, which the numbers tell that stand in these cells."""
+def marked(
+    rows: Sequence[Row], cells: Sequence[Cell], sign: str, layout: Layout, beside: Sequence[Cell] = ()
+) -> list[Row]:
+    """The rows with the mark in front of decimals, which the numbers tell that stand in these cells and beside them."""
     if layout.decimal:
         mark = MARKS[layout.decimal]
     else:
-        mark = "." if sign == "," and not any("," in cell for _, cell in cells) else mark_in(cells)
+        has_points = sign == "," and not any("," in cell for _, cell in cells)
+        is_told = not has_points or any(NUMBER.fullmatch(cell) for _, cell in beside)
+        mark = mark_in([*cells, *beside]) if is_told else "."
     return [Row(row.line, row.cells, mark) for row in rows]
 
 
-def mark_in(cells: Sequence[tuple[int, str]]) -> str:
+def mark_in(cells: Sequence[Cell]) -> str:
     """The mark in front of decimals that the numbers tell; a refusal where they tell two, or none surely."""
-    found: dict[str, tuple[int, str]] = {}
-    unsure: Optional[tuple[int, str]] = None
-    for line, cell in cells:
+    found: dict[str, Cell] = {}
+    unsure: Optional[Cell] = None
+    for place, cell in cells:
         match = NUMBER.fullmatch(cell)
         mark = told_by(match[1], match[2]) if match else None
         if mark:
-            found.setdefault(mark, (line, cell))
+            found.setdefault(mark, (place, cell))
         elif match:
-            unsure = unsure or (line, cell)
+            unsure = unsure or (place, cell)
     if len(found) > 1:
         (a, one), (b, other) = found.values()
-        raise BadInput(f"{one} in line {a} and {other} in line {b} have two marks in front of decimals")
+        raise BadInput(f"{one} in {a} and {other} in {b} have two marks in front of decimals")
     if not found and unsure:
-        line, cell = unsure
-        part, whole = cell.replace(",", ".").rstrip("0").rstrip("."), re.sub("[.,]", "", cell)
+        place, cell = unsure
+        part, whole = two_ways(cell)
         advice = "name the mark in front of decimals (--decimal point, or comma)"
-        raise BadInput(f"line {line}: {cell} may be {part} or {whole}: {advice}")
+        raise BadInput(f"{place}: {cell} may be {part} or {whole}: {advice}")
     return next(iter(found), ".")
+
+
+def two_ways(cell: str) -> tuple[str, str]:
+    """A number whose one mark stands in front of three digits, by that as a decimal and as a whole number."""
+    return cell.replace(",", ".").rstrip("0").rstrip("."), re.sub("[.,]", "", cell)
+
+
+def typed(word: str, what: str) -> Fraction:
+    """A number that is typed beside a document, where nothing tells which mark stands in front of decimals: one that
+    may be read in two ways is refused."""
+    match = NUMBER.fullmatch(word.strip())
+    if match and told_by(match[1], match[2]) is None:
+        part, whole = two_ways(word.strip())
+        raise BadInput(f"{what}: {word} may be {part} or {whole}: write {Fraction(part)} or {whole}")
+    try:
+        return fraction_of(word)
+    except BadInput as fault:
+        raise BadInput(f"{what}: {fault}") from None
 
 
 def told_by(first: str, rest: str) -> Optional[str]:
@@ -150,23 +178,28 @@ def told_by(first: str, rest: str) -> Optional[str]:
 
 def amount_of(row: Row, place: int, digits: Optional[int], hint: str = "") -> Fraction:
     """The number of a cell."""
-    cell, other = row.cells[place], OTHER[row.mark]
-    if re.fullmatch(rf"-?[0-9]{{1,3}}([{other}][0-9]{{3}})+([{row.mark}][0-9]+)?", cell):
-        cell = cell.replace(other, "")
-    elif row.mark == "," and "." in cell:
-        raise BadInput(f"line {row.line}: {cell!r} is no number with a comma in front of decimals")
     try:
-        return fraction_of(cell.replace(",", ".") if row.mark == "," else cell, digits)
+        return by_mark(row.cells[place], row.mark, digits)
     except BadInput as fault:
         raise BadInput(f"line {row.line}: {fault}{hint}") from None
+
+
+def by_mark(cell: str, mark: str, digits: Optional[int]) -> Fraction:
+    """The number of a text, by the mark in front of decimals."""
+    other = OTHER[mark]
+    if re.fullmatch(rf"-?[0-9]{{1,3}}([{other}][0-9]{{3}})+([{mark}][0-9]+)?", cell):
+        cell = cell.replace(other, "")
+    elif mark == "," and "." in cell:
+        raise BadInput(f"{cell!r} is no number with a comma in front of decimals")
+    return fraction_of(cell.replace(",", ".") if mark == "," else cell, digits)
 
 
 # ---- What is worth a word
 
 
-def notes(text: str, columns: int, layout: Layout) -> list[str]:
+def notes(text: str, columns: int, layout: Layout, beside: Sequence[Cell] = ()) -> list[str]:
     """What a reader may have meant otherwise: points in front of three decimals, and a last row that has the sum."""
-    rows = fixed_rows(text, columns, "", layout)
+    rows = fixed_rows(text, columns, "", layout, beside)
     cells = [row.cells[1] for row in rows]
     pointed = [cell for cell in cells if "." in cell]
     told = []

@@ -7,11 +7,12 @@ from __future__ import annotations
 
 import json
 import re
-from dataclasses import dataclass
+from dataclasses import dataclass, replace
 from enum import IntEnum
 from typing import Any, Iterator, Optional
 
 from .names import visible
+from .places import in_words
 
 
 class Refusal(IntEnum):
@@ -57,11 +58,12 @@ STRING = re.compile(r'"(?:[^"\\]|\\.)*"', re.DOTALL)
 
 @dataclass(frozen=True)
 class Slip:
-    """A slip: the refusal's number, its place, and what is wrong there."""
+    """A slip: the refusal's number, its place, what is wrong there, and whose number the place is, counted from 1."""
 
     number: int
     place: str
     sentence: str
+    whose: str = ""
 
     @property
     def name(self) -> str:
@@ -69,7 +71,7 @@ class Slip:
         return NAMES[self.number]
 
     def __str__(self) -> str:
-        return visible(f"{self.place}: {self.sentence}")
+        return visible(self.place + f" ({self.whose})" * bool(self.whose) + f": {self.sentence}")
 
 
 class Found(Exception):
@@ -91,7 +93,7 @@ def slip_in(data: bytes, command: str = "nucleolus") -> Optional[Slip]:
     from .refusals import refuse
     from .shapes import require_shape
 
-    needs = NEEDS.get(command, GAME)
+    needs, tree = NEEDS.get(command, GAME), None
     try:
         most = MOST_TO_CHECK if command == "check" else MOST_BYTES
         need(
@@ -104,7 +106,7 @@ def slip_in(data: bytes, command: str = "nucleolus") -> Optional[Slip]:
         require_shape(tree, needs)
         refuse(tree, needs)
     except Found as found:
-        return found.slip
+        return replace(found.slip, whose=in_words(found.slip.place, tree))
     return None
 
 

@@ -26,6 +26,10 @@ class Style:
         """What stands behind each number."""
         return f" {self.unit}" if self.unit else ""
 
+    def about(self, value: Fraction) -> str:
+        """The number in this style, as one that others on the paper may not give: "about" where it is rounded."""
+        return "about " * self.is_rounded(value) + self(value)
+
     def is_rounded(self, value: Fraction) -> bool:
         """Whether the number shown isn't the exact one."""
         return self.places is not None and (value * 10**self.places).denominator > 1
@@ -59,6 +63,11 @@ def rounded(shares: Sequence[Fraction], places: int) -> list[int]:
     for i in sorted(range(len(steps)), key=lambda i: steps[i] - exact[i])[:lacking]:
         steps[i] += 1
     return steps
+
+
+def each(shares: Sequence[Fraction], style: Style) -> list[str]:
+    """The shares as texts. Decimals are rounded so that they add up, so equal ones may differ in the last place."""
+    return column(shares, style)[:-1]
 
 
 def column(shares: Sequence[Fraction], style: Style) -> list[str]:

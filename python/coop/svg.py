@@ -87,10 +87,28 @@ def text_on_white(x: float, y: float, words: str, anchor: str) -> str:
     return under + text(x, y, words, anchor)
 
 
-def heading(game: Game, title: str = "", style: Style = EXACT) -> list[str]:
-    """The title of a picture, and what all are worth or cost below it."""
+def headed(game: Game, title: str, style: Style, wide: float, high: float, parts: Sequence[str]) -> str:
+    """The whole picture below its title, which takes as many lines as it needs, and what all are worth or cost."""
+    name = safe(title) or game.title()
+    rows = wrapped(name, (wide - 40) / 1.12, 17)
+    heads = [text(20, 30 + 20 * k, row, size=17, weight="bold") for k, row in enumerate(rows)]
     below = f"all together: {number_text(game.whole(), style)}" + ", excess per head" * game.per_head
-    return [text(20, 30, safe(title) or game.title(), size=17, weight="bold"), text(20, 50, below, color="#444")]
+    lower, rest = 20 * (len(rows) - 1), [text(20, 50, below, color="#444"), *parts]
+    if lower:
+        rest = [f'<g transform="translate(0 {lower})">', *rest, "</g>"]
+    return page(wide, high + lower, name, [*heads, *rest])
+
+
+def wrapped(words: str, room: float, size: float = SIZE) -> list[str]:
+    """A text in rows that aren't wider than the room; a longer word is cut."""
+    rows: list[str] = []
+    for word in words.split():
+        longer = f"{rows[-1]} {word}" if rows else word
+        if rows and width(longer, size) <= room:
+            rows[-1] = longer
+        else:
+            rows.append(cut(word, room, size))
+    return rows or [words]
 
 
 def line(start: Place, end: Place, thick: float = 1.0, dash: str = "", color: str = "#000") -> str:

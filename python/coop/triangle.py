@@ -15,7 +15,7 @@ from .game import Game
 from .masks import members
 from .names import safe
 from .styles import EXACT, Style
-from .svg import Place, circle, cut, heading, line, mark, number_column, number_text, page, polygon, text, text_on_white
+from .svg import Place, circle, cut, headed, line, mark, number_column, number_text, polygon, text, text_on_white
 from .svg import widest, width
 
 SIDE, TOP = 440, 118
@@ -137,7 +137,6 @@ class Triangle:
 
     def drawn(self) -> str:
         """The picture."""
-        self.parts += heading(self.game, self.title, self.style)
         core = self.core()
         self.draw_core(core)
         self.draw_frame()
@@ -146,7 +145,7 @@ class Triangle:
         kinds = self.draw_points()
         bottom = self.draw_table(kinds)
         bottom = self.draw_notes(bottom + 32, self.notes(core))
-        return page(self.wide, bottom, safe(self.title) or self.game.title(), self.parts)
+        return headed(self.game, self.title, self.style, self.wide, bottom, self.parts)
 
     def core(self) -> list[Division]:
         """The corners of the core: the frame's triangle, cut at the line of each group."""
@@ -246,9 +245,11 @@ class Triangle:
                 value = ", ".join(self.number(self.sign * share) for share in x)
                 self.parts.append(text(cx, cy, self.names[i], "middle", 14, "bold"))
                 self.parts.append(text(cx, cy + 17, value, "middle", 12, color="#444"))
+                self.taken += [box_of(cx, cy, [self.names[i]], "middle"), box_of(cx, cy + 17, [value], "middle")]
             else:
                 dx, dy, anchor = ((-10, 5, "end"), (10, 5, "start"), (0, -10, "middle"))[i]
                 self.parts.append(text(cx + dx, cy + dy, self.names[i], anchor, 14, "bold"))
+                self.taken.append(box_of(cx + dx, cy + dy, [self.names[i]], anchor))
 
     def draw_points(self) -> list[int]:
         """The points; those on one spot share a mark. Gives the kind of mark of each point."""
@@ -278,6 +279,8 @@ class Triangle:
     def draw_table(self, kinds: list[int]) -> float:
         """The shares of each point; gives where the table ends."""
         y = max([TOP + HIGH + 48] + [box[3] for box in self.taken]) + 30
+        if not self.points:
+            return y - 30
         first = widest(point.name for point in self.points) + 40
         rows = [number_column(point.shares, self.style) for point in self.points]
         columns = []
@@ -302,6 +305,7 @@ class Triangle:
         nearer = "pays the less" if self.game.costs else "gets the more"
         notes = [f"The core is {grey}. Dashed: a pair {own}.{sides}"]
         notes.append(f"A player {nearer}, the nearer a point is to its corner.")
+        notes += ["No shares are given: this is the core alone."] * (not self.points)
         if not self.is_imputations:
             notes.append(f"Solid: a player {alone}; {self.imputations()}.")
         notes += [f"{short}: {name}" for short, name in zip(self.names, map(safe, self.game.names)) if short != name]

@@ -96,6 +96,15 @@ class Scripts(unittest.TestCase):
         self.refused(script("from-claims", "--estate", "9", text="A;480.000\n"), "480 or 480000", "--decimal")
         found = script("from-claims", "--estate", "9", "--decimal", "comma", "--head", text="Name;Claim\nA;480.000\n")
         self.assertEqual(json.loads(found[1])["game"]["claims"], [480000])
+        broken = script("from-claims", "--estate", "100", text='A;100\n"Brandt\n999";200\n')
+        self.assertEqual(json.loads(broken[1])["game"]["names"], ["A", "Brandt\n999"])
+        self.assertIn("shown as escapes in Brandt\\u000a999", broken[2])
+        found = script("from-claims", "--head", "--estate", "400.000", text="Name;Claim\nA;440.123,83\n")
+        self.assertEqual(json.loads(found[1])["game"]["estate"], 400000)
+        self.refused(script("from-claims", "--estate", "400.000", text="A;480000\n"), "400 or 400000", "--decimal")
+        self.refused(script("overrun", PROPOSAL, "1.500"), "the amount: 1.500 may be 1.5 or 1500")
+        self.refused(script("proposal", PROPOSAL, "1.500", "1", "2"), "the share of player 1: 1.500 may be")
+        self.refused(script("proposal", PROPOSAL, "light=1", "medium=1.500", "heavy=2"), "the share of medium: 1.500")
         game = json.loads(script("from-costs", "--head", text="Group\tkEUR\na\t3387,4\n")[1])["game"]
         self.assertEqual(game["sparse"], [[["a"], "16937/5"]])
         game = json.loads(script("from-landings", text="Aer;20,50;1\n")[1])["game"]
@@ -329,6 +338,7 @@ class Scripts(unittest.TestCase):
             ],
         )
         self.assertEqual(script("many", "nucleolus-per-head", text="{}")[0], 1)
+        self.two_lists_have_names(majority)
         great = '{"game":{"class":"airport","costs":[4000000]}}'
         row = script("many", "nucleolus", "--csv", "--places", "2", "--unit", "EUR", text=great)[1].splitlines()[1]
         self.assertEqual(row, "0,standard input,nucleolus,4000000.00,")
@@ -340,6 +350,28 @@ class Scripts(unittest.TestCase):
         self.assertEqual(json.loads(script("proposal", PROPOSAL, text='{"shares":[1,2,3]}')[1])["shares"], [1, 2, 3])
         self.refused(script("proposal", PROPOSAL, "1", "2"), "2 shares for 3 players")
         self.refused(script("proposal", PROPOSAL, "light=1", "light=2", "heavy=3"), "each once")
+
+    def two_lists_have_names(self, other: str) -> None:
+        """The two lists of a convex game stand in rows of their own, and in columns of their own."""
+        text = script("many", "convex,nucleolus", "--csv", PROPOSAL)[1]
+        self.assertEqual(
+            text.splitlines(),
+            [
+                "status,document,command,player 1,player 2,player 3,reason",
+                f"0,{PROPOSAL},convex (Shapley shares),2/3,5/3,11/3,",
+                f"0,{PROPOSAL},convex (marginal shares),2,2,2,",
+                f"0,{PROPOSAL},nucleolus,1,3/2,7/2,",
+            ],
+        )
+        named = [f"convex {name} shares {i}" for name in ("Shapley", "marginal") for i in (1, 2, 3)]
+        self.assertEqual(
+            script("many", "convex", "--wide", PROPOSAL, other)[1].splitlines(),
+            [
+                ",".join(["document", "convex status", *named, "reason"]),
+                f"{PROPOSAL},0,2/3,5/3,11/3,2,2,2,",
+                f"{other},1,,,,,,,convex: not convex",
+            ],
+        )
 
     def refusals_have_reasons(self) -> None:
         """Each row without shares says why there are none."""

@@ -2,20 +2,24 @@
 import hashlib
 import json
 import os
+import quopri
 import tempfile
 import unittest
 import xml.etree.ElementTree as ElementTree
+from fractions import Fraction
 from html.parser import HTMLParser
 from typing import Any
 
 import coop
 from coop import BadInput
 from coop.documents import Point, points_in, read_documents, short_names
-from coop.pictures import picture
-from coop.reasons import checked
+from coop.pictures import core_alone, picture
+from coop.reasons import checked, reasons
 from coop.report import report
 from coop.sameness import difference, game_of, told, verdict
 from coop.styles import Style
+from coop.svg import width
+from coop.triangle import overlap
 
 from .test_reasons import AIRPORT, solved
 
@@ -83,6 +87,76 @@ class Points(Files):
             self.points(self.file("line", solved(), {"shares": [1, 2]}))
 
 
+class Pictures(Files):
+    GLOVES = coop.assignment([[1], [1]], ["left 1", "left 2", "right"])
+
+    def test_a_long_title_has_rows(self) -> None:
+        """Of both pictures: all words are there, and no row is wider than the page; what stands below is moved."""
+        title = " ".join(["A runway of three airlines, as it was told in the lecture"] * 3)
+        for wants_bars in (False, True):
+            points = self.points(self.file("line", solved()))
+            text = picture(points, wants_bars=wants_bars, title=title)
+            rows = [row.text or "" for row in texts_of(text) if row.get("font-size") == "17"]
+            self.assertEqual((" ".join(rows), len(rows) > 2), (title, True))
+            wide = float(ElementTree.fromstring(text).attrib["width"])
+            self.assertLess(max(width(row, 17) for row in rows), wide - 40)
+            self.assertIn(f'<g transform="translate(0 {20 * (len(rows) - 1)})">', text)
+            self.assertNotIn("<g transform", picture(points, wants_bars=wants_bars, title="A runway"))
+
+    def test_a_name_stands_clear_of_the_corner(self) -> None:
+        point = Point("nucleolus", [Fraction(0), Fraction(0), Fraction(1)], self.GLOVES)
+        boxes = {}
+        for row in texts_of(picture([point])):
+            size = float(row.get("font-size", "0"))
+            if (row.text, size) in (("nucleolus", 13), ("0, 0, 1", 12), ("right", 14)):
+                x, y, wide = float(row.get("x", "")), float(row.get("y", "")), width(row.text or "", size)
+                left = x - {"start": 0.0, "middle": wide / 2, "end": wide}[row.get("text-anchor", "start")]
+                boxes.setdefault(row.text, (left, y - size * 0.8, left + wide, y + 3))
+        self.assertEqual(len(boxes), 3)
+        label = boxes.pop("nucleolus")
+        self.assertEqual([overlap(label, box) for box in boxes.values()], [0, 0])
+
+    def test_the_core_alone(self) -> None:
+        """Of a game of three without shares; of more players shares are asked for."""
+        text = core_alone(read_documents([self.file("game", {"game": AIRPORT})]), "A runway")
+        self.assertIn("No shares are given: this is the core alone.", text)
+        self.assertEqual((text.count("<circle"), "#d4d4d4" in text), (0, True))
+        for game in ({"class": "airport", "costs": [1, 2]}, None):
+            with self.assertRaisesRegex(BadInput, "no shares: give a line"):
+                core_alone(read_documents([self.file("other", {"game": game} if game else {"answer": "core"})]))
+
+
+def texts_of(picture_text: str) -> list[ElementTree.Element]:
+    """The texts of a picture."""
+    return list(ElementTree.fromstring(picture_text).iter("{http://www.w3.org/2000/svg}text"))
+
+
+class Mail(Files):
+    def test_what_mail_spoils_is_told(self) -> None:
+        """By the texts as they come: with > in front, broken, as quoted-printable, and below a greeting."""
+        line = json.dumps(solved())
+        halves = line[:60], line[60:]
+        spoilt_lines = {
+            f"> {halves[0]}\n> {halves[1]}\n": "put > in front of lines and broke its lines",
+            f"> {line}\n": "put > in front of lines): have it sent as a file",
+            quopri.encodestring(line.replace("light", "l=t").encode()).decode(): "quoted-printable",
+            line.replace("light", "li\nght"): "broke its lines",
+            f"Dear Ann,\n{line}\nYours, Ben\n": "put others around it",
+        }
+        for text, sentence in spoilt_lines.items():
+            for is_document in (True, False):
+                with self.assertRaisesRegex(BadInput, "no JSON.*mail has spoilt it") as caught:
+                    if is_document:
+                        game_of(self.file("line", text))
+                    reasons(text.encode())
+                self.assertIn(sentence, str(caught.exception))
+                self.assertIn("button", str(caught.exception))
+        for text in ("", "{", "{'game':1}", "hello\nthere"):
+            with self.assertRaises(BadInput) as caught:
+                game_of(self.file("line", text))
+            self.assertNotIn("mail", str(caught.exception))
+
+
 class Sameness(Files):
     def test_differences(self) -> None:
         cases: list[tuple[Any, str]] = [
@@ -127,8 +201,38 @@ class Sameness(Files):
         self.assertIn("the players: 1 in the line, 3 in", verdict(coop.bankruptcy(1, {"a": 1}), first)[0])
         swapped = coop.bankruptcy(100, {"Br\u00fcnn KG": 80, "Adler": 90, "Chopra": 70})
         text, is_same = verdict(first, swapped)
-        self.assertIn("the same numbers by name, but the players stand in another order:\n", text)
+        self.assertEqual(
+            text,
+            "the same numbers by name, but the players stand in another order:\n"
+            "  player 1: Adler in the line, Br\u00fcnn KG in the agreed document\n"
+            "  player 2: Br\u00fcnn KG in the line, Adler in the agreed document\n",
+        )
         self.assertFalse(is_same)
+
+    def test_players_in_another_order(self) -> None:
+        """Of each class numbers are compared by name, and only those that differ so are told."""
+        head = "the same numbers by name, but the players stand in another order:\n  player 1: b in the line, a in"
+        for one, two in (
+            (coop.table({"b": 2, "a": 1, "a+b": 9}), coop.table({"a": 1, "b": 2, "a+b": 9})),
+            (coop.airport({"b": "5/2", "a": 1}), coop.airport({"a": 1, "b": "5/2"})),
+            (coop.voting(3, {"b": 2, "a": 1}), coop.voting(3, {"a": 1, "b": 2})),
+            (
+                coop.tree([[0, 4, 3], [4, 0, 1], [3, 1, 0]], ["b", "a"]),
+                coop.tree([[0, 3, 4], [3, 0, 1], [4, 1, 0]], ["a", "b"]),
+            ),
+            (
+                coop.assignment([[3, 4], [1, 2]], ["b", "a", "x", "y"]),
+                coop.assignment([[1, 2], [3, 4]], ["a", "b", "x", "y"]),
+            ),
+        ):
+            text, is_same = verdict(one, two)
+            self.assertEqual((text[: len(head)], text.count("\n"), is_same), (head, 3, False))
+        other = verdict(coop.airport({"b": 3, "a": 1}), coop.airport({"a": 1, "b": 2}))[0]
+        first = "another game, by 1 difference by name:\n  the cost of b: 3 in the line, 2 in the agreed document\n"
+        self.assertTrue(other.startswith(first), other)
+        self.assertIn("and the players stand in another order:\n  player 1: b in", other)
+        crossed = verdict(coop.assignment([[1]], ["a", "b"]), coop.assignment([[1]], ["b", "a"]))[0]
+        self.assertIn("the name of player 1: a in the line", crossed)
 
     def test_the_same_written_otherwise(self) -> None:
         """By worths or by items, by version and measure; and the keys of a game that no program takes stay told."""

@@ -56,10 +56,17 @@ class Excesses(unittest.TestCase):
         self.assertEqual(compare([NUCLEOLUS, SHAPLEY]).told(True).count("\n"), 11)
         alone = " ".join(compare([NUCLEOLUS, point("proposal", "3 1 2")]).told().split())
         self.assertIn("By proposal light pays 3, more than it costs alone, 2.", alone)
-        self.assertIn(
-            "The shares of proposal add to 7, and all together cost 6.",
-            compare([NUCLEOLUS, point("proposal", "3 1 3")]).told(),
-        )
+
+    def test_shares_that_are_no_division(self) -> None:
+        """Where the whole isn't shared out, neither is better, whichever of the two stands first."""
+        for other in ("3 1 3", "1/3 1/3 1/3"):
+            for points in ([NUCLEOLUS, point("proposal", other)], [point("proposal", other), NUCLEOLUS]):
+                found = compare(points)
+                self.assertIsNone(found.better())
+                text = " ".join(found.told().split())
+                self.assertIn(f"The shares of proposal add to {sum(map(Fraction, other.split()))}, and all", text)
+                self.assertIn("So neither is better or worse", text)
+                self.assertNotIn("treats", text)
 
     def test_two_measures(self) -> None:
         """Each is better by its own measure, in whatever order they stand, and both are told."""

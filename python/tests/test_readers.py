@@ -8,7 +8,7 @@ from typing import Callable
 from coop import BadInput
 from coop.filling import cheapest, told
 from coop.readers import claims, groups, landings, left_out, vectors
-from coop.sheets import Layout, notes
+from coop.sheets import Layout, notes, typed
 from coop.styles import EXACT
 
 COSTS = "a,3\nb,4\nc,5\na+b,6\na+b+c,9\n"
@@ -23,6 +23,17 @@ class Readers(unittest.TestCase):
             game.tree, {"class": "cost-table", "names": names, "players": 2, "sparse": sparse, "version": 2}
         )
         self.assertEqual(groups("a,1\n", kind="table").game.kind, "table")
+
+    def test_a_name_that_looks_alike(self) -> None:
+        """A member without a line of its own, where the line of one that looks like it is there."""
+        for text, sentence in (
+            ("A,1\nB,1\n\u0421,1\nA+C,2\n", r"no line for C alone, but one for \\u0421, which looks like it \(C\)"),
+            ("A,1\nC,1\nA+\u0421,2\n", r"alone, but one for C, which looks like it \(\\u0421\)"),
+            ("A,1\nops,1\nA+Ops,2\n", "no line for Ops alone, but one for ops: is that"),
+            ("A,1\nA+C,2\n", "no line for C alone$"),
+        ):
+            with self.assertRaisesRegex(BadInput, sentence):
+                groups(text)
 
     def test_filling(self) -> None:
         costed = groups(COSTS, fill=True)
@@ -127,6 +138,51 @@ class Sheets(unittest.TestCase):
                 self.claims(text)
         with self.assertRaisesRegex(BadInput, "'12.5' is no number with a comma"):
             self.claims("A;12.5\n", Layout(decimal="comma"))
+
+    def test_the_estate_is_read_as_the_claims_are(self) -> None:
+        comma = Layout(decimal="comma")
+        for text, estate, layout, wanted in (
+            ("A;40.123,83\nB;900.000\n", "400.000", Layout(), 400000),
+            ("A;1.200,50\nB;900\n", "1.500", Layout(), 1500),
+            ("A;480.000\nB;400.000\n", "500.000", comma, 500000),
+            ("A;480.000\nB;400.000\n", "500.000,50", Layout(), "1000001/2"),
+            ("A,480.50\nB,400\n", "400.000", Layout(), 400),
+            ("A,480\nB,400\n", "1,5", Layout(), "3/2"),
+            ("A;480\nB;400\n", "200/3", Layout(), "200/3"),
+            ("A;1.200,50\nB;900\n", "2000/3", Layout(), "2000/3"),
+            ("A,480\nB,400\n", "400.000", Layout(decimal="point"), 400),
+        ):
+            self.assertEqual(claims(text, estate, layout=layout).tree["estate"], wanted, (text, estate))
+        for text, estate, layout, sentence in (
+            ("A,480\nB,400\n", "400.000", Layout(), "the estate: 400.000 may be 400 or 400000.*--decimal"),
+            ("A;480\nB;400\n", "1.500", Layout(), "the estate: 1.500 may be 1.5 or 1500"),
+            ("A;480.000\nB;400.000\n", "500.000", Layout(), "line 1: 480.000 may be"),
+            ("A;40.123,83\n", "12.5", Layout(), "40.123,83 in line 1 and 12.5 in the estate have two marks"),
+            ("A;480\n", "12.50", comma, "the estate: '12.50' is no number with a comma"),
+            ("A;480\n", "much", Layout(), "the estate: 'much' is no number"),
+        ):
+            with self.assertRaisesRegex(BadInput, sentence):
+                claims(text, estate, layout=layout)
+        self.assertEqual(notes("A;480.000\nB;1\n", 2, Layout(), [("the estate", "1.500,25")]), [])
+
+    def test_a_break_within_a_name_stays(self) -> None:
+        for end in ("\n", "\r\n", "\r"):
+            text = f'A;100{end}{end}"Brandt{end}999";200{end}'
+            self.assertEqual(self.claims(text), {"A": 100, f"Brandt{end}999": 200})
+        with self.assertRaisesRegex(BadInput, "line 4: 'x' is no number"):
+            self.claims('A;100\n"Brandt\n999";200\nB;x\n')
+
+    def test_typed_numbers(self) -> None:
+        """A number beside a document is refused where it may be two."""
+        for word, wanted in (("400", 400), ("12.50", Fraction(25, 2)), ("0.125", Fraction(1, 8)), ("1234.500", 1234.5)):
+            self.assertEqual(typed(word, "the amount"), wanted)
+        for word, sentence in (
+            ("400.000", "the amount: 400.000 may be 400 or 400000: write 400 or 400000"),
+            ("-1.500", "the amount: -1.500 may be -1.5 or -1500: write -3/2 or -1500"),
+            ("12,50", "the amount: '12,50' is no number; write 12"),
+        ):
+            with self.assertRaisesRegex(BadInput, sentence):
+                typed(word, "the amount")
 
     def test_notes(self) -> None:
         self.assertEqual(

@@ -3,9 +3,12 @@ import json
 import unittest
 from typing import Any, Optional
 
-from coop.reasons import reasons
+import coop
+from coop.reasons import checked, reasons
 from coop.styles import EXACT, Style
 from coop import BadInput
+
+from .asking import needs_program
 
 AIRPORT: dict[str, Any] = {"class": "airport", "costs": [2, 4, 6], "names": ["light", "medium", "heavy"]}
 TRIO = {"class": "table", "names": ["s", "p", "d"], "players": 3, "worths": [20, 30, 80, 0, 50, 65, 120]}
@@ -258,12 +261,49 @@ class Reasons(unittest.TestCase):
         self.assertNotIn("rounded", text)
         self.assertIn("(Numbers are rounded", said(FOUR, say=Style(0))[0])
 
+    @needs_program
+    def test_a_share_is_rounded_once(self) -> None:
+        """The sentences have the table's decimals, which add up; what is calculated from others is about."""
+        cases = [
+            (coop.bankruptcy(200, {"A": 100, "B": 100, "C": 100}), ["66.67", "66.67", "66.66"], ["leaves 66.66)"]),
+            (coop.bankruptcy(100, {"A": 100, "B": 100, "C": 100}), ["33.34", "33.33", "33.33"], ["about 33.33, as"]),
+            (coop.bankruptcy(4, {"A": "2.01", "B": "2.01", "C": 30}), ["1.01", "1.00", "1.99"], ["of 2.01 is 1.00"]),
+            (coop.airport({"A": 1, "B": 1, "C": 1}), ["0.34", "0.33", "0.33"], ["A pays 0.34; and B and C pay 0.33"]),
+            (coop.airport({"A": 1, "B": 1, "C": 2}), ["0.34", "0.33", "1.33"], ["(about 1.00 more)", "about 0.67"]),
+        ]
+        for game, wanted, sentences in cases:
+            answer = coop.nucleolus(game)
+            self.assertIsInstance(answer, coop.Nucleolus)
+            text = said(json.loads(answer.line), say=Style(2))[0]
+            self.assertIn(f"A: {wanted[0]}, B: {wanted[1]}, C: {wanted[2]}. Together", text)
+            for sentence in sentences:
+                self.assertIn(sentence, text)
+        shapley = said({"answer": "shapley", "shares": ["2/3", "2/3", "2/3"]}, say=Style(2))[0]
+        self.assertIn("player 1: 0.67 - player 2: 0.67 - player 3: 0.66", shapley)
+        beside = {"game": AIRPORT, "shares": ["2/3", "8/3", "8/3"]}
+        blocked = said({"answer": "blocked", "coalition": [3], "excess": "1"}, beside, Style(0))[0]
+        self.assertIn("It pays 2, where", blocked)
+
     def test_names_are_safe(self) -> None:
         game = {**AIRPORT, "names": ["light\n\n  heavy: 0", "medium\u202e", "heavy"]}
         for line, beside in ((solved(game=game), None), ({"answer": "shapley", "shares": [1, 2, 3]}, {"game": game})):
             text = said(line, beside)[0]
             self.assertIn("light\\u000a\\u000a heavy: 0", text)
             self.assertNotIn("\u202e", text)
+
+    def test_a_line_that_is_none_to_check(self) -> None:
+        """Whose number is spoilt is told by name, and what to write, as by `check` and `scripts/slip`."""
+        for line, sentence in (
+            (solved(shares=[1, "1,5", "7/2"]), r'of medium\): "1,5" is no fraction text: write "3/2"'),
+            (solved(shares=[1, "3/2", 3.5]), r'of heavy\): 3.5 has a point.*: write "7/2"'),
+            (spoilt(1, excess="-1,5"), r'the excess of level 2\): "-1,5" is no fraction text.*: write "-3/2"'),
+        ):
+            with self.assertRaisesRegex(BadInput, sentence):
+                reasons(json.dumps(line).encode(), where="s.json")
+            with self.assertRaisesRegex(BadInput, sentence):
+                checked(json.dumps(line).encode(), "s.json")
+        told = said({"number": 5, "refused": "Number"}, {"game": {"class": "airport", "costs": [1, 2.5]}})[0]
+        self.assertIn("$.game.costs[1] (the cost of player 2): 2.5 has a point", told)
 
     def test_what_is_refused(self) -> None:
         cases: list[tuple[bytes, Optional[bytes], str]] = [
@@ -279,7 +319,7 @@ class Reasons(unittest.TestCase):
             (b'{"number":8,"refused":"Estate"}', json.dumps({"game": AIRPORT}).encode(), "is it another one"),
             (b'{"number":99,"refused":"X"}', None, "no refusal"),
             (b'{"answer":"nucleolus","shares":[1]}', None, "no certificate"),
-            (json.dumps(solved(shares=[1, 2])).encode(), None, "shares has 2 items"),
+            (json.dumps(solved(shares=[1, 2])).encode(), None, "2 shares for 3 players"),
         ]
         for line, document, sentence in cases:
             with self.assertRaisesRegex(BadInput, sentence):

@@ -20,41 +20,46 @@ SLIPS = {
         "bankruptcy, tree, assignment, market, voting; is airport meant?"
     ),
     '{"game":{"class":"tree","matrix":[[0,5,8],[5,0,null],[8,null,0]]}}': (
-        "3 $.game.matrix[1][2]: null is no number: a link that doesn't exist needs a number too"
+        "3 $.game.matrix[1][2] (row 2, column 3): null is no number: a link that doesn't exist needs a number too"
     ),
     '{"game":{"class":"table","players":2,"worths":[1,2,3,4,5]}}': "4 $.game.worths: 5 worths: 2 players have 3",
     '{"game":{"class":"table","players":2,"worths":[0,1,2,3]}}': (
         "4 $.game.worths: 4 worths: 2 players have 3, since the empty coalition has none"
     ),
     '{"game":{"class":"airport","costs":[2,1.5]}}': (
-        '5 $.game.costs[1]: 1.5 has a point or an exponent, or more than 64 bits: write "3/2", with "version":2'
+        "5 $.game.costs[1] (the cost of player 2): 1.5 has a point or an exponent, or more than 64 bits: write "
+        '"3/2", with "version":2'
     ),
     '{"game":{"class":"airport","costs":[2,200.0]}}': (
-        "5 $.game.costs[1]: 200.0 has a point or an exponent, or more than 64 bits: write 200"
+        "5 $.game.costs[1] (the cost of player 2): 200.0 has a point or an exponent, "
+        "or more than 64 bits: write 200"
     ),
     '{"game":{"class":"airport","costs":[2,0.2875775201],"version":2}}': (
-        "5 $.game.costs[1]: 0.2875775201 has a point or an exponent, or more than 64 bits: write "
-        'fewer decimals, as "719/2500"'
+        "5 $.game.costs[1] (the cost of player 2): 0.2875775201 has a point or an exponent, or more than 64 bits: "
+        'write fewer decimals, as "719/2500"'
     ),
     '{"game":{"class":"airport","costs":[2,1e300],"version":2}}': (
-        "5 $.game.costs[1]: 1e+300 has a point or an exponent, or more than 64 bits: write a number of fewer digits"
+        "5 $.game.costs[1] (the cost of player 2): 1e+300 has a point or an exponent, or more than 64 bits: write "
+        "a number of fewer digits"
     ),
     '{"game":{"class":"airport","costs":["2195/100"],"version":2}}': (
-        '5 $.game.costs[0]: "2195/100" isn\'t in lowest terms: write "439/20"'
+        '5 $.game.costs[0] (the cost of player 1): "2195/100" isn\'t in lowest terms: write "439/20"'
     ),
     '{"game":{"class":"airport","costs":["1,5"],"version":2}}': (
-        '5 $.game.costs[0]: "1,5" is no fraction text: write "3/2"'
+        '5 $.game.costs[0] (the cost of player 1): "1,5" is no fraction text: write "3/2"'
     ),
     '{"game":{"class":"airport","costs":[1,2],"names":["bob","bob"]}}': (
-        '6 $.game.names[1]: the name "bob" stands twice'
+        '6 $.game.names[1] (the name of player 2): the name "bob" stands twice'
     ),
     '{"game":{"class":"table","players":2,"sparse":[[[1,2],3],[[2,1],4]]}}': (
-        "7 $.game.sparse[1][0]: [2, 1] stands in item 0 already"
+        "7 $.game.sparse[1][0] (item 2): [2, 1] stands in item 1 already"
     ),
     '{"game":{"class":"bankruptcy","claims":[1,2],"estate":4}}': (
         "8 $.game.estate: the claims add to 3, less than the estate of 4: each gets its claim"
     ),
-    '{"game":{"class":"tree","matrix":[[0,1],[2,0]]}}': "9 $.game.matrix[1][0]: 2, and 1 the other way",
+    '{"game":{"class":"tree","matrix":[[0,1],[2,0]]}}': (
+        "9 $.game.matrix[1][0] (row 2, column 1): 2, and 1 the other way"
+    ),
     '{"game":{"class":"voting","quota":600,"weights":[500,300,300]}}': (
         "13 $.game.weights: the weights add to 1100, above 1,000"
     ),
