@@ -49,6 +49,11 @@ class Options(argparse.ArgumentParser):
         self.add_argument("--places", type=digits, metavar="N", default=places, help=told)
         self.add_argument("--unit", default="", metavar="UNIT", help="the unit behind each number, as EUR")
 
+    def add_no_added(self) -> None:
+        """Whether a picture has marks at what each adds to all others."""
+        told = "leave out the marks at what each adds to all others, as where groups were filled in"
+        self.add_argument("--no-added", dest="with_added", action="store_false", help=told)
+
     def add_over(self) -> None:
         """By what numbers of a document that was multiplied are divided."""
         told = "divide all by N, for documents that were multiplied"
