@@ -42,10 +42,10 @@ class Options(argparse.ArgumentParser):
         """Any number of files."""
         self.add_argument("files", nargs="*", metavar="FILE", help="lines and documents; without one, standard input")
 
-    def add_style(self, places: Optional[int] = None) -> None:
-        """How numbers are shown."""
+    def add_style(self, places: Optional[int] = None, is_plain: bool = False) -> None:
+        """How numbers are shown; in plain digits, for a spreadsheet, without a sign between thousands."""
         shown = "fractions" if places is None else f"{places}"
-        told = f"decimals of N places (else {shown}), thousands separated"
+        told = f"decimals of N places (else {shown}), " + ("in plain digits" if is_plain else "thousands separated")
         self.add_argument("--places", type=digits, metavar="N", default=places, help=told)
         self.add_argument("--unit", default="", metavar="UNIT", help="the unit behind each number, as EUR")
 

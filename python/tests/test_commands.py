@@ -323,6 +323,13 @@ class Scripts(unittest.TestCase):
         self.assertIn("\\u000aheavy", script("shares", "--csv", text=text)[1])
 
     @needs_program
+    def test_thousands_of_many(self) -> None:
+        """In a CSV nothing stands between thousands, and the help says so."""
+        text = script("many", "nucleolus", "--csv", "--places", "2", text='{"game":{"class":"airport","costs":[1234]}}')[1]
+        self.assertIn(",1234.00,", text)
+        self.assertIn("in plain digits", script("many", "--help")[1].split("--places N")[-1])
+        self.assertNotIn("thousands separated", script("many", "--help")[1])
+
     def test_many_and_proposal(self) -> None:
         majority = os.path.join("examples", "majority.json")
         status, text, errors = script("many", "core,shapley", majority, "lost.json")
