@@ -31,7 +31,15 @@ def fraction_of(value: Amount, digits: Optional[int] = None) -> Fraction:
         exact = Fraction(value.strip() if isinstance(value, str) else value)
     except (ValueError, OverflowError):
         raise BadInput(f"{value!r} is no number") from None
+    if isinstance(value, Decimal) and digits is None and has_digits_of_a_float(value, exact):
+        told = f"Decimal({str(value)[:24]}..) has all the digits of the float {float(value)!r}"
+        raise BadInput(f"{told}: make it of a text, Decimal({str(float(value))!r}), or name a number of digits")
     return exact if digits is None else Fraction(round(exact * 10**digits), 10**digits)
+
+
+def has_digits_of_a_float(value: Decimal, exact: Fraction) -> bool:
+    """Whether a Decimal was made of a float, as Decimal(0.1), and is too fine for any document."""
+    return abs(exact.numerator) >= LIMIT and exact.denominator > 1 and Decimal(float(value)) == value
 
 
 def fractions_of(values: Iterable[Amount], digits: Optional[int] = None) -> list[Fraction]:
@@ -60,5 +68,15 @@ def factor_for(values: list[Fraction], digits: Optional[int] = None) -> int:
     if digits is not None and 10**digits > MOST_SCALE:
         common = 10**digits
     if max((abs(value) for value in values), default=Fraction(0)) * common >= LIMIT:
-        raise BadInput(f"a number, times the common denominator {common}, is 2^40 or more: round to fewer digits")
+        told = f"a number, times the common denominator {common}, is 2^40 or more"
+        raise BadInput(told + ("" if common == 1 else f": {advice_on_digits(values)}"))
     return 1 if common <= MOST_SCALE else common
+
+
+def advice_on_digits(values: Iterable[Fraction]) -> str:
+    """To how many digits the numbers of a game may be rounded, so that they fit."""
+    greatest = max(abs(value) for value in values)
+    fitting = [digits for digits in range(13) if round(greatest * 10**digits) < LIMIT]
+    if not fitting:
+        return "the greatest number is too large"
+    return f"round to fewer digits, at most {fitting[-1]} (digits={fitting[-1]}, or --digits {fitting[-1]})"

@@ -37,9 +37,14 @@ LENGTH, GAP, NAME, COLUMN = 420, 12, 250, 110
 BLACK = 'stroke="#000" stroke-width="0.8"'
 
 
-def bars(game: Game, points: Sequence[Point], title: str = "", style: Style = EXACT) -> str:
-    """The picture of some points of a game."""
-    return Bars(game, points, title, style).drawn()
+TABLE_NOTE = "(by the table's numbers, filled ones among them)"
+
+
+def bars(
+    game: Game, points: Sequence[Point], title: str = "", style: Style = EXACT, *, with_added: bool = True
+) -> str:
+    """The picture of some points of a game, with marks at what each adds to all others or without."""
+    return Bars(game, points, title, style, with_added).drawn()
 
 
 def ticks(low: float, high: float) -> list[float]:
@@ -52,7 +57,7 @@ def ticks(low: float, high: float) -> list[float]:
 class Bars:
     """The picture while it is drawn."""
 
-    def __init__(self, game: Game, points: Sequence[Point], title: str, style: Style):
+    def __init__(self, game: Game, points: Sequence[Point], title: str, style: Style, with_added: bool = True):
         if len(points) > len(FILLS):
             raise BadInput(f"{len(points)} points: at most {len(FILLS)} can be told apart in bars")
         self.game, self.points, self.parts = game, points, [PATTERNS]
@@ -60,7 +65,8 @@ class Bars:
         self.title, self.style = title, style
         sign, whole = -1 if game.costs else 1, game.worth(game.everyone)
         self.alone = [sign * game.worth(1 << i) for i in range(game.n)]
-        self.added = [sign * (whole - game.worth(game.everyone - (1 << i))) for i in range(game.n)]
+        added = [sign * (whole - game.worth(game.everyone - (1 << i))) for i in range(game.n)]
+        self.added = added if with_added else []
         self.thin = 15 if len(points) == 1 else 9
         self.row = self.thin * len(points) + (7 if game.n > 24 else 11)
         self.left = 32 + 1.06 * min(NAME, widest(self.names))
@@ -121,7 +127,11 @@ class Bars:
         last = f"adds to the {'cost' if self.game.costs else 'worth'} of all others"
         x, y = 20.0, 76.0
         keys = [(22, bar_key(k), point.name) for k, point in enumerate(self.points)]
-        keys += [(12, lambda x, y: ring(x + 6, y - 4.5), own), (12, lambda x, y: stroke(x + 6, y - 4.5, 11), last)]
+        keys.append((12, lambda x, y: ring(x + 6, y - 4.5), own))
+        if self.added:
+            keys.append((12, lambda x, y: stroke(x + 6, y - 4.5, 11), last))
+        if self.added and self.game.kind == "cost-table":
+            keys.append((0, lambda x, y: "", TABLE_NOTE))
         for wide, draw, words in keys:
             if x > 20 and x + width(words) > self.wide - 60:
                 x, y = 20.0, y + 20
@@ -152,7 +162,8 @@ class Bars:
             self.parts.append(rectangle(start, upper + self.thin * k, max(end - start, 0.01), self.thin - 1, style))
         for right, words in zip(self.rights, numbers):
             self.parts.append(text(right, middle + 4.5, words, "end"))
-        self.parts.append(stroke(self.at(self.added[i]), middle, max(13, thick + 1)))
+        if self.added:
+            self.parts.append(stroke(self.at(self.added[i]), middle, max(13, thick + 1)))
         if self.alone[i] <= self.high:
             self.parts.append(ring(self.at(self.alone[i]), middle))
         else:

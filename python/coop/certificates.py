@@ -5,7 +5,7 @@ from fractions import Fraction
 from typing import Any, Iterable, Iterator
 
 from .game import KINDS, Game
-from .groups import Namer, listed, times
+from .groups import Namer, listed, on_balance, times
 from .levels import Level, Settled, Weights, is_split, level_of, reduced
 from .masks import is_alone, members
 from .prose import filled, with_items
@@ -133,8 +133,7 @@ class Explainer:
         """By the weights: what some gain others lose."""
         weights = {weight for _, weight in level.coalitions}
         sentences = [self.counts(level.coalitions)] if len(weights) > 1 else []
-        often = times(level.total) if level.total else "not at all, on balance"
-        sentences.append(f"{self.subject(level)} each player {often}, {self.conclusion(level)}.")
+        sentences.append(f"{self.subject(level)} each player {on_balance(level.total)}, {self.conclusion(level)}.")
         if level.earlier:
             sentences.append("(What comes from earlier levels is settled already.)")
         return " ".join(sentences)

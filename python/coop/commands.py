@@ -42,12 +42,17 @@ class Options(argparse.ArgumentParser):
         """Any number of files."""
         self.add_argument("files", nargs="*", metavar="FILE", help="lines and documents; without one, standard input")
 
-    def add_style(self, places: Optional[int] = None) -> None:
-        """How numbers are shown."""
+    def add_style(self, places: Optional[int] = None, is_plain: bool = False) -> None:
+        """How numbers are shown; in plain digits, for a spreadsheet, without a sign between thousands."""
         shown = "fractions" if places is None else f"{places}"
-        told = f"decimals of N places (else {shown}), thousands separated"
+        told = f"decimals of N places (else {shown}), " + ("in plain digits" if is_plain else "thousands separated")
         self.add_argument("--places", type=digits, metavar="N", default=places, help=told)
         self.add_argument("--unit", default="", metavar="UNIT", help="the unit behind each number, as EUR")
+
+    def add_no_added(self) -> None:
+        """Whether a picture has marks at what each adds to all others."""
+        told = "leave out the marks at what each adds to all others, as where groups were filled in"
+        self.add_argument("--no-added", dest="with_added", action="store_false", help=told)
 
     def add_over(self) -> None:
         """By what numbers of a document that was multiplied are divided."""

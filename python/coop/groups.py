@@ -24,6 +24,13 @@ def times(count: int) -> str:
     return {1: "once", 2: "twice"}.get(count, f"{count} times")
 
 
+def on_balance(count: int) -> str:
+    """How often each player is counted, where what is taken off may outweigh the rest."""
+    if count > 0:
+        return times(count)
+    return f"equally often ({count} times, on balance)" if count else "not at all, on balance"
+
+
 class Namer:
     """Names the players and the groups of a game."""
 

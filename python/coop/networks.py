@@ -2,13 +2,14 @@
 from __future__ import annotations
 
 from fractions import Fraction
-from typing import Mapping, Optional
+from typing import Mapping, Optional, Sequence
 
 from .amounts import Amount, fraction_of
 from .errors import BadInput
 from .game import MOST_IN_A_TABLE, Game
 from .games import made
 from .masks import members
+from .names import alike
 
 Links = dict[tuple[int, int], Fraction]
 
@@ -17,13 +18,15 @@ def table_of_links(
     links: Mapping[tuple[str, str], Amount],
     *,
     source: str = "source",
+    names: Optional[Sequence[str]] = None,
     by_way_of_others: bool = True,
     digits: Optional[int] = None,
     per_head: bool = False,
 ) -> Game:
     """What each group's cheapest network costs, by the links that exist: pairs of names, or of a name and the source.
-    It may run by way of the places of others, or else through those of the group alone."""
-    names = list(dict.fromkeys(name for pair in links for name in pair if name != source))
+    It may run by way of the places of others, or else through those of the group alone. Without `names` the players
+    are those of the links, in their order; with them a link of another place is refused."""
+    names = listed_names(links, source, names)
     if not 1 <= len(names) <= MOST_IN_A_TABLE:
         raise BadInput(f"{len(names)} players: a table has 1 to {MOST_IN_A_TABLE}")
     by_points = numbered(links, [source, *names], digits)
@@ -37,6 +40,21 @@ def table_of_links(
             raise BadInput(f"no links join {'+'.join(names[i] for i in members(group))} to the {source}")
         whole.append(cost)
     return made("cost-table", {"players": len(names), "worths": whole[1:]}, names, per_head, digits)
+
+
+def listed_names(
+    links: Mapping[tuple[str, str], Amount], source: str, names: Optional[Sequence[str]]
+) -> list[str]:
+    """The players: all that the links have but the source. Where no names are given, none differ by capitals alone."""
+    found = list(dict.fromkeys(name for pair in links for name in pair if name != source))
+    if names is not None:
+        for name in found:
+            if name not in names:
+                raise BadInput(f"a link has {name}, which is neither {source} nor among the names {', '.join(names)}")
+        return list(names)
+    for some in alike([source, *found], str.casefold):
+        raise BadInput(f"{' and '.join(some)} differ in capitals alone: if they are several places, give all names")
+    return found
 
 
 def numbered(links: Mapping[tuple[str, str], Amount], points: list[str], digits: Optional[int]) -> Links:

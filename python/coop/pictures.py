@@ -29,9 +29,18 @@ def core_alone(documents: Sequence[Document], title: str = "", style: Style = EX
     return triangle(games[0], [], title, style)
 
 
-def picture(points: Sequence[Point], *, wants_bars: bool = False, title: str = "", style: Style = EXACT) -> str:
-    """The picture of some points, as an SVG. Of several games the marks are those of the first, and there are bars."""
+def picture(
+    points: Sequence[Point],
+    *,
+    wants_bars: bool = False,
+    title: str = "",
+    style: Style = EXACT,
+    with_added: bool = True,
+) -> str:
+    """The picture of some points, as an SVG. Of several games the marks are those of the first, and there are bars.
+    Bars have marks at what each adds to all others, or none where these numbers aren't known."""
     game = game_of(points)
     one = all(point.game is None or without_measure(point.game) == without_measure(game) for point in points)
-    draw = triangle if game.n == 3 and one and not wants_bars else bars
-    return draw(game, points, title, style)
+    if game.n == 3 and one and not wants_bars:
+        return triangle(game, points, title, style)
+    return bars(game, points, title, style, with_added=with_added)

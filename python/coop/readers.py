@@ -21,10 +21,12 @@ from .vectors import in_mask_order
 
 
 class Costed(NamedTuple):
-    """The groups of a file with their numbers, by masks, and what was filled in."""
+    """The game of a file, what was filled in, and by masks the numbers that were given, and their lines."""
 
     game: Game
     filled: list[filling.Filled]
+    given: dict[int, Fraction]
+    lines: dict[int, int]
 
 
 def groups(
@@ -32,19 +34,23 @@ def groups(
     *,
     kind: str = "cost-table",
     fill: bool = False,
+    within: bool = False,
     digits: Optional[int] = None,
     layout: Layout = AS_SEEN,
 ) -> Costed:
     """A table from lines of a group, its members with + between them, and its number: Sales+Ops,12.50. Each group
-    stands once; with `fill`, one that doesn't costs what its cheapest split into groups that do costs."""
+    stands once; with `fill`, one that doesn't costs what its cheapest split into groups that do costs, and with
+    `within` no more than by the works of larger groups."""
     found = fixed_rows(text, 2, "Sales+Ops,12.50", layout)
     rows = [(row, members_of(row), amount_of(row, 1, digits, HEAD * (row is found[0]))) for row in found]
     names = names_of([(row, group) for row, group, _ in rows])
     amounts = once_each(rows, names)
-    filled = missing_groups(amounts, names, fill)
+    filled = missing_groups(amounts, names, fill or within, within)
     everything = {**amounts, **{item.group: item.amount for item in filled}}
     sparse = [([names[i] for i in members(group)], everything[group]) for group in everything]
-    return Costed(games.made(kind, {"players": len(names), "sparse": sparse}, names, digits=digits), filled)
+    lines = {mask_of(map(names.index, group)): row.line for row, group, _ in rows}
+    game = games.made(kind, {"players": len(names), "sparse": sparse}, names, digits=digits)
+    return Costed(game, filled, amounts, lines)
 
 
 def members_of(row: Row) -> list[str]:
@@ -89,12 +95,14 @@ def once_each(rows: Sequence[tuple[Row, list[str], Fraction]], names: Sequence[s
     return amounts
 
 
-def missing_groups(amounts: dict[int, Fraction], names: Sequence[str], fill: bool) -> list[filling.Filled]:
+def missing_groups(
+    amounts: dict[int, Fraction], names: Sequence[str], fill: bool, within: bool
+) -> list[filling.Filled]:
     """What is filled in for groups without a line, or a refusal that names the first of them."""
     everyone = 2 ** len(names) - 1
     missing = [group for group in range(1, everyone + 1) if group not in amounts]
     if fill and everyone in amounts:
-        return filling.cheapest(amounts, missing)
+        return (filling.cheapest_cover if within else filling.cheapest)(amounts, missing)
     if missing:
         first = missing[-1] if fill else missing[0]
         others = f", and {len(missing) - 1} more groups" * (len(missing) > 1)

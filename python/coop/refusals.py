@@ -136,7 +136,7 @@ def value_of(tree: Any, place: str, has_fractions: bool) -> Fraction:
         raise Found(Refusal.Number, place, f"{brief(tree)} {IS_FLOAT}: write {about}{text_of(meant)}{hint}")
     if type(tree) is int:
         return Fraction(tree)
-    return fraction(tree, place)
+    return fraction(tree, place, MOST_SCALE)
 
 
 def text_of(number: float) -> str:
@@ -145,20 +145,26 @@ def text_of(number: float) -> str:
     return text if len(text) <= 40 else "a number of fewer digits"
 
 
-def fraction(tree: str, place: str) -> Fraction:
-    """The value of a fraction text."""
+def fraction(tree: str, place: str, most: Optional[int] = None) -> Fraction:
+    """The value of a fraction text. What another text may mean is told where its denominator is at most so great, and
+    else with fewer decimals."""
     if FRACTION.fullmatch(tree):
         value = Fraction(tree)
         need(str(value) == tree, Refusal.Number, place, f"{brief(tree)} isn't in lowest terms: write {written(value)}")
         fits = -(2**127) <= value.numerator < 2**127 and value.denominator < 2**127
         need(fits, Refusal.Number, place, f"{brief(tree)} is longer than 128 bits")
         return value
-    guess = guessed(tree)
-    raise Found(
-        Refusal.Number,
-        place,
-        f"{brief(tree)} is no fraction text" + (f": write {written(guess)}" if guess is not None else ""),
-    )
+    raise Found(Refusal.Number, place, f"{brief(tree)} is no fraction text{hint_on(guessed(tree), most)}")
+
+
+def hint_on(guess: Optional[Fraction], most: Optional[int]) -> str:
+    """What to write in the place of a text, so that it is no refusal again."""
+    if guess is None:
+        return ""
+    if most is None or guess.denominator <= most:
+        return f": write {written(guess)}"
+    fewer = written(Fraction(round(guess * 10**4), 10**4))
+    return f": write fewer decimals, as {fewer}, or have all numbers multiplied (--scaled of scripts/from-vector)"
 
 
 def guessed(tree: str) -> Optional[Fraction]:

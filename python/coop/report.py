@@ -40,9 +40,12 @@ goes too, by the project's page <code>docs/certificates.md</code>.{over}</p>
 OVER = " Above all amounts are divided by {over}: in the line they are so many times as great."
 
 
-def report(document: dict[str, Any], title: str, style: Style, note: str = "", over: int = 1) -> str:
+def report(
+    document: dict[str, Any], title: str, style: Style, note: str = "", over: int = 1, *, with_added: bool = True
+) -> str:
     """The page of a line with a certificate, which has to be one that was checked; with a note below the title. All
-    amounts but those of the line are told over a number."""
+    amounts but those of the line are told over a number. The picture has marks at what each adds to all others, or
+    none."""
     told = divided(document, over)
     game = Game(told["game"])
     rule = rule_of(told["answer"], game)
@@ -54,7 +57,7 @@ def report(document: dict[str, Any], title: str, style: Style, note: str = "", o
         *([f"<p><strong>{text(note)}</strong></p>"] * bool(note)),
         table(game, point, style),
         "<h2>The picture</h2>",
-        picture([point], title=name, style=style),
+        picture([point], title=name, style=style, with_added=with_added),
         "<h2>Why</h2>",
         *(paragraph(part) for part in Explainer(told, style).paragraphs()),
         "<h2>How to check</h2>",

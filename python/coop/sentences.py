@@ -125,7 +125,8 @@ class Teller:
 
     def core(self, tree: dict[str, Any]) -> str:
         """Shares in the core."""
-        return filled("No group could do better by itself than by these shares: they lie in the core.")
+        first = "No group could do better by itself than by these shares: they lie in the core."
+        return filled(first + self.on_filled())
 
     def blocked(self, tree: dict[str, Any]) -> str:
         """The group that could do better by the most."""
@@ -150,7 +151,16 @@ class Teller:
             "By these shares no group could do better by itself. They are one such division, often of many, and no"
             " proposal."
         )
-        return with_items(first, self.all_shares(tree["shares"]))
+        return with_items(first + self.on_filled(), self.all_shares(tree["shares"]))
+
+    def on_filled(self) -> str:
+        """What a table of costs can't tell: whether its numbers were filled in."""
+        if self.game is None or self.game.kind != "cost-table":
+            return ""
+        return (
+            " (By the table's numbers. Where some of them were filled in, such a group may cost less, and do better by"
+            " itself.)"
+        )
 
     def empty_core(self, tree: dict[str, Any]) -> str:
         """Why no division suits all groups."""

@@ -47,6 +47,25 @@ class Amounts(unittest.TestCase):
         ):
             with self.assertRaises(BadInput, msg=values):
                 factor_for(values)
+        cases = [
+            ([Fraction("0.2875775201"), Fraction(300)], "at most 9 "),
+            ([Fraction(1, 10**13), Fraction(1)], "at most 12 "),
+            ([Fraction(2**40 - 1), Fraction(1, 3)], "at most 0 "),
+            ([Fraction(2**40), Fraction(1, 3)], "the greatest number is too large"),
+            ([Fraction(2**40)], "is 2\\^40 or more$"),
+        ]
+        for values, sentence in cases:
+            with self.assertRaisesRegex(BadInput, sentence):
+                factor_for(values)
+        self.assertEqual(factor_for([Fraction(300), Fraction(287577520, 10**9)], 9), 10**9)
+        self.assertRaises(BadInput, factor_for, [Fraction(300), Fraction(2875775201, 10**10)], 10)
+
+    def test_a_decimal_of_a_float(self) -> None:
+        with self.assertRaisesRegex(BadInput, "all the digits of the float 0.1: make it of a text, Decimal\\('0.1'\\)"):
+            fraction_of(Decimal(0.1))
+        self.assertEqual(fraction_of(Decimal(0.1), 3), Fraction(1, 10))
+        self.assertEqual(fraction_of(Decimal(0.5)), Fraction(1, 2))
+        self.assertEqual(fraction_of(Decimal("0.2875775201")), Fraction("0.2875775201"))
 
     def test_as_written(self) -> None:
         self.assertEqual([written(Fraction(text)) for text in ("4/2", "1/2", "-3/2")], [2, "1/2", "-3/2"])

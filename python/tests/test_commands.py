@@ -102,7 +102,7 @@ class Scripts(unittest.TestCase):
         found = script("from-claims", "--head", "--estate", "400.000", text="Name;Claim\nA;440.123,83\n")
         self.assertEqual(json.loads(found[1])["game"]["estate"], 400000)
         self.refused(script("from-claims", "--estate", "400.000", text="A;480000\n"), "400 or 400000", "--decimal")
-        self.refused(script("overrun", PROPOSAL, "1.500"), "the amount: 1.500 may be 1.5 or 1500")
+        self.refused(script("overrun", PROPOSAL, "1.500"), "1.500 may be 1.5 or 1500")
         self.refused(script("proposal", PROPOSAL, "1.500", "1", "2"), "the share of player 1: 1.500 may be")
         self.refused(script("proposal", PROPOSAL, "light=1", "medium=1.500", "heavy=2"), "the share of medium: 1.500")
         game = json.loads(script("from-costs", "--head", text="Group\tkEUR\na\t3387,4\n")[1])["game"]
@@ -142,6 +142,9 @@ class Scripts(unittest.TestCase):
         table = '{"game":{"class":"cost-table","names":["a","b"],"players":2,"worths":[2,3,4]}}'
         worths = [json.loads(script("overrun", "-", by, text=table)[1])["game"]["worths"] for by in ("12.50", "-1")]
         self.assertEqual(worths, [[2, 3, "33/2"], [2, 3, 3]])
+        for word, whole in (("10%", "22/5"), ("-25%", 3), ("12,50", "33/2"), ("-0,5", "7/2")):
+            self.assertEqual(json.loads(script("overrun", "-", word, text=table)[1])["game"]["worths"], [2, 3, whole])
+        self.refused(script("overrun", "-", "356,852", text=table), "356,852 may be 356.852 or 356852")
         runway = json.loads(script("overrun", PROPOSAL, "1")[1])["game"]
         self.assertEqual((runway["class"], runway["worths"]), ("cost-table", [2, 4, 4, 6, 6, 6, 7]))
         game = json.loads(script("without", PROPOSAL, "light")[1])["game"]
@@ -152,6 +155,9 @@ class Scripts(unittest.TestCase):
         self.assertEqual((status, json.loads(text)["game"]["worths"]), (0, [3, 4, 7]))
         self.assertIn("those who stay cost 7, and all together cost 6", errors)
         self.assertEqual(script("without", "-", "b", text=dear)[2], "")
+        cents = dear.replace('"players"', '"version":2,"players"').replace("[3,4,7", '[3,4,"37074/25"')
+        for words, cost in ((["-"], "1,482.96"), (["--places", "1", "-"], "1,483.0")):
+            self.assertIn(f"those who stay cost {cost}, and", script("without", *words, "c", text=cents)[2])
         lines = '{"shares":[1,2]} {"shares":[3,7]} {"shares":["3/2",1]}'
         rows = script("shares", "--change", "--csv", text=lines)[1].splitlines()
         self.assertEqual(rows[0].split(",")[-2:], ["change", "change rounded"])
@@ -184,11 +190,20 @@ class Scripts(unittest.TestCase):
         self.assertNotIn("a larger group", errors)
         dear = script("from-costs", "--fill", text="a,3\nb,4\nc,5\na+b+c,6\n")[2]
         self.assertIn("3 groups cost more than a larger group that contains them", dear)
+        self.assertIn("from-costs: b+c: 9, and a+b+c: 6\n", dear)
+        self.assertIn('"core" and "core point" hold against the filled numbers alone', dear)
+        within = script("from-costs", "--fill-within", "--places", "1", text="a,3\nb,4\nc,5\na+b+c,6\n")
+        self.assertEqual([item[1] for item in json.loads(within[1])["game"]["sparse"]], [3, 4, 5, 6, 6, 6, 6])
+        self.assertIn("b+c: 6.0 = a + b + c, and not 9.0 = b | c\n", within[2])
+        odd = script("from-costs", text="a,9\nb,9.27\na+b,1559.81\n")
+        self.assertEqual((odd[0], odd[2]), (0, "from-costs: line 3: a+b costs 1,559.81, more than a | b, 18.27\n"))
+        self.assertEqual(script("from-costs", "--gains", text="a,9\nb,9.27\na+b,1559.81\n")[2], "")
         self.assertIn("from-costs: a+c: 8 = a | c\nfrom-costs: b+c: 9 = b | c\n", errors)
         self.refused(script("from-costs", text=costs), "a+c has no line, and 1 more groups", "--fill")
         gains = json.loads(script("from-costs", "--gains", text="a,1\n")[1])["game"]
         self.assertEqual(gains["class"], "table")
-        self.refused(script("from-costs", "--gains", "--fill", text=costs), "only costs")
+        for word in ("--fill", "--fill-within"):
+            self.refused(script("from-costs", "--gains", word, text=costs), "only costs")
 
     def test_same_game(self) -> None:
         with tempfile.TemporaryDirectory() as folder:
@@ -233,6 +248,27 @@ class Scripts(unittest.TestCase):
         rows = list(csv.reader(io.StringIO(script("compare", "--csv", text=lines)[1])))
         self.assertEqual((len(rows), rows[1][:3], rows[1][4]), (7, ["1", "light alone", "-1"], "-2/3"))
         self.refused(script("compare", text=json.dumps(solved())), "1 divisions")
+
+    def test_marks_at_what_each_adds(self) -> None:
+        """They are left out where nobody knows what each adds, and of a table of costs the key says whose they are."""
+        table = '{"game":{"class":"cost-table","players":4,"worths":[8,7,10,6,10,10,10,5,10,10,10,10,10,10,13]}}'
+        shares = table[:-1] + ',"shares":[4,3,3,3]}'
+        status, text, errors = script("picture", text=shares)
+        self.assertEqual((status, errors, text.count("adds to the cost"), text.count("filled ones")), (0, "", 1, 1))
+        marks = text.count('stroke-width="2.4"')
+        status, text, errors = script("picture", "--no-added", text=shares)
+        self.assertEqual((status, errors, text.count("adds to the cost"), text.count("filled ones")), (0, "", 0, 0))
+        self.assertEqual((marks, text.count('stroke-width="2.4"'), text.count("costs alone")), (5, 0, 1))
+        self.assertNotIn("filled ones", script("picture", "--bars", text=json.dumps(solved()))[1])
+        levels = [{"excess": "-1/2", "coalitions": [[[1], 1], [[2], 1]], "earlier": [], "bounds": [], "total": 1}]
+        two = {
+            "answer": "nucleolus",
+            "certificate": {"mode": "span", "levels": levels},
+            "game": {"class": "airport", "costs": [1, 1]},
+            "shares": ["1/2", "1/2"],
+        }
+        self.assertEqual(script("report", text=json.dumps(two))[1].count("adds to the cost"), 1)
+        self.assertEqual(script("report", "--no-added", text=json.dumps(two))[1].count("adds to the cost"), 0)
 
     def test_report(self) -> None:
         status, text, errors = script("report", "--title", "A runway", text=json.dumps(solved()))
@@ -296,6 +332,13 @@ class Scripts(unittest.TestCase):
         self.assertIn("\\u000aheavy", script("shares", "--csv", text=text)[1])
 
     @needs_program
+    def test_thousands_of_many(self) -> None:
+        """In a CSV nothing stands between thousands, and the help says so."""
+        text = script("many", "nucleolus", "--csv", "--places", "2", text='{"game":{"class":"airport","costs":[1234]}}')[1]
+        self.assertIn(",1234.00,", text)
+        self.assertIn("in plain digits", script("many", "--help")[1].split("--places N")[-1])
+        self.assertNotIn("thousands separated", script("many", "--help")[1])
+
     def test_many_and_proposal(self) -> None:
         majority = os.path.join("examples", "majority.json")
         status, text, errors = script("many", "core,shapley", majority, "lost.json")

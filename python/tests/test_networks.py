@@ -29,6 +29,22 @@ class Networks(unittest.TestCase):
             with self.assertRaisesRegex(coop.BadInput, sentence):
                 table_of_links(links, by_way_of_others=by_way)
 
+    def test_names(self) -> None:
+        tree = {"class": "cost-table", "players": 2, "names": ["b", "a"], "worths": [8, 5, 8]}
+        links = {("source", "a"): 5, ("a", "b"): 3}
+        self.assertEqual(table_of_links(links, names=["b", "a"]).tree, tree)
+        both = {("source", "Ash"): 5, ("ash", "Ash"): 3}
+        self.assertEqual(table_of_links(both, names=["Ash", "ash"]).names, ["Ash", "ash"])
+        cases: list[tuple[dict[tuple[str, str], int], Optional[list[str]], str]] = [
+            (both, None, "Ash and ash differ in capitals alone"),
+            ({("Source", "a"): 5}, None, "source and Source differ"),
+            (both, ["Ash"], "a link has ash, which is neither source nor among the names Ash"),
+            (links, ["a", "b", "c"], "no links join c to the source"),
+        ]
+        for links, names, sentence in cases:
+            with self.assertRaisesRegex(coop.BadInput, sentence):
+                table_of_links(links, names=names)
+
     def test_no_network_is_cheaper(self) -> None:
         """Against all sets of links that join a group, over random networks of four; and trees against the class."""
         draw = random.Random(4)

@@ -3,14 +3,17 @@ import unittest
 from fractions import Fraction
 from itertools import combinations
 from random import Random
-from typing import Callable
+from typing import Callable, Iterable
 
 from coop import BadInput
-from coop.filling import cheapest, told
+from coop.costing import doubts, remarks
+from coop.filling import above_larger, cheapest, cheapest_cover, told
+from coop.plainly import Plainly
 from coop.readers import claims, groups, landings, left_out, vectors
 from coop.sheets import Layout, notes, typed
 from coop.styles import EXACT
 
+APART = (("a+c", "8.1 = a | c"), ("b+c", "9.1 = b | c"))
 COSTS = "a,3\nb,4\nc,5\na+b,6\na+b+c,9\n"
 
 
@@ -61,6 +64,54 @@ class Readers(unittest.TestCase):
                 self.assertEqual(
                     (sum(item.parts), sum(amounts[part] for part in item.parts)), (item.group, item.amount)
                 )
+
+    def test_a_cover_is_the_cheapest(self) -> None:
+        """Against all ways to cover a group by costed ones, in random tables of four."""
+        draw = Random(5)
+        for _ in range(20):
+            amounts = {1 << i: Fraction(draw.randint(1, 20)) for i in range(4)}
+            amounts.update({s: Fraction(draw.randint(1, 30)) for s in range(1, 16) if draw.random() < 0.3})
+            for item in cheapest_cover(amounts, [s for s in range(1, 16) if s not in amounts]):
+                covers = (some for size in range(1, 5) for some in combinations(amounts, size))
+                whole = [some for some in covers if item.group & ~union(some) == 0]
+                self.assertEqual(item.amount, min(sum(amounts[part] for part in some) for some in whole))
+                self.assertEqual(item.amount, sum(amounts[part] for part in item.parts))
+                self.assertEqual(item.group & ~union(item.parts), 0)
+
+    def test_groups_dearer_than_a_larger_one(self) -> None:
+        costs = [Fraction(cost) for cost in (0, 3, 4, 6, 5, 8, 9, 7)]
+        self.assertEqual(above_larger(costs), [(5, 8, 7, 7), (6, 9, 7, 7)])
+        self.assertEqual(above_larger(costs[:4]), [])
+        text = "a,3\nb,4\nc,5.125\na+b,6\na+b+c,7\n"
+        plain, lesser = groups(text, fill=True), groups(text, within=True)
+        said = list(remarks(plain, False, Plainly()))
+        self.assertEqual(said[2:4], ["a+c: 8.125 = a | c", "b+c: 9.125 = b | c"])
+        self.assertIn("2 groups cost more than a larger group", said[4])
+        self.assertEqual(said[5:], ["a+c: 8.125, and a+b+c: 7", "b+c: 9.125, and a+b+c: 7"])
+        self.assertIn('"core" and "core point" hold against the filled numbers alone', said[1])
+        self.assertEqual([lesser.game.worth(group) for group in (5, 6)], [-7, -7])
+        said = list(remarks(lesser, True, Plainly(1)))
+        self.assertIn("2 of these cost less by the works of a larger group", said[4])
+        self.assertEqual(said[5:], [f"{s}: 7.0 = a + b + c, and not {t}" for s, t in APART])
+
+    def test_costs_that_look_like_slips(self) -> None:
+        text = "a,3000.5\nb,900\nc,955.77\nb+c,15598.10\na+c,12\na+b,-4\na+b+c,3500\n"
+        wanted = [
+            "line 4: b+c costs 15,598.10, more than b | c, 1,855.77",
+            "line 5: a+c costs 12, less than a alone, 3,000.50",
+            "line 6: a+b costs -4, which is negative",
+            "line 7: a+b+c costs 3,500, more than a+c | b, 912",
+        ]
+        self.assertEqual(doubts(groups(text), Plainly()), wanted)
+        self.assertEqual(list(remarks(groups(text), False, Plainly())), wanted)
+        filled = list(remarks(groups(COSTS, fill=True), False, Plainly()))
+        self.assertEqual(filled[2:], ["a+c: 8 = a | c", "b+c: 9 = b | c"])
+        names = "abcdef"
+        few = "".join(f"{name},1\n" for name in names) + f"{'+'.join(names)},7\n"
+        self.assertIn("more than a | b", doubts(groups(few, fill=True), Plainly())[0])
+        dear = "".join(f"{'+'.join(some)},2\n" for some in combinations(names, 2))
+        said = list(remarks(groups(few.replace("7", "6") + dear.replace("2", "3"), fill=True), False, Plainly()))
+        self.assertEqual(said[10], "and 5 more (--all lists them)")
 
     def test_vectors(self) -> None:
         games = list(vectors("0,0,0,6,2,2,12\n1,2,3,4,5,6,7\n", "size", names=["a", "b", "c"]))
@@ -217,6 +268,14 @@ class Sheets(unittest.TestCase):
         self.assertEqual(left_out("\n".join(rows), Layout()), [])
         with self.assertRaisesRegex(BadInput, "it isn't 0; a first column of names is left out by --skip 1"):
             list(vectors("\n".join(named), "size"))
+
+
+def union(parts: Iterable[int]) -> int:
+    """The players of all the parts."""
+    together = 0
+    for part in parts:
+        together |= part
+    return together
 
 
 def is_split(parts: tuple[int, ...]) -> bool:

@@ -1,9 +1,12 @@
 """Each answer in sentences, failed conditions, and refusals with their place."""
 import json
 import unittest
+from fractions import Fraction
 from typing import Any, Optional
 
 import coop
+from coop.certificates import Explainer
+from coop.levels import Level
 from coop.reasons import checked, reasons
 from coop.styles import EXACT, Style
 from coop import BadInput
@@ -234,6 +237,21 @@ class Reasons(unittest.TestCase):
             text, status = said(line, document)
             self.assertIn(sentence, text)
             self.assertEqual(status, 0)
+
+    def test_cores_of_a_table_of_costs(self) -> None:
+        """Its numbers may have been filled in, which nobody tells the program; those of an airport may not."""
+        table = {"game": {"class": "cost-table", "players": 2, "worths": [2, 3, 4]}, "shares": [2, 2]}
+        for line in ({"answer": "core"}, {"answer": "core point", "shares": ["2", "2"]}):
+            self.assertIn("Where some of them were filled in, such a group may cost less", said(line, table)[0])
+            airport = {"game": {"class": "airport", "costs": [2, 3]}, "shares": [1, 2]}
+            self.assertNotIn("filled in", said(line, airport)[0])
+
+    def test_what_is_taken_off_may_outweigh(self) -> None:
+        """A level at which each player is counted less than no times, or not at all."""
+        explainer = Explainer(solved())
+        for total, words in ((-2, "equally often (-2 times, on balance)"), (0, "not at all, on balance"), (2, "twice")):
+            level = Level(Fraction(1), [(3, 1)], [(7, -3)], [], total)
+            self.assertIn(f"holds each player {words}, so it can't do better", explainer.why(level))
 
     def test_failed_conditions(self) -> None:
         for document, sentence in FAILURES:

@@ -48,6 +48,10 @@ SLIPS = {
     '{"game":{"class":"airport","costs":["1,5"],"version":2}}': (
         '5 $.game.costs[0] (the cost of player 1): "1,5" is no fraction text: write "3/2"'
     ),
+    '{"game":{"class":"airport","costs":["0.2875775201"],"version":2}}': (
+        '5 $.game.costs[0] (the cost of player 1): "0.2875775201" is no fraction text: write fewer decimals, as '
+        '"719/2500", or have all numbers multiplied (--scaled of scripts/from-vector)'
+    ),
     '{"game":{"class":"airport","costs":[1,2],"names":["bob","bob"]}}': (
         '6 $.game.names[1] (the name of player 2): the name "bob" stands twice'
     ),

@@ -1,9 +1,11 @@
 """Games without some players, and after an overrun."""
 import random
 import unittest
+from fractions import Fraction
 
 import coop
 from coop.masks import mask_of, members
+from coop.typed import amount
 from coop.variants import overrun, table_of_game, without
 
 from .test_excesses import drawn_games
@@ -47,6 +49,33 @@ class Variants(unittest.TestCase):
         )
         with self.assertRaisesRegex(coop.BadInput, "17 players: a table has at most 16"):
             overrun(coop.airport([1] * 17), 1)
+
+    def test_an_amount_that_is_typed(self) -> None:
+        cases = [
+            ("400", "400"),
+            ("12.50", "25/2"),
+            ("12,50", "25/2"),
+            ("-0,125", "-1/8"),
+            ("1.234,50", "2469/2"),
+            ("1,234.50", "2469/2"),
+            ("1,234,567", "1234567"),
+            ("25/2", "25/2"),
+            ("10%", "20"),
+            ("-7,5 %", "-15"),
+            ("1/3%", "2/3"),
+        ]
+        for text, wanted in cases:
+            self.assertEqual(amount(text, Fraction(200)), Fraction(wanted), text)
+        refused = [
+            ("356,852", "356,852 may be 356.852 or 356852: write 89213/250 or 356852"),
+            ("1.500", "1.500 may be 1.5 or 1500: write 3/2 or 1500"),
+            ("1.2345,5", "is no number"),
+            ("ten%", "'ten' is no number"),
+            ("%", "is no number"),
+        ]
+        for text, sentence in refused:
+            with self.assertRaisesRegex(coop.BadInput, sentence):
+                amount(text, Fraction(200))
 
     def test_the_table_of_a_game(self) -> None:
         for game in drawn_games(random.Random(9)):
