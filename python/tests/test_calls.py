@@ -93,7 +93,8 @@ class Calls(unittest.TestCase):
         with self.assertRaises(coop.Refused) as raised:
             coop.nucleolus(coop.Game({"class": "airport", "costs": [-1]}))
         self.assertEqual((raised.exception.number, raised.exception.name), (5, "Number"))
-        self.assertEqual(str(raised.exception), "refused, 5 Number: $.game.costs[0] (the cost of player 1): -1 is below 0")
+        place = "$.game.costs[0] (the cost of player 1)"
+        self.assertEqual(str(raised.exception), f"refused, 5 Number: {place}: -1 is below 0")
         with self.assertRaises(coop.Refused) as raised:
             coop.check("{}")
         self.assertEqual((raised.exception.status, raised.exception.number), (3, 3))

@@ -105,13 +105,13 @@ class Pictures(Files):
 
     def test_a_name_stands_clear_of_the_corner(self) -> None:
         point = Point("nucleolus", [Fraction(0), Fraction(0), Fraction(1)], self.GLOVES)
-        boxes = {}
+        boxes: dict[str, tuple[float, float, float, float]] = {}
         for row in texts_of(picture([point])):
             size = float(row.get("font-size", "0"))
             if (row.text, size) in (("nucleolus", 13), ("0, 0, 1", 12), ("right", 14)):
                 x, y, wide = float(row.get("x", "")), float(row.get("y", "")), width(row.text or "", size)
                 left = x - {"start": 0.0, "middle": wide / 2, "end": wide}[row.get("text-anchor", "start")]
-                boxes.setdefault(row.text, (left, y - size * 0.8, left + wide, y + 3))
+                boxes.setdefault(row.text or "", (left, y - size * 0.8, left + wide, y + 3))
         self.assertEqual(len(boxes), 3)
         label = boxes.pop("nucleolus")
         self.assertEqual([overlap(label, box) for box in boxes.values()], [0, 0])
