@@ -20,7 +20,7 @@ use Rattle.fractions.proofs.Divisors.{times_quotient}
 use Rattle.worth_core.specs.LeastDenominators.{numerator_over}
 use Rattle.json_trees.specs.Fractions.{fraction_of}
 use Rattle.document_parts.specs.CommonMultiples.{lcm}
-use Rattle.document_parts.specs.ScaledNumbers.{is_small, if_small, small_number, number_or_zero}
+use Rattle.document_parts.specs.ScaledNumbers.{is_small, if_small, number_or_zero}
 use Rattle.document_parts.specs.Numbers.{seen, with_fraction, are_worths, AreWorths}
 use Rattle.document_parts.proofs.CommonScales.{den, least, den_positive, least_positive, lcm_is}
 use Rattle.document_parts.proofs.CommonScales.{least_append, least_more}

@@ -9,7 +9,7 @@
 --   in_rows           numbers in rows as long as some arrays
 --   number_of_mask    of masks and numbers side by side: the number at the first place with this mask
 use Rattle.std.specs.Prelude.{◌&&◌, ◌≡◌, ℕ, ℤ, pos, List, [], ◌∷◌, length, map, take, drop}
-use Rattle.std.specs.Prelude.{Bool, true, Option, Some, None, is_some, option_map}
+use Rattle.std.specs.Prelude.{Bool, true, Option, Some, is_some, option_map}
 use Rattle.std.specs.Prelude.{option_and_then, nat_le, unsigned_abs, if◌then◌else◌}
 use Rattle.std.specs.Borrow.{Bor}
 use Rattle.std.specs.List.{list_all}

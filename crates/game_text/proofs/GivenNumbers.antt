@@ -3,7 +3,7 @@ use Rattle.std.proofs.Common.{◌≡◌, ◌&&◌, ◌||◌, ◌≤◌, ◌-◌,
 use Rattle.std.proofs.Common.{take, drop, get_or, Bool, true, false, Option, Some, None, is_some, option_map, if◌then◌else◌}
 use Rattle.std.proofs.Common.{slice_index_or}
 use Rattle.std.specs.List.{remove}
-use Rattle.std.proofs.Common.{refl, sym, ap, ap₂, ◌∙◌, subst, arith}
+use Rattle.std.proofs.Common.{refl, sym, ap, ap₂, ◌∙◌, arith}
 use Rattle.std.specs.Prelude.{unwrap_or, option_and_then}
 use Rattle.std.specs.List.{list_all, range_with_len}
 use Rattle.std.proofs.lemmas.Bool.{false≢true, and_parts}
@@ -16,7 +16,7 @@ use Rattle.document_parts.specs.Members.{mask_of, is_mask, are_coalitions}
 use Rattle.document_parts.specs.Numbers.{in_rows, number_of_mask}
 use Rattle.document_parts.specs.Scales.{if_there, second_part, pair_number, all_parts, table_numbers_in, scale_of}
 use Rattle.document_parts.specs.Scales.{matrix_numbers_in}
-use Rattle.document_parts.specs.ScaledNumbers.{small_number, number_or_zero, number_at, numbers_at, numbers_of, second_number}
+use Rattle.document_parts.specs.ScaledNumbers.{small_number, number_or_zero, number_at, numbers_at, second_number}
 use Rattle.document_parts.specs.TableNumbers.{masks_by, sparse_number, numbers_by}
 use Rattle.document_parts.specs.Version.{has_texts}
 use Rattle.game_text.specs.Classes.{class_of, own_values_as, own_numbers}

@@ -1,17 +1,17 @@
 -- The numbers of a game are those at the keys of its class, since it has no other keys.
-use Rattle.std.proofs.Common.{◌≡◌, ◌&&◌, ◌||◌, ◌≤◌, ℕ, ℤ, List, [], ◌∷◌, ◌++◌, length, map, codes, Bool, true, false}
+use Rattle.std.proofs.Common.{◌≡◌, ◌&&◌, ◌||◌, ℕ, ℤ, List, [], ◌∷◌, ◌++◌, map, codes, Bool, true, false}
 use Rattle.std.proofs.Common.{Option, Some, None, Ordering, Less, Equal, Greater, is_none, is_some, option_map}
-use Rattle.std.proofs.Common.{nat_le, pos, unsigned_abs, refl, sym, ap, ap₂, ◌∙◌, subst, arith}
-use Rattle.std.specs.Prelude.{unwrap_or, option_and_then}
+use Rattle.std.proofs.Common.{nat_le, refl, sym, ap, ap₂, ◌∙◌, arith}
+use Rattle.std.specs.Prelude.{unwrap_or}
 use Rattle.std.specs.List.{list_all}
 use Rattle.std.specs.Ordering.{nat_cmp, match_ordering}
 use Rattle.std.specs.Cmp.Lexicographic.{slice_cmp}
-use Rattle.std.proofs.lemmas.Bool.{false≢true, and_parts, and_right}
+use Rattle.std.proofs.lemmas.Bool.{false≢true, and_parts}
 use Rattle.std.proofs.lemmas.List.{append-nil}
 use Rattle.std.proofs.lemmas.List.Folds.{list_all-append}
 use Rattle.std.proofs.lemmas.Map.Lookups.{exact_bytes}
 use Rattle.serde_json.specs.Data.{Data, null, boolean, number, string, array, object, Members, no_members, member}
-use Rattle.serde_json.specs.Find.{get, get_member, as_str, as_array}
+use Rattle.serde_json.specs.Find.{get, get_member, as_array}
 use Rattle.json_trees.specs.Keys.{is_among, has_only_keys}
 use Rattle.json_trees.specs.Trees.{parts, parts_at, keys_of, passes, passes_if_there, is_array_of, is_number}
 use Rattle.json_trees.specs.Trees.{is_numeric, second_passes, are_two, is_member}
@@ -29,7 +29,7 @@ use Rattle.game_text.specs.Classes.AirportClass.{airport_keys, is_airport_shaped
 use Rattle.game_text.specs.Classes.BankruptcyClass.{bankruptcy_keys, is_bankruptcy_shaped, bankruptcy_values}
 use Rattle.game_text.specs.Classes.MatrixClass.{matrix_keys, is_matrix_shaped}
 use Rattle.game_text.specs.Classes.TableClass.{table_keys, lists_worths, lists_coalitions, is_table_shaped}
-use Rattle.game_text.specs.Classes.TableClass.{is_sparse_pair, is_worth, has_worth}
+use Rattle.game_text.specs.Classes.TableClass.{is_sparse_pair, is_worth}
 use Rattle.game_text.specs.Classes.VotingClass.{voting_keys, is_voting_shaped, voting_values}
 use Rattle.game_text.specs.declared.classes.Class.{Class}
 use Rattle.game_text.specs.declared.classes.Class.TheVariants.{Table, Cost, Airport, Bankruptcy, Tree, Assignment}

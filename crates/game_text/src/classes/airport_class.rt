@@ -11,7 +11,7 @@ ghost use Rattle.game_text.specs.declared.classes.Class.TheVariants.{Airport};
 use crate::classes::Game;
 use crate::fault::TextFault;
 use airport::{AirportFault, AirportGame};
-use document_parts::{Numbers, add_values, read_costs, has_texts, is_list_size};
+use document_parts::{Numbers, add_values, has_texts, is_list_size, read_costs};
 use fractions::OutOfMemory;
 use json_trees::{ArrayOf, Numeric, has, has_only_keys, parts_at};
 use kinds::Refusal;

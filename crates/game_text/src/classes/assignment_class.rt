@@ -43,7 +43,11 @@ pub(crate) fn players(game: &Value) -> Option<usize>
 }
 
 /// The game that is described, by its entries. It is refused where the rows differ in length.
-pub(crate) fn assignment_of(alloc: Global, game: &Value, entries: Vec<i64>) -> Result<Game, TextFault>
+pub(crate) fn assignment_of(
+    alloc: Global,
+    game: &Value,
+    entries: Vec<i64>,
+) -> Result<Game, TextFault>
     requires class { class_of (view game.now) ≡ Some Assignment }
     requires sizes { HasSizes (view game.now) }
     requires numbers { entries.items ≡ own_numbers (view game.now) }

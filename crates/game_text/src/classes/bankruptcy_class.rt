@@ -12,7 +12,7 @@ ghost use Rattle.game_text.specs.declared.classes.Class.TheVariants.{Bankruptcy}
 use crate::classes::Game;
 use crate::fault::TextFault;
 use bankruptcy::{BankruptcyFault, BankruptcyGame};
-use document_parts::{Numbers, add_at, add_values, read_costs, has_texts, is_list_size};
+use document_parts::{Numbers, add_at, add_values, has_texts, is_list_size, read_costs};
 use fractions::OutOfMemory;
 use json_trees::{ArrayOf, Numeric, has, has_only_keys, parts_at};
 use kinds::Refusal;

@@ -7,7 +7,7 @@ ghost use Rattle.document_parts.specs.Scales.{matrix_numbers_in};
 ghost use Rattle.document_parts.specs.Numbers.{are_costs, AreWorths};
 ghost use Rattle.game_text.specs.Classes.MatrixClass.{is_matrix_shaped};
 
-use document_parts::{Numbers, add_rows, read_costs, has_texts};
+use document_parts::{Numbers, add_rows, has_texts, read_costs};
 use fractions::OutOfMemory;
 use json_trees::{ArrayOf, Numeric, has, has_only_keys, parts_at};
 use serde_json::Value;

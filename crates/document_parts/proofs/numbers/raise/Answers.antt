@@ -1,4 +1,4 @@
-use Rattle.std.proofs.Common.{◌≡◌, ◌<◌, ◌*ℤ◌, ℤ, pos, length, get_or, Some, to_z, of_z, w64, rules, sym, ap, ◌∙◌}
+use Rattle.std.proofs.Common.{◌≡◌, ◌<◌, ◌*ℤ◌, pos, length, get_or, Some, to_z, of_z, w64, rules, ap, ◌∙◌}
 use Rattle.document_parts.specs.ScaledNumbers.{if_small}
 use Rattle.document_parts.proofs.InPlace.{times_one, one_in_place}
 use Rattle.document_parts.proofs.numbers.raise.Goals as goal

@@ -1,12 +1,11 @@
 use Rattle.std.proofs.Common.{◌≡◌, ◌&&◌, ℕ, ℤ, List, Bool, true, false, Option, Some, None, if◌then◌else◌}
-use Rattle.std.proofs.Common.{codes, option_map, is_some, nat_le, pos, to_z, of_z, w64, rules, refl, sym, ap, ◌∙◌}
+use Rattle.std.proofs.Common.{codes, pos, to_z, of_z, w64, rules, refl, sym, ap, ◌∙◌}
 use Rattle.std.specs.Prelude.{unwrap_or}
 use Rattle.serde_json.specs.Data.{Data, null}
 use Rattle.serde_json.specs.Find.{get}
 use Rattle.serde_json.specs.View.{view}
 use Rattle.std.proofs.lemmas.Bool.{and_left, and_right, and_parts, false≢true}
 use Rattle.document_parts.specs.Numbers.{AreWorths}
-use Rattle.document_parts.specs.Scales.{scale_of}
 use Rattle.kinds.specs.declared.refusal.Refusal.{Refusal}
 use Rattle.kinds.specs.declared.refusal.Refusal.TheVariants.{Shape}
 use Rattle.game_text.specs.Classes.{class_of, has_players, players, has_numbers, are_numbers_as, own_values}

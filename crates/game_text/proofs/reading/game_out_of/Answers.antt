@@ -1,4 +1,4 @@
-use Rattle.std.proofs.Common.{◌≡◌, codes, option_map, sym, ap, ◌∙◌}
+use Rattle.std.proofs.Common.{codes, option_map, sym, ap, ◌∙◌}
 use Rattle.serde_json.specs.Find.{get}
 use Rattle.serde_json.specs.View.{view}
 use Rattle.serde_json.proofs.Views.{view-Object, view-lookup}

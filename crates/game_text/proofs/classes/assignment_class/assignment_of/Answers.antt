@@ -1,10 +1,8 @@
-use Rattle.std.proofs.Common.{Some, map, codes, refl, sym, ap, ◌∙◌, subst}
-use Rattle.json_trees.specs.Trees.{parts_at}
+use Rattle.std.proofs.Common.{Some, refl, sym, subst}
 use Rattle.serde_json.specs.View.{view}
 use Rattle.game_text.specs.declared.classes.Class.TheVariants as class
 use Rattle.game_text.specs.declared.classes.Game.TheVariants as games
 use Rattle.document_parts.specs.Scales.{scale_of}
-use Rattle.document_parts.specs.Numbers.{in_rows}
 use Rattle.game_text.proofs.GivenNumbers.{rows_enough, rows_given}
 use Rattle.game_text.proofs.Built.{built_if, refused_if}
 use Rattle.game_text.proofs.Laws.MatrixRows.{HasAssignmentSizes, assignment_sizes, even_made, even_not_made}

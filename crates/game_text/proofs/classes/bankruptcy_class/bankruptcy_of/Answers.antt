@@ -1,8 +1,7 @@
-use Rattle.std.proofs.Common.{◌≡◌, ◌∷◌, ◌<◌, List, ℤ, length, to_z, of_z, w64, codes, Some, rules, refl, sym, ap, ◌∙◌, subst, arith}
+use Rattle.std.proofs.Common.{◌≡◌, length, to_z, of_z, w64, Some, rules, refl, sym, ap, ◌∙◌, subst, arith}
 use Rattle.serde_json.specs.View.{view}
 use Rattle.airport.specs.Costs.{IsCost}
 use Rattle.document_parts.specs.Scales.{scale_of}
-use Rattle.document_parts.specs.ScaledNumbers.{number_at, numbers_at}
 use Rattle.game_text.specs.declared.classes.Class.TheVariants as class
 use Rattle.game_text.specs.declared.classes.Game.TheVariants as games
 use Rattle.game_text.proofs.GivenNumbers.{bankruptcy_numbers, first_is, rest_is}
