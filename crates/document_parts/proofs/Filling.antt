@@ -212,7 +212,8 @@ module _ (n : ℕ) (ps : List Slot) where
           ];
           good =
               ap are_coalitions (masks_more i p h at) ∙ coalitions_more (masks (take i ps)) p.0
-              ∙ ap₂ (λ a b. a && b) filled.good (ap (fresh (masks (take i ps))) (sym e) ∙ ap not (any_at m within ∙ free));
+              ∙ ap₂ (λ a b. a && b) filled.good
+              (ap (fresh (masks (take i ps))) (sym e) ∙ ap not (any_at m within ∙ free));
         }
       where
         none_from : (o : Option ℤ) → is_some o ≡ false → o ≡ None
@@ -312,7 +313,8 @@ module _ (n : ℕ) (names : List (List ℕ)) (vs : List Value) (zs : List ℤ) (
 
   pub pair_without_mask : None ≡ mask → are_coalitions ms ≡ false
   pair_without_mask e =
-      ap are_coalitions (sym (masks_are ms zs fits)) ∙ no_mask n (slots ms zs) i (mask, z) below slot table filled e
+      ap are_coalitions (sym (masks_are ms zs fits))
+      ∙ no_mask n (slots ms zs) i (mask, z) below slot table filled e
 
   pub pair_again : (m : ℕ) → Some m ≡ mask → m < 2 ^ n → is_some (get_or table m None) ≡ true
       → are_coalitions ms ≡ false

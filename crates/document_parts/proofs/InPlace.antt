@@ -1,6 +1,8 @@
 -- Numbers that are multiplied in place.
-use Rattle.std.proofs.Common.{◌≡◌, ◌<◌, ℕ, ◌+◌, ℤ, pos, ◌*ℤ◌, List, [], ◌∷◌, ◌++◌, length, get_or, set, take, drop, map}
-use Rattle.std.proofs.Common.{Bool, true, false, ◌&&◌, Option, Some, None, if◌then◌else◌, refl, sym, ap, ap₂, ◌∙◌, subst, arith}
+use Rattle.std.proofs.Common.{◌≡◌, ◌<◌, ℕ, ◌+◌, ℤ, pos, ◌*ℤ◌, List, [], ◌∷◌, ◌++◌}
+use Rattle.std.proofs.Common.{length, get_or, set, take, drop, map}
+use Rattle.std.proofs.Common.{Bool, true, false, ◌&&◌, Option, Some, None}
+use Rattle.std.proofs.Common.{if◌then◌else◌, refl, sym, ap, ap₂, ◌∙◌, subst, arith}
 use Rattle.std.specs.Prelude.{⊤}
 use Rattle.std.specs.List.{list_all}
 use Rattle.std.proofs.lemmas.Bool.{and_from}
@@ -37,7 +39,8 @@ one_in_place k xs ys i x y lt so at small e =
     let f = λ (z : ℤ). z *ℤ pos k in
     let new = passed (is_small (f x)) (f x) y e in
     let front = map f (take i xs) in
-    let long : length front ≡ i = let n = length-map (take i xs) f in let m = length-take i xs in omega (arith, n, m, lt) in
+    let long : length front ≡ i =
+    let n = length-map (take i xs) f in let m = length-take i xs in omega (arith, n, m, lt) in
     let parts : ys ≡ front ++ get_or xs i x ∷ drop (i + 1) xs = so ∙ ap (λ l. front ++ l) (drop_more xs i x lt) in
     let read : x ≡ get_or xs i x = at ∙ ap (λ l. get_or l i x) parts ∙ get_or_at front _ _ x i long in
     let last : is_small (f (get_or xs i x)) ≡ true = ap (λ (z : ℤ). is_small (f z)) (sym read) ∙ new.0 in (

@@ -1,6 +1,7 @@
 -- What each class makes of the numbers of its game.
 use Rattle.std.proofs.Common.{◌≡◌, ◌&&◌, ◌||◌, ◌≤◌, ◌-◌, ◌^◌, ℕ, ℤ, pos, List, [], ◌∷◌, ◌++◌, length, map, codes}
-use Rattle.std.proofs.Common.{take, drop, get_or, Bool, true, false, Option, Some, None, is_some, option_map, if◌then◌else◌}
+use Rattle.std.proofs.Common.{take, drop, get_or, Bool, true, false, Option, Some}
+use Rattle.std.proofs.Common.{None, is_some, option_map, if◌then◌else◌}
 use Rattle.std.proofs.Common.{slice_index_or}
 use Rattle.std.specs.List.{remove}
 use Rattle.std.proofs.Common.{refl, sym, ap, ap₂, ◌∙◌, arith}
@@ -57,7 +58,8 @@ pub bankruptcy_numbers : (game : Data) (zs : List ℤ) → class_of game ≡ Som
     → zs ≡ number_at (scale_of game) (codes "estate") game ∷ numbers_at (scale_of game) (codes "claims") game
 bankruptcy_numbers game zs e h n =
     let front =
-    and_parts (has_only_keys bankruptcy_keys game && passes (is_numeric (has_texts game)) (get (codes "estate") game))
+    and_parts
+    (has_only_keys bankruptcy_keys game && passes (is_numeric (has_texts game)) (get (codes "estate") game))
     (passes (is_array_of (is_numeric (has_texts game))) (get (codes "claims") game))
     (shaped_as game Bankruptcy e h.shaped) in
     let estate =
@@ -96,7 +98,8 @@ rows_back f [] = refl
 rows_back f (d ∷ ds) =
     let row = map f (parts d) in
     let later = map f (all_parts parts ds) in
-    let whole : map f (parts d ++ all_parts parts ds) ≡ row ++ later = map-append f (parts d) (all_parts parts ds) in
+    let whole : map f (parts d ++ all_parts parts ds) ≡ row ++ later =
+    map-append f (parts d) (all_parts parts ds) in
     let long : length (parts d) ≡ length row = sym (length-map (parts d) f) in
     ap (in_rows (d ∷ ds)) whole
     ∙ ap₂ (λ (a : List ℤ) (l : List (List ℤ)). a ∷ l)
@@ -186,7 +189,9 @@ module _ (k n : ℕ) (names : List (List ℕ)) (game : Data) (zs : List ℤ)
   listed_by true b e f h none =
       let form = worths_listed game e in
       given
-      ∙ ap₂ (λ s d. map (number_or_zero k) (worths ++ (all_parts pair_number (unwrap_or (option_map parts s) []) ++ if_there d)))
+      ∙ ap₂
+      (λ s d. map (number_or_zero k)
+      (worths ++ (all_parts pair_number (unwrap_or (option_map parts s) []) ++ if_there d)))
       form.unpaired form.no_other
       ∙ ap (map (number_or_zero k)) (append-nil worths)
   listed_by false true e f h none =
@@ -207,7 +212,8 @@ module _ (k n : ℕ) (names : List (List ℕ)) (game : Data) (zs : List ℤ)
       ap (λ (l : List ℤ). Some l) same
       ∙ sym
       (ap
-      (λ s. if are_coalitions (map (λ pair. mask_of n names (pair_members pair)) (unwrap_or (option_map parts s) []))
+      (λ s. if are_coalitions
+      (map (λ pair. mask_of n names (pair_members pair)) (unwrap_or (option_map parts s) []))
       then Some (numbers_by k s n names game) else None) none)
 
   some_pairs : (a b : Bool) (d : Data) → lists_worths game ≡ a → lists_coalitions game ≡ b → (a || b) ≡ true
@@ -218,7 +224,9 @@ module _ (k n : ℕ) (names : List (List ℕ)) (game : Data) (zs : List ℤ)
   some_pairs false true d e f h there =
       let form = pairs_of game f in
       given
-      ∙ ap (λ w. map (number_or_zero k) (unwrap_or (option_map parts w) [] ++ (all_parts pair_number sparse ++ if_there default)))
+      ∙ ap
+      (λ w. map (number_or_zero k)
+      (unwrap_or (option_map parts w) [] ++ (all_parts pair_number sparse ++ if_there default)))
       form.unlisted
       ∙ map-append (number_or_zero k) (all_parts pair_number sparse) (if_there default)
       ∙ ap (λ (l : List ℤ). l ++ map (number_or_zero k) (if_there default))
@@ -235,10 +243,13 @@ module _ (k n : ℕ) (names : List (List ℕ)) (game : Data) (zs : List ℤ)
 
     pub pairs_enough : length sparse ≤ length zs
     pairs_enough =
-        let size = ap length in_pairs ∙ length-append (second_numbers k sparse) (map (number_or_zero k) (if_there default)) in
+        let size =
+        ap length in_pairs
+        ∙ length-append (second_numbers k sparse) (map (number_or_zero k) (if_there default)) in
         omega (arith, size, long)
 
-    pub numbers_in_pairs : map (number_of_mask (masks_by n names game) zs (get_or zs (length sparse) (pos 0))) (range_with_len 1 (2 ^ n - 1))
+    pub numbers_in_pairs : map (number_of_mask (masks_by n names game) zs (get_or zs (length sparse) (pos 0)))
+        (range_with_len 1 (2 ^ n - 1))
         ≡ numbers_by k (get (codes "sparse") game) n names game
     numbers_in_pairs =
         let other : get_or zs (length sparse) (pos 0) ≡ number_at k (codes "default") game =
@@ -257,16 +268,19 @@ module _ (k n : ℕ) (names : List (List ℕ)) (game : Data) (zs : List ℤ)
   pub paired_table : (d : Data) → get (codes "sparse") game ≡ Some d → (ds : List Data) (m : ℕ) → ds ≡ parts d
       → m ≡ length ds
       → (if are_coalitions (masked ds)
-      then Some (map (number_of_mask (masked ds) zs (get_or zs m (pos 0))) (range_with_len 1 (2 ^ n - 1))) else None)
+      then Some (map (number_of_mask (masked ds) zs (get_or zs m (pos 0))) (range_with_len 1 (2 ^ n - 1)))
+      else None)
       ≡ (if are_coalitions (masks_by n names game)
       then Some (numbers_by k (get (codes "sparse") game) n names game) else None)
   paired_table d there ds m e f =
       let same : ds ≡ sparse = e ∙ ap (λ o. unwrap_or (option_map parts o) []) (sym there) in
       ap₂
       (λ es j. if are_coalitions (masked es)
-      then Some (map (number_of_mask (masked es) zs (get_or zs j (pos 0))) (range_with_len 1 (2 ^ n - 1))) else None)
+      then Some (map (number_of_mask (masked es) zs (get_or zs j (pos 0))) (range_with_len 1 (2 ^ n - 1)))
+      else None)
       same (f ∙ ap length same)
-      ∙ ap (λ (l : List ℤ). if are_coalitions (masks_by n names game) then Some l else None) (numbers_in_pairs d there)
+      ∙ ap (λ (l : List ℤ). if are_coalitions (masks_by n names game) then Some l else None)
+      (numbers_in_pairs d there)
 
   pub enough_for : (d : Data) → get (codes "sparse") game ≡ Some d → (ds : List Data) (m : ℕ) → ds ≡ parts d
       → m ≡ length ds → m ≤ length zs

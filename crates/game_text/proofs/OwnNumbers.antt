@@ -23,7 +23,8 @@ use Rattle.document_parts.specs.ScaledNumbers.{number_or_zero}
 use Rattle.document_parts.specs.Sizes.{is_cost}
 use Rattle.document_parts.specs.Numbers.{common_scale, are_worths, are_costs, AreWorths}
 use Rattle.document_parts.proofs.CommonScales.{den, no_text_den, with_one}
-use Rattle.game_text.specs.Classes.{class_of, is_shaped_as, has_numbers_as, has_numbers, own_values_as, are_numbers_as}
+use Rattle.game_text.specs.Classes.{class_of, is_shaped_as, has_numbers_as}
+use Rattle.game_text.specs.Classes.{has_numbers, own_values_as, are_numbers_as}
 use Rattle.game_text.specs.Classes.{own_values, own_numbers}
 use Rattle.game_text.specs.Classes.AirportClass.{airport_keys, is_airport_shaped, airport_values}
 use Rattle.game_text.specs.Classes.BankruptcyClass.{bankruptcy_keys, is_bankruptcy_shaped, bankruptcy_values}
@@ -67,7 +68,8 @@ abbrev listed_in : Option Data → List Data
 listed_in o = unwrap_or (option_map parts o) []
 
 -- by what stands at its keys
-abbrev numbers_by_keys : Option Data → Option Data → Option Data → Option Data → Option Data → Option Data → Option Data
+abbrev numbers_by_keys : Option Data → Option Data → Option Data → Option Data → Option Data → Option Data
+    → Option Data
     → List Data
 numbers_by_keys worths sparse default costs estate claims matrix =
     (listed_in worths ++ (all_parts pair_number (listed_in sparse) ++ if_there default))
@@ -108,7 +110,8 @@ bankruptcy_numbers_in : (game : Data) → is_bankruptcy_shaped game ≡ true
     → game_numbers game ≡ bankruptcy_values game
 bankruptcy_numbers_in game h =
     let front =
-    and_parts (has_only_keys bankruptcy_keys game && passes (is_numeric (has_texts game)) (get (codes "estate") game))
+    and_parts
+    (has_only_keys bankruptcy_keys game && passes (is_numeric (has_texts game)) (get (codes "estate") game))
     (passes (is_array_of (is_numeric (has_texts game))) (get (codes "claims") game)) h in
     let keys = (and_parts (has_only_keys bankruptcy_keys game) _ front.0).0 in
     let none = absent bankruptcy_keys game keys in
@@ -235,7 +238,8 @@ pairs_of game h =
     let front =
     and_parts
     (passes (is_array_of (is_sparse_pair (has_texts game))) (get (codes "sparse") game)
-    && is_none (get (codes "worths") game)) (passes_if_there (is_numeric (has_texts game)) (get (codes "default") game))
+    && is_none (get (codes "worths") game))
+    (passes_if_there (is_numeric (has_texts game)) (get (codes "default") game))
     h in
     let both =
     and_parts (passes (is_array_of (is_sparse_pair (has_texts game))) (get (codes "sparse") game))
@@ -308,7 +312,8 @@ module _ (k : ℕ) (game : Data) where
       let sparse = parts_at (codes "sparse") game in
       let other = get (codes "default") game in
       let pairs = pairs_by game (lists_worths game) (lists_coalitions game) refl refl (table_form game h) in
-      ap₂ (λ a b. (list_all (is_worth k) worths && a) && b) (pairs_pass (has_texts game) (is_worth k) sparse pairs)
+      ap₂ (λ a b. (list_all (is_worth k) worths && a) && b)
+      (pairs_pass (has_texts game) (is_worth k) sparse pairs)
       (there_passes (is_worth k) other)
       ∙ three (list_all (is_worth k) worths) (list_all (is_worth k) (all_parts pair_number sparse))
       (list_all (is_worth k) (if_there other))
@@ -326,7 +331,8 @@ voting_shape game h =
     and_parts (has_only_keys voting_keys game && passes is_number (get (codes "quota") game))
     (passes (is_array_of is_number) (get (codes "weights") game)) h in
     record {
-      quota = (and_parts (has_only_keys voting_keys game) (passes is_number (get (codes "quota") game)) front.0).1;
+      quota =
+          (and_parts (has_only_keys voting_keys game) (passes is_number (get (codes "quota") game)) front.0).1;
       weights = front.1;
     }
 
@@ -379,9 +385,11 @@ tested_as : (c : Class) (game : Data) → is_shaped_as (Some c) game ≡ true
     → (nat_le (scale_of game) 65536 && has_numbers_as (scale_of game) (Some c) game)
     ≡ are_numbers_as (Some c) (own_values_as (Some c) game)
 tested_as Table game h =
-    worths_tested (scale_of game) (table_numbers_in game) _ (own_scale Table game h) (table_tests (scale_of game) game h)
+    worths_tested (scale_of game) (table_numbers_in game) _ (own_scale Table game h)
+    (table_tests (scale_of game) game h)
 tested_as Cost game h =
-    worths_tested (scale_of game) (table_numbers_in game) _ (own_scale Cost game h) (table_tests (scale_of game) game h)
+    worths_tested (scale_of game) (table_numbers_in game) _ (own_scale Cost game h)
+    (table_tests (scale_of game) game h)
 tested_as Airport game h = costs_tested (scale_of game) (airport_values game) _ (own_scale Airport game h) refl
 tested_as Bankruptcy game h =
     costs_tested (scale_of game) (bankruptcy_values game) _ (own_scale Bankruptcy game h)

@@ -25,7 +25,7 @@
 --   description_of     what the tree of a game describes, its numbers times its scale, where no test refuses it
 --   description_in     the description that a game in memory keeps
 --   IsOfClass          the worths of a tree game are minus the least costs of attachment plans, and those of an
---                      assignment game or a market the greatest values of matchings; those of the other classes are
+-- assignment game or a market the greatest values of matchings; those of the other classes are
 --                      said by `game_of`
 pub mod TableClass
 pub mod AirportClass
@@ -57,11 +57,14 @@ use Rattle.document_parts.specs.ScaledNumbers.{number_or_zero, number_at, costs_
 use Rattle.kinds.specs.declared.refusal.Refusal.{Refusal}
 use Rattle.kinds.specs.declared.refusal.Refusal.TheVariants.{Shape, Coalition, Estate, Matrix, Quota}
 use Rattle.game_text.specs.Classes.TableClass.{is_table_shaped, players_at, has_table_players, has_table_numbers}
-use Rattle.game_text.specs.Classes.AirportClass.{is_airport_shaped, airport_players, airport_values, has_airport_numbers}
-use Rattle.game_text.specs.Classes.BankruptcyClass.{is_bankruptcy_shaped, bankruptcy_players, has_bankruptcy_numbers}
+use Rattle.game_text.specs.Classes.AirportClass.{is_airport_shaped, airport_players}
+use Rattle.game_text.specs.Classes.AirportClass.{airport_values, has_airport_numbers}
+use Rattle.game_text.specs.Classes.BankruptcyClass.{is_bankruptcy_shaped, bankruptcy_players}
+use Rattle.game_text.specs.Classes.BankruptcyClass.{has_bankruptcy_numbers}
 use Rattle.game_text.specs.Classes.BankruptcyClass.{bankruptcy_values, claims_cover}
 use Rattle.game_text.specs.Classes.MatrixClass.{is_matrix_shaped, has_matrix_numbers, rows_of}
-use Rattle.game_text.specs.Classes.VotingClass.{is_voting_shaped, voting_players, voting_values, has_voting_numbers, is_quota}
+use Rattle.game_text.specs.Classes.VotingClass.{is_voting_shaped, voting_players, voting_values}
+use Rattle.game_text.specs.Classes.VotingClass.{has_voting_numbers, is_quota}
 use Rattle.game_text.specs.Classes.TreeClass.{tree_players, has_tree_players, are_links}
 use Rattle.game_text.specs.Classes.AssignmentClass.{assignment_players, has_assignment_players, are_even}
 use Rattle.game_text.specs.Classes.MarketClass.{has_market_players}
@@ -193,9 +196,12 @@ masks game = masks_by (players game) (names_of game) game
 abbrev pub no_test : Refusal × Bool
 no_test = (Shape, true)
 
--- of a table: each pair of a sparse one has a coalition, and no two have the same; of an estate: it is at most the sum
--- of the claims; of a tree game: the rows are those of links; of an assignment game and a market: the rows have one
--- length; of a voting game: the weights sum to at most 1,000, and the quota is from 1 to their sum. The numbers are
+-- of a table: each pair of a sparse one has a coalition, and no two have the same; of an estate: it is at most
+-- the sum
+-- of the claims; of a tree game: the rows are those of links; of an assignment game and a market: the rows have
+-- one
+-- length; of a voting game: the weights sum to at most 1,000, and the quota is from 1 to their sum. The numbers
+-- are
 -- times the scale k; a quota and weights are integers. A game of no class has failed the test of its shape
 abbrev pub own_as : ℕ → Option Class → Data → Refusal × Bool
 own_as k None game = (Coalition, false)
@@ -287,7 +293,8 @@ description_in (Voting v) = voting v.quota v.weights
 
 -- ---- worths
 
--- the worths are those of the class: over all attachment plans (Bird 1976), and over all matchings (Shapley and Shubik
+-- the worths are those of the class: over all attachment plans (Bird 1976), and over all matchings (Shapley and
+-- Shubik
 -- 1971)
 abbrev pub IsOfClass : Description → Type 0
 IsOfClass (table n worths) = ⊤

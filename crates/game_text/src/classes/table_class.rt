@@ -154,7 +154,8 @@ fn table_numbers(
     requires few { count ≤ 16 }
     requires named { length names.now ≤ count }
     requires shaped { is_table_shaped (view game.now) ≡ true }
-    requires numbers { numbers.items ≡ map (number_or_zero (scale_of (view game.now))) (table_numbers_in (view game.now)) }
+    requires numbers { numbers.items
+        ≡ map (number_or_zero (scale_of (view game.now))) (table_numbers_in (view game.now)) }
     ensures { let tree = view game.now in IfOk result
         (λ o. option_map (λ v. v.items) o ≡ (if are_coalitions (masks_by count names.now tree)
         then Some (numbers_by (scale_of tree) (get (codes "sparse") tree) count names.now tree) else None)) }

@@ -12,12 +12,14 @@ returns-in_default-clause-none c =
 
 pub returns-then-not-are_from_zero-clause-none : goal.returns-then-not-are_from_zero-clause-none
 returns-then-not-are_from_zero-clause-none c =
-    let read : AreWorths (seen c.args.values.now) c.in-Some.numbers.scale c.in-Some.numbers.items.items = search rules in
+    let read : AreWorths (seen c.args.values.now) c.in-Some.numbers.scale c.in-Some.numbers.items.items =
+    search rules in
     costs_by (seen c.args.values.now) _ _ read ∙ ap (list_all is_from_zero) (sym c.deref.ensures.value)
     ∙ sym c.are_from_zero.ensures ∙ c.if-not-are_from_zero.true
 
 pub returns-clause-within : goal.returns-clause-within
 returns-clause-within c =
-    let read : AreWorths (seen c.args.values.now) c.in-Some.numbers.scale c.in-Some.numbers.items.items = search rules in
+    let read : AreWorths (seen c.args.values.now) c.in-Some.numbers.scale c.in-Some.numbers.items.items =
+    search rules in
     costs_by (seen c.args.values.now) _ _ read ∙ ap (list_all is_from_zero) (sym c.deref.ensures.value)
     ∙ sym c.are_from_zero.ensures ∙ c.if-not-are_from_zero.false

@@ -1,4 +1,5 @@
-use Rattle.std.proofs.Common.{◌≡◌, ◌++◌, ◌∷◌, [], ◌/◌, ◌*ℤ◌, ℤ, List, pos, map, take, Some, to_z, of_z, w64, rules}
+use Rattle.std.proofs.Common.{◌≡◌, ◌++◌, ◌∷◌, [], ◌/◌, ◌*ℤ◌, ℤ, List, pos, map}
+use Rattle.std.proofs.Common.{take, Some, to_z, of_z, w64, rules}
 use Rattle.std.proofs.Common.{sym, ap₂, ◌∙◌, subst}
 use Rattle.std.specs.Prelude.{option_and_then}
 use Rattle.serde_json.specs.View.{view}
@@ -10,18 +11,22 @@ use Rattle.document_parts.proofs.numbers.read_worths.Goals as goal
 
 pub with_scale-requires-clause-some : goal.with_scale-requires-clause-some
 with_scale-requires-clause-some c =
-    positive_read (take c.loop-value.value-index (seen c.args.values.now)) c.loop-value.scale c.loop-value.items.items
+    positive_read (take c.loop-value.value-index (seen c.args.values.now)) c.loop-value.scale
+    c.loop-value.items.items
     c.loop-value.invariant
 
 pub returns-in_default-clause-none : goal.returns-in_default-clause-none
 returns-in_default-clause-none c =
-    bad_value c.args.values.now c.loop-value.value-index c.value-item.result c.loop-value-test.true c.value-item.is
-    (stops (take c.loop-value.value-index (seen c.args.values.now)) (view c.value-item.result.now) c.loop-value.scale
+    bad_value c.args.values.now c.loop-value.value-index c.value-item.result c.loop-value-test.true
+    c.value-item.is
+    (stops (take c.loop-value.value-index (seen c.args.values.now)) (view c.value-item.result.now)
+    c.loop-value.scale
     c.loop-value.items.items c.loop-value.invariant c.in_default.ensures.value)
 
 pub raise-requires : goal.raise-requires
 raise-requires c =
-    small_read (take c.loop-value.value-index (seen c.args.values.now)) c.loop-value.scale c.loop-value.items.items
+    small_read (take c.loop-value.value-index (seen c.args.values.now)) c.loop-value.scale
+    c.loop-value.items.items
     c.loop-value.invariant
 
 pub returns-then-not-raise-clause-none : goal.returns-then-not-raise-clause-none
@@ -30,7 +35,8 @@ returns-then-not-raise-clause-none c =
     let d = view c.value-item.result.now in
     let e : Some (c.in-Some.common, c.in-Some.number) ≡ option_and_then (with_fraction k) (fraction_of d) =
     search rules in
-    bad_value c.args.values.now c.loop-value.value-index c.value-item.result c.loop-value-test.true c.value-item.is
+    bad_value c.args.values.now c.loop-value.value-index c.value-item.result c.loop-value-test.true
+    c.value-item.is
     (stops_in_front (take c.loop-value.value-index (seen c.args.values.now)) d k c.in-Some.common c.in-Some.number
     c.loop-value.items.items c.loop-value.invariant e (sym c.raise.ensures.kept ∙ c.if-not-raise.true))
 
@@ -47,7 +53,8 @@ loop-value-preserved c =
     ≡ map (λ (y : ℤ). y *ℤ pos (m / k)) c.loop-value.items.items ++ c.in-Some.number ∷ [] =
     c.in_ok-push.ensures.items
     ∙ ap₂ (λ (l : List ℤ) (y : ℤ). l ++ y ∷ []) (c.raise.ensures.numbers c.if-not-raise.false) kept in
-    let read : IsRead (take i (seen vs) ++ d ∷ []) m (map (λ (y : ℤ). y *ℤ pos (m / k)) c.loop-value.items.items ++ c.in-Some.number ∷ []) =
+    let read : IsRead (take i (seen vs) ++ d ∷ []) m
+    (map (λ (y : ℤ). y *ℤ pos (m / k)) c.loop-value.items.items ++ c.in-Some.number ∷ []) =
     goes_on (take i (seen vs)) d k m c.in-Some.number c.loop-value.items.items c.loop-value.invariant e
     (sym c.raise.ensures.kept ∙ c.if-not-raise.false) in
     subst (λ l. IsRead l m c.push.new.self.items)

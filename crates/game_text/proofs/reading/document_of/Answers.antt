@@ -31,7 +31,8 @@ record Sized (game : Data) (count k : ℕ) (zs : List ℤ) : Type 0 where
   count_is : count ≡ players game
   own : AreOwn game k zs
 
-sized : (game : Data) (c : Class) (count k : ℕ) (zs : List ℤ) → class_of game ≡ Some c → is_game_shaped game ≡ true
+sized : (game : Data) (c : Class) (count k : ℕ) (zs : List ℤ) → class_of game ≡ Some c
+    → is_game_shaped game ≡ true
     → Some count ≡ (if has_players game then Some (players game) else None)
     → are_numbers_as (class_of game) (own_values game) ≡ true → AreWorths (own_values game) k zs
     → Sized game count k zs
@@ -87,8 +88,11 @@ pub invariant_of-game : goal.invariant_of-game
 invariant_of-game c =
     let game = view c.in-Some.shaped.tree.now in
     let within : are_numbers_as (class_of game) (own_values game) ≡ true = search rules in
-    let read : AreWorths (own_values game) c.in-Some-2.numbers.scale c.in-Some-2.numbers.items.items = search rules in
-    let s = sized game c.in-Some.shaped.class c.in-Some-players.count c.in-Some-2.numbers.scale c.in-Some-2.numbers.items.items
+    let read : AreWorths (own_values game) c.in-Some-2.numbers.scale c.in-Some-2.numbers.items.items =
+    search rules in
+    let s =
+    sized game c.in-Some.shaped.class c.in-Some-players.count c.in-Some-2.numbers.scale
+    c.in-Some-2.numbers.items.items
     c.in-Some.shaped.named c.in-Some.shaped.shaped c.in-Some-players.ensures within read in
     record { named = c.in-Some.shaped.named; sizes = s.sizes; count_is = s.count_is; scale_is = s.own.scale }
 
@@ -99,8 +103,11 @@ pub said-said-requires-clause-numbers : goal.said-said-requires-clause-numbers
 said-said-requires-clause-numbers c =
     let game = view c.in-Some.shaped.tree.now in
     let within : are_numbers_as (class_of game) (own_values game) ≡ true = search rules in
-    let read : AreWorths (own_values game) c.in-Some-2.numbers.scale c.in-Some-2.numbers.items.items = search rules in
-    let s = sized game c.in-Some.shaped.class c.in-Some-players.count c.in-Some-2.numbers.scale c.in-Some-2.numbers.items.items
+    let read : AreWorths (own_values game) c.in-Some-2.numbers.scale c.in-Some-2.numbers.items.items =
+    search rules in
+    let s =
+    sized game c.in-Some.shaped.class c.in-Some-players.count c.in-Some-2.numbers.scale
+    c.in-Some-2.numbers.items.items
     c.in-Some.shaped.named c.in-Some.shaped.shaped c.in-Some-players.ensures within read in
     s.own.numbers
 
@@ -108,8 +115,11 @@ pub returns-in-Err : goal.returns-in-Err
 returns-in-Err c =
     let game = view c.in-Some.shaped.tree.now in
     let within : are_numbers_as (class_of game) (own_values game) ≡ true = search rules in
-    let read : AreWorths (own_values game) c.in-Some-2.numbers.scale c.in-Some-2.numbers.items.items = search rules in
-    let s = sized game c.in-Some.shaped.class c.in-Some-players.count c.in-Some-2.numbers.scale c.in-Some-2.numbers.items.items
+    let read : AreWorths (own_values game) c.in-Some-2.numbers.scale c.in-Some-2.numbers.items.items =
+    search rules in
+    let s =
+    sized game c.in-Some.shaped.class c.in-Some-players.count c.in-Some-2.numbers.scale
+    c.in-Some-2.numbers.items.items
     c.in-Some.shaped.named c.in-Some.shaped.shaped c.in-Some-players.ensures within read in
     fault_behind_numbers c.args.command game (view c.args.tree) c.in-Some.ensures.some.1 c.in-Some.ensures.some.0
     s.sizes (sym c.has_needed_numbers.ensures ∙ c.if-not-has_needed_numbers.false) c.in-Err.e c.in-Err.ensures
@@ -122,11 +132,15 @@ pub returns : goal.returns
 returns c =
     let game = view c.in-Some.shaped.tree.now in
     let within : are_numbers_as (class_of game) (own_values game) ≡ true = search rules in
-    let read : AreWorths (own_values game) c.in-Some-2.numbers.scale c.in-Some-2.numbers.items.items = search rules in
-    let s = sized game c.in-Some.shaped.class c.in-Some-players.count c.in-Some-2.numbers.scale c.in-Some-2.numbers.items.items
+    let read : AreWorths (own_values game) c.in-Some-2.numbers.scale c.in-Some-2.numbers.items.items =
+    search rules in
+    let s =
+    sized game c.in-Some.shaped.class c.in-Some-players.count c.in-Some-2.numbers.scale
+    c.in-Some-2.numbers.items.items
     c.in-Some.shaped.named c.in-Some.shaped.shaped c.in-Some-players.ensures within read in
     let kept : to_z w64 (of_z w64 c.from.result) ≡ c.from.result = search rules in
-    behind_numbers c.args.command game (view c.args.tree) c.in-Some.ensures.some.1 c.in-Some.ensures.some.0 s.sizes
+    behind_numbers c.args.command game (view c.args.tree) c.in-Some.ensures.some.1 c.in-Some.ensures.some.0
+    s.sizes
     (sym c.has_needed_numbers.ensures ∙ c.if-not-has_needed_numbers.false) c.in-Ok.said _ c.in-Ok.ensures
     (record {
       described = refl;

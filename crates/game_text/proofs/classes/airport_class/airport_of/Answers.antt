@@ -12,15 +12,19 @@ use Rattle.game_text.proofs.classes.airport_class.airport_of.Goals as goal
 pub returns-in-Err-Players : goal.returns-in-Err-Players
 returns-in-Err-Players c =
     let sizes : AreCosts c.args.costs.items =
-    subst AreCosts (sym (of_class class.Airport (view c.args.game.now) c.args.costs.items c.requires.class c.requires.numbers))
-    (airport_sizes (scale_of (view c.args.game.now)) (view c.args.game.now) refl c.requires.class c.requires.sizes) in
+    subst AreCosts
+    (sym (of_class class.Airport (view c.args.game.now) c.args.costs.items c.requires.class c.requires.numbers))
+    (airport_sizes (scale_of (view c.args.game.now)) (view c.args.game.now) refl c.requires.class
+    c.requires.sizes) in
     absurd ((rw c.in-Err-Players.field-0-is at c.in-Err-Players.ensures) (sizes.some, sizes.few))
 
 pub returns-in-Err-Number : goal.returns-in-Err-Number
 returns-in-Err-Number c =
     let sizes : AreCosts c.args.costs.items =
-    subst AreCosts (sym (of_class class.Airport (view c.args.game.now) c.args.costs.items c.requires.class c.requires.numbers))
-    (airport_sizes (scale_of (view c.args.game.now)) (view c.args.game.now) refl c.requires.class c.requires.sizes) in
+    subst AreCosts
+    (sym (of_class class.Airport (view c.args.game.now) c.args.costs.items c.requires.class c.requires.numbers))
+    (airport_sizes (scale_of (view c.args.game.now)) (view c.args.game.now) refl c.requires.class
+    c.requires.sizes) in
     absurd ((rw c.in-Err-Number.field-0-is at c.in-Err-Number.ensures).2 sizes.small)
 
 pub returns-in-Ok : goal.returns-in-Ok
@@ -29,4 +33,5 @@ returns-in-Ok c =
     (games.Airport c.in-Ok.costs) refl
     (ap airport
     (kept_sizes c.in-Ok.costs.costs c.args.costs.items c.in-Ok.ensures
-    ∙ ap (map unsigned_abs) (of_class class.Airport (view c.args.game.now) c.args.costs.items c.requires.class c.requires.numbers)))
+    ∙ ap (map unsigned_abs)
+    (of_class class.Airport (view c.args.game.now) c.args.costs.items c.requires.class c.requires.numbers)))

@@ -11,14 +11,18 @@ use Rattle.game_text.proofs.classes.assignment_class.assignment_of.Goals as goal
 pub in_rows-requires : goal.in_rows-requires
 in_rows-requires c = record {
   enough =
-      rows_enough class.Assignment (view c.args.game.now) _ _ _ refl c.requires.class c.requires.numbers c.deref.ensures.value
+      rows_enough class.Assignment (view c.args.game.now) _ _ _ refl c.requires.class c.requires.numbers
+      c.deref.ensures.value
       c.parts_at.ensures;
 }
 
 pub returns-in-Err-Players : goal.returns-in-Err-Players
 returns-in-Err-Players c =
     let sizes =
-    subst HasAssignmentSizes (sym (rows_given class.Assignment (view c.args.game.now) _ _ _ refl c.requires.class c.requires.numbers c.deref.ensures.value
+    subst HasAssignmentSizes
+    (sym
+    (rows_given class.Assignment (view c.args.game.now) _ _ _ refl c.requires.class c.requires.numbers
+    c.deref.ensures.value
     c.parts_at.ensures _ c.in_ok-rows.ensures))
     (assignment_sizes (scale_of (view c.args.game.now)) (view c.args.game.now) refl c.requires.class
     c.requires.sizes) in
@@ -27,7 +31,10 @@ returns-in-Err-Players c =
 pub returns-in-Err-Number : goal.returns-in-Err-Number
 returns-in-Err-Number c =
     let sizes =
-    subst HasAssignmentSizes (sym (rows_given class.Assignment (view c.args.game.now) _ _ _ refl c.requires.class c.requires.numbers c.deref.ensures.value
+    subst HasAssignmentSizes
+    (sym
+    (rows_given class.Assignment (view c.args.game.now) _ _ _ refl c.requires.class c.requires.numbers
+    c.deref.ensures.value
     c.parts_at.ensures _ c.in_ok-rows.ensures))
     (assignment_sizes (scale_of (view c.args.game.now)) (view c.args.game.now) refl c.requires.class
     c.requires.sizes) in
@@ -35,13 +42,19 @@ returns-in-Err-Number c =
 
 pub returns-in-Ok : goal.returns-in-Ok
 returns-in-Ok c =
-    built_if (Some class.Assignment) (scale_of (view c.args.game.now)) (view c.args.game.now) c.requires.class refl
+    built_if (Some class.Assignment) (scale_of (view c.args.game.now)) (view c.args.game.now) c.requires.class
+    refl
     games.Assignment _ c.in-Ok.values
-    (even_made c.in-Ok.values _ _ (rows_given class.Assignment (view c.args.game.now) _ _ _ refl c.requires.class c.requires.numbers c.deref.ensures.value
+    (even_made c.in-Ok.values _ _
+    (rows_given class.Assignment (view c.args.game.now) _ _ _ refl c.requires.class c.requires.numbers
+    c.deref.ensures.value
     c.parts_at.ensures _ c.in_ok-rows.ensures) c.in-Ok.ensures.0 c.in-Ok.ensures.1.even) refl
 
 pub returns-in-Err-Matrix : goal.returns-in-Err-Matrix
 returns-in-Err-Matrix c =
-    refused_if (Some class.Assignment) (scale_of (view c.args.game.now)) (view c.args.game.now) c.requires.class refl _
-    (even_not_made _ _ (rows_given class.Assignment (view c.args.game.now) _ _ _ refl c.requires.class c.requires.numbers c.deref.ensures.value
+    refused_if (Some class.Assignment) (scale_of (view c.args.game.now)) (view c.args.game.now) c.requires.class
+    refl _
+    (even_not_made _ _
+    (rows_given class.Assignment (view c.args.game.now) _ _ _ refl c.requires.class c.requires.numbers
+    c.deref.ensures.value
     c.parts_at.ensures _ c.in_ok-rows.ensures) (rw c.in-Err-Matrix.field-0-is at c.in-Err-Matrix.ensures).2)

@@ -12,34 +12,50 @@ use Rattle.game_text.proofs.classes.market_class.market_of.Goals as goal
 pub in_rows-requires : goal.in_rows-requires
 in_rows-requires c = record {
   enough =
-      rows_enough class.Market (view c.args.game.now) _ _ _ refl c.requires.class c.requires.numbers c.deref.ensures.value
+      rows_enough class.Market (view c.args.game.now) _ _ _ refl c.requires.class c.requires.numbers
+      c.deref.ensures.value
       c.parts_at.ensures;
 }
 
 pub returns-in-Err-Players : goal.returns-in-Err-Players
 returns-in-Err-Players c =
     let sizes =
-    subst HasMarketSizes (sym (rows_given class.Market (view c.args.game.now) _ _ _ refl c.requires.class c.requires.numbers c.deref.ensures.value
+    subst HasMarketSizes
+    (sym
+    (rows_given class.Market (view c.args.game.now) _ _ _ refl c.requires.class c.requires.numbers
+    c.deref.ensures.value
     c.parts_at.ensures _ c.in_ok-rows.ensures))
-    (market_sizes (scale_of (view c.args.game.now)) (view c.args.game.now) refl c.requires.class c.requires.sizes) in
+    (market_sizes (scale_of (view c.args.game.now)) (view c.args.game.now) refl c.requires.class c.requires.sizes)
+    in
     absurd ((rw c.in-Err-Players.field-0-is at c.in-Err-Players.ensures) sizes.players)
 
 pub returns-in-Err-Number : goal.returns-in-Err-Number
 returns-in-Err-Number c =
     let sizes =
-    subst HasMarketSizes (sym (rows_given class.Market (view c.args.game.now) _ _ _ refl c.requires.class c.requires.numbers c.deref.ensures.value
+    subst HasMarketSizes
+    (sym
+    (rows_given class.Market (view c.args.game.now) _ _ _ refl c.requires.class c.requires.numbers
+    c.deref.ensures.value
     c.parts_at.ensures _ c.in_ok-rows.ensures))
-    (market_sizes (scale_of (view c.args.game.now)) (view c.args.game.now) refl c.requires.class c.requires.sizes) in
+    (market_sizes (scale_of (view c.args.game.now)) (view c.args.game.now) refl c.requires.class c.requires.sizes)
+    in
     absurd ((rw c.in-Err-Number.field-0-is at c.in-Err-Number.ensures).1 sizes.entries)
 
 pub returns-in-Ok : goal.returns-in-Ok
 returns-in-Ok c =
-    built_if (Some class.Market) (scale_of (view c.args.game.now)) (view c.args.game.now) c.requires.class refl games.Market _
-    c.in-Ok.market (even_made c.in-Ok.market _ _ (rows_given class.Market (view c.args.game.now) _ _ _ refl c.requires.class c.requires.numbers c.deref.ensures.value
+    built_if (Some class.Market) (scale_of (view c.args.game.now)) (view c.args.game.now) c.requires.class refl
+    games.Market _
+    c.in-Ok.market
+    (even_made c.in-Ok.market _ _
+    (rows_given class.Market (view c.args.game.now) _ _ _ refl c.requires.class c.requires.numbers
+    c.deref.ensures.value
     c.parts_at.ensures _ c.in_ok-rows.ensures) c.in-Ok.ensures.0 c.in-Ok.ensures.1.even) refl
 
 pub returns-in-Err-Matrix : goal.returns-in-Err-Matrix
 returns-in-Err-Matrix c =
-    refused_if (Some class.Market) (scale_of (view c.args.game.now)) (view c.args.game.now) c.requires.class refl _
-    (even_not_made _ _ (rows_given class.Market (view c.args.game.now) _ _ _ refl c.requires.class c.requires.numbers c.deref.ensures.value
+    refused_if (Some class.Market) (scale_of (view c.args.game.now)) (view c.args.game.now) c.requires.class refl
+    _
+    (even_not_made _ _
+    (rows_given class.Market (view c.args.game.now) _ _ _ refl c.requires.class c.requires.numbers
+    c.deref.ensures.value
     c.parts_at.ensures _ c.in_ok-rows.ensures) (rw c.in-Err-Matrix.field-0-is at c.in-Err-Matrix.ensures).2)

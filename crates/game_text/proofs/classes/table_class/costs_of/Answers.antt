@@ -8,7 +8,8 @@ use Rattle.game_text.proofs.classes.table_class.costs_of.Goals as goal
 
 pub returns-in-Ok-Some : goal.returns-in-Ok-Some
 returns-in-Ok-Some c =
-    built_if (Some class.Cost) (scale_of (view c.args.game.now)) (view c.args.game.now) c.requires.class refl games.Cost _
+    built_if (Some class.Cost) (scale_of (view c.args.game.now)) (view c.args.game.now) c.requires.class refl
+    games.Cost _
     c.new.result
     (ap Some c.new.ensures ∙ sym c.in-Ok-Some.field-0-is ∙ c.in-Ok-Some.ensures) refl
 

@@ -7,7 +7,8 @@ use Rattle.game_text.proofs.classes.table_class.table_numbers.Goals as goal
 
 pub returns-in-None : goal.returns-in-None
 returns-in-None c =
-    all_listed (scale_of (view c.args.game.now)) c.args.count c.args.names.now (view c.args.game.now) c.args.numbers.items
+    all_listed (scale_of (view c.args.game.now)) c.args.count c.args.names.now (view c.args.game.now)
+    c.args.numbers.items
     c.requires.shaped c.requires.numbers (sym c.in-None.ensures)
 
 pub sparse_numbers-requires-clause-each : goal.sparse_numbers-requires-clause-each

@@ -8,7 +8,8 @@ use Rattle.game_text.proofs.classes.table_class.worths_of.Goals as goal
 
 pub returns-in-Ok-Some : goal.returns-in-Ok-Some
 returns-in-Ok-Some c =
-    built_if (Some class.Table) (scale_of (view c.args.game.now)) (view c.args.game.now) c.requires.class refl games.Table _
+    built_if (Some class.Table) (scale_of (view c.args.game.now)) (view c.args.game.now) c.requires.class refl
+    games.Table _
     c.in-Ok-Some.worths (sym c.in-Ok-Some.field-0-is ∙ c.in-Ok-Some.ensures) refl
 
 pub returns-in-Ok-None : goal.returns-in-Ok-None
