@@ -8,7 +8,7 @@ import { explain } from "./tell/explain.js";
 import { answer } from "./work/answers.js";
 import { openDocument, readCase, readCells, readList } from "./work/cases.js";
 import { coarser } from "./work/coarser.js";
-import { compare } from "./work/compare.js";
+import { compare, excessLists } from "./work/compare.js";
 import { convexity } from "./work/convexity.js";
 import { warmUp } from "./work/engine.js";
 import { lookAtLine } from "./work/lines.js";
@@ -19,7 +19,7 @@ import { standardText } from "./work/standard.js";
 
 const TASKS = {
   warmUp, readCase, readCells, readList, openDocument, lookAtLine, fillLinks, costsOfNetwork, fillSplits,
-  estates, overrun, compare, convexity, coarser, standardText,
+  estates, overrun, compare, excessLists, convexity, coarser, standardText,
   solve: ({ word, document }) => answer(word, document),
   explain: ({ line }) => explained(parseJson(line)),
   checkAnew: ({ document }) => anew(document),

@@ -53,14 +53,17 @@ export class AnswerView {
     };
     refill(at("answer-settings"), result.refusal ? [] : this.settings(result));
     const filled = filledText(session);
-    refill(at("answer-body"), answerParts(result, { rows, format, proposal, wide, filled }));
+    refill(at("answer-body"), answerParts(result, {
+      rows, format, proposal, wide, filled, coarse: session.typed.coarse, typed: this.typed,
+      ask: (task, what) => session.checker.ask(task, what),
+    }));
     this.say();
     if (result.refusal) return;
     this.showMore(result, rows, format);
     const why = whyParts(result);
     refill(at("why-body"), why);
     at("why").hidden = !why.length;
-    refill(at("evidence-body"), evidenceParts(result, session.kind.id, filled));
+    refill(at("evidence-body"), evidenceParts(result, session, filled));
   }
 
   /** An answer that no longer stands isn't said either. */

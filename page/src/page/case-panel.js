@@ -1,7 +1,9 @@
 // The panel of a case: its grid, what is wrong with it, and the document that it makes.
+import { fileNames } from "../cases/coarse.js";
 import { Rational } from "../exact/rational.js";
 import { typedText } from "../exact/decimals.js";
 import { withEscapes } from "../game/names.js";
+import { coarseText } from "../tell/coarse-text.js";
 import { plural } from "../tell/words.js";
 import { markFaults } from "./cells.js";
 import { button, cellOf, copy, download, el, refill } from "./dom.js";
@@ -23,9 +25,10 @@ export function casePanel(kind, typed, settings) {
   const grid = makeGrid(kind, typed, { ...settings, remember });
   offer(settings.before);
   const faults = el("div", { class: "faults", role: "status" }), made = el("div", { class: "made" });
+  const coarse = el("div");
   const element = el("div", { class: "case" },
     el("p", { class: "help" }, kind.help, el("span", { class: "screen" }, " Paste from a spreadsheet into any cell.")),
-    notes.map((note) => el("p", { class: "note" }, note)), grid, faults,
+    notes.map((note) => el("p", { class: "note" }, note)), coarse, grid, faults,
     el("p", { class: "tools bottom" },
       button("Fill in the worked example", () => onReset(kind.example(), "Fill in the worked example"),
         { class: "quiet" }),
@@ -35,10 +38,11 @@ export function casePanel(kind, typed, settings) {
   /** Shows what the reading of the cells says. */
   function tell(reading) {
     markFaults(grid, reading.faults);
+    refill(coarse, coarseNote(typed, settings));
     refill(faults, reading.notes.map((note) => el("p", { class: "note" }, note)),
       doubts(reading, settings), emptyCells(reading, grid), faultList(reading, grid),
       reading.isTooFine && finenessHelp(settings));
-    refill(made, reading.text && documentOf(kind, reading.text));
+    refill(made, reading.text && documentOf(kind, reading.text, typed.coarse));
   }
 
   return { element, tell };
@@ -92,9 +96,22 @@ function doubts({ doubts: [doubt], doubted, mark: own }, { setEntry }) {
     button(`Let the ${NAMES[other]} do so`, () => setEntry(other), { class: "quiet" }));
 }
 
-function documentOf(kind, text) {
+function documentOf(kind, text, coarse) {
+  const { game: file } = fileNames(kind.id, coarse);
   return el("div", {}, shown("The document that this makes", text),
     el("p", { class: "tools" },
-      button("Save it", () => download(`${kind.id}-game.json`, `${text}\n`), { class: "quiet" }),
-      button("Copy it", (event) => copy(text, event.target), { class: "quiet" })));
+      button("Save it", () => download(file, `${text}\n`), { class: "quiet" }),
+      button("Copy it", (event) => copy(text, event.target), { class: "quiet" })),
+    coarse && el("p", { class: "note" }, `${coarseText(coarse)} The document has no place for that; the file is named `,
+      `${file}, and this page tells it when it is opened.`));
+}
+
+/** What was done to all numbers, for as long as they are these. */
+function coarseNote(typed, { onChange }) {
+  const other = () => {
+    delete typed.coarse;
+    onChange(0);
+  };
+  return typed.coarse && el("p", { class: "note" }, coarseText(typed.coarse), " ",
+    button("These are other numbers now", other, { class: "quiet" }));
 }

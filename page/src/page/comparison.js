@@ -1,21 +1,45 @@
 // The user's proposal beside the program's division, as the nucleolus compares them.
 import { el } from "./dom.js";
 
-/** `found` is what work/compare.js says; `point` is the program's division. */
-export function comparisonOf(found, { title, key }, game) {
+/** The part that opens: it stays open while another proposal is typed, which `typed` remembers. `point` is the
+ * program's division. */
+export function comparisonPart({ shares, comparison, verdict, hold }, point, game, typed) {
+  const isAsked = shares && verdict === undefined && typed.isCompared;
+  if (!comparison && !isAsked) return null;
+  const details = el("details", { class: "comparison", open: Boolean(typed.isCompared), on: {
+    toggle: () => (typed.isCompared = details.open),
+  } },
+  el("summary", {}, `Your proposal beside the ${point.title.toLowerCase()}`),
+  comparison ? comparisonOf(comparison, point, game, hold) : el("p", {}, "…"));
+  return details;
+}
+
+/** `found` is what work/compare.js says. */
+function comparisonOf(found, { title, key }, game, hold) {
   const { first, lists: [own, other], differs } = found, name = title.toLowerCase(), place = (k) => first + k;
   const cell = ({ group, excess }) => [el("td", { class: "number" }, excess), el("td", {}, group)];
   const rows = own.map((entry, k) => el("tr", { class: place(k) === differs ? "differs" : "" },
     el("th", { scope: "row", class: "number" }, String(place(k))), cell(entry), cell(other[k])));
-  return el("details", { class: "comparison" },
-    el("summary", {}, `Your proposal beside the ${name}`),
+  return [
     el("p", {}, principleOf(name, key, game)),
     el("div", { class: "scroll" }, el("table", { class: "shares small" },
       el("thead", {}, el("tr", {}, ["", "Yours", "by whom", title, "by whom"].map((head, k) => {
         return el("th", { scope: "col", class: k % 2 ? "number" : "" }, head || "Place");
       }))),
       el("tbody", {}, rows))),
-    el("p", {}, sentenceOf(found, name, game)));
+    el("p", {}, [sentenceOf(found, name, game), ...prenucleolusText(found, key, game, hold)].join(" ")),
+  ];
+}
+
+/** Why a proposal isn't the prenucleolus either. */
+function prenucleolusText({ better }, key, { perHead, shown }, hold) {
+  const rule = `prenucleolus${perHead ? " per head" : ""}`, isHeld = !perHead && hold?.strong !== undefined;
+  return [
+    better === "other" && key === "nucleolus" && `So it isn’t the ${rule} either: the nucleolus is itself a division `
+      + "of the whole, and has a lesser list.",
+    better !== "same" && isHeld && "Holds show that without a list: the prenucleolus always lies in the prekernel, and "
+      + `here ${shown[hold.strong]} has a stronger hold on ${shown[hold.weak]}.`,
+  ].filter(Boolean);
 }
 
 function principleOf(name, key, { costs, perHead }) {

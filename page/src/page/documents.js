@@ -1,5 +1,6 @@
 // Documents that are opened: pasted, chosen, or dropped anywhere beside the places for them.
 import { caseNamed } from "../cases/cases.js";
+import { coarseOfName } from "../cases/coarse.js";
 import { el, refill } from "./dom.js";
 import { Helper } from "./helper.js";
 import { textOfFile, textPlace } from "./text-place.js";
@@ -22,13 +23,13 @@ export class Documents {
     this.message = document.getElementById("document-message");
     refill(document.getElementById("document-body"), textPlace({
       title: "A document", hint: "JSON, as {\"game\":{…}}; a line of the program does as well.", rows: 8,
-      onText: (text) => this.open(text),
+      onText: (text, from) => this.open(text, { from }),
     }));
   }
 
   /** Opens a document as a case, or tells why it can't be. `doubt` is why its game isn't taken for the agreed one; a
-   * text that `isChecked` isn't handed on to be. */
-  async open(text, { doubt = "", isChecked = false } = {}) {
+   * text that `isChecked` isn't handed on to be; `from` has the name of its file. */
+  async open(text, { doubt = "", isChecked = false, from = {} } = {}) {
     const mine = (this.turn += 1);
     this.helper.stop();
     refill(this.message);
@@ -37,16 +38,17 @@ export class Documents {
       const found = await this.helper.ask("openDocument", { text, mark: this.mark() });
       if (mine !== this.turn) return;
       if (found.refusal) this.tell(found.refusal);
-      else this.openCase(caseNamed(found.id), found, { text, doubt, isChecked });
+      else this.openCase(caseNamed(found.id), found, { text, doubt, isChecked, from });
     } catch (fault) {
       if (fault.message === "stopped") return;
       this.tell({ sentence: `The document couldn’t be opened: ${fault.message}.` });
     }
   }
 
-  openCase(kind, found, { text, doubt, isChecked }) {
+  openCase(kind, found, { text, doubt, isChecked, from }) {
     const isLine = !isChecked && /"certificate"\s*:/.test(text), notes = isChecked ? [] : notesOf(found, isLine);
-    this.onOpen(kind, kind.unpack?.(found.typed) ?? found.typed, { ...found, doubt, notes });
+    const typed = { ...(kind.unpack?.(found.typed) ?? found.typed), coarse: coarseOfName(from.name) };
+    this.onOpen(kind, typed, { ...found, doubt, notes });
     if (isLine) this.onLine(text);
   }
 
@@ -70,7 +72,7 @@ export class Documents {
       }
       show("document");
       if (fault) this.tell({ sentence: fault });
-      else this.open(text);
+      else this.open(text, { from: { name: file.name } });
     });
   }
 }

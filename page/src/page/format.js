@@ -1,6 +1,6 @@
 // How numbers are shown, by the decimals and the mark that the user wants.
-import { Rational } from "../exact/rational.js";
-import { decimalOf, placesOf, roundedSteps, stepsOf } from "../exact/decimals.js";
+import { Rational, ZERO } from "../exact/rational.js";
+import { apartTexts, decimalOf, placesOf, roundedSteps, stepsOf } from "../exact/decimals.js";
 
 export function formatOf(places, mark) {
   const text = (steps) => decimalOf(steps, places, { mark });
@@ -8,6 +8,10 @@ export function formatOf(places, mark) {
     places,
     mark,
     show: (value) => text(stepsOf(value, places)),
+    /** Numbers that a sentence compares: with more decimals where they would look the same. */
+    apart: (...values) => apartTexts(values, places, { mark }),
+    /** By how much: what isn't 0 isn't shown as 0. */
+    by: (value) => apartTexts([value, ZERO], places, { mark })[0],
     /** Values as decimals that add up, and their sum as the last. */
     column: (values) => {
       const steps = roundedSteps(values, places);

@@ -1,5 +1,6 @@
 // The page: puts its parts together.
 import { caseNamed } from "../cases/cases.js";
+import { coarserStill } from "../cases/coarse.js";
 import { costs } from "../cases/tables.js";
 import { AnswerView } from "./answer-view.js";
 import { casePanel } from "./case-panel.js";
@@ -39,7 +40,7 @@ function openCase(kind, typed, { measure, texts, entry, before = null, notes = [
     mark: () => session.readMark(), setEntry: (mark) => session.setEntry(mark), before,
     notes: doubt ? [doubt, ...notes] : notes,
     onChange: (wait) => {
-      isUnsaved = true;
+      isUnsaved = session.isTyped = true;
       session.changed(wait);
     },
     onReset: (next, what) => openCase(kind, next, { before: { what, ...nowTyped() } }),
@@ -63,10 +64,10 @@ function openCase(kind, typed, { measure, texts, entry, before = null, notes = [
 async function coarsen(kind, how) {
   const before = nowTyped(), { typed, measure, entry, doubt } = before;
   const what = { id: kind.id, typed: kind.pack?.(typed) ?? typed, mark: session.readMark(), how };
-  const { typed: changed, notes, fault } = await session.reader.ask("coarser", what);
+  const { typed: changed, coarse: fresh, fault } = await session.reader.ask("coarser", what);
   if (fault || session.typed !== typed) return fault;
-  const next = { ...typed, ...(kind.unpack?.(changed) ?? changed) };
-  openCase(kind, next, { measure, entry, notes, doubt, before: { ...before, what: WAYS[how] } });
+  const next = { ...typed, ...(kind.unpack?.(changed) ?? changed), coarse: coarserStill(typed.coarse, fresh) };
+  openCase(kind, next, { measure, entry, doubt, before: { ...before, what: WAYS[how] } });
   return undefined;
 }
 

@@ -44,7 +44,8 @@ const GROUPS = "A group does better by itself where it is worth more than its me
   + "they pay). Shares by which none does are in the core.";
 const HOLDS = "Of two players one has the stronger hold where the best group with it and without the other has the "
   + "more to gain by leaving, or the less to lose. Where no two differ, the division is in the prekernel";
-const PLAIN_IS_EVEN = "; the nucleolus is, wherever some division satisfies all groups.";
+const PLAIN_IS_EVEN = "; the prenucleolus always is, and the nucleolus wherever some division satisfies "
+  + "all groups.";
 const PER_HEAD_ISNT = ". That is counted by the group as a whole, so a division per head need not be there.";
 
 export function meanings(points, hasHolds, { perHead }) {

@@ -122,9 +122,9 @@ function unstable({ wasStable, isStable }, { costs }) {
 }
 
 /** Whether a group does better by itself before, and after. */
-function leavingRow(columns, { show }) {
+function leavingRow(columns, { by }) {
   const text = (found) => (found
-    ? el("span", { class: "bad" }, `Yes: ${found.who}, by ${show(Rational.of(found.by))}`)
+    ? el("span", { class: "bad" }, `Yes: ${found.who}, by ${by(Rational.of(found.by))}`)
     : el("span", { class: "good" }, "No"));
   return el("tfoot", {}, el("tr", { class: "verdict" },
     el("th", { scope: "row" }, "Can a group do better by itself?"),

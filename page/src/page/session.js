@@ -20,6 +20,8 @@ export class Session {
     this.mark = new Intl.NumberFormat().format(0.5).includes(",") ? "," : "."; // by which numbers are shown
     this.own = this.mark; // by which those that are typed are read, where they don't show it themselves
     spoken.mark = this.mark;
+    this.isChosen = false; // whether the user has chosen the mark
+    this.isTyped = false; // whether the cells of the case aren't as they were opened
   }
 
   /** Starts the workers, so that the first question needn't wait for them. */
@@ -30,6 +32,7 @@ export class Session {
   /** `doubt` is why the game isn't taken for the agreed one, in words. */
   open(kind, typed, { measure = "plain", texts = [], entry = this.own, doubt = "" } = {}) {
     Object.assign(this, { kind, typed, measure, texts, entry, doubt, places: kind.places ?? 2 });
+    this.isTyped = false;
     Object.assign(this, { reading: null, result: null, judged: {}, proposal: proposalOf([], [], entry) });
     this.changed(0);
   }
@@ -45,9 +48,18 @@ export class Session {
 
   /** The mark of what is shown; no number is read anew by it. */
   setMark(mark) {
+    this.isChosen = true;
     this.mark = mark;
     spoken.mark = mark;
     this.changed(0);
+  }
+
+  /** What is shown has the mark that the typed numbers show, until the user chooses one. */
+  follow({ shown }) {
+    if (this.isChosen || !this.isTyped || !shown || shown === this.mark) return false;
+    this.mark = spoken.mark = shown;
+    this.changed(0);
+    return true;
   }
 
   /** The mark of the numbers of this case that can be read both ways. */
@@ -83,6 +95,7 @@ export class Session {
       const reading = await engine("readCase", { id: kind.id, typed, mark, measure });
       if (!isMine()) return;
       this.reading = reading;
+      if (this.follow(reading)) return;
       this.judged = {};
       this.on.read();
       if (reading.isRight) await this.ask(engine, checker, isMine);

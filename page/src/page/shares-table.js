@@ -2,8 +2,9 @@
 import { Rational } from "../exact/rational.js";
 import { fractionText } from "../exact/decimals.js";
 import { listed, Namer, plural } from "../tell/words.js";
-import { comparisonOf } from "./comparison.js";
+import { comparisonPart } from "./comparison.js";
 import { el } from "./dom.js";
+import { excessesPart } from "./excesses.js";
 import { MOVED, totalsOf } from "./format.js";
 import { meanings, subtitleOf } from "./meanings.js";
 import { proposalInput, proposalSum, proposalTools } from "./proposal-cells.js";
@@ -24,10 +25,17 @@ export function sharesTable(result, settings) {
       footOf(view, hasHolds))),
     columns.some(({ shares }) => format.isMoved(totalsOf(rows, shares)))
       && el("p", { class: "hint moved" }, `${MOVED} The exact shares stand in small print.`),
+    sameText(result) && el("p", { class: "hint" }, sameText(result)),
     proposal.canBe && proposalTools(result, settings),
     proposal.shares && sameAs(points, proposal.shares),
-    proposal.comparison && comparisonOf(proposal.comparison, points[0], game),
+    points.length > 0 && comparisonPart(proposal, points[0], game, settings.typed),
+    excessesPart(result, settings),
     meanings(points, hasHolds, game));
+}
+
+/** Why there is no column of the prenucleolus. */
+export function sameText({ hasOneNucleolus, game }) {
+  return hasOneNucleolus && `The prenucleolus${game.perHead ? " per head" : ""} is the same here.`;
 }
 
 /** Which division of the table a proposal is. */
@@ -111,7 +119,7 @@ function contextOf(game, rows, { show }) {
   return of(game.own, game.costs ? "Costs alone" : "Worth alone");
 }
 
-function verdictText(game, verdict, { show }) {
+function verdictText(game, verdict, { show, by }) {
   if (verdict === undefined) return "…";
   if (verdict === null) return "not said";
   if (verdict.refusal) return verdict.refusal.sentence;
@@ -119,7 +127,7 @@ function verdictText(game, verdict, { show }) {
   if (verdict.sum) return el("span", { class: "bad" }, "doesn’t add up");
   const who = needingAtMost(game, verdict.group, show)
     ?? new Namer(game).group(verdict.group).replace(/ (alone|together)$/, "");
-  return el("span", { class: "bad" }, `Yes: ${who}, by ${show(verdict.excess)}`);
+  return el("span", { class: "bad" }, `Yes: ${who}, by ${by(verdict.excess)}`);
 }
 
 /** Of a runway the groups of all landings up to an amount, as a sentence names them; null for other groups. */
@@ -130,12 +138,12 @@ function needingAtMost({ kind, amounts, n }, group, show) {
   return isAll && group.length < n ? `all landings that need at most ${show(most)}` : null;
 }
 
-function holdText(game, hold, { show }) {
+function holdText(game, hold, format) {
   if (hold === undefined) return "…";
   if (hold === null) return "–";
   if (hold.isEven) return "No";
   const [strong, weak] = [hold.strong, hold.weak].map((i) => game.shown[i]);
-  return `Yes: ${strong} on ${weak}, by ${show(hold.by)}`;
+  return `Yes: ${strong} on ${weak}, by ${format.by(hold.by)}`;
 }
 
 /** The table for a spreadsheet: tabs between, plain decimals, and the exact fractions beside them. */

@@ -5,13 +5,17 @@ import { planPicture } from "../draw/plan.js";
 import { dealsOf, powerPicture, priceOf, pricesPicture, tradesTable } from "../draw/ranges.js";
 import { trianglePicture } from "../draw/triangle.js";
 import { Rational } from "../exact/rational.js";
+import { fileNames } from "../cases/coarse.js";
+import { coarseText } from "../tell/coarse-text.js";
 import { sourceOf } from "../tell/rule-names.js";
 import { Namer } from "../tell/words.js";
-import { lead, solutionOf } from "./answer.js";
+import { lead, notices, solutionOf } from "./answer.js";
+import { dividedTable } from "./divided.js";
 import { el, refill } from "./dom.js";
 import { knownDigest } from "./files.js";
 import { filledText } from "./filled.js";
 import { formatOf, MOVED, totalsOf } from "./format.js";
+import { sameText } from "./shares-table.js";
 
 const WIDE = 700;
 const MOST_PICTURED = 10; // rows whose bars leave room for the rest
@@ -37,11 +41,13 @@ export function showSheet(session, typed = {}) {
     return;
   }
   const { rows } = reading, format = formatOf(session.places, session.mark), { heading, unit, withProposal } = typed;
-  const view = { ...session, heading, unit, withProposal, result, rows, format };
+  const { coarse } = session.typed;
+  const view = { ...session, heading, unit, withProposal, result, rows, format, coarse };
   const reasons = reasonsOf(view), isLong = rows.length > MANY_ROWS || reasons.textContent.length > LONG;
-  const isTight = isLong || Boolean(withProposal);
+  const isTight = isLong || Boolean(withProposal || coarse || result.core?.collection);
   sheet.classList.toggle("tight", isTight);
-  refill(sheet, headOf(view), answerOf(view), pictureOf(view), reasons, agreedOf(view), checkOf(view));
+  refill(sheet, headOf(view), notices(result, format, coarse), answerOf(view), pictureOf(view), reasons,
+    agreedOf(view), checkOf(view));
 }
 
 function headOf({ heading, kind }) {
@@ -55,7 +61,7 @@ export function dayText() {
 // ---- Who, and how much
 
 function answerOf(view) {
-  const { result, rows, format, unit } = view, { game } = result;
+  const { result, rows, format, unit, coarse } = view, { game } = result;
   const shapley = result.points.find(({ key }) => key === "shapley");
   const point = game.ballots ? shapley : solutionOf(result) ?? result.points[0];
   if (!point) return null;
@@ -73,7 +79,7 @@ function answerOf(view) {
     context && el("td", { class: "number" }, context.texts[r]),
     el("td", { class: "number strong" }, texts[r]),
     hasExact && el("td", { class: "number" }, format.isExact(totals[r]) ? "" : fractionText(totals[r])),
-    others.map((other) => el("td", { class: "number" }, other.texts[r])));
+    others.map((other) => el("td", { class: "number" }, other.texts[r], other.exact(r))));
   const sum = el("tr", { class: "sum" }, el("th", { scope: "row" }, "together"), context && el("td"),
     el("td", { class: "number strong" }, texts.at(-1)), hasExact && el("td"),
     others.map((other) => el("td", { class: "number" }, other.texts.at(-1))));
@@ -82,28 +88,43 @@ function answerOf(view) {
     unit?.trim() && el("p", { class: "hint" }, `All amounts are in ${unit.trim()}.`),
     halves(rows.length, heads.filter((head) => head !== undefined), line, sum),
     format.isMoved(totals) && el("p", { class: "hint" }, `${MOVED} The fractions are exact.`),
-    others.map((other) => other.said && el("p", { class: "hint" }, `${other.title}: ${other.said}`)));
+    coarse?.times && dividedTable([point, ...others], rows, coarse, format),
+    saidOfAll(view, point, others));
 }
 
-/** The other columns, and the user's proposal, where these are wanted: {title, texts, said}. */
+/** A line for each column that is judged: for the one that is always there, too, where others stand beside it, or a
+ * group does better by itself. */
+function saidOfAll({ result, format }, { title, ...point }, others) {
+  const own = { title, said: result.game.ballots ? "" : saidOf(result.game, point, format) };
+  const lines = others.length || point.verdict?.group ? [own, ...others] : [];
+  const told = lines.filter(({ said }) => said).map((one) => `${one.title}: ${one.said}`);
+  const same = others.length > 0 && sameText(result);
+  return [...told, same].map((text) => text && el("p", { class: "hint" }, text));
+}
+
+/** The other columns, and the user's proposal, where these are wanted: {title, texts, totals, exact, said}. */
 function othersOf({ result, rows, format, withProposal, proposal, judged }, shown) {
   if (!withProposal || result.game.ballots) return [];
   const { game, points } = result, own = proposal?.totals && { title: "Your proposal", ...proposal, ...judged };
   return [...points.filter((point) => point !== shown), own].filter(Boolean).map((point) => {
-    const texts = format.column(point.totals ?? totalsOf(rows, point.shares));
-    return { title: point.title, texts, said: saidOf(game, point, format) };
+    const totals = point.totals ?? totalsOf(rows, point.shares), texts = format.column(totals);
+    const exact = (r) => !format.isExact(totals[r]) && el("small", { class: "exact" }, fractionText(totals[r]));
+    return { title: point.title, texts, totals, exact, said: saidOf(game, point, format) };
   });
 }
 
 /** Whether a group does better by itself, and, of a proposal, how it stands beside the solution. */
-function saidOf(game, { verdict, comparison }, { show }) {
+function saidOf(game, { verdict, comparison }, { by, apart }) {
   const parts = [];
   if (verdict?.isCore) parts.push("no group does better by itself.");
   if (verdict?.group) {
     const who = new Namer(game).group(verdict.group).replace(/ (alone|together)$/, "");
-    parts.push(`a group does better by itself: ${who}, by ${show(verdict.excess)}.`);
+    parts.push(`a group does better by itself: ${who}, by ${by(verdict.excess)}.`);
   }
-  if (verdict?.sum) parts.push(`it adds to ${show(verdict.sum)}, and not to ${show(verdict.total)}.`);
+  if (verdict?.sum) {
+    const [sum, total] = apart(verdict.sum, verdict.total);
+    parts.push(`it adds to ${sum}, and not to ${total}.`);
+  }
   if (comparison && comparison.better !== "same") {
     const k = comparison.differs - comparison.first, [mine, theirs] = comparison.lists.map((list) => list[k]);
     parts.push(`Of what each group could gain by leaving, the greatest first, place ${comparison.differs} is the first `
@@ -202,12 +223,12 @@ function toldOf({ sentences, items, last = "" }) {
 
 // ---- What is agreed on, and how to check it
 
-function agreedOf({ result: { text }, rows, kind, typed, doubt }) {
+function agreedOf({ result: { text }, rows, kind, typed, doubt, coarse }) {
   const isShort = text.length <= (rows.length > MOST_PICTURED ? MOST_ALONE : MOST_DOCUMENT);
   const digest = knownDigest(`${text}\n`) ?? "(this browser works out none)", filled = filledText({ kind, typed });
-  const file = `${kind.id}-game.json`, sum = el("span", { class: "digest" }, digest);
+  const { game: file } = fileNames(kind.id, coarse), sum = el("span", { class: "digest" }, digest);
   const what = el("p", {}, `The numbers of the game, as they stand in ${file}. As this page writes that file, its `,
-    "SHA-256 is ", sum, ".", filled && ` ${filled}`);
+    "SHA-256 is ", sum, ".", filled && ` ${filled}`, coarse && ` ${coarseText(coarse)}`);
   return el("section", {}, el("h2", {}, doubt ? "Not agreed on" : "What is agreed on"),
     doubt && el("p", {}, doubt), what,
     isShort ? el("p", { class: "document" }, text)

@@ -17,7 +17,8 @@ export async function textOfFile(file) {
   }
 }
 
-/** The element of a place; `onText(text)` is called with each new text. Its `setText` puts one there. */
+/** The element of a place; `onText(text, from)` is called with each new text; of a file `from` has the
+ * name. Its `setText` puts one there. */
 export function textPlace({ title, hint, rows = 4, onText }) {
   return new TextPlace({ title, hint, rows, onText }).element;
 }
@@ -73,16 +74,16 @@ class TextPlace {
     this.name.textContent = `${file.name}, ${file.size.toLocaleString("en")} bytes`;
     const { text, fault } = await textOfFile(file);
     if (fault) this.name.textContent = fault;
-    else this.setText(text);
+    else this.setText(text, { name: file.name });
     this.chooser.value = "";
   }
 
-  setText(text) {
+  setText(text, from = {}) {
     const isLong = text.length > MOST_SHOWN;
     clearTimeout(this.timer);
     this.area.value = isLong ? "" : text;
     this.area.placeholder = isLong ? "The text is too long to show; it is read all the same." : "Paste it here";
     if (text.length > MOST_BYTES) this.name.textContent = TOO_LONG;
-    else this.onText(text);
+    else this.onText(text, from);
   }
 }

@@ -21,7 +21,8 @@ export function readCase({ id, typed, mark, measure }) {
   const { reading, rows, tree, ballots } = readByOneMark(caseNamed(id), typed, mark);
   const { faults, count, empty, doubts, doubted, notes, isTooFine = false } = reading;
   const read = {
-    rows, faults, count, empty, doubts, doubted, notes, isTooFine, mark: reading.mark, isRight: reading.isRight(),
+    rows, faults, count, empty, doubts, doubted, notes, isTooFine, mark: reading.mark, shown: reading.settles(),
+    isRight: reading.isRight(),
   };
   if (!read.isRight) return read;
   const players = rows.reduce((sum, row) => sum + row.players.length, 0), isMeasured = measure === "per-head";
@@ -46,8 +47,8 @@ export function readCells({ text }) {
 
 /** A table from a pasted list. */
 export function readList({ text, names, order, mark }) {
-  const { state, fault, told, isOdd } = tableOf(text, names, order, mark);
-  return state ? { state: packed(state), told, isOdd } : { fault };
+  const { state, fault, told, isOdd, remark } = tableOf(text, names, order, mark);
+  return state ? { state: packed(state), told, isOdd, remark } : { fault };
 }
 
 /** A document as a case with what a person would have typed, or what is wrong with it. */
