@@ -48,7 +48,7 @@ const coarser = [
     expect("files", await savedNames(page), names);
     const sheet = await sheetOf(page);
     expect("on paper", sheet, TIMES);
-    expect("and divided", sheet, /Divided by 100\u202f000\u202f000/);
+    expect("and divided", sheet, /divided by 100\u202f000\u202f000/);
     await page.click("These are other numbers now");
     await page.until("!document.querySelector('.coarse-note')");
     await settle(page);
@@ -134,7 +134,7 @@ const excesses = [
     await page.until("document.querySelectorAll('.excesses tbody tr').length === 62");
     await page.type("numbers.1", "3");
     const marked = /Marked is the first place that differs .*: Shapley shares at place \d+ and Prenucleolus at place/;
-    await told(page, ".excesses .found", marked);
+    await told(page, ".excesses", marked);
     await settle(page);
     expect("open, all", await page.run("document.querySelectorAll('.excesses tbody tr').length"), 62);
     expect("marked", await page.run("document.querySelectorAll('.excesses td.differs').length"), 4);

@@ -33,12 +33,13 @@ function comparisonOf(found, { title, key }, game, hold) {
 
 /** Why a proposal isn't the prenucleolus either. */
 function prenucleolusText({ better }, key, { perHead, shown }, hold) {
-  const rule = `prenucleolus${perHead ? " per head" : ""}`, isHeld = !perHead && hold?.strong !== undefined;
+  const rule = `prenucleolus${perHead ? " per head" : ""}`, isListed = better === "other" && key === "nucleolus";
+  const isHeld = !perHead && better !== "same" && hold?.strong !== undefined;
+  const start = isListed ? "Holds show it without a list: the prenucleolus" : "It isn’t the prenucleolus: that";
   return [
-    better === "other" && key === "nucleolus" && `So it isn’t the ${rule} either: the nucleolus is itself a division `
-      + "of the whole, and has a lesser list.",
-    better !== "same" && isHeld && "Holds show that without a list: the prenucleolus always lies in the prekernel, and "
-      + `here ${shown[hold.strong]} has a stronger hold on ${shown[hold.weak]}.`,
+    isListed && `So it isn’t the ${rule} either: the nucleolus is itself a division of the whole, with a lesser list.`,
+    isHeld && `${start} always lies in the prekernel, and here ${shown[hold.strong]} has a stronger hold on `
+      + `${shown[hold.weak]}.`,
   ].filter(Boolean);
 }
 

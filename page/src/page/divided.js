@@ -21,6 +21,15 @@ export function dividedTable(points, rows, { times }, { mark }) {
     el("tbody", {}, lines), el("tfoot", {}, sum)));
 }
 
+/** The same of one division, as a column of another table. */
+export function dividedColumn(totals, { times }, { mark }) {
+  const ten = new Rational(BigInt(times)), places = times.length - 1 + MORE_PLACES;
+  const parts = [...totals, Rational.sum(totals)].map((one) => exactParts(one.over(ten), places, mark));
+  return {
+    title: `divided by ${decimalOf(BigInt(times), 0)}`, texts: parts.map(([text]) => text), exact: (r) => parts[r][1],
+  };
+}
+
 /** Without the zeros behind the last digit that counts. */
 function exactParts(value, places, mark) {
   const needed = Array.from({ length: places + 1 }, (_, k) => k).find((k) => 10n ** BigInt(k) % value.den === 0n);

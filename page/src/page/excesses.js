@@ -12,7 +12,7 @@ const MOST_PLAYERS = 12; // of other games than tables
 export function excessesPart(result, { format, typed, ask }) {
   const { game, points } = result, isFew = game.isTable() || game.n <= MOST_PLAYERS;
   if (!isFew || game.n < 2 || game.ballots || game.isMarket() || points.length < 2) return null;
-  const memory = (typed.excesses ??= { isOpen: false, most: FEW }), found = el("div", { class: "found" });
+  const memory = (typed.excesses ??= { isOpen: false, most: FEW }), found = el("div");
   const show = async () => {
     try {
       const lists = await askLists(memory, result, ask);
@@ -25,7 +25,7 @@ export function excessesPart(result, { format, typed, ask }) {
     memory.most = MOST_SHOWN;
     return show();
   };
-  const details = el("details", { class: "other excesses", open: memory.isOpen, on: {
+  const details = el("details", { class: "excesses", open: memory.isOpen, on: {
     toggle: () => {
       memory.isOpen = details.open;
       if (details.open) show();
