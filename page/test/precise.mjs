@@ -43,12 +43,13 @@ const coarser = [
     await settle(page);
     expect("beside the document", await page.text(".made"), /the file is named gains-times-100000000\.json/);
     expect("with the answer", await page.text("#answer-body .coarse-note"), TIMES);
-    expect("divided", await page.text("#answer .divided"), /Divided by 100\u202f000\u202f000[\s\S]*together\s+6\.5/);
+    const divided = /Nucleolus, divided by 100\u202f000\u202f000: Player 1 113233\/93750 \(about 1.2078186667\); /;
+    expect("divided", await page.text("#answer .divided"), divided);
     const names = /gains-times-100000000\.json,.*gains-times-100000000-nucleolus\.json/;
     expect("files", await savedNames(page), names);
     const sheet = await sheetOf(page);
     expect("on paper", sheet, TIMES);
-    expect("and divided", sheet, /divided by 100\u202f000\u202f000/);
+    expect("and divided", sheet, divided);
     await page.click("These are other numbers now");
     await page.until("!document.querySelector('.coarse-note')");
     await settle(page);
@@ -133,7 +134,7 @@ const excesses = [
     await page.click("All 62 places");
     await page.until("document.querySelectorAll('.excesses tbody tr').length === 62");
     await page.type("numbers.1", "3");
-    const marked = /Marked is the first place that differs .*: Shapley shares at place \d+ and Prenucleolus at place/;
+    const marked = /Marked is where a list differs .*: Shapley shares at place \d+ and Prenucleolus at place/;
     await told(page, ".excesses", marked);
     await settle(page);
     expect("open, all", await page.run("document.querySelectorAll('.excesses tbody tr').length"), 62);

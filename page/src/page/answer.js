@@ -5,9 +5,8 @@ import { plan } from "../draw/plan.js";
 import { power, trades } from "../draw/ranges.js";
 import { triangle } from "../draw/triangle.js";
 import { mayBeOfRounding } from "../cases/coarse.js";
-import { coarseText } from "../tell/coarse-text.js";
+import { coarseText, dividedText } from "../tell/coarse-text.js";
 import { enumerated, listed, Namer, times } from "../tell/words.js";
-import { dividedTable } from "./divided.js";
 import { el } from "./dom.js";
 import { totalsOf } from "./format.js";
 import { missingText } from "./questions.js";
@@ -29,7 +28,9 @@ export function answerParts(result, settings) {
     result.matching && trades(game, result.matching, { ...format, solution, wide: pictured.wide }),
     solution && !game.ballots && !game.isMarket() && lead(result, solution, settings),
     points.length > 0 && (!game.ballots || solution) && sharesTable(result, settings),
-    coarse?.times && points.length > 0 && dividedTable(seen, rows, coarse, format),
+    coarse?.times && seen.map(({ title, shares }) => {
+      return el("p", { class: "hint divided" }, dividedText(coarse, title, rows, totalsOf(rows, shares)));
+    }),
     missing && el("p", { class: "hint missing" }, missing),
     ...(solution && !game.ballots ? pictures(result, seen, pictured) : []),
   ].filter(Boolean);

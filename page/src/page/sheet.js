@@ -6,11 +6,10 @@ import { dealsOf, powerPicture, priceOf, pricesPicture, tradesTable } from "../d
 import { trianglePicture } from "../draw/triangle.js";
 import { Rational } from "../exact/rational.js";
 import { fileNames } from "../cases/coarse.js";
-import { coarseText } from "../tell/coarse-text.js";
+import { coarseText, dividedText } from "../tell/coarse-text.js";
 import { sourceOf } from "../tell/rule-names.js";
 import { Namer } from "../tell/words.js";
 import { lead, notices, solutionOf } from "./answer.js";
-import { dividedColumn, dividedTable } from "./divided.js";
 import { el, refill } from "./dom.js";
 import { knownDigest } from "./files.js";
 import { filledText } from "./filled.js";
@@ -71,25 +70,26 @@ function answerOf(view) {
   const title = game.ballots ? "Power" : point.title, totals = totalsOf(rows, point.shares);
   const context = contextOf(game, rows, format), texts = format.column(totals);
   const hasExact = totals.some((total) => !format.isExact(total)), who = game.costs ? "Who pays" : "Who gets";
-  const others = othersOf(view, point), isDivided = coarse?.times && !others.length;
-  const beside = isDivided ? [dividedColumn(totals, coarse, format)] : others;
+  const others = othersOf(view, point);
   const heads = [game.ballots ? "Who votes" : who, context?.title, title, hasExact ? "exactly" : undefined,
-    ...beside.map((other) => other.title)];
+    ...others.map((other) => other.title)];
   const line = (r) => el("tr", {},
     el("th", { scope: "row" }, rows[r].label, rows[r].players.length > 1 && ` (${rows[r].players.length} landings)`),
     context && el("td", { class: "number" }, context.texts[r]),
     el("td", { class: "number strong" }, texts[r]),
     hasExact && el("td", { class: "number" }, format.isExact(totals[r]) ? "" : fractionText(totals[r])),
-    beside.map((other) => el("td", { class: "number" }, other.texts[r], other.exact(r))));
+    others.map((other) => el("td", { class: "number" }, other.texts[r], other.exact(r))));
   const sum = el("tr", { class: "sum" }, el("th", { scope: "row" }, "together"), context && el("td"),
     el("td", { class: "number strong" }, texts.at(-1)), hasExact && el("td"),
-    beside.map((other) => el("td", { class: "number" }, other.texts.at(-1))));
+    others.map((other) => el("td", { class: "number" }, other.texts.at(-1))));
   return el("section", {},
     !game.ballots && !game.isMarket() && lead(result, point, { rows, format }),
     unit?.trim() && el("p", { class: "hint" }, `All amounts are in ${unit.trim()}.`),
     halves(rows.length, heads.filter((head) => head !== undefined), line, sum),
     format.isMoved(totals) && el("p", { class: "hint" }, `${MOVED} The fractions are exact.`),
-    coarse?.times && !isDivided && dividedTable([point, ...others], rows, coarse, format),
+    coarse?.times && [{ title, totals }, ...others].map((one) => {
+      return el("p", { class: "hint" }, dividedText(coarse, one.title, rows, one.totals));
+    }),
     saidOfAll(view, point, others));
 }
 
