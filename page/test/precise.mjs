@@ -179,6 +179,13 @@ const excesses = [
 ];
 
 const lists = [
+  ["two prices that are nearly one", "document", async (page, expect) => {
+    await page.fill("#document textarea", '{"game":{"class":"assignment","version":2,"matrix":[["1/250"]]}}');
+    await page.until("document.querySelector('.trades')");
+    await settle(page);
+    expect("told apart", await page.text(".trades tbody"), /0\.000\sto\s0\.004/);
+  }],
+
   ["headings, and lists with a name, as other programs have them", "gains", async (page, expect) => {
     await useList(page, "worth\n5\n3\n2\n10\n9\n6\n16");
     await settle(page);

@@ -26,8 +26,8 @@ export function dealsOf(game, matching, solution) {
   });
 }
 
-export function priceOf({ show }) {
-  return ({ low, high }) => (low.equals(high) ? show(low) : `${show(low)} to ${show(high)}`);
+export function priceOf({ show, apart }) {
+  return ({ low, high }) => (low.equals(high) ? show(low) : apart(low, high).join(" to "));
 }
 
 export function tradesTable(deals, format) {

@@ -5,7 +5,7 @@ import { listed } from "../tell/words.js";
 import { button, copy, el, refill } from "./dom.js";
 
 const FEW = 8; // places that are shown at first
-const MOST = 1022; // that are shown at all: those of ten players; the copy has more
+const MOST = 1022, MOST_COPIED = 4094; // that are shown at all, and copied: those of ten and of twelve players
 const MOST_PLAYERS = 12; // of other games than tables
 
 /** The part that opens; `typed` keeps what was opened and found of this case, `ask(task, what)` goes to a worker. */
@@ -19,6 +19,7 @@ export function excessesPart({ game, text, points }, { format, typed, ask }) {
       Object.assign(memory, { key: key + memory.most, lists: asked(memory.most) });
       memory.lists.catch(() => (memory.key = "")); // stopped: it is asked anew
     }
+    if (!found.childElementCount) refill(found, "Working it out …");
     refill(found, partsOf(await memory.lists, { game, points, format, asked, onAll: () => {
       memory.most = MOST;
       show();
@@ -54,8 +55,8 @@ function partsOf(found, { game, points, format, asked, onAll }) {
     el("p", { class: "tools" },
       length < Math.min(of, MOST) && button(`All ${count(Math.min(of, MOST))} places`, onAll, { class: "quiet" }),
       length < of && el("span", { class: "hint" }, `${count(length)} of ${count(of)} places.`),
-      button("Copy all places for a spreadsheet", async ({ target }) => {
-        copy(tableText(points, (await asked(Infinity)).lists, format), target);
+      button(`Copy ${of > MOST_COPIED ? "the first 4,094" : "all"} places for a spreadsheet`, async ({ target }) => {
+        copy(tableText(points, (await asked(MOST_COPIED)).lists, format), target);
       }, { class: "quiet" })),
   ];
 }

@@ -33,9 +33,10 @@ export function compare({ text, one, other }) {
 export function excessLists({ text, divisions, most }) {
   const { game, unit, lists } = listsOf(text, divisions);
   if (!lists) return null;
-  const namer = new Namer(game), [own] = lists;
+  const namer = new Namer(game), names = new Map(), [own] = lists;
   const shown = ({ mask, excess }) => {
-    return { group: namer.group(membersOf(mask)), excess: String(new Rational(excess, unit)) };
+    if (!names.has(mask)) names.set(mask, namer.group(membersOf(mask)));
+    return { group: names.get(mask), excess: String(new Rational(excess, unit)) };
   };
   return {
     of: own.length, lists: lists.map((list) => list.slice(0, most).map(shown)),
