@@ -203,7 +203,7 @@ const lists = [
     await settle(page);
     expect("groups", await page.text(".lead"), /A gets .*together 17.00/);
     const box = await page.run("document.querySelector('details.inline').textContent");
-    expect("many games", box, /One game at a time here; for many, scripts\/from-vector .* scripts\/many answers/);
+    expect("many games", box, /One game at a time here; for many, scripts\/many --lines .* scripts\/from-vector makes/);
   }],
 
   ["a document with more than one line", "document", async (page, expect) => {

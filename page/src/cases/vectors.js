@@ -7,8 +7,8 @@ const MOST_PLAYERS = 16;
 const NAMED = /^\s*[\p{L}_][\p{L}\d_.]*\s*(?:=|<-)\s*(?=[[({]|c\s*\(|(?:np\.)?array\s*\()/u;
 
 /** What is said where several games are given. */
-export const MANY = "One game at a time here; for many, scripts/from-vector of the project makes a document of each "
-  + "row of a table, and scripts/many answers them all.";
+export const MANY = "One game at a time here; for many, scripts/many --lines of the project answers a document in each "
+  + "line, and scripts/from-vector makes these of a table with a game a row.";
 
 /** The first line of a list, where it has nothing but words; null where it has others. */
 export function headingOf(text) {
