@@ -112,7 +112,7 @@ const types = [
     expect("rows", await page.text(".shares tbody"), /^Albatros, DH8[\s\S]*Albatros, A320[\s\S]*Albatros, together/);
     const each = /one landing of each type pays[\s\S]*DH8\s+20.50[\s\S]*A320\s+40.00[\s\S]*B744/;
     expect("types", await page.text(".lines"), each);
-    const bill = /What each airline pays.*Albatros528\.03Bergfalke14\.10Condor227\.87together860\.00/;
+    const bill = /What each airline pays.*Albatros528,03Bergfalke14,10Condor227,87together860,00/;
     expect("the bill on paper", await sheetOf(page), bill);
     await page.run("dispatchEvent(new Event('afterprint'))");
     await page.type("rows.1.type", "DH8");
@@ -129,7 +129,7 @@ const types = [
     await page.paste('[data-cell="proposal.0"]', "10\n20\n5\n25");
     await settle(page);
     expect("downwards", `${await value(page, "proposal.1")} ${await value(page, "proposal.3")}`, "20 25");
-    expect("the airline's sum", await page.text(".subtotal .proposed"), "30.00");
+    expect("the airline's sum", await page.text(".subtotal .proposed"), "30,00");
   }],
 
   ["many rows have a bar for each type", "runway", async (page, expect) => {

@@ -145,7 +145,7 @@ function overrunSentence(column, rows, change, game, format) {
   const [verb, costs] = game.costs ? ["pays", "costs"] : ["gets", "gains"], name = `By the ${ruleIn(column)}`;
   if (against.length) {
     const told = against.map(({ value, r }) => {
-      const size = texts[2][r].replace(/^[+−]/, "");
+      const size = /[1-9]/.test(texts[2][r]) ? texts[2][r].replace(/^[+−]/, "") : format.by(value.abs());
       return `${rows[r].label} ${verb} ${size} ${value.isNegative() ? "less" : "more"}`;
     });
     const although = `although the whole ${costs} ${sizeOf(change, format)}`;
