@@ -178,6 +178,43 @@ const excesses = [
   }],
 ];
 
+const SAVED_CASE = '{"coop-page":1,"document":{"game":{"class":"table","players":2,"worths":[100,200,650]}},'
+  + '"coarse":{"times":"100","rounded":{"count":"2","of":"3","most":"1/20000"}}}';
+
+const kept = [
+  ["a saved case knows what was done to its numbers", "document", async (page, expect) => {
+    await openFile(page, "gains-case.json", SAVED_CASE.replace('"100","rounded"', '"7","rounded"'));
+    await told(page, "#document-message", /isn’t as the page saved it[\s\S]*Place: coarse/);
+    await openFile(page, "gains-case.json", SAVED_CASE);
+    const both = /times 100, [\s\S]*2 numbers were rounded to four decimals, each by at most 0\.000050/;
+    await told(page, "#case-body", both);
+    await settle(page);
+    expect("files", await savedNames(page), /gains-times-100-rounded\.json/);
+    await page.run("URL.createObjectURL = (blob) => { window.saved = blob.text(); return '#'; }");
+    await page.click("Save the case");
+    const saved = /"coarse":{"times":"100","rounded":{"count":"2","of":"3","most":"1\/20000"}}/;
+    expect("saved", await page.run("window.saved"), saved);
+  }],
+
+  ["a table of a network has what was done to the links", "network", async (page, expect) => {
+    await page.type("links.0-1", "3.1234567");
+    await noted(page, /too fine/);
+    await page.click("All times a power of ten");
+    await told(page, "#case-body", /All numbers stand here times 10\u202f000\u202f000/);
+    await settle(page);
+    await page.click("A link that can’t be built");
+    await page.click("make a table of costs of it");
+    await page.until("location.hash === '#costs' && document.querySelector('[data-cell=\"numbers.7\"]')");
+    await told(page, "#case-body", /All numbers stand here times 10\u202f000\u202f000/);
+  }],
+
+  ["excesses of a runway are those of its rows", "runway", async (page, expect) => {
+    await page.click("The excesses by all columns, side by side");
+    await told(page, ".excesses", /8 of \d+ places/);
+    expect("by rows", await page.text(".excesses tbody"), /all but Aer \(1 of 3 landings\)/);
+  }],
+];
+
 const lists = [
   ["two prices that are nearly one", "document", async (page, expect) => {
     await page.fill("#document textarea", '{"game":{"class":"assignment","version":2,"matrix":[["1/250"]]}}');
@@ -229,4 +266,4 @@ const lists = [
   }],
 ];
 
-export const precise = [...coarser, ...empty, ...excesses, ...lists];
+export const precise = [...coarser, ...empty, ...excesses, ...kept, ...lists];

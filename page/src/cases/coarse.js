@@ -26,6 +26,12 @@ export function coarserStill(before = {}, fresh) {
   return { ...before, ...fresh, ...(times ? { times } : {}) };
 }
 
+/** Of a game whose numbers are sums of up to `count` of these. */
+export function coarseOfSums({ times, rounded } = {}, count) {
+  const most = rounded && String(Rational.of(rounded.most).times(Rational.of(count)));
+  return coarseOf({ times, rounded: most && { most } });
+}
+
 /** The names of the files of a case: of the game's, and what that of a line begins with. */
 export function fileNames(id, coarse) {
   if (!coarse) return { game: `${id}-game.json`, line: id };

@@ -1,7 +1,7 @@
 // The page: puts its parts together.
 import { caseText } from "../cases/case-file.js";
 import { caseNamed } from "../cases/cases.js";
-import { coarserStill } from "../cases/coarse.js";
+import { coarseOfSums, coarserStill } from "../cases/coarse.js";
 import { costs } from "../cases/tables.js";
 import { AnswerView } from "./answer-view.js";
 import { casePanel } from "./case-panel.js";
@@ -49,7 +49,8 @@ function openCase(kind, typed, { before = null, notes = [], doubt = "", paper, .
     snapshot: () => structuredClone(cellsNow()),
     coarsen: (how) => coarsen(kind, how),
     asTable: (table, said) => {
-      openCase(costs, table, { notes: said, doubt, before: replaced(costs, "Make a table of costs") });
+      const coarse = coarseOfSums(typed.coarse, typed.names.length);
+      openCase(costs, { ...table, coarse }, { notes: said, doubt, before: replaced(costs, "Make a table of costs") });
     },
   });
   at("case-title").textContent = kind.title;

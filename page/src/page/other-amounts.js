@@ -103,8 +103,8 @@ function overrunTable({ fault, more, whole, rules, ...core }, view) {
   if (fault) return el("p", { class: "bad" }, fault);
   const { game, rows, format } = view, change = Rational.of(more), before = Rational.of(whole);
   const columns = rules.map((rule) => changesOf(rule, rows, format)), verb = game.costs ? "It costs" : "They gain";
-  const head = `${verb} ${sizeOf(change, format)}: ${format.show(before.plus(change))} in place of `
-    + `${format.show(before)}.`;
+  const [own, after] = format.apart(before, before.plus(change));
+  const head = `${verb} ${sizeOf(change, format)}: ${after} in place of ${own}.`;
   return [
     el("p", {}, el("b", {}, head)),
     ...columns.map((column) => el("p", {}, overrunSentence(column, rows, change, game, format))),
@@ -113,8 +113,8 @@ function overrunTable({ fault, more, whole, rules, ...core }, view) {
 }
 
 /** "37.15 less". */
-function sizeOf(change, { show }) {
-  return `${show(change.abs())} ${change.isNegative() ? "less" : "more"}`;
+function sizeOf(change, { by }) {
+  return `${by(change.abs())} ${change.isNegative() ? "less" : "more"}`;
 }
 
 /** Which rules keep everybody from paying less in every case, and what is meant by the one per head. */

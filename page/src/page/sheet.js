@@ -127,11 +127,12 @@ function todaysOf({ texts, values }, steps, game, format) {
 }
 
 /** A line for each column that is judged: for the one that is always there, too, where others stand beside it, or a
- * group does better by itself. */
+ * group does better by itself. Columns of which the same is said share one. */
 function saidOfAll({ result, format }, { title, ...point }, others) {
   const own = { title, said: result.game.ballots ? "" : saidOf(result.game, point, format) };
   const lines = others.length || point.verdict?.group ? [own, ...others] : [];
-  const told = lines.filter(({ said }) => said).map((one) => `${one.title}: ${one.said}`);
+  const titles = (text) => lines.filter(({ said }) => said === text).map((one) => one.title).join(", ");
+  const told = [...new Set(lines.map(({ said }) => said))].filter(Boolean).map((text) => `${titles(text)}: ${text}`);
   const same = others.length > 0 && sameText(result);
   return [...told, same].map((text) => text && el("p", { class: "hint" }, text));
 }
