@@ -112,9 +112,11 @@ function commitOf(path) {
   return found[1];
 }
 
-/** The module of a file, packed; but as the page has it already where it is the same, so that the page stays as it is. */
+/** The module of a file, packed; but as the page has it already where it is the same, so that the page stays as it
+ * is. */
 function packedOf(file, out) {
-  const own = !file || existsSync(out) ? packedIn(readFileSync(out, "utf8")) : null, module = file && readFileSync(file);
+  const own = !file || existsSync(out) ? packedIn(readFileSync(out, "utf8")) : null;
+  const module = file && readFileSync(file);
   return !module || (own && module.equals(unpacked(own))) ? own : packed(module);
 }
 

@@ -11,7 +11,7 @@ import { openText } from "./work/case-files.js";
 import { readCase, readCells, readList } from "./work/cases.js";
 import { compareFills, leave } from "./work/changes.js";
 import { coarser } from "./work/coarser.js";
-import { compare } from "./work/compare.js";
+import { compare, excessLists } from "./work/compare.js";
 import { convexity } from "./work/convexity.js";
 import { warmUp } from "./work/engine.js";
 import { lookAtLine } from "./work/lines.js";
@@ -23,7 +23,7 @@ import { standardText } from "./work/standard.js";
 
 const TASKS = {
   warmUp: () => null, readCase, readCells, readList, lookAtLine, fillLinks, costsOfNetwork, fillSplits,
-  estates, overrun, compare, convexity, coarser, standardText, compareFills, leave, pair,
+  estates, overrun, compare, excessLists, convexity, coarser, standardText, compareFills, leave, pair,
   openDocument: openText,
   solve: ({ word, document }) => answer(word, document),
   explain: ({ line, rows }) => explained(parseJson(line), rows),

@@ -109,7 +109,7 @@ export const assumed = [
     await told(page, MESSAGE, /1 of them cost more than a larger group/);
     const named = await page.run("document.querySelector('.named ul').textContent");
     expect("named", named, "Aston + Dale: 184,9 (Aston + Bray + Dale: 175,0)");
-    const change = await told(page, ".fills summary", /the largest change is that of \w+: [\d.]+ (less|more), by/);
+    const change = await told(page, ".fills summary", /the largest change is that of \w+: [\d,]+ (less|more), by/);
     await page.run("dispatchEvent(new Event('beforeprint'))");
     const sheet = await page.run("document.getElementById('sheet').textContent");
     expect("on paper", sheet.includes(change.slice(change.indexOf("Filled by"))), true);
@@ -185,14 +185,14 @@ export const assumed = [
     await page.click("If one leaves");
     await choose(page, "leaves", "Dale");
     const leaves = await told(page, ".leaves .found", /Without Dale the others cost 232.00[\s\S]*Dale costs 72.90/);
-    expect("by each rule", leaves, /By the nucleolus Dale pays [\d.]+, and alone [\d.]+ more; the others together/);
+    expect("by each rule", leaves, /By the nucleolus Dale pays [\d,]+, and alone [\d,]+ more; the others together/);
     await choose(page, "pair.0", "Aston");
     await choose(page, "pair.1", "Bray");
     const pair = await told(page, ".pair", /Alone Aston costs 112.00/);
-    expect("equal holds", pair, /Aston pays [\d.]+ more than Bray[\s\S]*neither has a stronger hold[\s\S]*the reason/);
+    expect("equal holds", pair, /Aston pays [\d,]+ more than Bray[\s\S]*neither has a stronger hold[\s\S]*the reason/);
     await page.run("dispatchEvent(new Event('beforeprint'))");
     const sheet = await page.run("document.getElementById('sheet').textContent");
-    expect("on paper", sheet, /By the nucleolus Aston pays [\d.]+ more than Bray/);
+    expect("on paper", sheet, /By the nucleolus Aston pays [\d,]+ more than Bray/);
     expect("the line's file", sheet, /the line with the certificate, costs-nucleolus.json/);
   }],
 ];

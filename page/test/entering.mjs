@@ -74,7 +74,9 @@ const lists = [
       await useList(page, text);
       await settle(page);
       expect(text, await page.text(".lead"), /Player 1 gets .*Player 2 gets .*Player 3 gets .*together 16.00/);
-      const said = "Read by size: 3 players, 7 groups. Number 4, 10, is that of Player 1 + Player 2.";
+      const nobody = "Number 1, 0, was left out, as that of the group of nobody. ";
+      const number = text.startsWith("0 ") ? `${nobody}Number 5` : "Number 4";
+      const said = `Read by size: 3 players, 7 groups. ${number}, 10, is that of Player 1 + Player 2.`;
       expect(text, await message(page), said);
     }
     await useList(page, "1\t2\t3\n4\t5\t6");
@@ -160,7 +162,7 @@ const lists = [
     await useList(page, "1e-05\n0.94786536\n2E0\n3.123456\n4\n5\n6.5");
     await noted(page, /too fine/);
     await page.click("All times a power of ten");
-    await page.until("document.querySelector('#case .note')?.textContent.includes('times 100000000')");
+    await page.until("document.querySelector('#case .note')?.textContent.includes('divide them by')");
     await settle(page);
     expect("exact", await value(page, "numbers.2"), "94786536");
     await page.click("Undo “All times a power of ten”");

@@ -112,7 +112,7 @@ const types = [
     expect("rows", await page.text(".shares tbody"), /^Albatros, DH8[\s\S]*Albatros, A320[\s\S]*Albatros, together/);
     const each = /one landing of each type pays[\s\S]*DH8\s+20.50[\s\S]*A320\s+40.00[\s\S]*B744/;
     expect("types", await page.text(".lines"), each);
-    const bill = /What each airline pays.*Albatros528\.03Bergfalke14\.10Condor227\.87together860\.00/;
+    const bill = /What each airline pays.*Albatros528,03Bergfalke14,10Condor227,87together860,00/;
     expect("the bill on paper", await sheetOf(page), bill);
     await page.run("dispatchEvent(new Event('afterprint'))");
     await page.type("rows.1.type", "DH8");
@@ -129,7 +129,7 @@ const types = [
     await page.paste('[data-cell="proposal.0"]', "10\n20\n5\n25");
     await settle(page);
     expect("downwards", `${await value(page, "proposal.1")} ${await value(page, "proposal.3")}`, "20 25");
-    expect("the airline's sum", await page.text(".subtotal .proposed"), "30.00");
+    expect("the airline's sum", await page.text(".subtotal .proposed"), "30,00");
   }],
 
   ["many rows have a bar for each type", "runway", async (page, expect) => {
@@ -138,7 +138,7 @@ const types = [
     expect("rows", await page.run("document.querySelectorAll('.shares tbody')[0].rows.length"), 20);
     const drawn = "[...document.querySelectorAll('.bars svg text')].map((one) => one.textContent)";
     const texts = (await page.run(drawn)).join("\n");
-    expect("bars", texts, /DH8, needs 20.50\neach of 5\n→\nA320, needs 40\neach of 5\n→\nB744, needs 60\neach of 15/);
+    expect("bars", texts, /DH8, needs 20,50\neach of 5\n→\nA320, needs 40\neach of 5\n→\nB744, needs 60\neach of 15/);
     expect("in the picture itself", texts, /A bar is what one landing pays/);
   }],
 ];
@@ -158,7 +158,7 @@ const beyond = [
     expect("on paper", sheet, /Albatros, together.*do NOT come from the proved.*shapley_is_by_step.*Agreed on by/);
     await page.run("dispatchEvent(new Event('afterprint'))");
     const file = await saved(page, "Save the table (CSV)");
-    const lines = /^,Nucl[^]*"Albatros, DH8",20\.36,3075\/151[^]*\r\nDH8,20.50,0.07,0.07\r\n/;
+    const lines = /^;Nucl[^]*\r\nAlbatros, DH8;20,36;3075\/151[^]*\r\nDH8;20,50;0,07;0,07\r\n/;
     expect("a file", file, lines);
     await page.type("rows.0.count", "3");
     await settle(page);
@@ -177,12 +177,17 @@ const beyond = [
   ["the table as a file, by the decimal mark", "runway", async (page, expect) => {
     await pasted(page, FEW);
     await settle(page);
-    await page.run(`(() => {
-      const marks = document.querySelectorAll("#answer-settings select")[1];
-      [marks.value] = [","];
-      marks.dispatchEvent(new Event("change"));
-    })()`);
-    await settle(page);
+    const showBy = async (mark) => {
+      await page.run(`(() => {
+        const marks = document.querySelectorAll("#answer-settings select")[1];
+        [marks.value] = ["${mark}"];
+        marks.dispatchEvent(new Event("change"));
+      })()`);
+      await settle(page);
+    };
+    await showBy(".");
+    expect("commas", await saved(page, "Save the table (CSV)"), /^,Nucleolus[^]*\r\n"Albatros, DH8",\d+\.\d\d,/);
+    await showBy(",");
     const file = await saved(page, "Save the table (CSV)");
     expect("semicolons", file, /^;Nucleolus[^]*\r\nAlbatros, DH8;\d+,\d\d;/);
     expect("airlines", file, /\r\n\r\nAirline;Landings;Nucleolus;Shapley shares\r\nAlbatros;5;28,03;22,56\r\n/);

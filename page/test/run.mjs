@@ -18,6 +18,7 @@ import { lecture } from "./lecture.mjs";
 import { letters } from "./letters.mjs";
 import { access, large, looks } from "./looks.mjs";
 import { monkey } from "./monkey.mjs";
+import { precise } from "./precise.mjs";
 import { saying } from "./saying.mjs";
 
 const words = process.argv.slice(2), [page, top] = words.map((word) => resolve(word));
@@ -28,7 +29,8 @@ const harness = new Harness(pathToFileURL(page).href, option("--only", ""), slac
 const program = resolve(option("--program", join(top, "crates", "coop_program", "out", "coop_program")));
 harness.add(large(slack, told));
 for (const some of [entering, assumed, saying, lecture, landings, bothWays, casesTyped, tables, otherCases,
-  documents(top, program), checking(top), checks(top), letters(top), lawyer(top), failing(page, top), looks, access]) {
+  documents(top, program), checking(top), checks(top), letters(top), lawyer(top), failing(page, top), looks, access,
+  precise]) {
   harness.add(some);
 }
 harness.add(monkey(Number(option("--seed", "1")), Number(option("--steps", "60"))));

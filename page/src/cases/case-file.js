@@ -1,5 +1,6 @@
 // A case as the page saves it: the document, and what a document has no place for, as which numbers were assumed.
 import { isObject, writeJson } from "../exact/json.js";
+import { coarseOf } from "./coarse.js";
 import { maskOf, membersOf } from "../game/groups.js";
 
 const WORD = "coop-page", VERSION = 1n;
@@ -8,14 +9,16 @@ const isMark = (one) => one === "." || one === ",";
 
 /** What may stand beside the document, each with its test. */
 const TESTS = {
-  filled: isObject, decimals: (one) => typeof one === "bigint" && one >= 0n && one <= 6n, mark: isMark, entry: isMark,
+  filled: isObject, coarse: (one) => coarseOf(one) !== undefined,
+  decimals: (one) => typeof one === "bigint" && one >= 0n && one <= 6n, mark: isMark, entry: isMark,
   heading: isText, unit: isText, source: isText, proposal: (one) => Array.isArray(one) && one.every(isText),
 };
 
 /** The file of a case: `text` is its document, `mark` that of what is shown, `entry` that of the cells. */
 export function caseText({ typed, text, texts, places, mark, entry, paper: { heading, unit } }) {
   const proposal = texts.some(Boolean) ? texts : undefined;
-  const settings = { filled: filledTree(typed), decimals: places, mark, entry, heading, unit, source: typed.source };
+  const { coarse, source } = typed;
+  const settings = { filled: filledTree(typed), coarse, decimals: places, mark, entry, heading, unit, source };
   const kept = Object.entries({ ...settings, proposal }).filter(([, one]) => one !== undefined && one !== "");
   return `{"${WORD}":${VERSION},\n"document":${text}${kept.map(([key, one]) => {
     return `,\n"${key}":${writeJson(one)}`;

@@ -1,7 +1,8 @@
 // What was pasted, as rows of cells.
 import { readNumber } from "../exact/decimals.js";
 
-const SPOILT = /^\W*\d|^#[A-Z]|^n\/?an?$/i; // a number with something wrong, as "20.5 EUR" and "#REF!": no heading
+/** A number with something wrong, as "20.5 EUR" and "#REF!": no heading. */
+export const SPOILT = /^\W*\d|^#[A-Z]|^n\/?an?$/i;
 
 /** Of a spreadsheet (tabs), or of a file with semicolons or commas. Quotes may surround a cell. A comma parts cells
  * only where there is no tab and no semicolon. */

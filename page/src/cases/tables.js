@@ -5,7 +5,7 @@ import { withEscapes } from "../game/names.js";
 import { rowsOf } from "./lists.js";
 import { cellsOf } from "./pasting.js";
 import { Reading } from "./reading.js";
-import { numbersIn, vectorOf } from "./vectors.js";
+import { headingOf, numbersIn, vectorOf } from "./vectors.js";
 
 const MOST_BY_NAME = 6; // above, the document lists numbers alone: it would be too long by names
 const MOST_PLAYERS = 16;
@@ -99,10 +99,14 @@ export function withoutPlayer(state, player) {
 }
 
 /** A table from a pasted text: lines of a group, with + between its members, and its number; or numbers alone, in the
- * order of the masks or by size: {state}, or {fault} in words. `told` says how it was read. */
+ * order of the masks or by size: {state}, or {fault} in words. `told` says how it was read, `remark` what was left
+ * out. */
 export function tableOf(text, names = [], order = "size", mark = ".") {
-  const numbers = numbersIn(text);
+  const numbers = numbersIn(text), heading = numbers ? null : headingOf(text);
   if (numbers) return ofNumbers(numbers, names, order, mark);
+  const below = heading !== null && numbersIn(text.trimStart().slice(heading.length));
+  const found = below ? ofNumbers(below, names, order, mark) : {};
+  if (found.state) return { ...found, remark: `${headingText(heading)}${found.remark}` };
   const rows = cellsOf(text), kept = rows.filter((row) => row.some(Boolean));
   const lines = new Map(rows.map((row, k) => [row, `Line ${k + 1}: `]));
   return kept.length ? listOf(kept, (row) => lines.get(row)) : { fault: "There is nothing in this list." };
@@ -110,7 +114,7 @@ export function tableOf(text, names = [], order = "size", mark = ".") {
 
 /** A table of numbers alone, as other programs have it. */
 function ofNumbers(rows, named, order, mark) {
-  const { numbers, n, fault } = vectorOf(rows);
+  const { numbers, n, fault, hasNobody } = vectorOf(rows);
   if (fault) return { fault };
   const names = Array.from({ length: n }, (_, i) => named[i] ?? "");
   const numbersBy = (masks) => masks.reduce((placed, mask, k) => {
@@ -122,9 +126,15 @@ function ofNumbers(rows, named, order, mark) {
   const values = (texts) => texts.map((one) => readNumber(one, mark).value?.toNumber() ?? 0);
   const told = { order, place: 0, number: "", mask: 0 };
   const place = n > 2 ? masks.findIndex((mask) => mask & (mask - 1)) : -1;
-  if (place >= 0) Object.assign(told, { place: place + 1, number: numbers[place], mask: masks[place] });
+  const before = hasNobody ? 2 : 1; // places are counted from 1, with that of the group of nobody
+  if (place >= 0) Object.assign(told, { place: place + before, number: numbers[place], mask: masks[place] });
   const isOdd = place >= 0 && drops(values(state.numbers)) > 0 && drops(values(numbersBy(orders[other]))) === 0;
-  return { state, told, isOdd };
+  const remark = hasNobody ? ` Number 1, ${rows.flat()[0]}, was left out, as that of the group of nobody.` : "";
+  return { state, told, isOdd, remark };
+}
+
+function headingText(line) {
+  return ` The first line, “${withEscapes(line.trim().slice(0, 40))}”, was taken as a heading.`;
 }
 
 /** How many groups have a lesser number than the same group without a member. */
@@ -144,7 +154,8 @@ function withoutHeading(rows) {
 
 /** `lineOf(row)` says which line of the text it is. */
 function listOf(all, lineOf) {
-  const rows = withoutHeading(all), long = rows.find((row) => row.slice(2).some(Boolean));
+  const rows = withoutHeading(all), heading = rows === all ? null : all[0].filter(Boolean).join("; ");
+  const long = rows.find((row) => row.slice(2).some(Boolean));
   if (long) {
     const shown = withEscapes(long.join("; ")).slice(0, 60);
     return { fault: `${lineOf(long)}A line has a group and one number, and here one has more: “${shown}”. Members of a `
@@ -165,7 +176,7 @@ function listOf(all, lineOf) {
     return { fault: `These are ${names.length} players, and a table has at most 16. A group of several is its members `
       + "with + between, as Sales+Ops." };
   }
-  return placedList(read, names);
+  return { ...placedList(read, names), remark: heading === null ? "" : headingText(heading) };
 }
 
 function placedList(read, names) {

@@ -1,11 +1,26 @@
-// A list of numbers alone, as other programs print it: a line each, a row of a spreadsheet, c(1, 2), or R's [1] 1 2.
+// A list of numbers alone, as other programs print it: a line each, a row of a spreadsheet, c(1, 2), R's [1] 1 2, or
+// MATLAB's v = [1 2];
 import { readNumber } from "../exact/decimals.js";
+import { SPOILT } from "./pasting.js";
 
 const MOST_PLAYERS = 16;
+const NAMED = /^\s*[\p{L}_][\p{L}\d_.]*\s*(?:=|<-)\s*(?=[[({]|c\s*\(|(?:np\.)?array\s*\()/u;
+
+/** What is said where several games are given. */
+export const MANY = "One game at a time here; for many, scripts/many --lines of the project answers a document in each "
+  + "line, and scripts/from-vector makes these of a table with a game a row.";
+
+/** The first line of a list, where it has nothing but words; null where it has others. */
+export function headingOf(text) {
+  const [first] = text.trimStart().split(/\r?\n/, 1), cells = first.split(/[\t;,]/).map((cell) => cell.trim());
+  const isWord = (cell) => /\p{L}/u.test(cell) && !SPOILT.test(cell) && !/[=([{+]/.test(cell);
+  return cells.some(Boolean) && cells.every((cell) => !cell || isWord(cell)) ? first : null;
+}
 
 /** The rows of numbers of a text in which nothing else stands; null for any other text. */
 export function numbersIn(text) {
-  const plain = text.replace(/\r\n?/g, "\n").replace(/^[ \t]*\[\d+\](?=\s)/gm, "")
+  const list = NAMED.test(text) ? text.replace(NAMED, "").replace(/;\s*$/, "") : text;
+  const plain = list.replace(/\r\n?/g, "\n").replace(/^[ \t]*\[\d+\](?=\s)/gm, "")
     .replace(/\b(?:c|(?:np\.)?array)\s*\(/g, " ")
     .replace(/[^\s;]+/g, (word) => (isMinus(word) ? word : word.replace(/[[\](){}]/g, " ")));
   const lines = plain.split("\n").map((line) => line.trim()).filter(Boolean), part = separatorOf(lines);
@@ -34,16 +49,16 @@ function separatorOf(lines) {
   return has(/\d\s+[-−.\d]/) ? /\s+/ : /,/;
 }
 
-/** The numbers of all groups in a row, without the group of nobody: {numbers, n}, or {fault}. */
+/** The numbers of all groups in a row, without the group of nobody: {numbers, n, hasNobody}, or {fault}. */
 export function vectorOf(rows) {
   const isTable = rows.length > 1 && rows.every((row) => row.length === rows[0].length && row.length > 1);
   if (isTable && Number.isInteger(Math.log2(rows[0].length + 1))) {
     const [count, wide] = [rows.length, rows[0].length];
-    return { fault: `These are ${count} rows of ${wide} numbers, so ${count} games. Paste one row.` };
+    return { fault: `These are ${count} rows of ${wide} numbers, so ${count} games. Paste one row. ${MANY}` };
   }
   const all = rows.flat(), hasNobody = all.length > 2 && Number.isInteger(Math.log2(all.length)) && isZero(all[0]);
   const numbers = hasNobody ? all.slice(1) : all, n = Math.log2(numbers.length + 1);
-  if (Number.isInteger(n) && n > 0 && n <= MOST_PLAYERS) return { numbers, n };
+  if (Number.isInteger(n) && n > 0 && n <= MOST_PLAYERS) return { numbers, n, hasNobody };
   return { fault: `These are ${all.length} numbers alone. A list of all groups of two to sixteen players has `
     + "3, 7, 15, 31 and so on; the group of nobody isn’t listed." };
 }

@@ -26,8 +26,8 @@ export function dealsOf(game, matching, solution) {
   });
 }
 
-export function priceOf({ show }) {
-  return ({ low, high }) => (low.equals(high) ? show(low) : `${show(low)} to ${show(high)}`);
+export function priceOf({ show, apart }) {
+  return ({ low, high }) => (low.equals(high) ? show(low) : apart(low, high).join(" to "));
 }
 
 export function tradesTable(deals, format) {
@@ -45,9 +45,9 @@ export function trades(game, matching, { solution, wide, ...format }) {
   return el("div", {}, tradesTable(deals, format),
     el("p", { class: "hint" },
       `Together they gain ${format.show(Rational.of(matching.value))}; no other pairs gain more. `,
-      "A price is what the seller gets of the gain, above its own value. The ranges say how far each price can go, not ",
-      "that each can be chosen by itself: one price holds the others. Below its range a buyer would be outbid, or the ",
-      "seller rather keep it; above it the seller would be undercut, or the buyer rather not buy.",
+      "A price is what the seller gets of the gain, above its own value. The ranges say how far each price can go, ",
+      "not that each can be chosen by itself: one price holds the others. Below its range a buyer would be outbid, or ",
+      "the seller rather keep it; above it the seller would be undercut, or the buyer rather not buy.",
       idle.length > 0 && ` Without a trade: ${idle.join(", ")}.`),
     deals.length > 0 && figure("ranges", "prices", pricesPicture(deals, priceOf(format), format.show, wide)));
 }

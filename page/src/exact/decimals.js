@@ -68,6 +68,27 @@ export function fullText(value) {
   return text.includes("/") ? `${text} (about ${decimal(value, 2, spoken)})` : text;
 }
 
+const MOST_APART = 12;
+
+/** Numbers that a sentence compares: with so many decimals that those which differ are seen to; with more than asked
+ * for it shows how far they do, too. */
+export function apartTexts(values, places, options = spoken) {
+  const kinds = new Set(values.map(String)).size, texts = (count) => values.map((one) => decimal(one, count, options));
+  const differ = (count) => new Set(texts(count)).size === kinds;
+  if (differ(places)) return texts(places);
+  for (let count = places + 1; count <= MOST_APART; count++) {
+    const isExact = values.every(({ den }) => 10n ** BigInt(count) % den === 0n);
+    if (differ(count) && (isExact || differ(count - 1))) return texts(count);
+  }
+  return values.map(fractionText);
+}
+
+/** The same, exact where that is short. */
+export function shortTexts(values) {
+  const texts = values.map(shortText), kinds = new Set(values.map(String)).size;
+  return new Set(texts).size === kinds ? texts : apartTexts(values, 4);
+}
+
 /** How many decimals write a value exactly, to 4; -1 where these don't. */
 export function placesOf(value) {
   return [0n, 1n, 2n, 3n, 4n].findIndex((places) => 10n ** places % value.den === 0n);

@@ -60,10 +60,10 @@ export class AnswerView {
     };
     refill(at("answer-settings"), result.refusal ? [] : this.settings(result));
     const filled = filledText(session);
-    const today = todayOf(session, rows);
     refill(at("answer-body"), answerParts(result, {
-      rows, format, proposal, today, wide, filled,
+      rows, format, proposal, wide, filled, today: todayOf(session, rows),
       remark: filledLines(session, rows), source: sourceName(session.typed),
+      coarse: session.typed.coarse, typed: this.typed, ask: (task, what) => session.checker.ask(task, what),
     }));
     this.say();
     if (result.refusal) return;
@@ -71,7 +71,7 @@ export class AnswerView {
     const why = whyParts(result);
     refill(at("why-body"), why, why.length > 0 && this.pair);
     at("why").hidden = !why.length;
-    refill(at("evidence-body"), evidenceParts(result, session.kind.id, filled, session.file));
+    refill(at("evidence-body"), evidenceParts(result, session, filled));
   }
 
   /** What the page calculates by itself has no reasons and no evidence. */

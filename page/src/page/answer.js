@@ -4,7 +4,9 @@ import { bars } from "../draw/bars.js";
 import { plan } from "../draw/plan.js";
 import { power, trades } from "../draw/ranges.js";
 import { triangle } from "../draw/triangle.js";
-import { listed, Namer, times } from "../tell/words.js";
+import { mayBeOfRounding } from "../cases/coarse.js";
+import { coarseText, dividedText } from "../tell/coarse-text.js";
+import { enumerated, listed, Namer, times } from "../tell/words.js";
 import { beyondParts } from "./beyond.js";
 import { el } from "./dom.js";
 import { totalsOf } from "./format.js";
@@ -12,22 +14,26 @@ import { missingText } from "./questions.js";
 import { sharesTable } from "./shares-table.js";
 import { typesTable } from "./types-table.js";
 
-/** All parts of an answer. `settings` are {rows, format, proposal, wide, source}, and of what the page
- * filled in {filled, remark}: what is said of it, and what of the picture. */
+/** All parts of an answer. `settings` are {rows, format, proposal, wide, source, coarse, typed, ask}, and of what the
+ * page filled in {filled, remark}: what is said of it, and what of the picture. */
 export function answerParts(result, settings) {
-  const { game, points, refusal } = result, { proposal, wide, filled } = settings;
+  const { game, points, refusal } = result, { proposal, wide, filled, coarse, rows } = settings;
   if (refusal) return [refused(refusal)];
   const solution = solutionOf(result);
   const own = { key: "proposal", title: "Your proposal", shares: proposal.shares };
   const seen = proposal.shares ? [...points, own] : points, { format } = settings;
   const pictured = { ...settings, wide: Math.min(wide, 900) }, missing = missingText(game);
   return [
-    notices(result, format),
+    notices(result, format, coarse),
+    coarse && el("p", { class: "note coarse-note" }, coarseText(coarse)),
     filled && el("p", { class: "note filled-note" }, filled),
     ...(game.ballots ? votes(result, pictured) : []),
     result.matching && trades(game, result.matching, { ...format, solution, wide: pictured.wide }),
     solution && !game.ballots && !game.isMarket() && lead(result, solution, settings),
     points.length > 0 && (!game.ballots || solution) && sharesTable(result, settings),
+    coarse?.times && seen.map(({ title, shares }) => {
+      return el("p", { class: "hint divided" }, dividedText(coarse, title, rows, totalsOf(rows, shares)));
+    }),
     missing && el("p", { class: "hint missing" }, missing),
     game.kind === "airport" && typesPart(result, settings),
     result.beyond && beyondParts(result.beyond, settings),
@@ -72,35 +78,44 @@ function votes({ game, points }, { format, wide }) {
 
 // ---- What has to be said first
 
-function notices({ game, noImputation, core }, { show }) {
+/** Also on paper. `coarse` is what was done to the numbers. */
+export function notices({ game, noImputation, core }, { apart }, coarse) {
   const notes = [];
   if (noImputation) {
-    const { singles, total } = noImputation, [apart, together] = [show(singles), show(total)];
+    const { singles, total } = noImputation, [alone, together] = apart(singles, total);
     const worse = game.costs ? "pays more" : "gets less";
     const facts = game.costs
-      ? `By themselves the players cost ${apart}, added; all together cost ${together}.`
-      : `By themselves the players are worth ${apart}, added; all together are worth ${together}.`;
+      ? `By themselves the players cost ${alone}, added; all together cost ${together}.`
+      : `By themselves the players are worth ${alone}, added; all together are worth ${together}.`;
     notes.push(`${facts} So in every division somebody ${worse} than alone, and there is no nucleolus. `
       + "The prenucleolus doesn’t ask for that.");
   }
-  if (core?.collection) notes.push(emptyCore(game, core, show));
+  if (core?.collection) notes.push(emptyCore(game, core, apart) + roundedCore(core, coarse));
   return notes.length > 0 && el("div", { class: "notice" }, notes.map((note) => el("p", {}, note)));
 }
 
 /** Why no division satisfies all groups: the groups of the collection, so counted, want more than there is. */
-function emptyCore(game, core, show) {
+function emptyCore(game, core, apart) {
   const namer = new Namer(game), k = Number(core.k), often = times(k);
   const groups = core.collection.map(([players, weight]) => {
     const group = namer.group(players.map((player) => Number(player) - 1));
     return `${group}${weight > 1n ? ` (${weight} times)` : ""}`;
   });
-  const [value, against] = [show(Rational.of(core.value)), show(Rational.of(core.against))];
+  const [value, against] = apart(Rational.of(core.value), Rational.of(core.against));
   const all = k === 1 ? "All together" : `${k} times all together`;
   const [own, whole] = game.costs
     ? [`cost ${value} by themselves, added`, `cost ${against}, which is more`]
     : [`are worth ${value}, added`, `are worth ${against}, which is less`];
   return "Whatever the division, some group does better by itself. "
-    + `Take ${listed(groups)}: they hold each player ${often} and ${own}. ${all} ${whole}.`;
+    + `Take ${enumerated(groups)}: they hold each player ${often} and ${own}. ${all} ${whole}.`;
+}
+
+/** That the groups want more than there is may come of rounded numbers, where it is little more. */
+function roundedCore({ collection, k, value, against }, coarse) {
+  const more = Rational.of(value).minus(Rational.of(against)).abs();
+  const count = collection.reduce((sum, [, weight]) => sum + weight, k);
+  return mayBeOfRounding(coarse, more, count) ? " But that is so little that it may come of the rounding: by the "
+    + "numbers as they were given, some division may satisfy all groups." : "";
 }
 
 // ---- The answer in a sentence

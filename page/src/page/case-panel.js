@@ -1,5 +1,7 @@
 // The panel of a case: its grid, what is wrong with it, and the document that it makes.
+import { fileNames } from "../cases/coarse.js";
 import { withEscapes } from "../game/names.js";
+import { coarseText } from "../tell/coarse-text.js";
 import { plural } from "../tell/words.js";
 import { markFaults } from "./cells.js";
 import { button, cellOf, copy, download, el, refill } from "./dom.js";
@@ -21,9 +23,10 @@ export function casePanel(kind, typed, settings) {
   const grid = makeGrid(kind, typed, { ...settings, remember });
   offer(settings.before);
   const faults = el("div", { class: "faults", role: "status" }), made = el("div", { class: "made" });
+  const coarse = el("div");
   const element = el("div", { class: "case" },
     el("p", { class: "help" }, kind.help, el("span", { class: "screen" }, " Paste from a spreadsheet into any cell.")),
-    notes.map((note) => el("p", { class: "note" }, note)), grid, faults,
+    notes.map((note) => el("p", { class: "note" }, note)), coarse, grid, faults,
     el("p", { class: "tools bottom" },
       button("Fill in the worked example", () => onReset(kind.example(), "Fill in the worked example"),
         { class: "quiet" }),
@@ -33,11 +36,12 @@ export function casePanel(kind, typed, settings) {
   /** Shows what the reading of the cells says. */
   function tell(reading) {
     markFaults(grid, reading.faults);
+    refill(coarse, coarseNote(typed, settings));
     refill(faults, reading.notes.map((note) => el("p", { class: "note" }, note)),
       reading.asked && sumQuestion(reading.asked, typed, settings),
       doubtNotes(reading, settings), emptyCells(reading, grid), faultList(reading, grid),
       reading.isTooFine && finenessHelp(settings));
-    refill(made, reading.text && documentOf(kind, reading.text, settings));
+    refill(made, reading.text && documentOf(kind, reading.text, typed, settings));
   }
 
   return { element, tell };
@@ -93,12 +97,25 @@ function emptyCells({ empty: { count, first } }, grid) {
   return count > 0 && button(said, goTo, { class: "fault gentle" });
 }
 
-function documentOf(kind, text, { caseText }) {
+function documentOf(kind, text, { coarse }, { caseText }) {
+  const { game: file } = fileNames(kind.id, coarse);
   return el("div", {}, shown("The document that this makes", text),
     el("p", { class: "tools" },
       button("Save the case", () => download(`${kind.id}-case.json`, caseText()), { class: "quiet" }),
-      button("Save the document", () => download(`${kind.id}-game.json`, `${text}\n`), { class: "quiet" }),
+      button("Save the document", () => download(file, `${text}\n`), { class: "quiet" }),
       button("Copy it", (event) => copy(text, event.target), { class: "quiet" })),
     el("p", { class: "hint screen" }, "The page opens a case with what was filled in, the decimal mark, heading, unit ",
-      "and your proposal. The program reads the document alone."));
+      "and your proposal. The program reads the document alone."),
+    coarse && el("p", { class: "note" }, `${coarseText(coarse)} The document has no place for that; the file is named `,
+      `${file}, and this page tells it when it is opened. A saved case holds it.`));
+}
+
+/** What was done to all numbers, for as long as they are these. */
+function coarseNote(typed, { onChange }) {
+  const other = () => {
+    delete typed.coarse;
+    onChange(0);
+  };
+  return typed.coarse && el("p", { class: "note" }, coarseText(typed.coarse), " ",
+    button("These are other numbers now", other, { class: "quiet" }));
 }

@@ -9,7 +9,8 @@ export function changesOf({ title, before, after, leaving, ...rule }, rows, form
   const [old, fresh] = [before, after].map((shares) => totalsOf(rows, shares.map(Rational.of)));
   const differences = fresh.map((value, r) => value.minus(old[r]));
   const isMoved = [old, fresh].some((totals) => format.isMoved(totals, rows));
-  const texts = [...[old, fresh].map((totals) => format.column(totals, rows)), signedDifferences(fresh, old, rows, format)];
+  const changes = signedDifferences(fresh, old, rows, format);
+  const texts = [...[old, fresh].map((totals) => format.column(totals, rows)), changes];
   return { ...rule, title, differences, leaving, isMoved, texts };
 }
 
@@ -42,9 +43,9 @@ export function movedHint(columns, more = "") {
 }
 
 /** Whether a group does better by itself before, and after. */
-function leavingRow(columns, { show }) {
+function leavingRow(columns, { by }) {
   const text = (found) => (found
-    ? el("span", { class: "bad" }, `Yes: ${found.who}, by ${show(Rational.of(found.by))}`)
+    ? el("span", { class: "bad" }, `Yes: ${found.who}, by ${by(Rational.of(found.by))}`)
     : el("span", { class: "good" }, "No"));
   return el("tfoot", {}, el("tr", { class: "verdict" },
     el("th", { scope: "row" }, "Can a group do better by itself?"),

@@ -1,6 +1,6 @@
 // The user's proposal beside the program's division, as the nucleolus compares them.
 import { el } from "./dom.js";
-import { signedDifferences, totalsOf } from "./format.js";
+import { labelOf, signedDifferences, totalsOf } from "./format.js";
 
 /** Who gets or pays more than by the program's division, and who less, row by row: {title, texts}; null where nothing
  * whole is proposed. */
@@ -10,21 +10,46 @@ export function againstOf(point, rows, { totals }, format) {
   return { title: `against the ${point.title.toLowerCase()}`, texts };
 }
 
-/** `found` is what work/compare.js says; `point` is the program's division. */
-export function comparisonOf(found, { title, key }, game) {
+/** The part that opens: it stays open while another proposal is typed, which `typed` remembers. `point` is the
+ * program's division. */
+export function comparisonPart({ shares, comparison, verdict, hold }, point, game, { rows, typed }) {
+  const isAsked = shares && verdict === undefined && typed.isCompared;
+  if (!comparison && !isAsked) return null;
+  const details = el("details", { class: "comparison", open: Boolean(typed.isCompared), on: {
+    toggle: () => (typed.isCompared = details.open),
+  } },
+  el("summary", {}, `Your proposal beside the ${point.title.toLowerCase()}`),
+  comparison ? comparisonOf(comparison, point, game, { rows, hold }) : el("p", {}, "…"));
+  return details;
+}
+
+/** `found` is what work/compare.js says. */
+function comparisonOf(found, { title, key }, game, { rows: all, hold }) {
   const { first, lists: [own, other], differs } = found, name = title.toLowerCase(), place = (k) => first + k;
   const cell = ({ group, excess }) => [el("td", { class: "number" }, excess), el("td", {}, group)];
   const rows = own.map((entry, k) => el("tr", { class: place(k) === differs ? "differs" : "" },
     el("th", { scope: "row", class: "number" }, String(place(k))), cell(entry), cell(other[k])));
-  return el("details", { class: "comparison" },
-    el("summary", {}, `Your proposal beside the ${name}`),
+  return [
     el("p", {}, principleOf(name, key, game)),
     el("div", { class: "scroll" }, el("table", { class: "shares small" },
       el("thead", {}, el("tr", {}, ["", "Yours", "by whom", title, "by whom"].map((head, k) => {
         return el("th", { scope: "col", class: k % 2 ? "number" : "" }, head || "Place");
       }))),
       el("tbody", {}, rows))),
-    el("p", {}, sentenceOf(found, name, game)));
+    el("p", {}, [sentenceOf(found, name, game), ...prenucleolusText(found, key, game, all, hold)].join(" ")),
+  ];
+}
+
+/** Why a proposal isn't the prenucleolus either. */
+function prenucleolusText({ better }, key, { perHead }, rows, hold) {
+  const rule = `prenucleolus${perHead ? " per head" : ""}`, isListed = better === "other" && key === "nucleolus";
+  const isHeld = !perHead && better !== "same" && hold?.strong !== undefined;
+  const start = isListed ? "Holds show it without a list: the prenucleolus" : "It isn’t the prenucleolus: that";
+  return [
+    isListed && `So it isn’t the ${rule} either: the nucleolus is itself a division of the whole, with a lesser list.`,
+    isHeld && `${start} always lies in the prekernel, and here ${labelOf(rows, hold.strong)} has a stronger hold `
+      + `on ${labelOf(rows, hold.weak)}.`,
+  ].filter(Boolean);
 }
 
 function principleOf(name, key, { costs, perHead }) {

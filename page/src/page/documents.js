@@ -1,5 +1,6 @@
 // Documents that are opened: pasted, chosen, or dropped anywhere beside the places for them.
 import { caseNamed } from "../cases/cases.js";
+import { coarseOfName } from "../cases/coarse.js";
 import { el, refill } from "./dom.js";
 import { Helper } from "./helper.js";
 import { digestOf } from "./files.js";
@@ -57,8 +58,8 @@ export class Documents {
     const notes = isChecked ? [] : notesOf(found, isLine, kind.isTable);
     const { measure, texts, more, settings, isCase } = found, typed = kind.unpack?.(found.typed) ?? found.typed;
     const isGame = from.name && !hasCertificate && !isCase; // a line or a case isn't the game's file
-    const file = isGame ? { name: from.name, digest } : null;
-    this.onOpen(kind, { ...typed, ...more }, { measure, texts, ...settings, doubt, notes, file });
+    const file = isGame ? { name: from.name, digest } : null, coarse = coarseOfName(from.name);
+    this.onOpen(kind, { ...typed, coarse, ...more }, { measure, texts, ...settings, doubt, notes, file });
     if (isLine) this.onLine(text, from);
   }
 

@@ -1,4 +1,6 @@
 // The evidence: what was checked, by whom, what a yes means, and the files to hand on.
+import { fileNames } from "../cases/coarse.js";
+import { coarseText } from "../tell/coarse-text.js";
 import { failureText } from "../tell/failures.js";
 import { ruleFile } from "../tell/rule-names.js";
 import { el } from "./dom.js";
@@ -38,11 +40,13 @@ export function wordLine({ title, isYes, sentence, items = [] }) {
     items.length > 0 && el("ul", { class: "differences" }, items.map((item) => el("li", {}, item))));
 }
 
-/** `name` is the case, by which files are named; `filled` says what the page filled in; `opened` is a file, if any. */
-export function evidenceParts(result, name, filled, opened) {
-  if (!result.line) return withoutCertificate(result, name);
+/** Files are named by the case and what was done to its numbers; `filled` says what the page filled in; `opened` is a
+ * file, if any. */
+export function evidenceParts(result, { kind, typed: { coarse }, file: opened }, filled) {
+  const names = fileNames(kind.id, coarse);
+  if (!result.line) return withoutCertificate(result, names);
   const { program, anew } = result.checks, { line, game, answer, rule } = result, text = `${result.text}\n`;
-  const file = `${name}-${ruleFile(answer, game.perHead)}.json`;
+  const file = `${names.line}-${ruleFile(answer, game.perHead)}.json`;
   return [
     el("ul", { class: "words", role: "status" }, wordLine(programWord(program, game)), wordLine(anewWord(anew, game))),
     result.points.length > 1 && el("p", { class: "after" }, `The certificate is of the ${rule} alone. The other `,
@@ -50,10 +54,11 @@ export function evidenceParts(result, name, filled, opened) {
     el("h3", {}, "Hand it on"),
     el("ol", { class: "steps" },
       el("li", {}, "Agree on the game’s file first, before anyone knows an answer. ",
-        fileButtons(text, `${name}-game.json`), fingerprint(text),
+        fileButtons(text, names.game), fingerprint(text),
         opened?.made === result.text && el("p", { class: "hint" }, `The same game stands in ${opened.name}, which was `,
           `opened here${opened.digest ? ` and has the SHA-256 ${opened.digest}` : ""}: who agreed on that keeps it.`),
-        filled && el("p", { class: "hint" }, `${filled} The file doesn’t say which.`)),
+        filled && el("p", { class: "hint" }, `${filled} The file doesn’t say which.`),
+        coarse && el("p", { class: "hint" }, `${coarseText(coarse)} Of that the file has but its name.`)),
       el("li", {}, "Send the line: the answer with its evidence. ", fileButtons(line, file)),
       el("li", {}, "Whoever gets it opens this page and checks below: is it the agreed game, and does the certificate ",
         "hold? The page shouldn’t come from you, but from the project’s repository, at the commit named at the end of ",
@@ -64,13 +69,13 @@ export function evidenceParts(result, name, filled, opened) {
 }
 
 /** What is said where the program prints no certificate. */
-function withoutCertificate({ game, text }, name) {
+function withoutCertificate({ game, text }, names) {
   const what = game.kind === "voting"
     ? "Power comes without a certificate: who doubts it works it out anew, by this page or another program."
     : "The pairs and prices come without a certificate. To 16 traders the page gives the nucleolus too, with one.";
   return [
     el("p", {}, what),
-    el("p", { class: "tools" }, fileButtons(`${text}\n`, `${name}-game.json`)),
+    el("p", { class: "tools" }, fileButtons(`${text}\n`, names.game)),
     fingerprint(`${text}\n`),
     shown("The game’s file", text),
   ];

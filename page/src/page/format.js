@@ -1,6 +1,6 @@
 // How numbers are shown, by the decimals and the mark that the user wants.
-import { Rational } from "../exact/rational.js";
-import { decimalOf, placesOf, roundedSteps, stepsOf } from "../exact/decimals.js";
+import { Rational, ZERO } from "../exact/rational.js";
+import { apartTexts, decimalOf, placesOf, roundedSteps, stepsOf } from "../exact/decimals.js";
 
 export function formatOf(places, mark) {
   const text = (steps) => decimalOf(steps, places, { mark });
@@ -10,6 +10,10 @@ export function formatOf(places, mark) {
     mark,
     text,
     show: (value) => text(stepsOf(value, places)),
+    /** Numbers that a sentence compares: with more decimals where they would look the same. */
+    apart: (...values) => apartTexts(values, places, { mark }),
+    /** By how much: what isn't 0 isn't shown as 0. */
+    by: (value) => apartTexts([value, ZERO], places, { mark })[0],
     /** Values as decimals that add up, and their sum as the last; those of rows to what each airline pays, too. */
     column: (values, rows) => withSum(stepsIn(values, rows)).map(text),
     steps: stepsIn,
@@ -48,6 +52,11 @@ export function signedDifferences(values, others, rows, { steps, text }) {
 /** What exact/decimals.js does where rounding by itself doesn't add up. */
 export const MOVED = "Rounded so that they add up: all are rounded down, and each unit of the last place that then "
   + "lacks goes to who lost most by that, among equals to the upper row. So equal shares may differ by one.";
+
+/** How a player is named, as the rows have it: a landing by its row. */
+export function labelOf(rows, player) {
+  return rows.find(({ players }) => players.includes(player)).label;
+}
 
 /** The totals of the rows by a point: of a row of landings what they pay together. */
 export function totalsOf(rows, shares) {

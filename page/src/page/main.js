@@ -1,6 +1,7 @@
 // The page: puts its parts together.
 import { caseText } from "../cases/case-file.js";
 import { caseNamed } from "../cases/cases.js";
+import { coarseOfSums, coarserStill } from "../cases/coarse.js";
 import { costs } from "../cases/tables.js";
 import { AnswerView } from "./answer-view.js";
 import { casePanel } from "./case-panel.js";
@@ -40,7 +41,7 @@ function openCase(kind, typed, { before = null, notes = [], doubt = "", paper, .
   panel = casePanel(kind, typed, {
     ...asked(kind), before, notes: doubt ? [doubt, ...notes] : notes,
     onChange: (wait) => {
-      isUnsaved = true;
+      isUnsaved = session.isTyped = true;
       session.changed(wait);
     },
     onReset: (next, what) => openCase(kind, next, { before: { what, ...nowTyped() } }),
@@ -48,7 +49,8 @@ function openCase(kind, typed, { before = null, notes = [], doubt = "", paper, .
     snapshot: () => structuredClone(cellsNow()),
     coarsen: (how) => coarsen(kind, how),
     asTable: (table, said) => {
-      openCase(costs, table, { notes: said, doubt, before: replaced(costs, "Make a table of costs") });
+      const coarse = coarseOfSums(typed.coarse, typed.names.length);
+      openCase(costs, { ...table, coarse }, { notes: said, doubt, before: replaced(costs, "Make a table of costs") });
     },
   });
   at("case-title").textContent = kind.title;
@@ -86,10 +88,10 @@ function replaced(kind, what) {
 async function coarsen(kind, how) {
   const before = cellsNow(), { typed, measure, entry, doubt } = before, { paper, places } = nowTyped();
   const what = { id: kind.id, typed: kind.pack?.(typed) ?? typed, mark: session.entryMark(), how };
-  const { typed: changed, notes, fault } = await session.reader.ask("coarser", what);
+  const { typed: changed, coarse: fresh, fault } = await session.reader.ask("coarser", what);
   if (fault || session.typed !== typed) return fault;
-  const next = { ...typed, ...(kind.unpack?.(changed) ?? changed) };
-  openCase(kind, next, { measure, entry, notes, doubt, paper, places, before: { ...before, what: WAYS[how] } });
+  const next = { ...typed, ...(kind.unpack?.(changed) ?? changed), coarse: coarserStill(typed.coarse, fresh) };
+  openCase(kind, next, { measure, entry, doubt, paper, places, before: { ...before, what: WAYS[how] } });
   return undefined;
 }
 

@@ -45,7 +45,8 @@ const GROUPS = "A group does better by itself where it is worth more than its me
 const HOLDS = "Of two players one has the stronger hold where the best group with it and without the other has the "
   + "more to gain by leaving, or the less to lose. The pair that is named is the first one found, in the order of the "
   + "rows, and needn’t be the one that differs most. Where no two differ, the division is in the prekernel";
-const PLAIN_IS_EVEN = "; the nucleolus is, wherever some division satisfies all groups.";
+const PLAIN_IS_EVEN = "; the prenucleolus always is, and the nucleolus wherever some division satisfies "
+  + "all groups.";
 const PER_HEAD_ISNT = ". That is counted by the group as a whole, so a division per head need not be there.";
 
 const MONOTONIC = [

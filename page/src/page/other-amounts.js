@@ -103,8 +103,8 @@ function overrunTable({ fault, more, whole, rules, ...core }, view) {
   if (fault) return el("p", { class: "bad" }, fault);
   const { game, rows, format } = view, change = Rational.of(more), before = Rational.of(whole);
   const columns = rules.map((rule) => changesOf(rule, rows, format)), verb = game.costs ? "It costs" : "They gain";
-  const head = `${verb} ${sizeOf(change, format)}: ${format.show(before.plus(change))} in place of `
-    + `${format.show(before)}.`;
+  const [own, after] = format.apart(before, before.plus(change));
+  const head = `${verb} ${sizeOf(change, format)}: ${after} in place of ${own}.`;
   return [
     el("p", {}, el("b", {}, head)),
     ...columns.map((column) => el("p", {}, overrunSentence(column, rows, change, game, format))),
@@ -113,8 +113,8 @@ function overrunTable({ fault, more, whole, rules, ...core }, view) {
 }
 
 /** "37.15 less". */
-function sizeOf(change, { show }) {
-  return `${show(change.abs())} ${change.isNegative() ? "less" : "more"}`;
+function sizeOf(change, { by }) {
+  return `${by(change.abs())} ${change.isNegative() ? "less" : "more"}`;
 }
 
 /** Which rules keep everybody from paying less in every case, and what is meant by the one per head. */
@@ -145,7 +145,7 @@ function overrunSentence(column, rows, change, game, format) {
   const [verb, costs] = game.costs ? ["pays", "costs"] : ["gets", "gains"], name = `By the ${ruleIn(column)}`;
   if (against.length) {
     const told = against.map(({ value, r }) => {
-      const size = texts[2][r].replace(/^[+−]/, "");
+      const size = /[1-9]/.test(texts[2][r]) ? texts[2][r].replace(/^[+−]/, "") : format.by(value.abs());
       return `${rows[r].label} ${verb} ${size} ${value.isNegative() ? "less" : "more"}`;
     });
     const although = `although the whole ${costs} ${sizeOf(change, format)}`;

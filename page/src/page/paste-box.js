@@ -1,4 +1,5 @@
 // A place to paste the list of a whole table: groups with their numbers, or numbers alone as other programs have them.
+import { MANY } from "../cases/vectors.js";
 import { button, el } from "./dom.js";
 
 const MOST_SHOWN = 20000; // letters; a longer list is read at once, since it would keep the area busy
@@ -21,7 +22,8 @@ export function pasteBox(onList) {
   const use = (text) => onList(text, order.value, () => { box.open = false; });
   const box = el("details", { class: "inline" }, el("summary", {}, "Paste a whole list"),
     el("p", { class: "hint" }, "A line for each group: its members with + between, and its number. The players are ",
-      "those with a line of their own. Or numbers alone, a line each, without the group of nobody."),
+      "those with a line of their own. Or numbers alone, a line each, without the group of nobody. ",
+      MANY),
     area,
     el("p", {}, el("label", {}, "Numbers alone stand ", order)),
     el("p", {}, button("Use this list", () => use(area.value))));

@@ -63,9 +63,9 @@ function wholeTexts(totals, rows, whole, { places, mark }) {
   const rest = whole.minus(Rational.sum(values)), most = values.indexOf(Rational.max(values));
   values[most] = values[most].plus(rest);
   return values.map((value) => {
-    if (placesOf(value) < 0) return typedText(value, mark);
-    const text = decimal(value, count, { mark, grouped: false }).replace("−", "-");
-    return readNumber(text).doubt ? typedText(value, mark) : text;
+    if (10n ** BigInt(count) % value.den) return typedText(value, mark);
+    const text = (places) => decimal(value, places, { mark, grouped: false }).replace("−", "-");
+    return text(readNumber(text(count)).doubt ? count + 1 : count);
   });
 }
 

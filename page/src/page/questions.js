@@ -101,6 +101,7 @@ async function askOthers(result, ask) {
   if (game.isTable() && !game.ballots) {
     result.core = (await ask("core")).tree;
     if (result.core.collection && !result.noImputation) await askPrenucleolus(result, ask);
+    result.hasOneNucleolus = result.answer === "nucleolus" && result.points.every(({ key }) => key !== "prenucleolus");
     if (result.core.shares) addPoint(result, "core", "A core point", result.core.shares);
   }
   if (game.kind === "tree") {

@@ -20,6 +20,8 @@ export class Session {
     this.mark = new Intl.NumberFormat().format(0.5).includes(",") ? "," : "."; // by which numbers are shown
     this.own = this.mark; // by which those that are typed are read, where they don't show it themselves
     spoken.mark = this.mark;
+    this.isChosen = false; // whether the user has chosen the mark
+    this.isTyped = false; // whether the cells of the case aren't as they were opened
   }
 
   /** Starts the workers, so that the first question needn't wait for them. */
@@ -28,11 +30,13 @@ export class Session {
   }
 
   /** `doubt` is why the game isn't taken for the agreed one, in words; `file` is that which was opened: {name, digest},
-   * and `made`, the document that the page makes of it. */
+   * and `made`, the document that the page makes of it. A `mark` was chosen. */
   open(kind, typed, settings = {}) {
     const { measure = "plain", texts = [], todays = null, entry = this.own, doubt = "", file = null } = settings;
     const { places = kind.places ?? 2, mark = this.mark } = settings;
     Object.assign(this, { kind, typed, measure, texts, todays, entry, doubt, places, mark });
+    this.isChosen ||= Boolean(settings.mark);
+    this.isTyped = false;
     spoken.mark = mark;
     Object.assign(this, { reading: null, result: null, judged: {}, proposal: proposalOf([], [], entry) });
     this.changed(0);
@@ -51,9 +55,18 @@ export class Session {
 
   /** The mark of what is shown; no number is read anew by it. */
   setMark(mark) {
+    this.isChosen = true;
     this.mark = mark;
     spoken.mark = mark;
     this.changed(0);
+  }
+
+  /** What is shown has the mark that the typed numbers show, until the user chooses one. */
+  follow({ settled }) {
+    if (this.isChosen || !this.isTyped || !settled || settled === this.mark) return false;
+    this.mark = spoken.mark = settled;
+    this.changed(0);
+    return true;
   }
 
   /** The mark of the numbers of this case that can be read both ways. */
@@ -95,6 +108,7 @@ export class Session {
       if (!isMine()) return;
       this.reading = reading;
       if (this.file) this.file.made ??= reading.text;
+      if (this.follow(reading)) return;
       this.judged = {};
       this.on.read();
       if (reading.isRight) await this.ask(engine, checker, isMine);

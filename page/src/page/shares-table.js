@@ -2,9 +2,10 @@
 import { Rational } from "../exact/rational.js";
 import { fractionText } from "../exact/decimals.js";
 import { listed, Namer, plural } from "../tell/words.js";
-import { againstOf, comparisonOf } from "./comparison.js";
+import { againstOf, comparisonPart } from "./comparison.js";
 import { el } from "./dom.js";
-import { MOVED, totalsOf, withSum } from "./format.js";
+import { excessesPart } from "./excesses.js";
+import { labelOf, MOVED, totalsOf, withSum } from "./format.js";
 import { meanings, monotonic, subtitleOf, words } from "./meanings.js";
 import { ownInput, proposalSum, proposalTools } from "./proposal-cells.js";
 import { airlineLines, shareLines } from "./table-lines.js";
@@ -32,13 +33,20 @@ export function sharesTable(result, settings) {
       footOf(view, hasHolds))),
     columns.some(({ shares }) => format.isMoved(totalsOf(rows, shares), rows))
       && el("p", { class: "hint moved" }, `${MOVED} The exact shares stand in small print.`),
+    sameText(result) && el("p", { class: "hint" }, sameText(result)),
     proposal.canBe && proposalTools(result, settings),
     todayTools(game, settings.today),
     proposal.shares && sameAs(points, proposal.shares),
-    proposal.comparison && comparisonOf(proposal.comparison, points[0], game),
+    points.length > 0 && comparisonPart(proposal, points[0], game, settings),
+    excessesPart(result, settings),
     meanings(points, hasHolds, game),
     !game.ballots && !game.isMarket() && monotonic(),
     words());
+}
+
+/** Why there is no column of the prenucleolus. */
+export function sameText({ hasOneNucleolus, game }) {
+  return hasOneNucleolus && `The prenucleolus${game.perHead ? " per head" : ""} is the same here.`;
 }
 
 /** Which division of the table a proposal is. */
@@ -163,7 +171,7 @@ export function contextOf(game, rows, { show, column }) {
   return of(game.own, game.costs ? "Costs alone" : "Worth alone");
 }
 
-function verdictText(game, verdict, { show }) {
+function verdictText(game, verdict, { show, by }) {
   if (verdict === undefined) return "…";
   if (verdict === null) return "not said";
   if (verdict.refusal) return verdict.refusal.sentence;
@@ -171,7 +179,7 @@ function verdictText(game, verdict, { show }) {
   if (verdict.sum) return el("span", { class: "bad" }, "doesn’t add up");
   const who = needingAtMost(game, verdict.group, show)
     ?? new Namer(game).group(verdict.group).replace(/ (alone|together)$/, "");
-  return el("span", { class: "bad" }, `Yes: ${who}, by ${show(verdict.excess)}`);
+  return el("span", { class: "bad" }, `Yes: ${who}, by ${by(verdict.excess)}`);
 }
 
 /** Of a runway the groups of all landings up to an amount, as a sentence names them; null for other groups. */
@@ -182,12 +190,12 @@ function needingAtMost({ kind, amounts, n }, group, show) {
   return isAll && group.length < n ? `all landings that need at most ${show(most)}` : null;
 }
 
-function holdText(rows, hold, { show }) {
+function holdText(rows, hold, { by }) {
   if (hold === undefined) return "…";
   if (hold === null) return "–";
   if (hold.isEven) return "No";
-  const [strong, weak] = [hold.strong, hold.weak].map((i) => rows.find(({ players }) => players.includes(i)).label);
-  return `Yes, for example ${strong} on ${weak}, by ${show(hold.by)}`;
+  const [strong, weak] = [hold.strong, hold.weak].map((i) => labelOf(rows, i));
+  return `Yes, for example ${strong} on ${weak}, by ${by(hold.by)}`;
 }
 
 /** The table for a spreadsheet, as lines of cells, and what each airline pays. */

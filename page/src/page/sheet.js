@@ -6,15 +6,17 @@ import { planPicture } from "../draw/plan.js";
 import { dealsOf, powerPicture, priceOf, pricesPicture, tradesTable } from "../draw/ranges.js";
 import { trianglePicture } from "../draw/triangle.js";
 import { Rational } from "../exact/rational.js";
+import { fileNames } from "../cases/coarse.js";
+import { coarseText, dividedText } from "../tell/coarse-text.js";
 import { ruleFile, sourceOf } from "../tell/rule-names.js";
 import { Namer } from "../tell/words.js";
-import { lead, solutionOf } from "./answer.js";
+import { lead, notices, solutionOf } from "./answer.js";
 import { beyondSheet } from "./beyond.js";
 import { el, refill } from "./dom.js";
 import { knownDigest } from "./files.js";
 import { filledLines, filledText } from "./filled.js";
 import { formatOf, MOVED, totalsOf, withSum } from "./format.js";
-import { contextOf } from "./shares-table.js";
+import { contextOf, sameText } from "./shares-table.js";
 import { airlineLines } from "./table-lines.js";
 import { changeText, todayOf, todayTitle } from "./today.js";
 import { linesTable } from "./types-table.js";
@@ -52,12 +54,13 @@ export function showSheet(session, typed = {}) {
     return;
   }
   const { rows } = reading, format = formatOf(session.places, session.mark), today = todayOf(session, rows);
-  const { heading, unit, withProposal } = typed;
-  const view = { ...session, heading, unit, withProposal, result, rows, format, today };
+  const { heading, unit, withProposal } = typed, { coarse } = session.typed;
+  const view = { ...session, heading, unit, withProposal, result, rows, format, today, coarse };
   const reasons = reasonsOf(view), isLong = rows.length > MANY_ROWS || reasons.textContent.length > LONG;
-  const isTight = isLong || Boolean(withProposal);
+  const isTight = isLong || Boolean(withProposal || coarse || result.core?.collection);
   sheet.classList.toggle("tight", isTight);
-  refill(sheet, headOf(view), answerOf(view), pictureOf(view), reasons, agreedOf(view), checkOf(view));
+  refill(sheet, headOf(view), notices(result, format, coarse), answerOf(view), pictureOf(view), reasons,
+    agreedOf(view), checkOf(view));
 }
 
 function headOf({ heading, kind }) {
@@ -71,7 +74,7 @@ export function dayText() {
 // ---- Who, and how much
 
 function answerOf(view) {
-  const { result, rows, format, unit, today } = view, { game } = result;
+  const { result, rows, format, unit, today, coarse } = view, { game } = result;
   const shapley = result.points.find(({ key }) => key === "shapley");
   const point = game.ballots ? shapley : solutionOf(result) ?? result.points[0];
   if (!point) return null;
@@ -81,7 +84,8 @@ function answerOf(view) {
   const title = game.ballots ? "Power" : point.title, totals = totalsOf(rows, point.shares);
   const context = contextOf(game, rows, format), texts = format.column(totals, rows);
   const hasExact = totals.some((total) => !format.isExact(total)), who = game.costs ? "Who pays" : "Who gets";
-  const others = [...todaysOf(today, format.steps(totals, rows), game, format), ...othersOf(view, point)];
+  const beside = othersOf(view, point);
+  const others = [...todaysOf(today, format.steps(totals, rows), game, format), ...beside];
   const heads = [game.ballots ? "Who votes" : who, context?.title, title, hasExact ? "exactly" : undefined,
     ...others.map((other) => other.title)];
   const line = (r) => el("tr", {},
@@ -89,7 +93,7 @@ function answerOf(view) {
     context && el("td", { class: "number" }, context.texts[r]),
     el("td", { class: "number strong" }, texts[r]),
     hasExact && el("td", { class: "number" }, format.isExact(totals[r]) ? "" : fractionText(totals[r])),
-    others.map((other) => el("td", { class: "number" }, other.texts[r])));
+    others.map((other) => el("td", { class: "number" }, other.texts[r], other.exact?.(r))));
   const sum = el("tr", { class: "sum" }, el("th", { scope: "row" }, "together"),
     context && el("td", { class: "number" }, context.sum),
     el("td", { class: "number strong" }, texts.at(-1)), hasExact && el("td"),
@@ -99,7 +103,10 @@ function answerOf(view) {
     unit?.trim() && el("p", { class: "hint" }, `All amounts are in ${unit.trim()}.`),
     halves(rows.length, heads.filter((head) => head !== undefined), line, sum),
     format.isMoved(totals, rows) && el("p", { class: "hint" }, `${MOVED} The fractions are exact.`),
-    others.map((other) => other.said && el("p", { class: "hint" }, `${other.title}: ${other.said}`)));
+    coarse?.times && [{ title, totals }, ...beside].map((one) => {
+      return el("p", { class: "hint" }, dividedText(coarse, one.title, rows, one.totals));
+    }),
+    saidOfAll(view, point, beside));
 }
 
 /** The bill: what each airline pays for all its rows, by the columns that are shown; null where none has several. */
@@ -119,25 +126,40 @@ function todaysOf({ texts, values }, steps, game, format) {
     { title: "Change", texts: told((now, step) => changeText(step, now, format)) }];
 }
 
-/** The other columns, and the user's proposal, where these are wanted: {title, texts, said}. */
+/** A line for each column that is judged: for the one that is always there, too, where others stand beside it, or a
+ * group does better by itself. Columns of which the same is said share one. */
+function saidOfAll({ result, format }, { title, ...point }, others) {
+  const own = { title, said: result.game.ballots ? "" : saidOf(result.game, point, format) };
+  const lines = others.length || point.verdict?.group ? [own, ...others] : [];
+  const titles = (text) => lines.filter(({ said }) => said === text).map((one) => one.title).join(", ");
+  const told = [...new Set(lines.map(({ said }) => said))].filter(Boolean).map((text) => `${titles(text)}: ${text}`);
+  const same = others.length > 0 && sameText(result);
+  return [...told, same].map((text) => text && el("p", { class: "hint" }, text));
+}
+
+/** The other columns, and the user's proposal, where these are wanted: {title, texts, totals, exact, said}. */
 function othersOf({ result, rows, format, withProposal, proposal, judged }, shown) {
   if (!withProposal || result.game.ballots) return [];
   const { game, points } = result, own = proposal?.totals && { title: "Your proposal", ...proposal, ...judged };
   return [...points.filter((point) => point !== shown), own].filter(Boolean).map((point) => {
-    const texts = format.column(point.totals ?? totalsOf(rows, point.shares), rows);
-    return { title: point.title, texts, said: saidOf(game, point, format) };
+    const totals = point.totals ?? totalsOf(rows, point.shares), texts = format.column(totals, rows);
+    const exact = (r) => !format.isExact(totals[r]) && el("small", { class: "exact beside" }, fractionText(totals[r]));
+    return { title: point.title, texts, totals, exact, said: saidOf(game, point, format) };
   });
 }
 
 /** Whether a group does better by itself, and, of a proposal, how it stands beside the solution. */
-function saidOf(game, { verdict, comparison }, { show }) {
+function saidOf(game, { verdict, comparison }, { by, apart }) {
   const parts = [];
   if (verdict?.isCore) parts.push("no group does better by itself.");
   if (verdict?.group) {
     const who = new Namer(game).group(verdict.group).replace(/ (alone|together)$/, "");
-    parts.push(`a group does better by itself: ${who}, by ${show(verdict.excess)}.`);
+    parts.push(`a group does better by itself: ${who}, by ${by(verdict.excess)}.`);
   }
-  if (verdict?.sum) parts.push(`it adds to ${show(verdict.sum)}, and not to ${show(verdict.total)}.`);
+  if (verdict?.sum) {
+    const [sum, total] = apart(verdict.sum, verdict.total);
+    parts.push(`it adds to ${sum}, and not to ${total}.`);
+  }
   if (comparison && comparison.better !== "same") {
     const k = comparison.differs - comparison.first, [mine, theirs] = comparison.lists.map((list) => list[k]);
     parts.push(`Of what each group could gain by leaving, the greatest first, place ${comparison.differs} is the first `
@@ -236,18 +258,20 @@ function toldOf({ sentences, items, last = "" }) {
 // ---- What is agreed on, and how to check it
 
 /** The numbers by the file that was opened, while they are its own; else by that which the page writes of them. */
-function numbersOf({ file, kind, result: { text } }) {
+function numbersOf({ file, kind, coarse, result: { text } }) {
   const isOpened = file?.made === text, digest = isOpened ? file.digest : knownDigest(`${text}\n`);
   const sum = el("span", { class: "digest" }, digest ?? "(this browser works out none)");
   if (isOpened) return [`The numbers of the game, as they stand in ${file.name}: its SHA-256 is `, sum, "."];
-  return [`The numbers of the game, as this page writes them in a file of its own, ${kind.id}-game.json: its `,
-    "SHA-256 is ", sum, ".", file && ` Numbers were changed since ${file.name} was opened.`];
+  const { game: own } = fileNames(kind.id, coarse);
+  return [`The numbers of the game, as this page writes them in a file of its own, ${own}: its SHA-256 is `, sum, ".",
+    file && ` Numbers were changed since ${file.name} was opened.`];
 }
 
 function agreedOf(view) {
-  const { result: { text }, rows, doubt, fills } = view, filled = filledText(view);
+  const { result: { text }, rows, doubt, fills, coarse } = view, filled = filledText(view);
   const isShort = text.length <= (rows.length > MOST_PICTURED ? MOST_ALONE : MOST_DOCUMENT);
-  const what = el("p", {}, numbersOf(view), filled && ` ${filled}`, fills?.text === text && ` ${fills.sentence}`);
+  const what = el("p", {}, numbersOf(view), filled && ` ${filled}`, fills?.text === text && ` ${fills.sentence}`,
+    coarse && ` ${coarseText(coarse)}`);
   return el("section", {}, el("h2", {}, doubt ? "Not agreed on" : "What is agreed on"),
     doubt && el("p", {}, doubt), what,
     isShort ? el("p", { class: "document" }, text)
@@ -256,12 +280,12 @@ function agreedOf(view) {
     !doubt && el("p", { class: "sign" }, "Agreed on by", el("span"), "on", el("span", { class: "short" })));
 }
 
-function checkOf({ result: { rule, answer, line, game }, kind, doubt }) {
+function checkOf({ result: { rule, answer, line, game }, kind, doubt, coarse }) {
   const foot = document.querySelector("footer p").textContent;
   if (doubt) return el("section", {}, el("p", { class: "hint" }, foot));
   const steps = line && !game.ballots
     ? `${OPEN}, choose “I got an answer and doubt it”, and give it the agreed file and the line with the certificate, `
-      + `${kind.id}-${ruleFile(answer, game.perHead)}.json. `
+      + `${fileNames(kind.id, coarse).line}-${ruleFile(answer, game.perHead)}.json. `
       + `Two checkers, apart from each other, say whether these shares are the ${rule} of the agreed game. `
       + "It goes by hand, too: the page lists the eight conditions under “What a yes means”."
     : `${OPEN}, choose “Open or paste a document”, and give it the agreed file: it works the answer out anew.`;

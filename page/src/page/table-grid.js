@@ -5,7 +5,7 @@ import { countText } from "../exact/decimals.js";
 import { withEscapes } from "../game/names.js";
 import { cellInput, moveByKeys, pasteCells } from "./cells.js";
 import { button, cellOf, copy, el, refill } from "./dom.js";
-import { numbersIn } from "../cases/vectors.js";
+import { headingOf, numbersIn } from "../cases/vectors.js";
 import { plural } from "../tell/words.js";
 import { pasteBox } from "./paste-box.js";
 
@@ -142,6 +142,7 @@ class TableGrid {
   paste(cell, rows, text) {
     if (rows.every((row) => row.length > 1 && /[^\d.,\s-]/.test(row[0]))) return this.takeList(text);
     const place = this.placeOf(cell), numbers = numbersIn(text);
+    if (place === 0 && rows.length > 2 && !numbers && headingOf(text) !== null) return this.takeList(text);
     if (place === 0 && numbers?.length === 1 && numbers[0].length > 2) return this.takeList(text);
     if (rows.some((row) => row.slice(numbers ? 1 : 2).some(Boolean))) {
       return this.say("A cell takes one number, and this text has several in a line, so nothing was pasted. Give a "
@@ -157,8 +158,10 @@ class TableGrid {
     return filled.length ? this.fillSplits(true) : this.onChange();
   }
 
-  /** Names of the worked example don't stay with numbers that are pasted over all of it. */
+  /** Names of the worked example, and what was done to the old numbers, don't stay with numbers that are pasted over
+   * all of it. */
   forgetExample() {
+    delete this.typed.coarse;
     if (this.ownNames().length) return;
     this.typed.names = this.typed.names.map(() => "");
     this.showPlayers();
@@ -237,17 +240,18 @@ class TableGrid {
   /** Takes a list, and then `close`s where it was pasted. */
   async takeList(text, order = "size", close = () => {}) {
     this.say("Reading the list …");
-    const { state, fault, told, isOdd } = await this.readList({ text, names: this.ownNames(), order });
+    const { state, fault, told, isOdd, remark = "" } = await this.readList({ text, names: this.ownNames(), order });
     if (!state) return this.say(fault, " Nothing was taken.");
     close();
     this.remember("Use this list");
-    this.change({ ...unpacked(state), filled: undefined });
+    this.change({ ...unpacked(state), filled: undefined, coarse: undefined });
     const { names, numbers } = this.typed, lacking = this.order.filter((mask) => !numbers[mask]).length;
     const read = this.order.length - lacking;
     const empty = lacking === 1 ? "is empty" : "are empty";
     const rest = lacking ? `; ${plural(lacking, "group has", "groups have")} no line and ${empty}` : "";
     return this.say(`Read${told ? { size: " by size", mask: " by masks" }[told.order] : ""}: `
-      + `${plural(names.length, "player")}, ${plural(read, "group")}${rest}.${told ? placeOf(told, names) : ""}`,
+      + `${plural(names.length, "player")}, ${plural(read, "group")}${rest}.${remark}`
+      + (told ? placeOf(told, names) : ""),
     isOdd && this.otherOrder(text, told.order));
   }
 

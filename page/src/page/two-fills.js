@@ -38,7 +38,7 @@ function largestOf(columns, { rows, format }) {
   const all = columns.flatMap((column) => column.differences.map((value, r) => ({ column, value, r })));
   const most = all.reduce((best, one) => (best.value.abs().less(one.value.abs()) ? one : best), { value: ZERO });
   if (most.value.isZero()) return "Filled by the other way, no share changes.";
-  const way = most.value.isNegative() ? "less" : "more", size = format.show(Rational.of(most.value).abs());
+  const way = most.value.isNegative() ? "less" : "more", size = format.by(Rational.of(most.value).abs());
   return `Filled by the other way, the largest change is that of ${rows[most.r].label}: ${size} ${way}, by the `
     + `${ruleIn(most.column)}.`;
 }

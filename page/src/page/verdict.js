@@ -52,7 +52,7 @@ export function besideRight({ answer, bare }, game, found, format) {
   const rule = ruleName(answer, game.perHead), verb = game.costs ? "pays" : "gets";
   const by = bare.shares.map((share, i) => Rational.of(share).minus(Rational.of(found.tree.shares[i])));
   const told = by.map((more, i) => {
-    const size = format.show(more.abs()), exact = format.isExact(more) ? "" : ` (${fractionText(more.abs())})`;
+    const size = format.by(more.abs()), exact = format.isExact(more) ? "" : ` (${fractionText(more.abs())})`;
     return !more.isZero() && `${game.shown[i]} ${verb} ${size}${exact} too ${more.isNegative() ? "little" : "much"}`;
   }).filter(Boolean);
   const others = told.splice(MOST_NAMED).length;

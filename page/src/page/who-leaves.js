@@ -41,9 +41,10 @@ function leavingParts(found, gone, view) {
     return { ...row, players: row.players.map((i) => place.get(i)) };
   });
   const columns = found.rules.map((rule) => changesOf(rule, stay, format));
-  const [whole, rest, alone] = [found.whole, found.rest, found.alone].map(Rational.of), { show } = format;
-  const facts = `Without ${label} the others ${cost} ${show(rest)}, and all together ${show(whole)}: ${label} adds `
-    + `${show(whole.minus(rest))}. Alone ${label} ${cost}s ${show(alone)}.`;
+  const [whole, rest, alone] = [found.whole, found.rest, found.alone].map(Rational.of);
+  const [others, all] = format.apart(rest, whole), adds = format.by(whole.minus(rest));
+  const facts = `Without ${label} the others ${cost} ${others}, and all together ${all}: ${label} adds ${adds}. Alone `
+    + `${label} ${cost}s ${format.show(alone)}.`;
   const isAssumed = assumed([found.stay, gone.players]);
   return [
     el("p", {}, facts, isAssumed && " What the others, or those who leave, have by themselves was filled by the page, "
@@ -54,11 +55,11 @@ function leavingParts(found, gone, view) {
 }
 
 /** What the one who leaves loses or gains by one rule, and the others together. */
-function ofRule(column, { label, verb, alone, game, format: { show } }) {
+function ofRule(column, { label, verb, alone, game, format: { show, by } }) {
   const own = Rational.of(column.own), others = Rational.sum(column.differences), way = (value) => {
     return value.isNegative() ? "less" : "more";
   };
-  const told = (value) => (value.isZero() ? "the same" : `${show(value.abs())} ${way(value)}`);
+  const told = (value) => (value.isZero() ? "the same" : `${by(value.abs())} ${way(value)}`);
   const verbs = game.costs ? "pay" : "get";
   return capital(`by the ${ruleIn(column)} ${label} ${verb} ${show(own)}, and alone ${told(alone.minus(own))}; the `
     + `others together then ${verbs} ${told(others)}.`);

@@ -31,23 +31,24 @@ export function pairPart(result, { rows, format, typed, ask, onSaid }) {
       choice(1, "The other"), "?"), found);
 }
 
-function sentencesOf({ alone, holds }, two, { game, solution, format: { show } }) {
+function sentencesOf({ alone, holds }, two, { game, solution, format: { show, apart, by } }) {
   const namer = new Namer(game), [one, other] = two.map(({ players }) => players[0]), { costs, perHead } = game;
   const [x, y] = [one, other].map((i) => game.shown[i]), [a, b] = [one, other].map((i) => solution.shares[i]);
   const [s, t] = holds.map(({ excess }) => Rational.of(excess).negated()), difference = a.minus(b);
   const per = perHead ? " per member" : "", verb = costs ? "pays" : "gets", has = costs ? "costs" : "has";
-  const gain = (value) => `${show(value.abs())}${per} ${value.isNegative() ? "lost" : "gained"}`;
+  const [first, second] = apart(s.abs(), t.abs());
+  const gain = (size, value) => `${size}${per} ${value.isNegative() ? "lost" : "gained"}`;
   const group = ({ group: members }) => namer.group(members).replace(/ together$/, "");
   const own = (share, value) => {
     const gained = costs ? value.minus(share) : share.minus(value);
-    return `${show(value)}, and gains ${show(gained)} by joining`;
+    return `${show(value)}, and gains ${by(gained)} by joining`;
   };
-  const more = `${show(difference.abs())} ${difference.isNegative() ? "less" : "more"} than`;
+  const more = `${by(difference.abs())} ${difference.isNegative() ? "less" : "more"} than`;
   const way = difference.isZero() ? "as much as" : more;
   return [
     `By the ${solution.title.toLowerCase()} ${x} ${verb} ${way} ${y}.`,
-    `Of the groups with ${x} and without ${y}, ${group(holds[0])} gains least by joining (${gain(s)}); of those with `
-      + `${y} and without ${x}, ${group(holds[1])} (${gain(t)}).`,
+    `Of the groups with ${x} and without ${y}, ${group(holds[0])} gains least by joining (${gain(first, s)}); of those `
+      + `with ${y} and without ${x}, ${group(holds[1])} (${gain(second, t)}).`,
     reasonOf(s, t, x, y, costs),
     `Alone ${x} ${has} ${own(a, Rational.of(alone[0]))}; ${y} ${has} ${own(b, Rational.of(alone[1]))}.`,
   ];

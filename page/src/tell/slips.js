@@ -1,6 +1,7 @@
 // What is wrong with a document: the number of a refusal, a sentence and a place each. Not all slips are found.
 import { Inexact, isObject, JsonFault, parseJson } from "../exact/json.js";
 import { bytesOf } from "../cases/reading.js";
+import { MANY } from "../cases/vectors.js";
 import { withEscapes } from "../game/names.js";
 import { certificateSlips, shareSlips } from "./slips-of-evidence.js";
 import { numberSlips, wholeSlips } from "./slips-of-numbers.js";
@@ -24,7 +25,8 @@ export function slipsOf(data, command = "") {
   } catch (fault) {
     if (!(fault instanceof JsonFault)) throw fault;
     const place = fault.line ? `line ${fault.line}, column ${fault.column}` : undefined;
-    add(2, `It is no JSON text: ${fault.sentence}.`, place);
+    const isMany = /behind the document$/.test(fault.sentence) && /^\s*\{.*\}\s*\n\s*\{/.test(data);
+    add(2, `It is no JSON text: ${fault.sentence}.${isMany ? ` ${MANY}` : ""}`, place);
   }
   return slips;
 }

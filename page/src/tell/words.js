@@ -6,7 +6,7 @@ export function listed(parts) {
 }
 
 /** Parts that have commas or an "and" themselves. */
-function enumerated(parts) {
+export function enumerated(parts) {
   return parts.length < 2 ? parts.join("") : `${parts.slice(0, -1).join("; ")}; and ${parts.at(-1)}`;
 }
 

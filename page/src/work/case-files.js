@@ -3,6 +3,7 @@ import { JsonFault, parseJson, writeJson } from "../exact/json.js";
 import { readNumber, typedText } from "../exact/decimals.js";
 import { caseNamed } from "../cases/cases.js";
 import { faultOfCase, filledOf, isCaseFile } from "../cases/case-file.js";
+import { coarseOf } from "../cases/coarse.js";
 import { packed } from "../cases/tables.js";
 import { openDocument } from "./cases.js";
 import { mapNumbers } from "./coarser.js";
@@ -44,7 +45,9 @@ function openCase(tree, spoken) {
   const isFollowing = !kind.isTable || follows(kind, typed, filled, entry);
   return {
     ...found, isCase: true, typed: kind.pack?.(typed) ?? typed, texts: proposal,
-    more: { ...(isFollowing ? filled : {}), ...(source && kind.isNetwork ? { source } : {}) },
+    more: {
+      ...(isFollowing ? filled : {}), ...(source && kind.isNetwork ? { source } : {}), coarse: coarseOf(tree.coarse),
+    },
     settings: { entry, mark, places: decimals && Number(decimals), paper: { heading, unit } },
     notes: [OF_A_CASE, ...(isFollowing ? [] : [NOT_FOLLOWING])],
   };

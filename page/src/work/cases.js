@@ -44,10 +44,11 @@ function readByOneMark(kind, typed, mark) {
 const isOne = (mark) => mark.length === 1;
 
 /** By which mark the numbers were read (`entry`; `mark` where one is needed to write them), which of them could be read
- * otherwise, and which show the mark. */
+ * otherwise, and which show the mark; `settled` is the one that they show, if it is one. */
 function marksOf(reading) {
-  const { mark: entry, doubts, shown } = reading, mark = isOne(entry) ? entry : reading.settles() ?? ".";
-  return { entry, mark, doubts: [...doubts.values()], shown: [...shown.entries()] };
+  const { mark: entry, doubts, shown } = reading, settled = reading.settles();
+  const mark = isOne(entry) ? entry : settled ?? ".";
+  return { entry, mark, settled, doubts: [...doubts.values()], shown: [...shown.entries()] };
 }
 
 /** The rows of what was pasted. */
@@ -57,8 +58,8 @@ export function readCells({ text }) {
 
 /** A table from a pasted list. */
 export function readList({ text, names, order, mark }) {
-  const { state, fault, told, isOdd } = tableOf(text, names, order, mark);
-  return state ? { state: packed(state), told, isOdd } : { fault };
+  const { state, fault, told, isOdd, remark } = tableOf(text, names, order, mark);
+  return state ? { state: packed(state), told, isOdd, remark } : { fault };
 }
 
 /** A document as a case with what a person would have typed, or what is wrong with it. */

@@ -1,34 +1,34 @@
 // Numbers that are too fine for a document: all rounded to four decimals, or all times a power of ten.
-import { Rational } from "../exact/rational.js";
-import { placesOf, readNumber, stepsOf, typedText } from "../exact/decimals.js";
+import { Rational, ZERO } from "../exact/rational.js";
+import { decimalOf, placesOf, readNumber, stepsOf, typedText } from "../exact/decimals.js";
 import { caseNamed } from "../cases/cases.js";
-import { plural } from "../tell/words.js";
 
 const PLACES = 4;
 const MOST = 2n ** 40n;
 const MOST_POWER = 12;
 
-/** The cells of a case with coarser numbers: {typed, notes}, or {fault}. `how` is "round" or "whole". */
+/** The cells of a case with coarser numbers, and what was done to them: {typed, coarse}, or {fault}. `how` is "round"
+ * or "whole". */
 export function coarser({ id, typed: sent, mark, how }) {
   const kind = caseNamed(id), typed = kind.unpack?.(sent) ?? sent, texts = [];
   mapNumbers(kind, typed, (text) => (texts.push(text), text));
   const values = texts.map((text) => readNumber(text, mark).value).filter(Boolean);
-  const { change, notes, fault } = how === "round" ? rounding(values, mark) : scaling(values, mark);
+  const { change, coarse, fault } = how === "round" ? rounding(values, mark) : scaling(values, mark);
   if (fault) return { fault };
   const changed = mapNumbers(kind, typed, (text) => {
     const { value } = readNumber(text, mark);
     return value ? change(value, text) : text;
   });
-  return { typed: kind.pack?.(changed) ?? changed, notes };
+  return { typed: kind.pack?.(changed) ?? changed, coarse };
 }
 
 function rounding(values, mark) {
-  const isLong = (value) => placesOf(value) < 0, count = values.filter(isLong).length;
+  const isLong = (value) => placesOf(value) < 0, long = values.filter(isLong);
   const rounded = (value) => new Rational(stepsOf(value, PLACES), 10n ** BigInt(PLACES));
+  const most = Rational.max([ZERO, ...long.map((value) => value.minus(rounded(value)).abs())]);
   return {
     change: (value, text) => (isLong(value) ? typedText(rounded(value), mark) : text),
-    notes: [`${plural(count, "number was", "numbers were")} rounded to four decimals. The answer is that of the `
-      + "rounded numbers."],
+    coarse: { rounded: { count: String(long.length), of: String(values.length), most: String(most) } },
   };
 }
 
@@ -40,11 +40,12 @@ function scaling(values, mark) {
       + "makes all whole. Round them." };
   }
   const ten = Rational.of(powers[power]), isLarge = values.some((value) => value.times(ten).abs().num >= MOST);
-  if (isLarge) return { fault: `Times ${powers[power]} some number gets more than twelve digits. Round them.` };
+  if (isLarge) {
+    return { fault: `Times ${decimalOf(powers[power], 0)} some number gets more than twelve digits. Round them.` };
+  }
   return {
     change: (value) => typedText(value.times(ten), mark),
-    notes: [`All numbers stand here times ${powers[power]}, so that they are whole, and exact. So are the shares: `
-      + `divide them by ${powers[power]}.`],
+    coarse: { times: String(powers[power]) },
   };
 }
 

@@ -1,7 +1,7 @@
 // Two divisions of a game side by side, as the nucleolus compares them: what the groups lack, from the greatest down.
 import { parseJson } from "../exact/json.js";
 import { lcm, Rational } from "../exact/rational.js";
-import { shortText } from "../exact/decimals.js";
+import { shortText, shortTexts } from "../exact/decimals.js";
 import { Game } from "../game/game.js";
 import { membersOf } from "../game/groups.js";
 import { nameByRows, Namer } from "../tell/words.js";
@@ -12,17 +12,45 @@ const MOST_PLAYERS = 12; // of other games than tables, whose groups take longer
 /** `one` and `other` are shares as texts: the first places of both lists, and where they differ first; null where the
  * game has too many groups. */
 export function compare({ text, rows, one, other }) {
-  const game = nameByRows(new Game(parseJson(text).game), rows);
-  if (game.n < 2 || (!game.isTable() && game.n > MOST_PLAYERS)) return null;
-  const unit = unitOf(game, [...one, ...other].map(Rational.of));
-  const lists = [one, other].map((shares) => excesses(game, shares.map(Rational.of), unit));
+  const { game, unit, lists } = listsOf(text, rows, [one, other]);
+  if (!lists) return null;
   const differs = lists[0].findIndex(({ excess }, k) => excess !== lists[1][k].excess);
   const namer = new Namer(game), first = Math.max(0, Math.min(differs, lists[0].length - 1) - MOST_SHOWN + 2);
   const shown = (list) => list.slice(first, first + MOST_SHOWN).map(({ mask, excess }) => {
     return { group: namer.group(membersOf(mask)), excess: shortText(new Rational(excess, unit)) };
   });
+  const shownLists = lists.map(shown);
+  if (differs >= 0) {
+    const texts = shortTexts(lists.map((list) => new Rational(list[differs].excess, unit)));
+    shownLists.forEach((list, k) => (list[differs - first].excess = texts[k])); // never the same where they differ
+  }
   const better = differs < 0 ? "same" : lists[0][differs].excess < lists[1][differs].excess ? "one" : "other";
-  return { first: first + 1, lists: lists.map(shown), differs: differs + 1, better, of: lists[0].length };
+  return { first: first + 1, lists: shownLists, differs: differs + 1, better, of: lists[0].length };
+}
+
+/** Several divisions side by side: of each the excesses of the `most` first places, as {group, excess}, and the place
+ * at which its list differs from the first one's, 0 where it is the same; null where the game has too many groups. */
+export function excessLists({ text, rows, divisions, most }) {
+  const { game, unit, lists } = listsOf(text, rows, divisions);
+  if (!lists) return null;
+  const namer = new Namer(game), names = new Map(), [own] = lists;
+  const shown = ({ mask, excess }) => {
+    if (!names.has(mask)) names.set(mask, namer.group(membersOf(mask)));
+    return { group: names.get(mask), excess: String(new Rational(excess, unit)) };
+  };
+  return {
+    of: own.length, lists: lists.map((list) => list.slice(0, most).map(shown)),
+    differs: lists.map((list) => 1 + list.findIndex(({ excess }, k) => excess !== own[k].excess)),
+  };
+}
+
+/** The excesses of all groups by each of some divisions; without `lists` where that takes too long. */
+function listsOf(text, rows, divisions) {
+  const game = nameByRows(new Game(parseJson(text).game), rows);
+  const all = divisions.map((shares) => shares.map(Rational.of));
+  if (game.n < 2 || (!game.isTable() && game.n > MOST_PLAYERS)) return {};
+  const unit = unitOf(game, all.flat());
+  return { game, unit, lists: all.map((shares) => excesses(game, shares, unit)) };
 }
 
 /** A common denominator of all that is counted; per head, of the parts too. */

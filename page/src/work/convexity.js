@@ -1,6 +1,6 @@
 // Whether each adds no less where more have joined, in a sentence.
 import { parseJson } from "../exact/json.js";
-import { shortText } from "../exact/decimals.js";
+import { shortTexts } from "../exact/decimals.js";
 import { Game } from "../game/game.js";
 import { listed, nameByRows, Namer } from "../tell/words.js";
 import { answer } from "./answers.js";
@@ -31,7 +31,7 @@ function gapOf(game, { set, i, j }) {
     return some.length ? all.minus(told(some)) : all;
   };
   const to = (some) => (some.length === game.n - 1 ? "all others" : listed(some.map((player) => namer.names[player])));
-  const [early, late] = [group, withFirst].map((some) => shortText(added(some)));
+  const [early, late] = shortTexts([group, withFirst].map(added));
   const start = group.length ? `joining ${to(group)}` : "alone";
   return game.costs
     ? `It can cost less to join early: ${name} adds ${early} to the cost ${start}, and ${late} joining `

@@ -22,7 +22,9 @@ function unpacked() {
 
 /** Answers a document by the program: the status that it ends with, and the line that it prints. */
 export function solve(words, document) {
-  if (!compiled) throw new Error(`The program doesn’t start in this browser: ${fault?.message ?? "it wasn’t asked to"}`);
+  if (!compiled) {
+    throw new Error(`The program doesn’t start in this browser: ${fault?.message ?? "it wasn’t asked to"}`);
+  }
   const { status, line } = coop(compiled, words, new TextEncoder().encode(document));
   return { status, line: new TextDecoder().decode(line) };
 }

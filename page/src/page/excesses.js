@@ -1,0 +1,77 @@
+// What each group could gain by leaving, from the greatest down, by all divisions side by side.
+import { Rational } from "../exact/rational.js";
+import { fractionText } from "../exact/decimals.js";
+import { listed } from "../tell/words.js";
+import { button, copy, el, refill } from "./dom.js";
+
+const FEW = 8; // places that are shown at first
+const MOST = 1022, MOST_COPIED = 4094; // that are shown at all, and copied: those of ten and of twelve players
+const MOST_PLAYERS = 12; // of other games than tables
+
+/** The part that opens; `typed` keeps what was opened and found of this case, `ask(task, what)` goes to a worker. */
+export function excessesPart({ game, text, points }, { rows, format, typed, ask }) {
+  const canBe = game.n > 1 && (game.isTable() || game.n <= MOST_PLAYERS) && !game.ballots && !game.isMarket();
+  if (!canBe || points.length < 2) return null;
+  const memory = (typed.excesses ??= { most: FEW }), found = el("div"), divisions = points.map(sharesOf);
+  const asked = (most) => ask("excessLists", { text, rows, divisions, most });
+  const key = JSON.stringify([text, divisions, rows.map(({ label }) => label)]);
+  const show = async () => {
+    if (memory.key !== key + memory.most) {
+      Object.assign(memory, { key: key + memory.most, lists: asked(memory.most) });
+      memory.lists.catch(() => (memory.key = "")); // stopped: it is asked anew
+    }
+    if (!found.childElementCount) refill(found, "Working it out …");
+    refill(found, partsOf(await memory.lists, { game, points, format, asked, onAll: () => {
+      memory.most = MOST;
+      show();
+    } }));
+  };
+  const details = el("details", { class: "excesses", open: Boolean(memory.isOpen), on: { toggle: () => {
+    memory.isOpen = details.open;
+    if (details.open) show();
+  } } }, el("summary", {}, "The excesses by all columns, side by side"), found);
+  if (memory.isOpen) show();
+  return details;
+}
+
+function sharesOf({ shares }) {
+  return shares.map(String);
+}
+
+function partsOf(found, { game, points, format, asked, onAll }) {
+  const { of, lists, differs } = found, [{ length }] = lists, count = (number) => number.toLocaleString("en");
+  const cells = ({ group, excess }, isMarked) => {
+    const value = Rational.of(excess), kind = isMarked ? " differs" : "";
+    return [el("td", { class: `number${kind}` }, format.show(value),
+      !format.isExact(value) && el("small", {}, fractionText(value))), el("td", { class: kind.trim() }, group)];
+  };
+  return [
+    el("p", {}, `What each group could gain by leaving${game.perHead ? ", per member" : ""} (with a minus: what it `,
+      `would lose), the greatest first. ${differsText(points, differs)}`),
+    el("div", { class: "scroll" }, el("table", { class: "shares small" },
+      el("thead", {}, el("tr", {}, el("th", {}, "Place"),
+        points.map(({ title }) => [el("th", { class: "number" }, title), el("th", {}, "by whom")]))),
+      el("tbody", {}, lists[0].map((_, k) => el("tr", {}, el("th", { scope: "row", class: "number" }, String(k + 1)),
+        lists.map((list, which) => cells(list[k], k + 1 === differs[which]))))))),
+    el("p", { class: "tools" },
+      length < Math.min(of, MOST) && button(`All ${count(Math.min(of, MOST))} places`, onAll, { class: "quiet" }),
+      length < of && el("span", { class: "hint" }, `${count(length)} of ${count(of)} places.`),
+      button(`Copy ${of > MOST_COPIED ? "the first 4,094" : "all"} places for a spreadsheet`, async ({ target }) => {
+        copy(tableText(points, (await asked(MOST_COPIED)).lists, format), target);
+      }, { class: "quiet" })),
+  ];
+}
+
+/** At which place each list begins to be another than the first one. */
+function differsText([{ title }, ...others], [, ...differs]) {
+  const told = others.map((one, k) => `${one.title} ${differs[k] ? `at place ${differs[k]}` : "nowhere"}`);
+  return `Marked is where a list differs from that of the ${title.toLowerCase()} for the first time: ${listed(told)}.`;
+}
+
+/** All places for a spreadsheet: tabs between, plain decimals, and the exact fractions beside them. */
+function tableText(points, lists, { show }) {
+  const heads = ["Place", ...points.flatMap(({ title }) => [title, `${title}, exact`, "by whom"])];
+  const cells = ({ group, excess }) => [show(Rational.of(excess)), excess, group.replace(/[\u2068\u2069\t]/g, "")];
+  const lines = lists[0].map((_, k) => [k + 1, ...lists.flatMap((list) => cells(list[k]))]);
+  return [heads, ...lines].map((line) => `${line.join("\t")}\n`).join("").replace(/\u202f/g, "").replace(/−/g, "-");
+}
