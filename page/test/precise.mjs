@@ -178,24 +178,7 @@ const excesses = [
   }],
 ];
 
-const SAVED_CASE = '{"coop-page":1,"document":{"game":{"class":"table","players":2,"worths":[100,200,650]}},'
-  + '"coarse":{"times":"100","rounded":{"count":"2","of":"3","most":"1/20000"}}}';
-
 const kept = [
-  ["a saved case knows what was done to its numbers", "document", async (page, expect) => {
-    await openFile(page, "gains-case.json", SAVED_CASE.replace('"100","rounded"', '"7","rounded"'));
-    await told(page, "#document-message", /isn’t as the page saved it[\s\S]*Place: coarse/);
-    await openFile(page, "gains-case.json", SAVED_CASE);
-    const both = /times 100, [\s\S]*2 numbers were rounded to four decimals, each by at most 0\.000050/;
-    await told(page, "#case-body", both);
-    await settle(page);
-    expect("files", await savedNames(page), /gains-times-100-rounded\.json/);
-    await page.run("URL.createObjectURL = (blob) => { window.saved = blob.text(); return '#'; }");
-    await page.click("Save the case");
-    const saved = /"coarse":{"times":"100","rounded":{"count":"2","of":"3","most":"1\/20000"}}/;
-    expect("saved", await page.run("window.saved"), saved);
-  }],
-
   ["a table of a network has what was done to the links", "network", async (page, expect) => {
     await page.type("links.0-1", "3.1234567");
     await noted(page, /too fine/);

@@ -9,7 +9,7 @@ const isMark = (one) => one === "." || one === ",";
 
 /** What may stand beside the document, each with its test. */
 const TESTS = {
-  filled: isObject, coarse: (one) => coarseOf(one) !== undefined,
+  filled: isObject, coarse: (one) => isObject(one) && Object.keys(one).every((key) => coarseOf(one)?.[key]),
   decimals: (one) => typeof one === "bigint" && one >= 0n && one <= 6n, mark: isMark, entry: isMark,
   heading: isText, unit: isText, source: isText, proposal: (one) => Array.isArray(one) && one.every(isText),
 };
