@@ -108,7 +108,7 @@ const empty = [
     expect("its own line", await sheetOf(page), /Nucleolus: a group does better by itself: .*, by \d/);
     await page.run("document.querySelector('[data-cell=\"paper.withProposal\"]').click()");
     const sheet = await sheetOf(page);
-    expect("all lines", sheet, /Nucleolus: a group does better[\s\S]*Shapley shares: a group does better/);
+    expect("all lines", sheet, /Nucleolus, (A core point, )?Shapley shares(, [^:]*)?: a group does better/);
     expect("told of the prenucleolus", sheet, /The prenucleolus is the same here/);
   }],
 
