@@ -334,8 +334,8 @@ class Scripts(unittest.TestCase):
     @needs_program
     def test_thousands_of_many(self) -> None:
         """In a CSV nothing stands between thousands, and the help says so."""
-        text = script("many", "nucleolus", "--csv", "--places", "2", text='{"game":{"class":"airport","costs":[1234]}}')[1]
-        self.assertIn(",1234.00,", text)
+        one = '{"game":{"class":"airport","costs":[1234]}}'
+        self.assertIn(",1234.00,", script("many", "nucleolus", "--csv", "--places", "2", text=one)[1])
         self.assertIn("in plain digits", script("many", "--help")[1].split("--places N")[-1])
         self.assertNotIn("thousands separated", script("many", "--help")[1])
 
