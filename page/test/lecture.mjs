@@ -57,6 +57,14 @@ export const lecture = [
     expect("no number", await page.text("#case .faults"), /The quota is no number/);
   }],
 
+  ["amounts that commas and blanks part", "estate", async (page, expect) => {
+    await page.click("Several amounts side by side");
+    await page.type("amounts", "100, 200, 300");
+    await page.click("Work it out", "document.querySelector('.other')");
+    await page.until("document.querySelector('.found table')");
+    expect("three", await page.text(".found thead"), /100.00\s+200.00\s+300.00/);
+  }],
+
   ["what a group may build by itself", "network", async (page, expect) => {
     expect("told", await page.text("#case-body"), /A group by itself may use the links between its own places/);
   }],

@@ -103,13 +103,14 @@ const empty = [
     await settle(page);
     const box = await page.text("#answer .notice");
     expect("groups are parted by semicolons", box, /Take all but Dora and Fink; .*; and all .*: they hold/);
-    expect("no other prenucleolus", await page.text("#answer-body"), /The prenucleolus is the same here\./);
+    const body = await page.text("#answer-body");
+    expect("no other prenucleolus", body, /The prenucleolus is the same as the nucleolus here\./);
     expect("the box", await sheetOf(page), /Whatever the division, some group does better by itself/);
     expect("its own line", await sheetOf(page), /Nucleolus: a group does better by itself: .*, by \d/);
     await page.run("document.querySelector('[data-cell=\"paper.withProposal\"]').click()");
     const sheet = await sheetOf(page);
     expect("all lines", sheet, /Nucleolus, (A core point, )?Shapley shares(, [^:]*)?: a group does better/);
-    expect("told of the prenucleolus", sheet, /The prenucleolus is the same here/);
+    expect("told of the prenucleolus", sheet, /The prenucleolus is the same as the nucleolus here/);
   }],
 
   ["exact fractions of all columns on paper", "gains", async (page, expect) => {

@@ -107,7 +107,7 @@ function documentOf(kind, text, { coarse }, { caseText }) {
     el("p", { class: "hint screen" }, "The page opens a case with what was filled in, the decimal mark, heading, unit ",
       "and your proposal. The program reads the document alone."),
     coarse && el("p", { class: "note" }, `${coarseText(coarse)} The document has no place for that; the file is named `,
-      `${file}, and this page tells it when it is opened. A saved case holds it.`));
+      `${file}, and this page tells it when it is opened under that name. A saved case holds it.`));
 }
 
 /** What was done to all numbers, for as long as they are these. */

@@ -93,7 +93,8 @@ function overrunPart(view) {
     key: "more", task: "overrun",
     label: costs ? "It costs more by" : "They gain more by",
     placeholder: "37.15 or 10 %",
-    hint: "An amount or a percentage. The whole changes, and what each group could do by itself stays. Who bears it "
+    hint: "An amount or a percentage. The whole changes, and what each group could do by itself stays (where "
+      + "that changes too, as a runway’s costs may, change the cells above). Who bears it "
       + "depends on the rule: so a contract should name the rule for it beforehand.",
     show: (found) => overrunTable(found, view),
   }, view);

@@ -46,7 +46,7 @@ export function sharesTable(result, settings) {
 
 /** Why there is no column of the prenucleolus. */
 export function sameText({ hasOneNucleolus, game }) {
-  return hasOneNucleolus && `The prenucleolus${game.perHead ? " per head" : ""} is the same here.`;
+  return hasOneNucleolus && `The prenucleolus${game.perHead ? " per head" : ""} is the same as the nucleolus here.`;
 }
 
 /** Which division of the table a proposal is. */

@@ -9,15 +9,16 @@ import { solutionOf } from "./answers.js";
 import { amountsOf, byEachRule, isStable, sideOf, worstOf } from "./changes.js";
 
 const MOST_ESTATES = 12;
+const PARTING = /[;\n]|,\s/; // a comma in front of a blank stands in no number
 
 const UNIT = /^\s*(?:[A-Z]{3}|\p{Sc})\s*(?=[\d-])|(?<=[\d-])\s*(?:[A-Z]{3}|\p{Sc})\s*$/gu;
 
 /** The amounts that a person listed: [{value, note}] or [{fault}]. Semicolons and lines part them; without these blanks
  * do, but where the whole is one number with its thousands parted. All are read by one mark, as cells are. */
 export function amountsIn(typed, mark) {
-  const isParted = /[;\n]/.test(typed), plain = typed.replace(UNIT, "");
+  const isParted = PARTING.test(typed.trim()), plain = typed.replace(UNIT, "");
   const isOne = !isParted && /\S\s\S/.test(plain) && !readNumber(plain, mark).fault;
-  const texts = isOne ? [typed] : plain.split(isParted ? /[;\n]/ : /\s+/);
+  const texts = isOne ? [typed] : plain.split(isParted ? PARTING : /\s+/);
   const found = texts.map((text) => text.trim()).filter(Boolean), kept = found.slice(0, MOST_ESTATES);
   const shown = new Set(kept.map((text) => readNumber(text.replace(UNIT, ""), mark).by).filter(Boolean));
   const isSettled = shown.size === 1, by = isSettled ? [...shown][0] : mark;
