@@ -152,19 +152,6 @@ def two_ways(cell: str) -> tuple[str, str]:
     return cell.replace(",", ".").rstrip("0").rstrip("."), re.sub("[.,]", "", cell)
 
 
-def typed(word: str, what: str) -> Fraction:
-    """A number that is typed beside a document, where nothing tells which mark stands in front of decimals: one that
-    may be read in two ways is refused."""
-    match = NUMBER.fullmatch(word.strip())
-    if match and told_by(match[1], match[2]) is None:
-        part, whole = two_ways(word.strip())
-        raise BadInput(f"{what}: {word} may be {part} or {whole}: write {Fraction(part)} or {whole}")
-    try:
-        return fraction_of(word)
-    except BadInput as fault:
-        raise BadInput(f"{what}: {fault}") from None
-
-
 def told_by(first: str, rest: str) -> Optional[str]:
     """Which mark stands in front of the decimals of a number of its digits and what follows them, or None."""
     marks = [sign for sign in rest if sign in OTHER]

@@ -3,10 +3,11 @@ from __future__ import annotations
 
 import re
 from fractions import Fraction
+from typing import Optional
 
 from .amounts import fraction_of
 from .errors import BadInput
-from .sheets import MARKS, NUMBER, Row, amount_of, told_by, two_ways
+from .sheets import MARKS, NUMBER, by_mark, told_by, two_ways
 
 
 def amount(text: str, whole: Fraction) -> Fraction:
@@ -16,17 +17,23 @@ def amount(text: str, whole: Fraction) -> Fraction:
     return value * whole / 100 if words.endswith("%") else value
 
 
-def number(words: str) -> Fraction:
-    """The number of a text, whose mark has to be read in one way only."""
+def number(text: str, what: str = "") -> Fraction:
+    """The number of a text, whose mark has to be read in one way only. A refusal begins with what it is."""
+    words = text.strip()
     match = NUMBER.fullmatch(words)
-    if match is None:
-        return fraction_of(words)
-    mark = told_by(match[1], match[2])
+    try:
+        return fraction_of(words) if match is None else marked(words, told_by(match[1], match[2]))
+    except BadInput as fault:
+        raise BadInput(f"{what}: {fault}" if what else str(fault)) from None
+
+
+def marked(words: str, mark: Optional[str]) -> Fraction:
+    """The number of a text with this mark in front of decimals, or with one that may be either."""
     if mark is None:
         part, whole = two_ways(words)
         raise BadInput(f"{words} may be {part} or {whole}: write {Fraction(part)} or {whole}")
     try:
-        return amount_of(Row(1, [words], mark), 0, None)
+        return by_mark(words, mark, None)
     except BadInput:
         name = next(name for name, sign in MARKS.items() if sign == mark)
         raise BadInput(f"{words} is no number with a {name} in front of decimals") from None

@@ -10,7 +10,8 @@ from coop.costing import doubts, remarks
 from coop.filling import above_larger, cheapest, cheapest_cover, told
 from coop.plainly import Plainly
 from coop.readers import claims, groups, landings, left_out, vectors
-from coop.sheets import Layout, notes, typed
+from coop.sheets import Layout, notes
+from coop.typed import number
 from coop.styles import EXACT
 
 APART = (("a+c", "8.1 = a | c"), ("b+c", "9.1 = b | c"))
@@ -225,15 +226,15 @@ class Sheets(unittest.TestCase):
 
     def test_typed_numbers(self) -> None:
         """A number beside a document is refused where it may be two."""
-        for word, wanted in (("400", 400), ("12.50", Fraction(25, 2)), ("0.125", Fraction(1, 8)), ("1234.500", 1234.5)):
-            self.assertEqual(typed(word, "the amount"), wanted)
+        for word, wanted in (("400", 400), ("12.50", Fraction(25, 2)), ("0.125", Fraction(1, 8)), ("12,50", 12.5)):
+            self.assertEqual(number(word, "the amount"), wanted)
         for word, sentence in (
             ("400.000", "the amount: 400.000 may be 400 or 400000: write 400 or 400000"),
             ("-1.500", "the amount: -1.500 may be -1.5 or -1500: write -3/2 or -1500"),
-            ("12,50", "the amount: '12,50' is no number; write 12"),
+            ("twelve", "the amount: 'twelve' is no number"),
         ):
             with self.assertRaisesRegex(BadInput, sentence):
-                typed(word, "the amount")
+                number(word, "the amount")
 
     def test_notes(self) -> None:
         self.assertEqual(
