@@ -8,6 +8,7 @@ from __future__ import annotations
 
 import re
 import unicodedata
+from dataclasses import replace
 from fractions import Fraction
 from typing import Collection, NamedTuple, Optional, Sequence
 
@@ -70,6 +71,8 @@ def found_in(text: str, layout: Layout) -> Found:
     """The sheet of a text, with its columns."""
     widths: Collection[int] = range(3, MOST_COLUMNS + 1) if layout.has_head else (3, 4)
     sheet = sheet_of(text, widths, layout)
+    if not sheet.has_width(widths) and sheet_of(text, range(3, MOST_COLUMNS + 1), layout).is_named:
+        return found_in(text, replace(layout, has_head=True))
     width = len(sheet.rows[0].cells) if sheet.rows else 0
     places = places_by(sheet.head[:width])
     if {AIRLINE, COUNT, NEED}.issubset(places) and width in widths:
@@ -171,6 +174,9 @@ def remarks(text: str, layout: Layout) -> list[str]:
         told.append(f"the columns are taken as {', '.join(columns)}: not all headings are known")
     elif TYPE in found.places and not found.is_told and all(row.need >= 1 and row.need % 1 == 0 for row in read):
         told.append(f"{read[0].landings} is taken as landings, and {read[0].need} as what one needs: {ORDER}")
+    parted = next((row.airline for row in read if ", " in row.airline), None)
+    if TYPE not in found.places and parted:
+        told.append(f"{parted} has a comma, behind which `shares --by` takes a type to stand: take --together")
     last = read[-1]
     if len(read) > 2 and last.landings == sum(row.landings for row in read[:-1]):
         asked = "is that a row of the sum? It is taken as an airline"

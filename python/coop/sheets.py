@@ -9,6 +9,7 @@ from __future__ import annotations
 import csv
 import io
 import re
+import unicodedata
 from dataclasses import dataclass, replace
 from fractions import Fraction
 from typing import Collection, Iterator, NamedTuple, Optional, Sequence
@@ -23,6 +24,7 @@ NUMBER = re.compile(r"-?([0-9]+)((?:[.,][0-9]+)+)(?:[eE][-+]?[0-9]+)?")
 PARTED = re.compile(r"-?[0-9]{1,3}(?:([ \u00a0\u2009\u202f'\u2019])[0-9]{3})(?:\1[0-9]{3})*(?:[.,][0-9]+)?")
 WHOLE = re.compile(r"-?[0-9]+(?:/[0-9]+)?")
 HEAD = "; a line of headings is left out by --head"
+UNIT = "; a unit or a sign of money has to be left out"
 LEFT_OUT = "the first row and the first column, which have names, are left out"
 
 
@@ -263,7 +265,13 @@ def amount_of(row: Row, place: int, digits: Optional[int], hint: str = "") -> Fr
     try:
         return by_mark(row.cells[place], row.mark, digits)
     except BadInput as fault:
-        raise BadInput(f"line {row.line}: {fault}{hint}") from None
+        raise BadInput(f"line {row.line}: {fault}{UNIT if has_unit(row.cells[place]) else hint}") from None
+
+
+def has_unit(cell: str) -> bool:
+    """Whether a cell begins as a number and has a letter or a sign of money."""
+    begins = re.match(r"\W*[0-9]", cell)
+    return begins is not None and any(letter.isalpha() or unicodedata.category(letter) == "Sc" for letter in cell)
 
 
 def unparted(cell: str) -> str:

@@ -50,6 +50,8 @@ class Lists(unittest.TestCase):
         saved = '"","airline","cost","landings"\n"1","Aer",20,3\n"2","Bee",40,2\n'
         self.assertEqual(read(saved), three)
         self.assertIn("have names, are left out", remarks(saved, Layout())[0])
+        dated = ",date,airline,type,landings,cost\n0,2024-01-15,Aer,DH8,3,20\n1,2024-01-16,Bee,DH8,2.0,40.0\n"
+        self.assertEqual(read(dated), [("Aer, DH8", 20, 3), ("Bee, DH8", 40, 2)])
         self.assertEqual(read("1;Aer;20;3\n2;Bee;40;2\n", Layout(skip=1)), three)
         self.assertEqual(read("Aer;20;3.0\nBee;40;2,00\n"), three)
 
@@ -61,6 +63,8 @@ class Lists(unittest.TestCase):
         self.assertEqual(half, ["the columns are taken as airline, type, landings, need: not all headings are known"])
         dated = "Date,Airline,Type,Landings,Cost\n1/5,Aer,A320,3,20\n"
         self.assertEqual(remarks(dated, HEADED), ["left out: Date"])
+        comma = remarks("\"M, S\u00f6hne\",20.5,3\n", Layout())
+        self.assertIn("M, S\u00f6hne has a comma, behind which `shares --by` takes a type to stand", comma[0])
         summed = "Aer,20,3\nBee,40,2\nTotal,60,5\n"
         self.assertIn("Total has as many landings as all others", remarks(summed, Layout())[0])
         self.assertIn("480.000 is read as 480", remarks("Aer,480.000,3\n", Layout())[0])

@@ -301,7 +301,7 @@ class Scripts(unittest.TestCase):
         )
         twice = '{"game":{"class":"airport","costs":[2,4,6],"costs":[2,4,%s]}}'
         told = 'at $.game: the key "costs" stands twice, and the last one counts\n'
-        self.assertEqual(script("slip", text=twice % 7), (1, f"no refusal, but, {told}", ""))
+        self.assertEqual(script("slip", text=twice % 7), (1, f"no refusal, but {told}", ""))
         both = script("slip", text=twice % 1.5)
         self.assertEqual((both[0], both[1].count("\n"), both[1].splitlines(True)[1]), (1, 2, f"besides, {told}"))
         self.assertTrue(both[1].startswith("5 Number, at $.game.costs[2] (the cost of player 3): 1.5 has a point"))

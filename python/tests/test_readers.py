@@ -287,6 +287,17 @@ class Sheets(unittest.TestCase):
         for cell in ("1 20", "12 00,5", "1'200 300", "1200 300", "1 200 EUR"):
             with self.assertRaisesRegex(BadInput, "is no number"):
                 self.claims(f"A;{cell}\n")
+        for cell in ("1.200,50 \u20ac", "\u20ac 12", "12 EUR", "$12"):
+            with self.assertRaisesRegex(BadInput, "is no number; write .*; a unit or a sign of money has to be left out"):
+                self.claims(f"A;{cell}\n")
+        for text, sentence in (("Cost 2024;x\nA;1\n", "'x' is no .* --head$"), ("A;2024-01-15\n", "--head$")):
+            with self.assertRaisesRegex(BadInput, sentence):
+                self.claims(text)
+        with self.assertRaisesRegex(BadInput, "65 claims: an estate has at most 64"):
+            self.claims("".join(f"p{i};1\n" for i in range(65)))
+        dated = "date,v1,v2,v3\n2024-01-15,1,2,4\n"
+        with self.assertRaisesRegex(BadInput, "line 2: '2024-01-15' is no number.* --skip 1$"):
+            list(vectors(dated, "size", layout=Layout(has_head=True)))
         vector = next(vectors("sep=;\n1;2;1\u00a0200,5\n", "mask"))
         self.assertEqual(vector.tree["worths"], [1, 2, "2401/2"])
 
