@@ -288,7 +288,7 @@ class Sheets(unittest.TestCase):
             with self.assertRaisesRegex(BadInput, "is no number"):
                 self.claims(f"A;{cell}\n")
         for cell in ("1.200,50 \u20ac", "\u20ac 12", "12 EUR", "$12"):
-            with self.assertRaisesRegex(BadInput, "is no number; write .*; a unit or a sign of money has to be left out"):
+            with self.assertRaisesRegex(BadInput, "is no number.*; a unit or a sign of money has to be left out"):
                 self.claims(f"A;{cell}\n")
         for text, sentence in (("Cost 2024;x\nA;1\n", "'x' is no .* --head$"), ("A;2024-01-15\n", "--head$")):
             with self.assertRaisesRegex(BadInput, sentence):
