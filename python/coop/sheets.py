@@ -180,6 +180,9 @@ def advice_on_width(sheet: Sheet, row: Row, example: str) -> str:
     firsts = [other.cells[0] for other in sheet.rows if other.cells]
     if are_counted(firsts) or are_counted(firsts[1:]):
         return "is the first one the number of the row? Then leave it out by --skip 1"
+    if sheet.sign == "," and len(row.cells) > 2 and all(cell.isdigit() for cell in row.cells[-2:]):
+        both = ",".join(row.cells[-2:])
+        return f"is {both} one number, with a comma in front of decimals? Then write semicolons between cells"
     skip = ", or leave out columns in front by --skip" * (len(row.cells) > 2)
     return f"write {example}, or the same with semicolons or tabs{skip}"
 

@@ -182,6 +182,24 @@ class Scripts(unittest.TestCase):
         self.assertEqual(rows[1], "1;light alone;-1,00;medium and heavy together;-0,67")
         self.refused(script("compare", "--sep", "tab", text=lines), "--csv")
 
+    def test_what_is_told_once_and_how_to_save(self) -> None:
+        """Names that look alike are told once for all rows; and what isn't UTF-8 is told with what to choose."""
+        rows = script("from-vector", "--order", "mask", "--names", "A,a", text="1,2,4\n" * 30)
+        self.assertEqual((rows[0], rows[1].count("\n"), rows[2].count("capitals alone")), (0, 30, 1))
+        with tempfile.TemporaryDirectory() as folder:
+            path = os.path.join(folder, "claims.csv")
+            with open(path, "wb") as file:
+                file.write("M\u00fcller;1\n".encode("cp1252"))
+            self.refused(script("from-claims", "--estate", "1", path), "isn't UTF-8", "CSV UTF-8")
+        self.refused(script("from-costs", text="\u0394" * 33 + ",1\n"), "64 bytes; letters beyond ASCII have several")
+        twice = '{"game":{"class":"airport","costs":[1],"costs":[1.5]}}'
+        with tempfile.TemporaryDirectory() as folder:
+            path = os.path.join(folder, "twice.json")
+            with open(path, "w", encoding="utf-8") as file:
+                file.write(twice)
+            told = script("explain", "-", path, text='{"number":5,"refused":"Number"}')
+        self.assertIn('Besides, at $.game: the key "costs" stands twice', " ".join(told[1].split()))
+
     @needs_program
     def test_columns_of_many(self) -> None:
         """A file's name with blanks keeps its column by tabs; a CSV may have decimal commas."""

@@ -262,7 +262,9 @@ class Sheets(unittest.TestCase):
         self.assertEqual(self.claims("1,Adler,1200.5\n2,Brandt,800\n", Layout(skip=1)), wanted)
         for text, sentence in (
             ("1,Adler,1200.5\n2,Brandt,800\n", "line 1 has 3 columns, and not 2: is the first one .* --skip 1"),
-            (",5,7\nAdler,1,2\n", "line 1 has 3 columns, and not 2: write Adler"),
+            (",5,7\nAdler,1,2\n", "line 1 has 3 columns, and not 2: is 5,7 one number, with a comma"),
+            ("Adler,1200,50\nBrandt,800\n", "line 1 has 3 columns, and not 2: is 1200,50 one number, with a comma"),
+            ("2024-01-15,Adler,1200\n", "line 1 has 3 columns, and not 2: write Adler.* --skip"),
             (",name,claim\nAdler,1\n", "line 1 has 3 columns"),
         ):
             with self.assertRaisesRegex(BadInput, sentence):
