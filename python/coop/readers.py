@@ -4,6 +4,7 @@ Cells stand between commas, semicolons or tabs; a `layout` says what the file do
 """
 from __future__ import annotations
 
+import re
 from fractions import Fraction
 from typing import Any, Iterator, NamedTuple, Optional, Sequence
 
@@ -17,6 +18,7 @@ from .sheets import AS_SEEN, Cell, Layout, Row, amount_of, by_mark, fixed_rows, 
 from .vectors import in_mask_order
 
 MOST_CLAIMS = 64
+ANOTHER_SIGN = re.compile(r"[&/|,;]| and | und | et ")
 SKIP = "; a first column of names is left out by --skip 1"
 
 
@@ -48,7 +50,10 @@ def groups(
     rows = [(row, members_of(row), amount_of(row, 1, digits, hint_at(row, found, layout))) for row in found]
     names = names_of([(row, group) for row, group, _ in rows])
     amounts = once_each(rows, names)
-    filled = missing_groups(amounts, names, fill or within, within)
+    try:
+        filled = missing_groups(amounts, names, fill or within, within)
+    except BadInput as fault:
+        raise BadInput(f"{fault}{no_player(rows, names)}") from None
     everything = {**amounts, **{item.group: item.amount for item in filled}}
     sparse = [([names[i] for i in members(group)], everything[group]) for group in everything]
     lines = {mask_of(map(names.index, group)): row.line for row, group, _ in rows}
@@ -114,6 +119,18 @@ def missing_groups(
         )
         raise BadInput(f"{'+'.join(names[i] for i in members(first))} has no line{advice}")
     return []
+
+
+def no_player(rows: Sequence[tuple[Row, list[str], Fraction]], names: Sequence[str]) -> str:
+    """Which row, where groups lack, may be of no player: a group with another sign than + in it, or the sum."""
+    for row, group, _ in rows:
+        parts = [part.strip() for part in ANOTHER_SIGN.split(group[0])]
+        if len(group) == 1 and len(parts) > 1 and all(part in names for part in parts):
+            return f"; is {group[0]}, in line {row.line}, the group {'+'.join(parts)}? A + stands between members"
+    *others, (row, group, amount) = rows
+    if len(rows) > 2 and len(group) == 1 and amount == sum(other for _, _, other in others):
+        return f"; is {group[0]}, in line {row.line}, a row of the sum?"
+    return ""
 
 
 # ---- A game a row

@@ -39,6 +39,18 @@ class Readers(unittest.TestCase):
             with self.assertRaisesRegex(BadInput, sentence):
                 groups(text)
 
+    def test_a_row_of_no_player(self) -> None:
+        """Where groups lack, since a row is no player's: a group by another sign, or the sum."""
+        for text, fill, sentence in (
+            ("a,3\nb,4\na & b,6\n", False, "; is a & b, in line 3, the group a\\+b\\? A \\+ stands between members"),
+            ("a;3\nb;4\na und b;6\n", True, "; is a und b, in line 3, the group a\\+b"),
+            ("a,3\nb,4\na+b,6\nTotal,13\n", False, "; is Total, in line 4, a row of the sum"),
+            ("a,3\nb,4\n", False, "takes the cheapest split\\)$"),
+        ):
+            with self.assertRaisesRegex(BadInput, sentence):
+                groups(text, fill=fill)
+        self.assertEqual(groups("a,3\nb & a,4\na+b & a,6\n").game.names, ["a", "b & a"])
+
     def test_filling(self) -> None:
         costed = groups(COSTS, fill=True)
         self.assertEqual(
