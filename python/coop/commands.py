@@ -8,6 +8,7 @@ import sys
 from typing import Any, Callable, Iterable, NoReturn, Optional, Sequence, Union
 
 from .amounts import MOST_SCALE
+from .cells import Cells, cells_named
 from .errors import BadInput, CoopError
 from .game import Game
 from .names import visible, warning
@@ -54,6 +55,15 @@ class Options(argparse.ArgumentParser):
         told = "leave out the marks at what each adds to all others, as where groups were filled in"
         self.add_argument("--no-added", dest="with_added", action="store_false", help=told)
 
+    def add_cells(self, text: str = "with --csv") -> None:
+        """How a CSV is laid out."""
+        told = f"which mark stands in front of decimals {text} (else a point); with commas, semicolons between cells"
+        self.add_argument("--decimal", choices=list(MARKS), help=told)
+        told = f"what stands between cells {text} (else commas, or semicolons)"
+        self.add_argument("--sep", choices=[name for name in SEPARATORS if name != "blank"], help=told)
+        told = f"begin {text} with a byte order mark, without which Excel spoils letters with accents, or Greek"
+        self.add_argument("--bom", action="store_true", help=told)
+
     def add_over(self) -> None:
         """By what numbers of a document that was multiplied are divided."""
         told = "divide all by N, for documents that were multiplied"
@@ -71,11 +81,20 @@ class Options(argparse.ArgumentParser):
         self.add_argument("--decimal", choices=list(MARKS), help=told)
         told = "what stands between cells (else what the file has: tabs, semicolons, commas)"
         self.add_argument("--sep", choices=list(SEPARATORS), help=told)
+        told = "leave out N columns in front, as numbers of rows"
+        self.add_argument("--skip", type=columns, default=0, metavar="N", help=told)
 
 
 def layout_of(chosen: Any) -> Layout:
     """The layout that the words name."""
-    return Layout(chosen.sep, chosen.decimal, chosen.head, getattr(chosen, "skip", 0))
+    return Layout(chosen.sep, chosen.decimal, chosen.head, chosen.skip)
+
+
+def cells_of(options: Options, chosen: Any, is_csv: bool) -> Cells:
+    """How cells are written by the words, which speak of a CSV alone."""
+    if not is_csv and (chosen.decimal or chosen.sep or chosen.bom):
+        options.error("--decimal, --sep and --bom lay out a CSV: give --csv too")
+    return cells_named(chosen.sep, chosen.decimal, chosen.bom)
 
 
 def say_notes(text: str, columns: int, layout: Layout, beside: Sequence[Cell] = ()) -> None:
@@ -88,6 +107,13 @@ def digits(text: str) -> int:
     """A number of decimals."""
     if not text.isascii() or not text.isdigit() or int(text) > MOST_PLACES:
         raise argparse.ArgumentTypeError(f"{text!r} isn't a number from 0 to {MOST_PLACES}")
+    return int(text)
+
+
+def columns(text: str) -> int:
+    """A number of columns."""
+    if not text.isascii() or not text.isdigit() or len(text) > 3:
+        raise argparse.ArgumentTypeError(f"{text!r} is no number of columns")
     return int(text)
 
 
@@ -139,17 +165,20 @@ def add_scaled(options: Options) -> None:
 def documents_of(games: Iterable[Game], may_scale: bool) -> str:
     """The documents of games, one a line. What they were multiplied by is told; it has to be asked for."""
     lines, factors = [], set()
+    looks: dict[Optional[str], None] = {}
     for game in games:
         if game.factor > 1 and not may_scale:
             raise BadInput(
                 f"the numbers have the common denominator {game.factor}, above {MOST_SCALE}: round them (--digits 4), "
                 "or have all multiplied by it (--scaled)"
             )
-        warn_of(game.names)
+        looks[warning(game.names) if game.named else None] = None
         factors.add(game.factor)
         lines.append(game.document().decode() + "\n")
     if len(factors) > 1:
         raise BadInput("the games would be multiplied by different numbers: name a number of digits, as --digits 9")
+    for sentence in filter(None, looks):
+        say(sentence)
     for factor in factors - {1}:
         say(f"numbers were multiplied by {factor}: divide what comes out, by --over {factor} of the scripts")
     return "".join(lines)

@@ -69,7 +69,7 @@ def read_text(path: str, may_be_marked: bool = True) -> tuple[str, str]:
     try:
         return data.decode("utf-8-sig"), where
     except UnicodeError:
-        raise BadInput(f"{where} isn't UTF-8") from None
+        raise BadInput(f"{where} isn't UTF-8: save it as UTF-8 (of Excel's kinds of CSV, as CSV UTF-8)") from None
 
 
 def once(pairs: list[tuple[str, Any]]) -> dict[str, Any]:

@@ -2,10 +2,12 @@
 from __future__ import annotations
 
 from fractions import Fraction
+from functools import partial
 from math import lcm
-from typing import NamedTuple, Optional, Sequence
+from typing import Callable, NamedTuple, Optional, Sequence
 
 from .amounts import common_denominator
+from .cells import PLAIN, Cells, csv_text
 from .documents import Point, without_measure
 from .errors import BadInput
 from .game import Game
@@ -13,7 +15,7 @@ from .groups import Namer
 from .masks import members
 from .prose import filled
 from .styles import EXACT, Style
-from .tables import aligned, csv_text
+from .tables import aligned
 
 MOST_PLAYERS = 16
 SHOWN = 8  # of a long row of equal places, the first and the last
@@ -145,25 +147,27 @@ class Comparison:
             places = places[:SHOWN] + [-1] + places[-SHOWN:]
         columns: list[list[str]] = [["place"], ["group"], [self.points[0].name], ["group"], [self.points[1].name]]
         for place in places:
-            for column, cell in zip(columns, self.row(place)):
+            for column, cell in zip(columns, self.row(place, self.say)):
                 column.append(cell)
         left = [columns[0], columns[1], columns[3]]
         return aligned([left[0], left[1], columns[2], left[2], columns[4]], {0, 1, 3})
 
-    def row(self, place: int) -> list[str]:
+    def row(self, place: int, say: Callable[[Fraction], str]) -> list[str]:
         """One place of both lists."""
         if place < 0:
             return ["..", "", "", "", ""]
         cells = [str(place + 1)]
         for some in self.lists:
-            cells += [self.namer.group(some[place].group), self.say(some[place].excess)]
+            cells += [self.namer.group(some[place].group), say(some[place].excess)]
         return cells
 
-    def rows(self) -> list[list[str]]:
-        """Both lists, whole, as rows below a head."""
-        head = ["place", f"group of {self.points[0].name}", self.points[0].name]
-        head += [f"group of {self.points[1].name}", self.points[1].name]
-        return [head, *(self.row(place) for place in range(len(self.lists[0])))]
+    def rows(self, cells: Cells = PLAIN) -> list[list[str]]:
+        """Both lists, whole, as rows below a head, with numbers for a spreadsheet."""
+        head, unit = ["place"], f", {self.say.unit}" if self.say.unit else ""
+        for point in self.points:
+            head += [f"group of {point.name}", point.name + unit]
+        say = partial(cells.number, style=self.say)
+        return [head, *(self.row(place, say) for place in range(len(self.lists[0])))]
 
 
 def comparisons(points: Sequence[Point], say: Style = EXACT) -> list[Comparison]:
@@ -196,7 +200,7 @@ def told(found: Sequence[Comparison], everything: bool = False) -> str:
     return f"{first}\n\nBy plain excess:\n{plain}\n{per_head}"
 
 
-def csv(found: Sequence[Comparison]) -> str:
+def csv(found: Sequence[Comparison], cells: Cells = PLAIN) -> str:
     """The lists, whole, as CSV; of two comparisons one below the other, by a last column with the measure."""
-    rows = [[*row, *([one.measure()] * (len(found) > 1))] for one in found for row in one.rows()[1:]]
-    return csv_text([[*found[0].rows()[0], *(["measure"] * (len(found) > 1))], *rows])
+    rows = [[*row, *([one.measure()] * (len(found) > 1))] for one in found for row in one.rows(cells)[1:]]
+    return csv_text([[*found[0].rows()[0], *(["measure"] * (len(found) > 1))], *rows], cells)

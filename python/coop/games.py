@@ -85,13 +85,16 @@ def airport(
 
 def landings(rows: Iterable[tuple[str, Amount, int]], *, digits: Optional[int] = None, per_head: bool = False) -> Game:
     """An airport by airlines: a name, what a landing needs alone, and how many landings. Each landing is a player, with
-    its number behind the name."""
+    its number behind the name; of a name that has several rows the numbers go on."""
     names: list[str] = []
     costs: list[Amount] = []
+    done: dict[str, int] = {}
     for name, cost, count in rows:
         if type(count) is not int or count < 1:
             raise BadInput(f"{name}: {count!r} is no number of landings")
-        names += [f"{name} {i + 1}" for i in range(count)]
+        first = done.get(name, 0) + 1
+        done[name] = first + count - 1
+        names += [f"{name} {number}" for number in range(first, first + count)]
         costs += [cost] * count
         if len(names) > 64:
             way = "coop.runways works out more, by both rules (docs/examples.md)"
@@ -186,7 +189,8 @@ def checked_names(names: Sequence[str]) -> list[str]:
     """The names, each a text of 1 to 64 bytes that stands once."""
     for name in names:
         if not isinstance(name, str) or not 1 <= len(name.encode("utf-8", "replace")) <= MOST_NAME:
-            raise BadInput(f"{str(name)[:80]!r} is no name of 1 to {MOST_NAME} bytes")
+            told = f"is no name of 1 to {MOST_NAME} bytes; letters beyond ASCII have several"
+            raise BadInput(f"{str(name)[:80]!r} {told}")
     if len(set(names)) < len(names):
         raise BadInput(f"the name {next(name for name in names if list(names).count(name) > 1)!r} stands twice")
     return list(names)

@@ -9,12 +9,17 @@ from fractions import Fraction
 from typing import Any, Iterator, NamedTuple, Optional, Sequence
 
 from . import filling, games
+from .airlines import landings_in
 from .errors import BadInput
 from .game import MOST_IN_A_TABLE, Game
 from .masks import mask_of, members
 from .names import looks, shown
-from .sheets import AS_SEEN, HEAD, Cell, Layout, Row, amount_of, by_mark, fixed_rows, rows_of_numbers
+from .sheets import AS_SEEN, Cell, Layout, Row, amount_of, by_mark, fixed_rows, hint_at, rows_of_numbers
 from .vectors import in_mask_order
+
+MOST_CLAIMS = 64
+ANOTHER_SIGN = re.compile(r"[&/|,;]| and | und | et ")
+SKIP = "; a first column of names is left out by --skip 1"
 
 
 # ---- A line for each group
@@ -42,10 +47,13 @@ def groups(
     stands once; with `fill`, one that doesn't costs what its cheapest split into groups that do costs, and with
     `within` no more than by the works of larger groups."""
     found = fixed_rows(text, 2, "Sales+Ops,12.50", layout)
-    rows = [(row, members_of(row), amount_of(row, 1, digits, HEAD * (row is found[0]))) for row in found]
+    rows = [(row, members_of(row), amount_of(row, 1, digits, hint_at(row, found, layout))) for row in found]
     names = names_of([(row, group) for row, group, _ in rows])
     amounts = once_each(rows, names)
-    filled = missing_groups(amounts, names, fill or within, within)
+    try:
+        filled = missing_groups(amounts, names, fill or within, within)
+    except BadInput as fault:
+        raise BadInput(f"{fault}{no_player(rows, names)}") from None
     everything = {**amounts, **{item.group: item.amount for item in filled}}
     sparse = [([names[i] for i in members(group)], everything[group]) for group in everything]
     lines = {mask_of(map(names.index, group)): row.line for row, group, _ in rows}
@@ -113,6 +121,18 @@ def missing_groups(
     return []
 
 
+def no_player(rows: Sequence[tuple[Row, list[str], Fraction]], names: Sequence[str]) -> str:
+    """Which row, where groups lack, may be of no player: a group with another sign than + in it, or the sum."""
+    for row, group, _ in rows:
+        parts = [part.strip() for part in ANOTHER_SIGN.split(group[0])]
+        if len(group) == 1 and len(parts) > 1 and all(part in names for part in parts):
+            return f"; is {group[0]}, in line {row.line}, the group {'+'.join(parts)}? A + stands between members"
+    *others, (row, group, amount) = rows
+    if len(rows) > 2 and len(group) == 1 and amount == sum(other for _, _, other in others):
+        return f"; is {group[0]}, in line {row.line}, a row of the sum?"
+    return ""
+
+
 # ---- A game a row
 
 
@@ -128,9 +148,10 @@ def vectors(
 ) -> Iterator[Game]:
     """A game from each row of numbers, in an order of `vectors.ORDERS`; blanks may stand between them, too. A head and
     a first column of names are left out, where the head has no word above that column."""
-    rows, _ = rows_of_numbers(text, layout)
+    rows, found = rows_of_numbers(text, layout)
     for row in rows:
-        amounts = [amount_of(row, i, digits, HEAD * (row is rows[0])) for i in range(len(row.cells))]
+        hints = [hint_at(row, rows, found) or SKIP * (i == found.skip == 0) for i in range(len(row.cells))]
+        amounts = [amount_of(row, i, digits, hint) for i, hint in enumerate(hints)]
         try:
             vector = in_mask_order(amounts, order)
             players = len(vector).bit_length()
@@ -138,8 +159,7 @@ def vectors(
                 raise BadInput(f"{len(names)} names for {players} players")
             yield games.made(kind, {"players": players, "worths": vector}, names, per_head, digits)
         except BadInput as fault:
-            hint = "; a first column of names is left out by --skip 1" * ("empty group first" in str(fault))
-            raise BadInput(f"line {row.line}: {fault}{hint}") from None
+            raise BadInput(f"line {row.line}: {fault}{SKIP * ('empty group first' in str(fault))}") from None
 
 
 def left_out(text: str, layout: Layout) -> list[str]:
@@ -159,7 +179,9 @@ def claims(text: str, estate: Any, *, digits: Optional[int] = None, layout: Layo
     """An estate from lines of a name and a claim. An estate that is a text is read by the mark in front of decimals
     that the claims have; where neither tells it surely, as 400.000, it is refused."""
     rows = fixed_rows(text, 2, "Adler,1200.50", layout, estate_beside(estate))
-    amounts = [amount_of(row, 1, digits, HEAD * (row is rows[0])) for row in rows]
+    if len(rows) > MOST_CLAIMS:
+        raise BadInput(f"{len(rows)} claims: an estate has at most {MOST_CLAIMS}")
+    amounts = [amount_of(row, 1, digits, hint_at(row, rows, layout)) for row in rows]
     try:
         whole = by_mark(estate.strip(), rows[0].mark, digits) if isinstance(estate, str) else estate
     except BadInput as fault:
@@ -173,15 +195,10 @@ def estate_beside(estate: Any) -> list[Cell]:
 
 
 def landings(text: str, *, digits: Optional[int] = None, layout: Layout = AS_SEEN) -> Game:
-    """An airport from lines of an airline, what a landing of it needs alone, and how many landings."""
-    rows = fixed_rows(text, 3, "Aer,20.50,3", layout)
-    amounts = [amount_of(row, 1, digits, HEAD * (row is rows[0])) for row in rows]
-    named_once(rows)
-    for row in rows:
-        if not re.fullmatch("[0-9]{1,9}", row.cells[2]):
-            raise BadInput(f"line {row.line}: {row.cells[2]} is no number of landings")
-    triples = [(row.cells[0], amount, int(row.cells[2])) for row, amount in zip(rows, amounts)]
-    return games.landings(triples, digits=digits)
+    """An airport from lines of an airline, what a landing of it needs alone, and how many landings; or of an airline, a
+    type, how many landings, and what one needs. Headings tell the columns in whatever order (`airlines`)."""
+    rows = landings_in(text, digits=digits, layout=layout)
+    return games.landings([(row.name, row.need, row.landings) for row in rows], digits=digits)
 
 
 def named_once(rows: Sequence[Row]) -> list[str]:

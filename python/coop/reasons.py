@@ -14,7 +14,7 @@ from .mail import spoilt
 from .over import divided
 from .prose import filled
 from .sentences import Teller
-from .slips import NAMES, NEEDS, slip_in
+from .slips import NAMES, NEEDS, repeated, slip_in
 from .styles import EXACT, Style
 
 CHECKED = ("nucleolus", "prenucleolus")
@@ -113,5 +113,7 @@ def refusal(tree: dict[str, Any], document: Optional[bytes]) -> str:
     for command in ("nucleolus", *NEEDS):
         slip = slip_in(document, command)
         if slip and slip.number == number:
-            return filled(f"The document is refused: {number} {NAMES[number]}. {slip}.")
+            twice = repeated(document)
+            besides = f" Besides, at {twice}." if twice else ""
+            return filled(f"The document is refused: {number} {NAMES[number]}. {slip}.{besides}")
     raise BadInput(f"the document isn't refused for {number} {NAMES[number]}: is it another one?")

@@ -1,16 +1,18 @@
 """Rows of CSV as programs save them: which sign stands between cells, which in front of decimals, and what is a head.
 
 A file with tabs or semicolons may have decimal commas; one with commas has points, unless its numbers stand in quotes.
-Where the numbers of a file don't tell which, as 480.000, the mark has to be named.
+Where the numbers of a file don't tell which, as 480.000, the mark has to be named. A first column with the names or the
+numbers of rows, below an empty corner, is left out, and so are columns behind that are empty.
 """
 from __future__ import annotations
 
 import csv
 import io
 import re
+import unicodedata
 from dataclasses import dataclass, replace
 from fractions import Fraction
-from typing import Iterator, NamedTuple, Optional, Sequence
+from typing import Collection, Iterator, NamedTuple, Optional, Sequence
 
 from .amounts import fraction_of
 from .errors import BadInput
@@ -19,7 +21,11 @@ SEPARATORS = {"tab": "\t", "semicolon": ";", "comma": ",", "blank": " "}
 MARKS = {"point": ".", "comma": ","}
 OTHER = {".": ",", ",": "."}
 NUMBER = re.compile(r"-?([0-9]+)((?:[.,][0-9]+)+)(?:[eE][-+]?[0-9]+)?")
+PARTED = re.compile(r"-?[0-9]{1,3}(?:([ \u00a0\u2009\u202f'\u2019])[0-9]{3})(?:\1[0-9]{3})*(?:[.,][0-9]+)?")
+WHOLE = re.compile(r"-?[0-9]+(?:/[0-9]+)?")
 HEAD = "; a line of headings is left out by --head"
+UNIT = "; a unit or a sign of money has to be left out"
+LEFT_OUT = "the first row and the first column, which have names, are left out"
 
 
 Cell = tuple[str, str]
@@ -32,6 +38,21 @@ class Row(NamedTuple):
     line: int
     cells: list[str]
     mark: str = "."
+
+
+class Sheet(NamedTuple):
+    """The rows of a file below its headings, without columns that are left out; the sign between cells; and whether
+    names of rows were left out unasked."""
+
+    head: list[str]
+    rows: list[Row]
+    sign: str
+    is_named: bool
+
+    def has_width(self, widths: Collection[int]) -> bool:
+        """Whether all rows have the same number of cells, one of these."""
+        counts = {len(row.cells) for row in self.rows}
+        return len(counts) == 1 and counts.issubset(widths)
 
 
 @dataclass(frozen=True)
@@ -63,14 +84,68 @@ def cells_of(text: str, separator: str) -> Iterator[Row]:
         raise BadInput(f"line {reader.line_num}: {fault}") from None
 
 
-def separator_of(text: str, columns: Optional[int]) -> str:
-    """The sign between cells: the first by which all rows have so many cells, or else the first that is there."""
+def told_sign(text: str) -> tuple[str, Optional[str]]:
+    """The text, and the sign between cells where a first line names it, as Excel's "sep=;" does; that line is
+    emptied."""
+    match = re.match(r'"?sep=(.)"?\r?\n', text, re.IGNORECASE)
+    return ("\n" + text[match.end() :], match[1]) if match else (text, None)
+
+
+def signs_in(text: str, layout: Layout, may_be_blank: bool) -> tuple[str, list[str]]:
+    """The text, and the signs that may stand between its cells, the likeliest first."""
+    text, told = told_sign(text)
+    if layout.separator or told:
+        return text, [SEPARATORS[layout.separator] if layout.separator else told or ","]
     bare = re.sub(r'"[^"\n]*"', "", text)
-    there = [sign for sign in SEPARATORS.values() if sign in bare and (sign != " " or columns is None)]
-    for sign in there if columns is not None else []:
-        if all(len(row.cells) == columns for row in cells_of(text, sign)):
-            return sign
-    return there[0] if there else ","
+    there = [sign for sign in SEPARATORS.values() if sign in bare and (may_be_blank or sign != " ")]
+    return text, there or [","]
+
+
+def sheet_of(text: str, widths: Collection[int], layout: Layout) -> Sheet:
+    """A text by the first sign by which all rows have one of these numbers of cells, or else by the first that is
+    there."""
+    text, signs = signs_in(text, layout, False)
+    sheets = [parted(text, sign, widths, layout) for sign in signs]
+    return next((sheet for sheet in sheets if sheet.has_width(widths)), sheets[0])
+
+
+def parted(text: str, sign: str, widths: Collection[int], layout: Layout) -> Sheet:
+    """A text by a sign between cells."""
+    rows = list(cells_of(text, sign))
+    counted = rows[1:] if layout.has_head else rows
+    most = max((k + 1 for row in counted for k, cell in enumerate(row.cells) if cell), default=0)
+    rows = [row._replace(cells=row.cells[:most]) for row in rows]
+    is_named = not layout.skip and has_names(rows, widths)
+    skip = layout.skip or int(is_named)
+    head, below = (rows[:1], rows[1:]) if layout.has_head or is_named else ([], rows)
+    return Sheet(
+        [cell for row in head for cell in row.cells[skip:]],
+        [row._replace(cells=row.cells[skip:]) for row in below],
+        sign,
+        is_named,
+    )
+
+
+def has_names(rows: Sequence[Row], widths: Collection[int]) -> bool:
+    """Whether a first column has the names of rows, as R and pandas save them: below an empty corner, beside which
+    headings stand, and with it there is one column more than belongs there."""
+    if len(rows) < 2:
+        return False
+    first, width = rows[0].cells, len(rows[0].cells)
+    if width - 1 not in widths or first[0] or any(len(row.cells) != width for row in rows):
+        return False
+    counted = [str(i) for i in range(width - 1)]
+    return first[1:] == counted or not any(is_number(cell) for cell in first[1:])
+
+
+def is_number(cell: str) -> bool:
+    """Whether a cell has a number, and no word."""
+    return bool(WHOLE.fullmatch(unparted(cell)) or NUMBER.fullmatch(unparted(cell)))
+
+
+def are_counted(cells: Sequence[str]) -> bool:
+    """Whether cells count rows: 1, 2, 3 or 0, 1, 2."""
+    return len(cells) > 1 and any(list(cells) == [str(i + k) for i in range(len(cells))] for k in (0, 1))
 
 
 def without_names(rows: list[Row], layout: Layout) -> tuple[list[Row], Layout]:
@@ -82,31 +157,51 @@ def without_names(rows: list[Row], layout: Layout) -> tuple[list[Row], Layout]:
     return [Row(row.line, row.cells[layout.skip :]) for row in kept], layout
 
 
+def require_width(sheet: Sheet, widths: Collection[int], example: str) -> None:
+    """Refuses a sheet that has no rows, or a row of another number of cells."""
+    if not sheet.rows:
+        raise BadInput("there is no line")
+    for row in sheet.rows:
+        if len(row.cells) not in widths or len(row.cells) != len(sheet.rows[0].cells):
+            raise BadInput(f"line {row.line} {told_width(sheet, row, widths)}: {advice_on_width(sheet, row, example)}")
+        if sheet.sign == "," and re.search(r";\s*-?[0-9.]*$", row.cells[0]):
+            raise BadInput(f"line {row.line} has a semicolon: write {example}, or semicolons in all lines")
+
+
+def told_width(sheet: Sheet, row: Row, widths: Collection[int]) -> str:
+    """How many columns a row has, and how many it should have."""
+    count = "1 column" if len(row.cells) == 1 else f"{len(row.cells)} columns"
+    wanted = len(sheet.rows[0].cells)
+    return f"has {count}, and not {wanted if wanted in widths else ' or '.join(map(str, widths))}"
+
+
+def advice_on_width(sheet: Sheet, row: Row, example: str) -> str:
+    """What may be done about a row of another number of cells."""
+    firsts = [other.cells[0] for other in sheet.rows if other.cells]
+    if are_counted(firsts) or are_counted(firsts[1:]):
+        return "is the first one the number of the row? Then leave it out by --skip 1"
+    if sheet.sign == "," and len(row.cells) > 2 and all(cell.isdigit() for cell in row.cells[-2:]):
+        both = ",".join(row.cells[-2:])
+        return f"is {both} one number, with a comma in front of decimals? Then write semicolons between cells"
+    skip = ", or leave out columns in front by --skip" * (len(row.cells) > 2)
+    return f"write {example}, or the same with semicolons or tabs{skip}"
+
+
 def fixed_rows(text: str, columns: int, example: str, layout: Layout, beside: Sequence[Cell] = ()) -> list[Row]:
     """The rows of a text, each of so many cells, as the example has them, with the number in the second. What is given
     beside the file, as an estate, tells the mark in front of decimals too."""
-    sign = SEPARATORS[layout.separator] if layout.separator else separator_of(text, columns)
-    rows = list(cells_of(text, sign))
-    for row in rows:
-        if len(row.cells) != columns:
-            count = "1 column" if len(row.cells) == 1 else f"{len(row.cells)} columns"
-            advice = f"write {example}, or the same with semicolons or tabs"
-            raise BadInput(f"line {row.line} has {count}, and not {columns}: {advice}")
-        if sign == "," and re.search(r";\s*-?[0-9.]*$", row.cells[0]):
-            raise BadInput(f"line {row.line} has a semicolon: write {example}, or semicolons in all lines")
-    rows = rows[1:] if layout.has_head else rows
-    if not rows:
-        raise BadInput("there is no line")
-    return marked(rows, [(f"line {row.line}", row.cells[1]) for row in rows], sign, layout, beside)
+    sheet = sheet_of(text, (columns,), layout)
+    require_width(sheet, (columns,), example)
+    return marked(sheet.rows, [(f"line {row.line}", row.cells[1]) for row in sheet.rows], sheet.sign, layout, beside)
 
 
 def rows_of_numbers(text: str, layout: Layout) -> tuple[list[Row], Layout]:
     """The rows of a text that has only numbers, and how it is laid out: a head and names in front are left out."""
-    sign = SEPARATORS[layout.separator] if layout.separator else separator_of(text, None)
-    rows, found = without_names(list(cells_of(text, sign)), layout)
+    text, signs = signs_in(text, layout, True)
+    rows, found = without_names(list(cells_of(text, signs[0])), layout)
     if not rows:
         raise BadInput("there is no line")
-    return marked(rows, [(f"line {row.line}", cell) for row in rows for cell in row.cells], sign, layout), found
+    return marked(rows, [(f"line {row.line}", cell) for row in rows for cell in row.cells], signs[0], layout), found
 
 
 # ---- Decimals
@@ -120,7 +215,7 @@ def marked(
         mark = MARKS[layout.decimal]
     else:
         has_points = sign == "," and not any("," in cell for _, cell in cells)
-        is_told = not has_points or any(NUMBER.fullmatch(cell) for _, cell in beside)
+        is_told = not has_points or any(NUMBER.fullmatch(unparted(cell)) for _, cell in beside)
         mark = mark_in([*cells, *beside]) if is_told else "."
     return [Row(row.line, row.cells, mark) for row in rows]
 
@@ -130,7 +225,7 @@ def mark_in(cells: Sequence[Cell]) -> str:
     found: dict[str, Cell] = {}
     unsure: Optional[Cell] = None
     for place, cell in cells:
-        match = NUMBER.fullmatch(cell)
+        match = NUMBER.fullmatch(unparted(cell))
         mark = told_by(match[1], match[2]) if match else None
         if mark:
             found.setdefault(mark, (place, cell))
@@ -163,17 +258,35 @@ def told_by(first: str, rest: str) -> Optional[str]:
     return None if last == 3 and len(first) < 4 and first[0] != "0" else marks[0]
 
 
+def hint_at(row: Row, rows: Sequence[Row], layout: Layout) -> str:
+    """What may be wrong with a first row, where headings weren't told."""
+    return HEAD if row is rows[0] and not layout.has_head else ""
+
+
 def amount_of(row: Row, place: int, digits: Optional[int], hint: str = "") -> Fraction:
     """The number of a cell."""
     try:
         return by_mark(row.cells[place], row.mark, digits)
     except BadInput as fault:
-        raise BadInput(f"line {row.line}: {fault}{hint}") from None
+        raise BadInput(f"line {row.line}: {fault}{UNIT if has_unit(row.cells[place]) else hint}") from None
+
+
+def has_unit(cell: str) -> bool:
+    """Whether a cell begins as a number and has a letter or a sign of money."""
+    begins = re.match(r"\W*[0-9]", cell)
+    return begins is not None and any(letter.isalpha() or unicodedata.category(letter) == "Sc" for letter in cell)
+
+
+def unparted(cell: str) -> str:
+    """A number without the blanks or apostrophes between its thousands, and with a minus that programs know."""
+    bare = cell.replace("\u2212", "-")
+    match = PARTED.fullmatch(bare)
+    return bare.replace(match[1], "") if match else bare
 
 
 def by_mark(cell: str, mark: str, digits: Optional[int]) -> Fraction:
     """The number of a text, by the mark in front of decimals."""
-    other = OTHER[mark]
+    cell, other = unparted(cell), OTHER[mark]
     if re.fullmatch(rf"-?[0-9]{{1,3}}([{other}][0-9]{{3}})+([{mark}][0-9]+)?", cell):
         cell = cell.replace(other, "")
     elif mark == "," and "." in cell:
@@ -185,15 +298,21 @@ def by_mark(cell: str, mark: str, digits: Optional[int]) -> Fraction:
 
 
 def notes(text: str, columns: int, layout: Layout, beside: Sequence[Cell] = ()) -> list[str]:
-    """What a reader may have meant otherwise: points in front of three decimals, and a last row that has the sum."""
+    """What a reader may have meant otherwise: names of rows that were left out, points in front of three decimals, and
+    a last row that has the sum."""
     rows = fixed_rows(text, columns, "", layout, beside)
-    cells = [row.cells[1] for row in rows]
-    pointed = [cell for cell in cells if "." in cell]
-    told = []
-    if rows[0].mark == "." and not layout.decimal and pointed:
-        if all(re.fullmatch(r"-?[1-9][0-9]{0,2}\.[0-9]{3}", cell) for cell in pointed):
-            told.append(f"{pointed[0]} is read as {fraction_of(pointed[0])}: a point stands in front of decimals")
+    told = [LEFT_OUT] * sheet_of(text, (columns,), layout).is_named
+    told += note_on_points(rows[0].mark, [row.cells[1] for row in rows], layout)
     amounts = [amount_of(row, 1, None) for row in rows]
-    if columns == 2 and len(rows) > 2 and "+" not in rows[-1].cells[0] and sum(amounts[:-1]) == amounts[-1]:
+    if len(rows) > 2 and "+" not in rows[-1].cells[0] and sum(amounts[:-1]) == amounts[-1]:
         told.append(f"{rows[-1].cells[0]} has the sum of all others: is that a row of the sum? It is taken as a player")
     return told
+
+
+def note_on_points(mark: str, cells: Sequence[str], layout: Layout) -> list[str]:
+    """What is told where all points stand in front of three decimals, and nobody has named the mark."""
+    pointed = [cell for cell in cells if "." in cell]
+    is_told = mark == "." and not layout.decimal and pointed
+    if not is_told or not all(re.fullmatch(r"-?[1-9][0-9]{0,2}\.[0-9]{3}", cell) for cell in pointed):
+        return []
+    return [f"{pointed[0]} is read as {fraction_of(pointed[0])}: a point stands in front of decimals"]

@@ -1,7 +1,8 @@
 """Where a document's slip is: the first refusal that applies, with its place and a sentence.
 
 `slip_in` reads a document as docs/formats.md says, test by test in the order of the refusals, and stops at the
-first that applies. The program's own answer has the number and the name alone.
+first that applies. The program's own answer has the number and the name alone. `repeated` finds what the program
+doesn't refuse: a key that stands twice in an object, of which the last counts.
 """
 from __future__ import annotations
 
@@ -37,6 +38,7 @@ NAMES = {refusal.value: refusal.name for refusal in Refusal}
 """The names by the numbers."""
 
 MOST_BYTES, MOST_TO_CHECK, MOST_DEPTH = 2097152, 8388608, 127
+MOST_SHOWN = 80  # characters of a place and of a key
 GAME, SHARES, ALL = ("game",), ("game", "shares"), ("answer", "certificate", "game", "shares")
 COMMANDS = (
     "nucleolus",
@@ -108,6 +110,55 @@ def slip_in(data: bytes, command: str = "nucleolus") -> Optional[Slip]:
     except Found as found:
         return replace(found.slip, whose=in_words(found.slip.place, tree))
     return None
+
+
+# ---- Keys that stand twice
+
+
+@dataclass(frozen=True)
+class Repeated:
+    """The place of an object, and a key that stands there twice."""
+
+    place: str
+    key: str
+
+    def __str__(self) -> str:
+        key = json.dumps(self.key, ensure_ascii=False)
+        return visible(f"{self.place[:MOST_SHOWN]}: the key {key[:MOST_SHOWN]} stands twice, and the last one counts")
+
+
+def repeated(data: bytes) -> Optional[Repeated]:
+    """The first object of a document in which a key stands twice; None where each stands once, or it is no JSON."""
+    found: list[tuple[dict[str, Any], str]] = []
+
+    def made(pairs: list[tuple[str, Any]]) -> dict[str, Any]:
+        tree: dict[str, Any] = {}
+        twice = None
+        for key, value in pairs:
+            twice = key if twice is None and key in tree else twice
+            tree[key] = value
+        if twice is not None:
+            found.append((tree, twice))
+        return tree
+
+    try:
+        tree = json.loads(data.decode(), object_pairs_hook=made, parse_int=str, parse_float=str)
+    except (ValueError, RecursionError):
+        return None
+    keys = {id(some): key for some, key in found}
+    return next((Repeated(place, keys[id(part)]) for place, part in parts_of(tree) if id(part) in keys), None)
+
+
+def parts_of(tree: Any) -> Iterator[tuple[str, Any]]:
+    """The parts of a tree in the order in which they stand, each with its place."""
+    waiting = [("$", tree)]
+    while waiting:
+        place, part = waiting.pop()
+        yield place, part
+        if isinstance(part, dict):
+            waiting += [(f"{place}.{key}", item) for key, item in reversed(list(part.items()))]
+        elif isinstance(part, list):
+            waiting += [(f"{place}[{i}]", item) for i, item in reversed(list(enumerate(part)))]
 
 
 # ---- JSON

@@ -53,13 +53,13 @@ def decimal(steps: int, places: int, separator: str = ",") -> str:
     return "-" * (steps < 0) + whole + ("." + digits[len(digits) - places :] if places else "")
 
 
-def rounded(shares: Sequence[Fraction], places: int) -> list[int]:
-    """The shares in steps of the last place, so that they add to the rounded sum. All are rounded down first; what
-    then lacks goes to those who lost most, and among equals to the first."""
+def rounded(shares: Sequence[Fraction], places: int, whole: Optional[int] = None) -> list[int]:
+    """The shares in steps of the last place, so that they add to the rounded sum, or to one that is given. All are
+    rounded down first; what then lacks goes to those who lost most, and among equals to the first."""
     scale: int = 10**places
     exact = [share * scale for share in shares]
     steps = [floor(share) for share in exact]
-    lacking = floor(sum(exact) + Fraction(1, 2)) - sum(steps)
+    lacking = (floor(sum(exact) + Fraction(1, 2)) if whole is None else whole) - sum(steps)
     for i in sorted(range(len(steps)), key=lambda i: steps[i] - exact[i])[:lacking]:
         steps[i] += 1
     return steps

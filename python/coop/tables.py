@@ -1,19 +1,30 @@
 """Shares as tables: names, fractions, and decimals that add to the rounded sum; and as CSV."""
 from __future__ import annotations
 
-import csv
-import io
 import re
 import unicodedata
 from fractions import Fraction
-from typing import Collection, Optional, Sequence
+from typing import Callable, Collection, NamedTuple, Optional, Sequence
 
+from .cells import PLAIN, Cells, csv_text
 from .documents import Point
 from .errors import BadInput
 from .names import safe
 from .styles import Style, decimal, rounded, steps_of
 
 DECIMALS = 2
+MOVED = "Decimals are rounded so that they add up: a last place may be one off, and equals may differ.\n"
+MOVED_BY = """\
+Decimals are rounded so that they add up: first each airline's sum, then its rows. All are rounded down,
+and what lacks goes by last places to who lost most by that, among equals to the upper row.
+"""
+
+
+class Line(NamedTuple):
+    """A line of a table: its name, and the places of those whose shares it adds."""
+
+    name: str
+    members: list[int]
 
 
 def width(text: str) -> int:
@@ -31,31 +42,69 @@ def longest(texts: Sequence[str]) -> int:
     return max(map(width, texts))
 
 
-def column_of(point: Point, style: Style) -> list[str]:
-    """The column of one point: its name, a row for each player, and the sum."""
+def lines_of(names: Sequence[str], owners: Optional[Sequence[str]] = None) -> list[Line]:
+    """The lines of a table: one for each name; where names have owners, behind the last one of an owner with several
+    their sum; and the sum of all."""
+    lines, own = [], members_by(owners or [])
+    for i, name in enumerate(names):
+        lines.append(Line(safe(name), [i]))
+        others = own[owners[i]] if owners else []
+        if owners and len(others) > 1 and others[-1] == i:
+            told = f"{owners[i]}, together"
+            lines.append(Line(safe(f"{owners[i]}, all together" if told in names else told), others))
+    return [*lines, Line("all together" if "together" in names else "together", list(range(len(names))))]
+
+
+def members_by(owners: Sequence[str]) -> dict[str, list[int]]:
+    """The places of each owner."""
+    found: dict[str, list[int]] = {}
+    for i, owner in enumerate(owners):
+        found.setdefault(owner, []).append(i)
+    return found
+
+
+def column_of(point: Point, style: Style, lines: Sequence[Line], owners: Optional[Sequence[str]] = None) -> list[str]:
+    """The column of one point: its name, and a number for each line."""
     places = DECIMALS if style.places is None else style.places
-    steps = steps_for(point, places)
-    exact = [str(share) for share in point.shares + [sum(point.shares, Fraction(0))]]
-    decimals = [decimal(step, places) + style.behind for step in steps + [sum(steps)]]
+    steps = steps_for(point, places, owners)
+    exact = [str(sum((point.shares[i] for i in line.members), Fraction(0))) for line in lines]
+    decimals = [decimal(sum(steps[i] for i in line.members), places) + style.behind for line in lines]
     rows = [f"{e:>{longest(exact)}}  {d:>{longest(decimals)}}" for e, d in zip(exact, decimals)]
     return [point.name] + rows
 
 
-def steps_for(point: Point, places: int) -> list[int]:
+def steps_for(point: Point, places: int, owners: Optional[Sequence[str]] = None) -> list[int]:
     """The shares in steps of the last place, so that they add up; of a change the differences of those beside it."""
+
+    def steps(shares: Sequence[Fraction]) -> list[int]:
+        return rounded(shares, places) if owners is None else rounded_by(owners, shares, places)
+
     if point.between is None:
-        return rounded(point.shares, places)
-    before, after = (rounded(shares, places) for shares in point.between)
+        return steps(point.shares)
+    before, after = map(steps, point.between)
     return [last - first for first, last in zip(before, after)]
 
 
-def note_on(points: Sequence[Point], style: Style) -> str:
-    """A sentence where a decimal isn't the nearest one, since all have to add up; else nothing."""
+def rounded_by(owners: Sequence[str], shares: Sequence[Fraction], places: int) -> list[int]:
+    """The shares in steps of the last place: first the sums of the owners, so that these add to the rounded whole, and
+    then what each owner has, so that it adds to that sum."""
+    own = list(members_by(owners).values())
+    parts = [[shares[i] for i in some] for some in own]
+    wholes = rounded([sum(part, Fraction(0)) for part in parts], places)
+    steps = [0] * len(shares)
+    for some, part, whole in zip(own, parts, wholes):
+        for i, step in zip(some, rounded(part, places, whole)):
+            steps[i] = step
+    return steps
+
+
+def note_on(points: Sequence[Point], style: Style, owners: Optional[Sequence[str]] = None) -> str:
+    """What is said where a decimal isn't the nearest one, since all have to add up; else nothing."""
     places = DECIMALS if style.places is None else style.places
-    pairs = (pair for point in points for pair in zip(steps_for(point, places), point.shares))
+    pairs = (pair for point in points for pair in zip(steps_for(point, places, owners), point.shares))
     if all(step == steps_of(share, places) for step, share in pairs):
         return ""
-    return "Decimals are rounded so that they add up: a last place may be one off, and equals may differ.\n"
+    return MOVED if owners is None else MOVED_BY
 
 
 def aligned(columns: Sequence[Sequence[str]], left: Collection[int] = (0,)) -> str:
@@ -70,47 +119,57 @@ def aligned(columns: Sequence[Sequence[str]], left: Collection[int] = (0,)) -> s
     return "".join(lines)
 
 
-def shares_table(names: Sequence[str], points: Sequence[Point], style: Style) -> str:
-    """A table of the shares of some points."""
-    first = ["", *map(safe, names), "all together" if "together" in names else "together"]
-    return aligned([first, *(column_of(point, style) for point in points)]) + note_on(points, style)
+def shares_table(
+    names: Sequence[str], points: Sequence[Point], style: Style, owners: Optional[Sequence[str]] = None
+) -> str:
+    """A table of the shares of some points; where names have owners, with the sum of each that has several."""
+    lines = lines_of(names, owners)
+    columns = [column_of(point, style, lines, owners) for point in points]
+    return aligned([["", *(line.name for line in lines)], *columns]) + note_on(points, style, owners)
 
 
-def shares_csv(names: Sequence[str], points: Sequence[Point], style: Style) -> str:
-    """The same as CSV: for each point a column of fractions and one of decimals, in plain digits."""
+def shares_csv(
+    names: Sequence[str],
+    points: Sequence[Point],
+    style: Style,
+    owners: Optional[Sequence[str]] = None,
+    cells: Cells = PLAIN,
+    has_exact: bool = True,
+) -> str:
+    """The same as CSV, without sums: for each point a column of fractions, unless these are left out, and one of
+    decimals, in plain digits."""
     places = DECIMALS if style.places is None else style.places
     head, columns = ["player"], []
     for point in points:
-        head += [point.name, f"{point.name} rounded" + (f", {style.unit}" if style.unit else "")]
-        columns.append([str(share) for share in point.shares])
-        columns.append([decimal(step, places, "") for step in steps_for(point, places)])
-    return csv_text([head, *zip(map(safe, names), *columns)])
+        if has_exact:
+            head.append(point.name)
+            columns.append([str(share) for share in point.shares])
+        head.append(f"{point.name} rounded" + (f", {style.unit}" if style.unit else ""))
+        columns.append([cells.steps(step, places) for step in steps_for(point, places, owners)])
+    return csv_text([head, *zip(map(safe, names), *columns)], cells)
 
 
-def csv_text(rows: Sequence[Sequence[str]]) -> str:
-    """Rows as CSV. A name that a spreadsheet would take for a formula gets a quote in front."""
-    output = io.StringIO()
-    csv.writer(output, lineterminator="\n").writerows([[plain(cell) for cell in row] for row in rows])
-    return output.getvalue()
+def row_of(name: str) -> str:
+    """What stands in front of the number of a landing: "Aer, A320" of "Aer, A320 1"."""
+    return re.sub(" [0-9]+$", "", name)
 
 
-def plain(cell: str) -> str:
-    """A cell that no spreadsheet runs."""
-    is_number = cell == "-" or re.fullmatch(r"-?[0-9]+([./][0-9]+)?", cell)
-    return "'" + cell if cell[:1] in ("=", "+", "-", "@") and not is_number else cell
+def airline_of(row: str) -> str:
+    """What stands in front of the last comma: "Aer" of "Aer, A320"."""
+    return row.rpartition(", ")[0] or row
 
 
-def put_together(names: Sequence[str], points: Sequence[Point]) -> tuple[list[str], list[Point]]:
-    """Players whose names differ only by a number behind a blank as one, with the sum of their shares: Aer 1, Aer 2."""
-    firsts = [re.sub(" [0-9]+$", "", name) for name in names]
-    owners = list(dict.fromkeys(firsts))
+def put_together(
+    names: Sequence[str], points: Sequence[Point], owner: Callable[[str], str] = row_of
+) -> tuple[list[str], list[Point]]:
+    """Players of one owner as one, with the sum of their shares; else those whose names differ only by a number behind
+    a blank: Aer 1, Aer 2."""
+    own = members_by([owner(name) for name in names])
     result = []
     for point in points:
-        sums = dict.fromkeys(owners, Fraction(0))
-        for name, share in zip(firsts, point.shares):
-            sums[name] += share
-        result.append(Point(point.name, list(sums.values()), point.game))
-    return owners, result
+        sums = [sum((point.shares[i] for i in some), Fraction(0)) for some in own.values()]
+        result.append(Point(point.name, sums, point.game))
+    return list(own), result
 
 
 def of_those_who_stay(points: Sequence[Point]) -> tuple[list[str], list[Point], list[str]]:

@@ -9,13 +9,16 @@ from .errors import BadInput
 from .game import LISTS, MOST_IN_A_TABLE, Game
 from .games import made
 from .masks import mask_of, members
+from .names import looks, shown
 
 
 def without(game: Game, leaving: Collection[str]) -> Game:
     """The game of those who stay: each of their groups is worth, or costs, what it was."""
     for name in leaving:
         if name not in game.names:
-            raise BadInput(f"{name} is no player: there are {', '.join(game.names)}")
+            near = next((own for own in game.names if looks(own) == looks(name)), None)
+            told = f"{shown(near)} looks like it ({shown(name)})" if near else f"there are {', '.join(game.names)}"
+            raise BadInput(f"{name} is no player: {told}")
     stay = [i for i, name in enumerate(game.names) if name not in leaving]
     if not stay:
         raise BadInput("nobody stays")

@@ -138,6 +138,84 @@ class Scripts(unittest.TestCase):
         self.assertIn("\nall together", both)
         self.refused(script("shares", "--over", "0", text=text), "no number from 1 on")
 
+    def test_landings_by_airline(self) -> None:
+        """Four columns in, and rows and airlines' sums out, which agree; a CSV has no sums."""
+        text = "Aer,DH8,2,20.50\nAer,A320,1,40\nBee,DH8,1,20.50\n"
+        status, made, errors = script("from-landings", text=text)
+        names = ["Aer, DH8 1", "Aer, DH8 2", "Aer, A320 1", "Bee, DH8 1"]
+        self.assertEqual((status, json.loads(made)["game"]["names"], errors), (0, names, ""))
+        line = json.dumps({**json.loads(made), "shares": ["13/3", "13/3", "27", "13/3"]})
+        status, table, errors = script("shares", "--by", "row", text=line)
+        rows = [(row[:13].strip(), row.split()[-1]) for row in table.splitlines()[1:6]]
+        wanted = [("Aer, DH8", "8.67"), ("Aer, A320", "27.00"), ("Aer, together", "35.67"), ("Bee, DH8", "4.33")]
+        self.assertEqual((status, rows, errors), (0, [*wanted, ("together", "40.00")], ""))
+        found = script("shares", "--by", "airline", "--csv", text=line)
+        self.assertEqual(found[1].splitlines()[1:], ["Aer,107/3,35.67", "Bee,13/3,4.33"])
+        cells = list(csv.reader(io.StringIO(script("shares", "--by", "row", "--csv", text=line)[1])))
+        self.assertEqual([row[-1] for row in cells[1:]], ["8.67", "27.00", "4.33"])
+        fifths = json.dumps({**json.loads(made), "shares": ["21/5", "21/5", "132/5", "26/5"]})
+        for words in (["--by", "row"], ["--by", "row", "--csv"]):
+            _, table, errors = script("shares", "--places", "0", *words, text=fifths)
+            self.assertIn("first each airline's sum, then its rows", table + errors)
+        self.refused(script("shares", "--by", "row", "--together", text=line), "give one")
+        self.refused(script("from-landings", text="Aer,20,50,3\n"), "is 20,50 one number")
+        known = script("from-landings", "--head", text="Date,Airline,Landings,Cost\n1/5,Aer,3,20\n")
+        self.assertEqual((known[0], known[2]), (0, "from-landings: left out: Date\n"))
+
+    def test_files_for_spreadsheets(self) -> None:
+        """Semicolons and decimal commas on the way out, as they are read on the way in."""
+        game = {"class": "airport", "costs": [2, 2000], "names": ["M\u00fcller", "a;b"]}
+        text = json.dumps({"game": game, "shares": ["1/2", "3999/2"]})
+        wanted = 'player;proposal;proposal rounded\nM\u00fcller;1/2;0,50\n"a;b";3999/2;1999,50\n'
+        self.assertEqual(script("shares", "--csv", "--decimal", "comma", text=text), (0, wanted, ""))
+        tabs = script("shares", "--csv", "--rounded", "--decimal", "comma", "--sep", "tab", "--bom", text=text)[1]
+        self.assertEqual(tabs, "\ufeffplayer\tproposal rounded\nM\u00fcller\t0,50\na;b\t1999,50\n")
+        semicolons = script("shares", "--csv", "--sep", "semicolon", text=text)[1]
+        self.assertEqual(semicolons.splitlines()[1], "M\u00fcller;1/2;0.50")
+        for words in (["--decimal", "comma"], ["--sep", "tab"], ["--bom"], ["--rounded"]):
+            self.refused(script("shares", *words, text=text), "--csv")
+        lines = json.dumps(solved()) + json.dumps({"answer": "shapley", "shares": ["2/3", "5/3", "11/3"]})
+        words = ["--csv", "--places", "2", "--decimal", "comma", "--unit", "EUR"]
+        rows = script("compare", *words, text=lines)[1].splitlines()
+        heads = ["place", "group of nucleolus", "nucleolus, EUR", "group of Shapley shares", "Shapley shares, EUR"]
+        self.assertEqual(rows[0].split(";"), heads)
+        self.assertEqual(rows[1], "1;light alone;-1,00;medium and heavy together;-0,67")
+        self.refused(script("compare", "--sep", "tab", text=lines), "--csv")
+
+    def test_what_is_told_once_and_how_to_save(self) -> None:
+        """Names that look alike are told once for all rows; and what isn't UTF-8 is told with what to choose."""
+        rows = script("from-vector", "--order", "mask", "--names", "A,a", text="1,2,4\n" * 30)
+        self.assertEqual((rows[0], rows[1].count("\n"), rows[2].count("capitals alone")), (0, 30, 1))
+        with tempfile.TemporaryDirectory() as folder:
+            path = os.path.join(folder, "claims.csv")
+            with open(path, "wb") as file:
+                file.write("M\u00fcller;1\n".encode("cp1252"))
+            self.refused(script("from-claims", "--estate", "1", path), "isn't UTF-8", "CSV UTF-8")
+        self.refused(script("from-costs", text="\u0394" * 33 + ",1\n"), "64 bytes; letters beyond ASCII have several")
+        twice = '{"game":{"class":"airport","costs":[1],"costs":[1.5]}}'
+        with tempfile.TemporaryDirectory() as folder:
+            path = os.path.join(folder, "twice.json")
+            with open(path, "w", encoding="utf-8") as file:
+                file.write(twice)
+            told = script("explain", "-", path, text='{"number":5,"refused":"Number"}')
+        self.assertIn('Besides, at $.game: the key "costs" stands twice', " ".join(told[1].split()))
+
+    @needs_program
+    def test_columns_of_many(self) -> None:
+        """A file's name with blanks keeps its column by tabs; a CSV may have decimal commas."""
+        with tempfile.TemporaryDirectory() as folder:
+            path = os.path.join(folder, "our two games.json")
+            with open(path, "w", encoding="utf-8") as file:
+                file.write('{"game":{"class":"airport","costs":[1]}}')
+            row = script("many", "core", "--sep", "tab", path)[1].rstrip("\n").split("\t")
+            self.assertEqual(row, ["0", path, "core", '{"answer":"core point","shares":["1"]}'])
+            text = script("many", "core", "--csv", "--places", "2", "--decimal", "comma", path)[1]
+            self.assertEqual(text, f"status;document;command;player 1;reason\n0;{path};core;1,00;\n")
+            wide = script("many", "core", "--wide", "--places", "2", "--decimal", "comma", path)[1]
+            self.assertEqual(wide.splitlines()[1], f"{path};0;1,00;")
+        for word in (["--sep", "comma"], ["--decimal", "comma"], ["--sep", "tab", "--bom"]):
+            self.refused(script("many", "core", *word, PROPOSAL), "--csv")
+
     def test_overrun_without_and_change(self) -> None:
         table = '{"game":{"class":"cost-table","names":["a","b"],"players":2,"worths":[2,3,4]}}'
         worths = [json.loads(script("overrun", "-", by, text=table)[1])["game"]["worths"] for by in ("12.50", "-1")]
@@ -239,6 +317,12 @@ class Scripts(unittest.TestCase):
             "3 Shape, at $: the document lacks the key shares",
             script("slip", "--command", "kernel", text='{"game":1}')[1],
         )
+        twice = '{"game":{"class":"airport","costs":[2,4,6],"costs":[2,4,%s]}}'
+        told = 'at $.game: the key "costs" stands twice, and the last one counts\n'
+        self.assertEqual(script("slip", text=twice % 7), (1, f"no refusal, but {told}", ""))
+        both = script("slip", text=twice % 1.5)
+        self.assertEqual((both[0], both[1].count("\n"), both[1].splitlines(True)[1]), (1, 2, f"besides, {told}"))
+        self.assertTrue(both[1].startswith("5 Number, at $.game.costs[2] (the cost of player 3): 1.5 has a point"))
 
     def test_compare(self) -> None:
         lines = json.dumps(solved()) + json.dumps({"shares": ["2/3", "5/3", "11/3"]})

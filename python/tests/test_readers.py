@@ -39,6 +39,18 @@ class Readers(unittest.TestCase):
             with self.assertRaisesRegex(BadInput, sentence):
                 groups(text)
 
+    def test_a_row_of_no_player(self) -> None:
+        """Where groups lack, since a row is no player's: a group by another sign, or the sum."""
+        for text, fill, sentence in (
+            ("a,3\nb,4\na & b,6\n", False, "; is a & b, in line 3, the group a\\+b\\? A \\+ stands between members"),
+            ("a;3\nb;4\na und b;6\n", True, "; is a und b, in line 3, the group a\\+b"),
+            ("a,3\nb,4\na+b,6\nTotal,13\n", False, "; is Total, in line 4, a row of the sum"),
+            ("a,3\nb,4\n", False, "takes the cheapest split\\)$"),
+        ):
+            with self.assertRaisesRegex(BadInput, sentence):
+                groups(text, fill=fill)
+        self.assertEqual(groups("a,3\nb & a,4\na+b & a,6\n").game.names, ["a", "b & a"])
+
     def test_filling(self) -> None:
         costed = groups(COSTS, fill=True)
         self.assertEqual(
@@ -246,6 +258,62 @@ class Sheets(unittest.TestCase):
         self.assertEqual(notes("A,480.000\n", 2, Layout(decimal="point")), [])
         self.assertIn("Sum has the sum of all others", notes("A,1\nB,2\nSum,3\n", 2, Layout())[0])
         self.assertEqual(notes("A,1\nB,2\nA+B,3\n", 2, Layout()), [])
+
+    def test_names_of_rows(self) -> None:
+        """R's write.csv and write.csv2, and pandas: below an empty corner a column that isn't meant."""
+        wanted = {"Adler": "2401/2", "Brandt": 800}
+        for text in (
+            '"","name","claim"\n"1","Adler",1200.5\n"2","Brandt",800\n',
+            '"";"name";"claim"\n"1";"Adler";1200,5\n"2";"Brandt";800\n',
+            ",name,claim\n0,Adler,1200.5\n1,Brandt,800.0\n",
+            ",0,1\n0,Adler,1200.5\n1,Brandt,800\n",
+        ):
+            for layout in (Layout(), Layout(has_head=True)):
+                self.assertEqual(self.claims(text, layout), wanted)
+            self.assertIn("have names, are left out", notes(text, 2, Layout())[0])
+        self.assertEqual(self.claims("1,Adler,1200.5\n2,Brandt,800\n", Layout(skip=1)), wanted)
+        for text, sentence in (
+            ("1,Adler,1200.5\n2,Brandt,800\n", "line 1 has 3 columns, and not 2: is the first one .* --skip 1"),
+            (",5,7\nAdler,1,2\n", "line 1 has 3 columns, and not 2: is 5,7 one number, with a comma"),
+            ("Adler,1200,50\nBrandt,800\n", "line 1 has 3 columns, and not 2: is 1200,50 one number, with a comma"),
+            ("2024-01-15,Adler,1200\n", "line 1 has 3 columns, and not 2: write Adler.* --skip"),
+            (",name,claim\nAdler,1\n", "line 1 has 3 columns"),
+        ):
+            with self.assertRaisesRegex(BadInput, sentence):
+                self.claims(text)
+        game = groups('"","group","cost"\n"1","a",1\n"2","b",2\n"3","a+b",2.5\n').game
+        self.assertEqual(game.tree["sparse"], [[["a"], 1], [["b"], 2], [["a", "b"], "5/2"]])
+
+    def test_what_excel_adds(self) -> None:
+        """A line that names the sign, empty columns behind, and blanks or apostrophes between thousands."""
+        wanted = {"A,B;C": "2401/2", "B": 8000000}
+        self.assertEqual(self.claims('sep=;\r\n"A,B;C";1200,5\r\nB;8000000\r\n'), wanted)
+        self.assertEqual(self.claims('"A,B;C";1200,5;;\n;;;\nB;8000000;;\n'), wanted)
+        with self.assertRaisesRegex(BadInput, "line 3: 'x' is no number"):
+            self.claims("sep=;\nA;1\nB;x\n")
+        with self.assertRaisesRegex(BadInput, "line 2 has 3 columns"):
+            self.claims("A;1\nB;2;\nC;3;4\n")
+        for blank in (" ", "\u00a0", "\u202f", "'", "\u2019"):
+            text = f'"A,B;C";1{blank}200,5\nB;8{blank}000{blank}000\n'
+            self.assertEqual(self.claims(text), wanted, blank)
+        self.assertEqual(self.claims("A;1 200.50\n"), {"A": "2401/2"})
+        self.assertEqual(groups("a;\u22121 200,50\n").game.tree["sparse"], [[["a"], "-2401/2"]])
+        for cell in ("1 20", "12 00,5", "1'200 300", "1200 300", "1 200 EUR"):
+            with self.assertRaisesRegex(BadInput, "is no number"):
+                self.claims(f"A;{cell}\n")
+        for cell in ("1.200,50 \u20ac", "\u20ac 12", "12 EUR", "$12"):
+            with self.assertRaisesRegex(BadInput, "is no number.*; a unit or a sign of money has to be left out"):
+                self.claims(f"A;{cell}\n")
+        for text, sentence in (("Cost 2024;x\nA;1\n", "'x' is no .* --head$"), ("A;2024-01-15\n", "--head$")):
+            with self.assertRaisesRegex(BadInput, sentence):
+                self.claims(text)
+        with self.assertRaisesRegex(BadInput, "65 claims: an estate has at most 64"):
+            self.claims("".join(f"p{i};1\n" for i in range(65)))
+        dated = "date,v1,v2,v3\n2024-01-15,1,2,4\n"
+        with self.assertRaisesRegex(BadInput, "line 2: '2024-01-15' is no number.* --skip 1$"):
+            list(vectors(dated, "size", layout=Layout(has_head=True)))
+        vector = next(vectors("sep=;\n1;2;1\u00a0200,5\n", "mask"))
+        self.assertEqual(vector.tree["worths"], [1, 2, "2401/2"])
 
     def test_vectors_of_r_and_pandas(self) -> None:
         """write.csv, write.table, write.csv2, and to_csv; with names of rows and without."""

@@ -6,7 +6,7 @@ import unittest
 from typing import Any, Iterator
 
 from coop.program import find
-from coop.slips import COMMANDS, slip_in
+from coop.slips import COMMANDS, Repeated, repeated, slip_in
 
 from .asking import needs_program
 
@@ -247,6 +247,24 @@ class Slips(unittest.TestCase):
         for data, number in ((b"\xff", 2), (b"\xef\xbb\xbf{}", 2), (b" " * 2097153, 1), (b"[" * 128 + b"]" * 128, 2)):
             slip = slip_in(data)
             self.assertEqual(slip and slip.number, number)
+
+    def test_a_key_that_stands_twice(self) -> None:
+        """The first place in the order of the text, however the key is written; none in what is no JSON."""
+        sentence = "the key {} stands twice, and the last one counts"
+        for text, place, key in (
+            ('{"game":{"class":"airport","costs":[2],"costs":[3]}}', "$.game", '"costs"'),
+            ('{"game":1,"x":[0,{"a":{"b":1,"b":2}}],"game":2}', "$", '"game"'),
+            ('{"x":[0,{"a":{"b":1,"\\u0062":2}}],"y":{"c":1,"c":1}}', "$.x[1].a", '"b"'),
+            ('{"a\\u202e":1,"a\\u202e":2}', "$", '"a\\u202e"'),
+            ('{"\\ud800":1,"\\ud800":1e999}', "$", '"\\ud800"'),
+        ):
+            self.assertEqual(str(repeated(text.encode())), f"{place}: {sentence.format(key)}")
+        long = f'{{"{"k" * 500}":{{"{"k" * 500}":1,"{"k" * 500}":1}}}}'
+        self.assertLess(len(str(repeated(long.encode()))), 220)
+        for text in ('{"a":1,"b":[{"a":1},{"a":1}]}', "", "[" * 5000, '{"a":1,"a":2} x', "\ufeff{}", "7"):
+            self.assertIsNone(repeated(text.encode()))
+        many = "{" + ",".join(f'"k{i}":1' for i in range(100000)) + ',"k99999":2}'
+        self.assertEqual(repeated(many.encode()), Repeated("$", "k99999"))
 
     @needs_program
     def test_the_program_refuses_the_same(self) -> None:

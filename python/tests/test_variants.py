@@ -31,6 +31,8 @@ class Variants(unittest.TestCase):
             without(game, ["heavy", "light"]).tree, {"class": "airport", "costs": [4], "names": ["medium"]}
         )
         self.assertEqual(without(coop.airport([2, 4]), ["1"]).tree, {"class": "airport", "costs": [4]})
+        with self.assertRaisesRegex(coop.BadInput, r"is no player: \\u03ac looks like it \(\\u03b1\\u0301\)"):
+            without(coop.airport({"\u03ac": 1, "b": 2}), ["\u03b1\u0301"])
         cases = [(["x"], "x is no player"), (game.names, "nobody stays")]
         for leaving, sentence in cases:
             with self.assertRaisesRegex(coop.BadInput, sentence):

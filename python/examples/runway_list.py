@@ -1,0 +1,10 @@
+"""What each airline of a list pays for all its landings, however many: the nucleolus, in cents that add up."""
+import sys
+
+from coop import runways
+from coop.airlines import landings_in
+from coop.styles import Style, each
+
+paid = runways.nucleolus((row.airline, row.need, row.landings) for row in landings_in(sys.stdin.read()))
+for name, share in zip(paid, each(list(paid.values()), Style(2))):
+    print(name, share)
