@@ -17,11 +17,14 @@ const at = (id) => document.getElementById(id);
 const WAYS = { round: "Round all to four decimals", whole: "All times a power of ten" };
 const kept = new Map(); // what was typed in cases that aren't shown
 
-let panel = null, isUnsaved = false;
+let panel = null, verify = null, isUnsaved = false;
 
 const session = new Session({
   stale: () => view.stale(),
-  read: () => panel.tell(session.reading),
+  read: () => {
+    panel.tell(session.reading);
+    verify.beside(session.reading.text ?? null);
+  },
   answer: () => view.show(),
   busy: (isBusy) => view.busy(isBusy),
   fault: (fault) => view.fault(fault),
@@ -156,7 +159,7 @@ function begin() {
       openCase(kind, typed, { ...settings, before: replaced(kind, "Open a document") });
     },
   });
-  const verify = verifyPanel({
+  verify = verifyPanel({
     format: () => view.format(),
     onOpen: (text, doubt, from) => documents.open(text, { doubt, isChecked: true, from }),
     onPrint: () => paper.print("check"),

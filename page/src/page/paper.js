@@ -27,7 +27,8 @@ export function paperPart(session, typed) {
   };
   return el("details", { class: "other paper-part" }, el("summary", {}, "On paper"),
     el("p", { class: "hint" }, "One page for a council or a court: who, how much, a picture, the reasons, what is ",
-      "agreed on, and how to check it. Or all that stands here, with the amounts and the check that were worked out."),
+      "agreed on, and how to check it. Or all that stands here, with the amounts that were worked out, and the check ",
+      "of a line, if it is of this case."),
     field("heading", "Heading", session.kind.title, true), field("unit", "Unit of money", "", false),
     el("label", { class: "single" }, own, " With “Your proposal” and the other columns, on the one page too"),
     el("p", { class: "tools" },
