@@ -13,7 +13,7 @@ async function pasted(page, text) {
 }
 
 /** The text of the file that a button saves. */
-async function saved(page, title) {
+async function saved(page, title, part = "answer") {
   await page.run(`(() => {
     const made = URL.createObjectURL;
     delete globalThis.savedText;
@@ -22,7 +22,7 @@ async function saved(page, title) {
       return made.call(URL, blob);
     };
   })()`);
-  await page.click(title, "document.getElementById('answer')");
+  await page.click(title, `document.getElementById("${part}")`);
   await page.until("globalThis.savedText !== undefined");
   return page.run("globalThis.savedText");
 }
@@ -163,6 +163,26 @@ const beyond = [
     await page.type("rows.0.count", "3");
     await settle(page);
     expect("the program again", await page.text("#evidence .words"), /says yes[\s\S]*says yes/);
+  }],
+
+  ["above 64 landings: what each pays today, and the list to keep", "runway", async (page, expect) => {
+    await pasted(page, `${HEADS}${FEW.replace("DH8;3", "DH8;300")}`);
+    await told(page, "#answer-body", /These are 305 landings/);
+    await page.click("Compare with what each pays today");
+    for (const [r, text] of ["20", "0.1", "0.1", "40"].entries()) await page.type(`today.${r}`, text);
+    const rows = await page.text(".beyond tbody");
+    expect("changes", rows, /Albatros, DH8\s+300\s+20.50\s+20.36\s+\+0.36 \(\+1.8\s%\)/);
+    expect("of an airline", rows, /Albatros, together\s+302\s+20.10\s+\d\d.\d\d\s+\+\d/);
+    expect("together", await page.text(".beyond tfoot"), /305\s+60.20\s+60.00\s+−0.20 \(−0.3\s%\)/);
+    expect("on paper", await sheetOf(page), /Pays today.*Albatros, DH830020.5020.0020.36\+0.36 \(\+1.8\s%\)/);
+    await page.run("dispatchEvent(new Event('afterprint'))");
+    expect("why no case", await page.text(".made"), /This case can’t be saved: .* which takes 64 landings/);
+    const list = await saved(page, "Save the list (CSV)", "case");
+    expect("a list", list, /^Airline;Type;Landings;A landing needs alone\r\nAlbatros;DH8;300;20,5\r\n/);
+    const calculated = await page.text(".beyond .lines");
+    await pasted(page, list);
+    await told(page, "#answer-body", /These are 305 landings/);
+    expect("the same again", await page.text(".beyond .lines"), calculated);
   }],
 
   ["Shapley shares above 32 landings", "runway", async (page, expect) => {

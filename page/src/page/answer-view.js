@@ -78,7 +78,8 @@ export class AnswerView {
   showBeyond({ beyond }) {
     for (const id of ["why", "evidence"]) at(id).hidden = true;
     refill(at("answer-settings"), this.formats());
-    refill(at("answer-body"), beyondParts(beyond, { format: this.format() }));
+    const today = todayOf(this.session, beyond.rows);
+    refill(at("answer-body"), beyondParts(beyond, { format: this.format(), today }));
     const more = at("answer-more"), isKept = this.shownMore === "beyond" && more.childElementCount;
     if (!isKept) refill(more, paperPart(this.session, this.typed));
     this.shownMore = "beyond";

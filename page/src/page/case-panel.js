@@ -7,6 +7,7 @@ import { markFaults } from "./cells.js";
 import { button, cellOf, copy, download, el, refill } from "./dom.js";
 import { doubtNotes } from "./doubts.js";
 import { shown } from "./files.js";
+import { landingsList } from "./landings-list.js";
 import { listGrid } from "./list-grid.js";
 import { marketGrid } from "./market-grid.js";
 import { networkGrid } from "./network-grid.js";
@@ -41,7 +42,9 @@ export function casePanel(kind, typed, settings) {
       reading.asked && sumQuestion(reading.asked, typed, settings),
       doubtNotes(reading, settings), emptyCells(reading, grid), faultList(reading, grid),
       reading.isTooFine && finenessHelp(settings));
-    refill(made, reading.text && documentOf(kind, reading.text, typed, settings));
+    const isBeyond = reading.beyond && !reading.text; // more landings than a document has
+    refill(made, reading.text && documentOf(kind, reading.text, typed, settings),
+      isBeyond && landingsList(typed, reading.beyond, reading.settled ?? reading.mark));
   }
 
   return { element, tell };

@@ -9,7 +9,7 @@ import { labelOf, MOVED, totalsOf, withSum } from "./format.js";
 import { meanings, monotonic, subtitleOf, words } from "./meanings.js";
 import { ownInput, proposalSum, proposalTools } from "./proposal-cells.js";
 import { airlineLines, shareLines } from "./table-lines.js";
-import { changeText, todayTitle, todayTools } from "./today.js";
+import { changeBelow, todayTitle, todayTools } from "./today.js";
 
 const BRIEF = 8; // rows that are kept on one printed page
 const NARROW = 520;
@@ -100,7 +100,7 @@ export function shareCell(text, share, count, format, change) {
 
 /** How much more it is than today, where that was typed. */
 function changeOf(step, r, { texts, values }, format) {
-  return texts && values[r] && el("small", { class: "change" }, changeText(step, values[r], format));
+  return texts && changeBelow(step, values[r], format);
 }
 
 /** The rows, and behind the last row of an airline with several rows its sum. */

@@ -44,7 +44,8 @@ const PRICES = "By the pairs that gain most together, and the prices at which no
 export function showSheet(session, typed = {}) {
   const sheet = document.getElementById("sheet"), { result, reading } = session;
   if (result?.beyond && !result.game) {
-    const format = formatOf(session.places, session.mark), view = { ...session, ...typed, format };
+    const format = formatOf(session.places, session.mark), today = todayOf(session, result.beyond.rows);
+    const view = { ...session, ...typed, format, today };
     sheet.classList.add("tight");
     refill(sheet, headOf(view), beyondSheet(result.beyond, view));
     return;
