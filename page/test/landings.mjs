@@ -42,12 +42,34 @@ const numbers = [
     for (const [key, text] of Object.entries({ name: "Aer", cost: "20", count: "5.000" })) {
       await page.type(`rows.0.${key}`, text);
     }
-    await noted(page, /“5.000” is read as 5.*the point stands in front of decimals/);
-    await page.click("Let the comma do so");
+    await noted(page, /“5.000” can be read as 5 or as 5000, and no other number here shows which/);
+    expect("no answer before", await isHidden(page), true);
+    await page.click("5000 landings");
     await told(page, "#answer-body", /These are 5,000 landings/);
+    expect("and told", await noted(page, /“5.000” is read as the whole number 5000/), /the comma stands in front/);
     await page.type("rows.0.count", "1.234");
     await page.click("Let the point do so");
     await told(page, "#answer-body", /These are 1,234 landings/);
+  }],
+
+  ["a number of landings that is whole by both marks is asked about", "runway", async (page, expect) => {
+    await page.click("Clear all");
+    for (const [key, text] of Object.entries({ name: "Aer", cost: "20", count: "3.000" })) {
+      await page.type(`rows.0.${key}`, text);
+    }
+    await noted(page, /“3.000” can be read as 3 or as 3000/);
+    expect("no answer before", await isHidden(page), true);
+    await page.click("3 landings");
+    await settle(page);
+    expect("as few", await page.text(".lead"), /Airline 1 pays 20.00 for 3 landings|Aer pays 20.00 for 3 landings/);
+    await page.type("rows.0.cost", "20,50");
+    await told(page, "#answer-body", /These are 3,000 landings/);
+    await page.click("Clear all");
+    for (const [key, text] of Object.entries({ cost: "2,5", count: "3.000" })) await page.type(`rows.0.${key}`, text);
+    await told(page, "#answer-body", /These are 3,000 landings/);
+    expect("told alone", await noted(page, /“3.000” is read as the whole number 3000/), /“2,5” shows that the comma/);
+    await page.type("rows.0.cost", "2");
+    await noted(page, /“3.000” can be read as 3 or as 3000/);
   }],
 
   ["a row without landings is open", "runway", async (page, expect) => {

@@ -40,7 +40,8 @@ export function casePanel(kind, typed, settings) {
     refill(coarse, coarseNote(typed, settings));
     refill(faults, reading.notes.map((note) => el("p", { class: "note" }, note)),
       reading.asked && sumQuestion(reading.asked, typed, settings),
-      doubtNotes(reading, settings), emptyCells(reading, grid), faultList(reading, grid),
+      reading.either ? eitherQuestion(reading.either, settings) : doubtNotes(reading, settings),
+      emptyCells(reading, grid), faultList(reading, grid),
       reading.isTooFine && finenessHelp(settings));
     const isBeyond = reading.beyond && !reading.text; // more landings than a document has
     refill(made, reading.text && documentOf(kind, reading.text, typed, settings),
@@ -61,6 +62,15 @@ function sumQuestion({ r, name }, typed, { onReset, onChange }) {
   const asked = `The last row${which} Is it the sum of the others? It would count as one more.${rest}`;
   return el("p", { class: "note" }, asked,
     button("Yes, remove it", without, { class: "quiet" }), name && button("No, it counts", keep, { class: "quiet" }));
+}
+
+/** Asks how many landings a number says: until that is settled there is no answer. */
+function eitherQuestion({ typed, ways: [[less, one], [more, other]] }, { setEntry }) {
+  const way = (count, mark) => button(`${count} ${count === "1" ? "landing" : "landings"}`, () => setEntry(mark), {
+    class: "quiet",
+  });
+  return el("p", { class: "note" }, `“${withEscapes(typed.trim())}” can be read as ${less} or as ${more}, and no `,
+    "other number here shows which. Which is it? ", way(less, one), way(more, other));
 }
 
 /** A vote by two quotas stays one. */

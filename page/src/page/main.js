@@ -47,7 +47,9 @@ function openCase(kind, typed, { before = null, notes = [], doubt = "", paper, .
       isUnsaved = session.isTyped = true;
       session.changed(wait);
     },
-    onReset: (next, what) => openCase(kind, next, { before: { what, ...nowTyped() } }),
+    onReset: (next, what) => {
+      openCase(kind, next, { before: { what, ...nowTyped() }, entry: next.isMarked ? session.entry : undefined });
+    },
     onUndo: (back) => undo(kind, back),
     snapshot: () => structuredClone(cellsNow()),
     coarsen: (how) => coarsen(kind, how),

@@ -69,9 +69,10 @@ export class Session {
     return true;
   }
 
-  /** The mark of the numbers of this case that can be read both ways. */
+  /** The mark of the numbers of this case that can be read both ways, as the user says. */
   setEntry(mark) {
     this.entry = mark;
+    this.typed.isMarked = true;
     this.changed(0);
   }
 
