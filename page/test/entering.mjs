@@ -65,6 +65,42 @@ const marks = [
   }],
 ];
 
+const openText = async (page, text) => {
+  await page.run("location.hash = '#document'");
+  await page.until("document.body.dataset.view === 'document'");
+  await page.fill("#document textarea", text);
+};
+
+const workOut = async (page, amounts) => {
+  await page.click("Several amounts side by side");
+  await page.type("amounts", amounts);
+  await page.click("Work it out", "document.querySelector('.other')");
+};
+
+const estateOf = (whole) => `{"game":{"class":"bankruptcy","claims":[200000,300000],"estate":${whole}}}`;
+
+marks.push(["numbers beside a file are read by its own mark", "estate", async (page, expect) => {
+  await page.click("Clear all");
+  await page.paste('[data-cell="rows.0.name"]', "Adler\t200000,50\nBrandt\t300000");
+  await page.type("estate", "250000");
+  await told(page, ".lead", /together 250\u202f000,00/);
+  await workOut(page, "120.000 240.000");
+  await told(page, ".found thead", /120\u202f000,00\s+240\u202f000,00/);
+  await openText(page, estateOf(300000));
+  await told(page, ".lead", /together 300\u202f000\.00/);
+  await settle(page);
+  await workOut(page, "120.000 240.000");
+  await told(page, ".found", /“120.000” is read as 120: the point stands in front of decimals/);
+  await page.click("Let the comma do so");
+  await told(page, ".found thead", /120\u202f000\.00\s+240\u202f000\.00/);
+  await openText(page, `{"coop-page":1,"document":${estateOf(280000)},"entry":".","mark":","}`);
+  await told(page, ".lead", /together 280\u202f000,00/);
+  await settle(page);
+  await workOut(page, "120.000 240.000");
+  await told(page, ".found thead", /120\u202f000,00\s+240\u202f000,00/);
+  expect("no cell is another", await value(page, "rows.1.claim"), "300000");
+}]);
+
 const ROWS = ["5 3 2 10 9 6 16", "5,3,2,10,9,6,16", "5, 3, 2, 10, 9, 6, 16", "5\t3\t2\t10\t9\t6\t16", "5;3;2;10;9;6;16",
   "[1] 5 3 2 10\n[5] 9 6 16", "c(5, 3, 2, 10, 9, 6, 16)", "0 5 3 2 10 9 6 16"];
 

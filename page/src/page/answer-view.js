@@ -101,11 +101,12 @@ export class AnswerView {
    * */
   showMore(result, rows, format, filled) {
     const { session } = this;
-    const key = [result.text, format.places, format.mark, filled].join("\n");
+    const mark = session.readMark(), isSettled = session.reading.settled !== null;
+    const key = [result.text, format.places, format.mark, filled, mark, isSettled].join("\n");
     if (this.shownMore === key && at("answer-more").childElementCount) return;
     this.shownMore = key;
     const settings = {
-      rows, format, mark: session.readMark(), typed: this.typed,
+      rows, format, mark, typed: this.typed, setEntry: isSettled ? null : (other) => session.setEntry(other),
       ask: (task, what) => session.checker.ask(task, what), assumed: (groups) => isFilled(session, groups),
     };
     session.pair = "";

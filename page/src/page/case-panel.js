@@ -53,7 +53,7 @@ export function casePanel(kind, typed, settings) {
 
 /** Asks whether a row is the sum of the others: until that is settled there is no answer. */
 function sumQuestion({ r, name }, typed, { onReset, onChange }) {
-  const without = () => onReset({ ...typed, rows: typed.rows.filter((_, k) => k !== r) }, "Remove the sum");
+  const without = () => onReset({ ...typed, rows: typed.rows.filter((_, k) => k !== r) }, "Remove the sum", true);
   const keep = () => {
     typed.notSum = name;
     onChange(0);
