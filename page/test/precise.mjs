@@ -121,6 +121,11 @@ const empty = [
     await page.run("dispatchEvent(new Event('beforeprint'))");
     const cells = "[...document.querySelectorAll('#sheet .shares tbody .exact')].map((one) => one.textContent).join()";
     expect("of the Shapley shares", await page.run(cells), "253/6,653/12,293/12");
+    const before = "[...document.querySelectorAll('#sheet .shares tbody .exact')].map((one) => "
+      + "one.previousElementSibling.textContent).join()";
+    expect("right of each number", await page.run(before), "42.17,54.42,24.41");
+    const heads = "[...document.querySelectorAll('#sheet .shares thead th')].map((one) => one.textContent).join()";
+    expect("under a head of their own", await page.run(heads), /Shapley shares,exactly/);
   }],
 ];
 

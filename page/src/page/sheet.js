@@ -88,17 +88,17 @@ function answerOf(view) {
   const beside = othersOf(view, point);
   const others = [...todaysOf(today, format.steps(totals, rows), game, format), ...beside];
   const heads = [game.ballots ? "Who votes" : who, context?.title, title, hasExact ? "exactly" : undefined,
-    ...others.map((other) => other.title)];
+    ...others.flatMap(({ title: name, exact }) => (exact ? [name, "exactly"] : [name]))];
   const line = (r) => el("tr", {},
     el("th", { scope: "row" }, rows[r].label, rows[r].players.length > 1 && ` (${rows[r].players.length} landings)`),
     context && el("td", { class: "number" }, context.texts[r]),
     el("td", { class: "number strong" }, texts[r]),
     hasExact && el("td", { class: "number" }, format.isExact(totals[r]) ? "" : fractionText(totals[r])),
-    others.map((other) => el("td", { class: "number" }, other.texts[r], other.exact?.(r))));
+    others.map((other) => [el("td", { class: "number" }, other.texts[r]), other.exact?.(r)]));
   const sum = el("tr", { class: "sum" }, el("th", { scope: "row" }, "together"),
     context && el("td", { class: "number" }, context.sum),
     el("td", { class: "number strong" }, texts.at(-1)), hasExact && el("td"),
-    others.map((other) => el("td", { class: "number" }, other.texts.at(-1))));
+    others.map((other) => [el("td", { class: "number" }, other.texts.at(-1)), other.exact && el("td")]));
   return el("section", {},
     !game.ballots && !game.isMarket() && (airlinesOf(view, point) ?? lead(result, point, { rows, format })),
     unit?.trim() && el("p", { class: "hint" }, `All amounts are in ${unit.trim()}.`),
@@ -138,14 +138,16 @@ function saidOfAll({ result, format }, { title, ...point }, others) {
   return [...told, same].map((text) => text && el("p", { class: "hint" }, text));
 }
 
-/** The other columns, and the user's proposal, where these are wanted: {title, texts, totals, exact, said}. */
+/** The other columns, and the user's proposal, where these are wanted: {title, texts, totals, exact, said}. `exact` is
+ * the cell of a row with its fraction, which stands right of the number as that of the first column does. */
 function othersOf({ result, rows, format, withProposal, proposal, judged }, shown) {
   if (!withProposal || result.game.ballots) return [];
   const { game, points } = result, own = proposal?.totals && { title: "Your proposal", ...proposal, ...judged };
   return [...points.filter((point) => point !== shown), own].filter(Boolean).map((point) => {
     const totals = point.totals ?? totalsOf(rows, point.shares), texts = format.column(totals, rows);
-    const exact = (r) => !format.isExact(totals[r]) && el("small", { class: "exact beside" }, fractionText(totals[r]));
-    return { title: point.title, texts, totals, exact, said: saidOf(game, point, format) };
+    const hasExact = totals.some((total) => !format.isExact(total));
+    const exact = (r) => el("td", { class: "number exact" }, format.isExact(totals[r]) ? "" : fractionText(totals[r]));
+    return { title: point.title, texts, totals, exact: hasExact ? exact : null, said: saidOf(game, point, format) };
   });
 }
 
