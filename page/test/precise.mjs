@@ -23,6 +23,16 @@ const savedNames = (page) => {
   return page.run("[...document.querySelectorAll('#evidence .files button')].map((one) => one.textContent).join()");
 };
 
+/** The file of the answer's table. */
+async function savedTable(page) {
+  await page.run(`(() => {
+    const make = URL.createObjectURL;
+    URL.createObjectURL = (blob) => (window.savedFile = blob.text(), make.call(URL, blob));
+  })()`);
+  await page.click("Save the table (CSV)");
+  return page.run("window.savedFile");
+}
+
 /** Gives a file to the place for documents, as a person who chooses it does. */
 const openFile = (page, name, text) => page.run(`(() => {
   const chooser = document.querySelector("#document input[type=file]"), given = new DataTransfer();
@@ -84,6 +94,10 @@ const coarser = [
     expect("by how much", await page.text(".shares .verdict"), /by 0\.00007/);
     expect("files", await savedNames(page), /gains-rounded\.json/);
     expect("on paper", await sheetOf(page), near);
+    const holds = /Save the document \(rounded numbers\)[^]*holds the rounded numbers alone.*another name nobody/;
+    expect("at the button", await page.text(".made"), holds);
+    const lines = /\r\n\r\nShares beside the exact ones are rounded to decimals,2\r\nThe numbers .* to decimals,4\r\n$/;
+    expect("in the table's file", await savedTable(page), lines);
   }],
 ];
 

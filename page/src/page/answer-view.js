@@ -117,7 +117,8 @@ export class AnswerView {
 
   settings({ game, points }) {
     const { session } = this, tables = () => {
-      return tablesOf(session.result, { rows: session.reading.rows, format: this.format() });
+      const { result, reading: { rows }, typed: { coarse } } = session;
+      return tablesOf(result, { rows, format: this.format(), coarse });
     };
     const copied = (event) => copy(tabbed(tables()[0]), event.target);
     return [takesPerHead(game) && this.measures(game), this.formats(),

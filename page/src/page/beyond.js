@@ -4,7 +4,7 @@ import { el } from "./dom.js";
 import { MOVED, withSum } from "./format.js";
 import { linesOf, shareCell } from "./shares-table.js";
 import { ownInput } from "./proposal-cells.js";
-import { airlineLines, csvButton, shareLines } from "./table-lines.js";
+import { airlineLines, csvButton, roundingLines, shareLines } from "./table-lines.js";
 import { changeBelow, todayTitle, todayTools } from "./today.js";
 import { typeLines, typesTable } from "./types-table.js";
 
@@ -45,7 +45,7 @@ const COSTS = { costs: true }; // as of a game
 export function beyondParts(sent, { format, today }) {
   const beyond = read(sent), { isAll, rows, points } = beyond;
   const tables = () => [shareLines(rows, points, format), airlineLines(rows, points, format),
-    typeLines(rows, points, format)];
+    typeLines(rows, points, format), roundingLines(points, format)];
   return el("div", { class: "beyond" },
     el("h3", {}, isAll ? "Above 64 landings" : "Shapley shares above 32 landings"),
     el("div", { class: "notice" }, beyondTexts(beyond).map((text) => el("p", {}, text))),

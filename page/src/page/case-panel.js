@@ -1,7 +1,7 @@
 // The panel of a case: its grid, what is wrong with it, and the document that it makes.
 import { fileNames } from "../cases/coarse.js";
 import { withEscapes } from "../game/names.js";
-import { coarseText } from "../tell/coarse-text.js";
+import { coarseNumbers, coarseText } from "../tell/coarse-text.js";
 import { plural } from "../tell/words.js";
 import { markFaults } from "./cells.js";
 import { button, cellOf, copy, download, el, refill } from "./dom.js";
@@ -111,16 +111,19 @@ function emptyCells({ empty: { count, first } }, grid) {
 }
 
 function documentOf(kind, text, { coarse }, { caseText }) {
-  const { game: file } = fileNames(kind.id, coarse);
+  const { game: file } = fileNames(kind.id, coarse), numbers = coarse && coarseNumbers(coarse);
   return el("div", {}, shown("The document that this makes", text),
     el("p", { class: "tools" },
       button("Save the case", () => download(`${kind.id}-case.json`, caseText()), { class: "quiet" }),
-      button("Save the document", () => download(file, `${text}\n`), { class: "quiet" }),
+      button(`Save the document${numbers ? ` (${numbers})` : ""}`, () => download(file, `${text}\n`), {
+        class: "quiet",
+      }),
       button("Copy it", (event) => copy(text, event.target), { class: "quiet" })),
     el("p", { class: "hint screen" }, "The page opens a case with what was filled in, the decimal mark, heading, unit ",
       "and your proposal. The program reads the document alone."),
-    coarse && el("p", { class: "note" }, `${coarseText(coarse)} The document has no place for that; the file is named `,
-      `${file}, and this page tells it when it is opened under that name. A saved case holds it.`));
+    coarse && el("p", { class: "note" }, `${coarseText(coarse)} The document holds the ${numbers} alone, and has no `,
+      `place to say so: the file is named ${file}, and this page tells it when it is opened under that name. Under `,
+      "another name nobody can see it. A saved case holds it."));
 }
 
 /** What was done to all numbers, for as long as they are these. */

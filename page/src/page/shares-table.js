@@ -8,7 +8,7 @@ import { excessesPart } from "./excesses.js";
 import { labelOf, MOVED, totalsOf, withSum } from "./format.js";
 import { meanings, monotonic, subtitleOf, words } from "./meanings.js";
 import { ownInput, proposalSum, proposalTools } from "./proposal-cells.js";
-import { airlineLines, shareLines } from "./table-lines.js";
+import { airlineLines, roundingLines, shareLines } from "./table-lines.js";
 import { changeBelow, todayTitle, todayTools } from "./today.js";
 
 const BRIEF = 8; // rows that are kept on one printed page
@@ -198,8 +198,8 @@ function holdText(rows, hold, { by }) {
   return `Yes, for example ${strong} on ${weak}, by ${by(hold.by)}`;
 }
 
-/** The table for a spreadsheet, as lines of cells, and what each airline pays. */
-export function tablesOf({ points }, { rows, format }) {
+/** The table for a spreadsheet, as lines of cells, what each airline pays, and how all is rounded. */
+export function tablesOf({ points }, { rows, format, coarse }) {
   const own = points.map(({ title, shares }) => ({ title, totals: totalsOf(rows, shares) }));
-  return [shareLines(rows, own, format), airlineLines(rows, own, format)];
+  return [shareLines(rows, own, format), airlineLines(rows, own, format), roundingLines(own, format, coarse)];
 }
