@@ -74,6 +74,8 @@ export const casesTyped = [
       expect(`sum of ${airline}`, own.find(([kind]) => kind === "subtotal")[2], told);
     }
     expect("rounded", lines.some(([, , text]) => text === "3.34"), true);
+    const first = /What each airline pays for all its rows is rounded first, and then the rows, so that they add/;
+    expect("and told", await page.text("#answer .moved"), first);
   }],
 
   ["64 landings, and more", "runway", async (page, expect) => {

@@ -145,6 +145,17 @@ const types = [
     expect("no label twice", new Set(labels).size, labels.length);
   }],
 
+  ["what each airline pays today, beside its sum", "runway", async (page, expect) => {
+    await pasted(page, FEW);
+    await settle(page);
+    await page.click("Compare with what each pays today");
+    await page.paste('[data-cell="today.0"]', "10\n20\n5\n25");
+    await settle(page);
+    expect("its change", await page.text(".subtotal"), /30,00\s+28,03\s+−1,97 \(−6,6\s%\)/);
+    const bill = /Pays todayChangeAlbatros528,0330,00−1,97 \(−6,6\s%\)Bergfalke14,105,00−0,90[^]*60,0060,000,00/;
+    expect("on paper", await sheetOf(page), bill);
+  }],
+
   ["a proposal for the rows of an airline", "runway", async (page, expect) => {
     await pasted(page, FEW);
     await settle(page);

@@ -1,8 +1,8 @@
 // Runways of more landings than the program takes: what the page calculates by itself, and that it says so.
 import { Rational } from "../exact/rational.js";
 import { el } from "./dom.js";
-import { MOVED, withSum } from "./format.js";
-import { linesOf, shareCell } from "./shares-table.js";
+import { movedText, withSum } from "./format.js";
+import { linesOf, ownSum, shareCell } from "./shares-table.js";
 import { ownInput } from "./proposal-cells.js";
 import { airlineLines, csvButton, roundingLines, shareLines } from "./table-lines.js";
 import { changeBelow, todayTitle, todayTools } from "./today.js";
@@ -52,7 +52,7 @@ export function beyondParts(sent, { format, today }) {
     el("div", { class: "scroll" }, table(beyond, { format, today, own: (row, r) => {
       return ownInput(row, r, today, "today", todayTitle(COSTS));
     } })),
-    points.some(({ totals }) => format.isMoved(totals, rows)) && el("p", { class: "hint moved" }, MOVED),
+    points.some(({ totals }) => format.isMoved(totals, rows)) && el("p", { class: "hint moved" }, movedText(rows)),
     isAll && todayTools(COSTS, today),
     isAll && typesTable(rows, points, format),
     isAll && el("p", { class: "hint" }, SCALED),
@@ -85,8 +85,7 @@ function rowOf({ row, r }, { columns, format, values, own }) {
 
 /** The sum of the rows of an airline, or of all. */
 function sumRow({ sum, of }, { rows, columns, format, values, own }) {
-  const count = of.reduce((all, r) => all + rows[r].count, 0), parts = of.map((r) => values[r]);
-  const now = parts.every(Boolean) && Rational.sum(parts);
+  const count = of.reduce((all, r) => all + rows[r].count, 0), now = ownSum(of, { values });
   return el("tr", { class: sum === undefined ? "sum" : "subtotal" },
     el("th", { scope: "row" }, sum === undefined ? "together" : `${sum}, together`),
     el("td", { class: "number" }, String(count)), el("td", { class: "context" }),
@@ -104,7 +103,7 @@ export function beyondSheet(sent, { format, unit, today }) {
   return [
     el("section", {}, unit?.trim() && el("p", { class: "hint" }, `All amounts are in ${unit.trim()}.`),
       table(beyond, { format, today: shown, own }, `shares dense${rows.every(({ type }) => type) ? " whole" : ""}`),
-      points.some(({ totals }) => format.isMoved(totals, rows)) && el("p", { class: "hint" }, MOVED)),
+      points.some(({ totals }) => format.isMoved(totals, rows)) && el("p", { class: "hint" }, movedText(rows))),
     el("section", {}, typesTable(rows, points, format)),
     el("section", {}, el("h2", {}, "How it was found"), beyondTexts(beyond).map((text) => el("p", {}, text))),
     el("p", { class: "sign" }, "Agreed on by", el("span"), "on", el("span", { class: "short" })),

@@ -79,7 +79,7 @@ function estatesTable(found, { rows, format, setEntry }) {
   if (!columns.length) return [...notes, ...faults];
   const names = [...rows.map(({ label }) => label), "together"], titles = columns.map(({ title }) => title);
   const lines = names.map((name, r) => [name, ...columns.map(({ texts }) => texts[r])]);
-  return [...notes, tableOf(["Estate", ...titles], lines), movedHint(columns), ...faults];
+  return [...notes, tableOf(["Estate", ...titles], lines), movedHint(columns, rows), ...faults];
 }
 
 function tableOf(heads, lines) {

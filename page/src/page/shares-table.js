@@ -5,7 +5,7 @@ import { listed, Namer, plural } from "../tell/words.js";
 import { againstOf, comparisonPart } from "./comparison.js";
 import { el } from "./dom.js";
 import { excessesPart } from "./excesses.js";
-import { labelOf, MOVED, totalsOf, withSum } from "./format.js";
+import { labelOf, movedText, totalsOf, withSum } from "./format.js";
 import { meanings, monotonic, subtitleOf, words } from "./meanings.js";
 import { ownInput, proposalSum, proposalTools } from "./proposal-cells.js";
 import { airlineLines, roundingLines, shareLines } from "./table-lines.js";
@@ -32,7 +32,7 @@ export function sharesTable(result, settings) {
       headOf(view), el("tbody", {}, linesOf(rows).map((line) => (line.of ? sumRow(line, view) : shareRow(line, view)))),
       footOf(view, hasHolds))),
     columns.some(({ shares }) => format.isMoved(totalsOf(rows, shares), rows))
-      && el("p", { class: "hint moved" }, `${MOVED} The exact shares stand in small print.`),
+      && el("p", { class: "hint moved" }, `${movedText(rows)} The exact shares stand in small print.`),
     sameText(result) && el("p", { class: "hint" }, sameText(result)),
     proposal.canBe && proposalTools(result, settings),
     todayTools(game, settings.today),
@@ -115,20 +115,22 @@ export function linesOf(rows) {
 
 function sumRow({ sum, of }, view) {
   const { rows, context, columns, format, proposal, today, against } = view;
+  const now = today.texts && ownSum(of, today), proposed = proposal.canBe && ownSum(of, proposal);
   const cells = columns.map(({ shares, steps }) => {
     const exact = Rational.sum(totalsOf(of.map((r) => rows[r]), shares)), shown = withSum(of.map((r) => steps[r]));
-    return shareCell(format.text(shown.at(-1)), exact, 1, format);
+    return shareCell(format.text(shown.at(-1)), exact, 1, format, now && changeBelow(shown.at(-1), now, format));
   });
   return named(view, "subtotal", `${sum}, together`, [
-    context && el("td", { class: "context" }), today.texts && el("td", { class: "number" }, ownSum(of, today, format)),
-    cells, proposal.canBe && el("td", { class: "number proposed" }, ownSum(of, proposal, format)), against && el("td"),
+    context && el("td", { class: "context" }), today.texts && el("td", { class: "number" }, now && format.show(now)),
+    cells, proposal.canBe && el("td", { class: "number proposed" }, proposed && format.show(proposed)),
+    against && el("td"),
   ]);
 }
 
-/** What the user typed for the rows of an airline, added. */
-function ownSum(of, { values }, { show }) {
+/** What the user typed for the rows of an airline, added; null where one lacks. */
+export function ownSum(of, { values }) {
   const own = of.map((r) => values[r]);
-  return own.every(Boolean) && show(Rational.sum(own));
+  return own.every(Boolean) ? Rational.sum(own) : null;
 }
 
 function footOf(view, hasHolds) {

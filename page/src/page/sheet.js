@@ -15,8 +15,8 @@ import { beyondSheet } from "./beyond.js";
 import { el, refill } from "./dom.js";
 import { knownDigest } from "./files.js";
 import { filledLines, filledText } from "./filled.js";
-import { formatOf, MOVED, totalsOf, withSum } from "./format.js";
-import { contextOf, sameText } from "./shares-table.js";
+import { formatOf, movedText, totalsOf, withSum } from "./format.js";
+import { contextOf, ownSum, sameText } from "./shares-table.js";
 import { airlineLines } from "./table-lines.js";
 import { changeText, todayOf, todayTitle } from "./today.js";
 import { linesTable } from "./types-table.js";
@@ -103,7 +103,7 @@ function answerOf(view) {
     !game.ballots && !game.isMarket() && (airlinesOf(view, point) ?? lead(result, point, { rows, format })),
     unit?.trim() && el("p", { class: "hint" }, `All amounts are in ${unit.trim()}.`),
     halves(rows.length, heads.filter((head) => head !== undefined), line, sum),
-    format.isMoved(totals, rows) && el("p", { class: "hint" }, `${MOVED} The fractions are exact.`),
+    format.isMoved(totals, rows) && el("p", { class: "hint" }, `${movedText(rows)} The fractions are exact.`),
     coarse?.times && [{ title, totals }, ...beside].map((one) => {
       return el("p", { class: "hint" }, dividedText(coarse, one.title, rows, one.totals));
     }),
@@ -111,12 +111,24 @@ function answerOf(view) {
 }
 
 /** The bill: what each airline pays for all its rows, by the columns that are shown; null where none has several. */
-function airlinesOf({ result: { points }, rows, format, withProposal, proposal }, shown) {
+function airlinesOf({ result: { points }, rows, format, withProposal, proposal, today }, shown) {
   const others = withProposal ? points.filter((point) => point !== shown) : [];
   const columns = [shown, ...others].map(({ title, shares }) => ({ title, totals: totalsOf(rows, shares) }));
   const own = withProposal && proposal?.totals ? [{ title: "Your proposal", totals: proposal.totals }] : [];
-  const lines = airlineLines(rows, [...columns, ...own], format);
+  const lines = withTodays(airlineLines(rows, [...columns, ...own], format), { rows, format, today, shown });
   return lines.length ? linesTable("What each airline pays", lines, "shares dense") : null;
+}
+
+/** The same lines with what each airline pays today, and the change, where that was typed for all its rows. */
+function withTodays(lines, { rows, format, today, shown }) {
+  if (!lines.length || !today.texts?.some(Boolean)) return lines;
+  const steps = format.steps(totalsOf(rows, shown.shares), rows), all = rows.map((_, r) => r);
+  const told = ([name], k) => {
+    if (!k) return [todayTitle({ costs: true }), "Change"];
+    const of = k === lines.length - 1 ? all : all.filter((r) => rows[r].sum === name), now = ownSum(of, today);
+    return now ? [format.show(now), changeText(withSum(of.map((r) => steps[r])).at(-1), now, format)] : ["", ""];
+  };
+  return lines.map((line, k) => [...line.slice(0, 3), ...told(line, k), ...line.slice(3)]); // behind the first column
 }
 
 /** What each pays or has today, and how much more the share is, where that was typed. */
