@@ -21,9 +21,13 @@ export function paperPart(session, typed) {
     type: "checkbox", checked: Boolean(typed.withProposal), "data-cell": "paper.withProposal",
     on: { change: (event) => { typed.withProposal = event.target.checked; } },
   });
+  const said = el("p", { class: "note", role: "status" });
   const printed = (what) => async () => {
     await typed.working; // what was typed last may be worked out still
-    printAs(what);
+    const count = what === "sheet" ? showSheet(session, typed) : 1;
+    refill(said, count > 1 && [`That takes ${count} sheets, in small letters and without a picture too. `,
+      button("Print them", () => printAs(what), { class: "quiet" })]);
+    if (count === 1) printAs(what);
   };
   return el("details", { class: "other paper-part" }, el("summary", {}, "On paper"),
     el("p", { class: "hint" }, "One page for a council or a court: who, how much, a picture, the reasons, what is ",
@@ -32,7 +36,7 @@ export function paperPart(session, typed) {
     field("heading", "Heading", session.kind.title, true), field("unit", "Unit of money", "", false),
     el("label", { class: "single" }, own, " With “Your proposal” and the other columns, on the one page too"),
     el("p", { class: "tools" },
-      button("Print one page", printed("sheet")), button("Print everything", printed("all"))));
+      button("Print one page", printed("sheet")), button("Print everything", printed("all"))), said);
 }
 
 function printAs(what) {

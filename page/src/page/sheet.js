@@ -14,6 +14,7 @@ import { lead, notices, solutionOf } from "./answer.js";
 import { beyondSheet } from "./beyond.js";
 import { el, refill } from "./dom.js";
 import { knownDigest } from "./files.js";
+import { fitOnPaper } from "./fit.js";
 import { filledLines, filledText } from "./filled.js";
 import { formatOf, movedText, totalsOf, withSum } from "./format.js";
 import { contextOf, ownSum, sameText } from "./shares-table.js";
@@ -40,13 +41,20 @@ const POWER = "Power is in what part of all orders of joining a voter is the one
   + "and Shubik 1954).";
 const PRICES = "By the pairs that gain most together, and the prices at which no other pair does better.";
 
-/** Fills the sheet with the answer of a session; leaves it empty where there is none. */
+/** Fills the sheet with the answer of a session, and gives the number of sheets of paper that it takes; leaves it empty
+ * where there is no answer. */
 export function showSheet(session, typed = {}) {
-  const sheet = document.getElementById("sheet"), { result, reading } = session;
+  const sheet = document.getElementById("sheet");
+  fillSheet(sheet, session, typed);
+  return fitOnPaper(sheet);
+}
+
+function fillSheet(sheet, session, typed) {
+  const { result, reading } = session;
   if (result?.beyond && !result.game) {
     const format = formatOf(session.places, session.mark), today = todayOf(session, result.beyond.rows);
     const view = { ...session, ...typed, format, today };
-    sheet.classList.add("tight");
+    sheet.className = "tight";
     refill(sheet, headOf(view), beyondSheet(result.beyond, view));
     return;
   }
@@ -59,7 +67,7 @@ export function showSheet(session, typed = {}) {
   const view = { ...session, heading, unit, withProposal, result, rows, format, today, coarse };
   const reasons = reasonsOf(view), isLong = rows.length > MANY_ROWS || reasons.textContent.length > LONG;
   const isTight = isLong || Boolean(withProposal || coarse || result.core?.collection);
-  sheet.classList.toggle("tight", isTight);
+  sheet.className = isTight ? "tight" : "";
   refill(sheet, headOf(view), notices(result, format, coarse), answerOf(view), pictureOf(view), reasons,
     agreedOf(view), checkOf(view));
 }
