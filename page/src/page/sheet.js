@@ -230,8 +230,8 @@ function highOf(drawn) {
 }
 
 function powerOf(game, points, { show }) {
-  const { shares } = points.find(({ key }) => key === "shapley"), [{ votes }] = game.ballots;
-  const parts = votes.map((own) => own.over(Rational.sum(votes)));
+  const { shares } = points.find(({ key }) => key === "shapley");
+  const parts = game.ballots.map(({ votes }) => votes.map((own) => own.over(Rational.sum(votes))));
   const percent = (value) => `${show(value.times(Rational.of(100)))}\u202f%`;
   return powerPicture(game, shares, parts, percent, WIDE);
 }
