@@ -122,6 +122,15 @@ const lists = [
     expect("and nothing changed", await page.text(".lead"), /together 16.00/);
   }],
 
+  ["a thousand rows under a heading are told as games", "gains", async (page, expect) => {
+    const rows = Array.from({ length: 1000 }, (_, k) => `${k + 1};0;0;0;4;5;6;${k + 9}`).join("\n");
+    await useList(page, `id;v1;v2;v3;v12;v13;v23;v123\n${rows}`);
+    expect("told", await message(page), /1000 rows of 7 numbers, so 1000 games. Paste one row. One game at a time/);
+    await useList(page, `v1;v2;v3;v12;v13;v23;v123\n${rows.replace(/^\d+;/gm, "")}`);
+    expect("without their names", await message(page), /1000 rows of 7 numbers, so 1000 games/);
+    expect("and nothing changed", await page.text(".lead"), /together 120.00/);
+  }],
+
   ["a row of numbers, pasted into a cell", "gains", async (page, expect) => {
     await page.paste('[data-cell="numbers.1"]', "5\t3\t2\t10\t9\t6\t16");
     await page.until("document.querySelector('.lead')?.textContent.includes('together 16')");
