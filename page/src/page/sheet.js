@@ -37,6 +37,9 @@ const OPEN = "Open coop.html from the project’s repository, at the commit name
   + "you its address)";
 const TYPE_IN = " Or simply type the numbers into that page: the answer has to be the same.";
 const AREA = "The dark area, where there is one: the divisions by which no group does better by itself.";
+const OF_FILE = " That is of the file, and not of the box below, in which the same numbers stand as this page writes "
+  + "them.";
+const OF_TEXT = " That is of the file: of the text in the box below, with an end of line behind it.";
 const POWER = "Power is in what part of all orders of joining a voter is the one by whom the votes suffice (Shapley "
   + "and Shubik 1954).";
 const PRICES = "By the pairs that gain most together, and the prices at which no other pair does better.";
@@ -293,7 +296,8 @@ function numbersOf({ file, kind, coarse, result: { text } }) {
 function agreedOf(view) {
   const { result: { text }, rows, doubt, fills, coarse } = view, filled = filledText(view);
   const isShort = text.length <= (rows.length > MOST_PICTURED ? MOST_ALONE : MOST_DOCUMENT);
-  const what = el("p", {}, numbersOf(view), filled && ` ${filled}`, fills?.text === text && ` ${fills.sentence}`,
+  const ofBox = isShort && (view.file?.made === text ? OF_FILE : OF_TEXT);
+  const what = el("p", {}, numbersOf(view), ofBox, filled && ` ${filled}`, fills?.text === text && ` ${fills.sentence}`,
     coarse && ` ${coarseText(coarse)}`);
   return el("section", {}, el("h2", {}, doubt ? "Not agreed on" : "What is agreed on"),
     doubt && el("p", {}, doubt), what,
