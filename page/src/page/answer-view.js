@@ -26,6 +26,7 @@ export class AnswerView {
   constructor(session) {
     this.session = session;
     this.typed = {}; // what was typed into the parts of the answer, of this case
+    this.isHidden = false; // whether the case alone is shown, and printed
   }
 
   format() {
@@ -51,6 +52,7 @@ export class AnswerView {
       at(id).hidden = !result || (id !== "answer" && Boolean(result.refusal));
     }
     if (!result) return this.hush();
+    if (this.isHidden && !result.refusal) return this.showHidden();
     if (!result.game) return this.showBeyond(result);
     const { rows } = session.reading, wide = at("answer-body").clientWidth || 640, format = this.format();
     const proposal = {
@@ -74,10 +76,37 @@ export class AnswerView {
     refill(at("evidence-body"), evidenceParts(result, session, filled));
   }
 
+  /** Hides the answer, with the reasons, the evidence and the check of a line, or shows it again. */
+  hide(isHidden) {
+    this.isHidden = isHidden;
+    document.body.classList.toggle("answer-hidden", isHidden);
+    this.shownMore = null;
+    if (isHidden) this.showHidden();
+    else this.show();
+    at("answer-settings").querySelector(".hiding")?.focus(); // its name is another one, so it lost that
+  }
+
+  hiding() {
+    const title = this.isHidden ? "Show the answer" : "Hide the answer";
+    return button(title, () => this.hide(!this.isHidden), { class: "quiet hiding" });
+  }
+
+  /** Nothing of the answer stands in the page then. */
+  showHidden() {
+    for (const id of ["why", "evidence"]) at(id).hidden = true;
+    for (const id of ["why-body", "evidence-body"]) refill(at(id));
+    refill(at("answer-settings"), this.hiding());
+    refill(at("answer-body"), el("p", { class: "hint" }, "The answer is hidden: the case alone is shown, and ",
+      "printed."));
+    if (this.shownMore !== "hidden") refill(at("answer-more"), paperPart(this.session, this.typed));
+    this.shownMore = "hidden";
+    this.hush();
+  }
+
   /** What the page calculates by itself has no reasons and no evidence. */
   showBeyond({ beyond }) {
     for (const id of ["why", "evidence"]) at(id).hidden = true;
-    refill(at("answer-settings"), this.formats());
+    refill(at("answer-settings"), this.formats(), this.hiding());
     const today = todayOf(this.session, beyond.rows);
     refill(at("answer-body"), beyondParts(beyond, { format: this.format(), today }));
     const more = at("answer-more"), isKept = this.shownMore === "beyond" && more.childElementCount;
@@ -123,7 +152,7 @@ export class AnswerView {
     const copied = (event) => copy(tabbed(tables()[0]), event.target);
     return [takesPerHead(game) && this.measures(game), this.formats(),
       points.length > 0 && [button("Copy the table", copied, { class: "quiet" }),
-        csvButton(`${session.kind.id}-answer`, tables, this.format())]];
+        csvButton(`${session.kind.id}-answer`, tables, this.format())], this.hiding()];
   }
 
   formats() {

@@ -24,7 +24,8 @@ export function paperPart(session, typed) {
   const said = el("p", { class: "note", role: "status" });
   const printed = (what) => async () => {
     await typed.working; // what was typed last may be worked out still
-    const count = what === "sheet" ? showSheet(session, typed) : 1;
+    const isSheet = what === "sheet" && !document.body.classList.contains("answer-hidden");
+    const count = isSheet ? showSheet(session, typed) : 1;
     refill(said, count > 1 && [`That takes ${count} sheets, in small letters and without a picture too. `,
       button("Print them", () => printAs(what), { class: "quiet" })]);
     if (count === 1) printAs(what);
@@ -58,6 +59,7 @@ export class Paper {
   before() {
     const { session, view } = this, { dataset } = document.body, isCase = dataset.view === "case";
     let what = dataset.print ?? (isCase ? "sheet" : dataset.view === "verify" ? "check" : "all");
+    if (isCase && view.isHidden && what === "sheet") what = "all"; // the case alone
     if (what === "sheet") showSheet(session, view.typed);
     if (what === "sheet" && !(isCase && at("sheet").childElementCount)) what = "all";
     dataset.print = what;
