@@ -12,7 +12,7 @@ import { takesPerHead } from "./questions.js";
 import { tablesOf } from "./shares-table.js";
 import { csvButton, tabbed } from "./table-lines.js";
 import { todayOf } from "./today.js";
-import { fillsPart } from "./two-fills.js";
+import { fillsAsked, fillsPart } from "./two-fills.js";
 import { whyParts } from "./why.js";
 import { pairPart } from "./why-pair.js";
 
@@ -137,6 +137,7 @@ export class AnswerView {
     const settings = {
       rows, format, mark, typed: this.typed, setEntry: isSettled ? null : (other) => session.setEntry(other),
       ask: (task, what) => session.checker.ask(task, what), assumed: (groups) => isFilled(session, groups),
+      fills: fillsAsked(session, mark),
     };
     session.pair = "";
     this.pair = pairPart(result, { ...settings, onSaid: (sentence) => { session.pair = sentence; } });

@@ -15,7 +15,7 @@ import { beyondSheet } from "./beyond.js";
 import { el, refill } from "./dom.js";
 import { knownDigest } from "./files.js";
 import { fitOnPaper } from "./fit.js";
-import { filledLines, filledText } from "./filled.js";
+import { filledLines, filledText, givenText } from "./filled.js";
 import { formatOf, movedText, totalsOf, withSum } from "./format.js";
 import { contextOf, ownSum, sameText } from "./shares-table.js";
 import { airlineLines } from "./table-lines.js";
@@ -294,10 +294,11 @@ function numbersOf({ file, kind, coarse, result: { text } }) {
 }
 
 function agreedOf(view) {
-  const { result: { text }, rows, doubt, fills, coarse } = view, filled = filledText(view);
+  const { result: { text }, rows, doubt, fills, coarse } = view, filled = filledText(view), given = givenText(view);
   const isShort = text.length <= (rows.length > MOST_PICTURED ? MOST_ALONE : MOST_DOCUMENT);
   const ofBox = isShort && (view.file?.made === text ? OF_FILE : OF_TEXT);
-  const what = el("p", {}, numbersOf(view), ofBox, filled && ` ${filled}`, fills?.text === text && ` ${fills.sentence}`,
+  const what = el("p", {}, numbersOf(view), ofBox, filled && ` ${filled}`, given && ` ${given}`,
+    fills?.text === text && ` ${fills.told(shownTitles(view))}`,
     coarse && ` ${coarseText(coarse)}`);
   return el("section", {}, el("h2", {}, doubt ? "Not agreed on" : "What is agreed on"),
     doubt && el("p", {}, doubt), what,
@@ -305,6 +306,12 @@ function agreedOf(view) {
       : el("p", { class: "hint" }, `The file has ${countText(text.length)} characters, and isn’t printed. `
         + "Keep it with this page."),
     !doubt && el("p", { class: "sign" }, "Agreed on by", el("span"), "on", el("span", { class: "short" })));
+}
+
+/** The rules whose shares stand on the page. */
+function shownTitles({ result, withProposal }) {
+  const own = solutionOf(result) ?? result.points[0];
+  return (withProposal ? result.points : [own]).map(({ title }) => title);
 }
 
 function checkOf({ result: { rule, answer, line, game }, kind, doubt, coarse }) {
