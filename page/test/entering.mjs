@@ -203,6 +203,17 @@ const lists = [
     expect("told", await page.text("#case .pasted"), told);
   }],
 
+  ["row numbers of another program are left out", "estate", async (page, expect) => {
+    await page.click("Clear all");
+    await page.type("estate", "300");
+    const sheet = '"","who","claim"\n"1","Adler",100\n"2","Brandt",200\n"3","Chopra",300';
+    await page.paste('[data-cell="rows.0.name"]', sheet);
+    await settle(page);
+    expect("names", await page.text(".lead"), /^Adler gets 50.00, Brandt gets 100.00 and Chopra gets 150.00/);
+    const told = /^The first column, of row numbers, was left out. The first row was taken/;
+    expect("told", await page.text("#case .pasted"), told);
+  }],
+
   ["numbers that are too fine, and in scientific notation", "gains", async (page, expect) => {
     await useList(page, "1e-05\n0.94786536\n2E0\n3.123456\n4\n5\n6.5");
     await noted(page, /too fine/);

@@ -50,6 +50,7 @@ const LISTS = [
   ["A\t3\t7\nB\t4\t7", /one number, and here one has more/], ["NA\n2\n3", /“NA” is no number/],
   ["v1,v2,v3\n1,2,3\n4,5,6", /2 rows of 3 numbers, so 2 games/], ["A;B;A+B\n1;2;3\n4;5;6", /so 2 games/],
   ['"","A","B","AB"\n"1",1,2,4\n"2",3,4,8', /2 rows of 3 numbers, so 2 games/], ["x y z\n1 2 3\n4 5 6", /so 2 games/],
+  ['"","group","cost"\n"1","A",3\n"2","B",4\n"3","A+B",5', "3 4 5"], ['"","x"\n"1",3\n"2",4\n"3",5', "3 4 5"],
   ["Group;Cost\n1;5\n2;3", "5 3 "], ["[".repeat(100000) + "1", "1"], ["[(3.50), [4], -1]", "3.50 4 -1"],
 ];
 for (const [text, wanted] of LISTS) {

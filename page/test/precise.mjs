@@ -167,6 +167,17 @@ const excesses = [
     expect("its columns", lines[0], /^Place\tNucleolus\tNucleolus, exact\tby whom\tShapley shares\t/);
   }],
 
+  ["the excesses of a proposal, beside those of the columns", "gains", async (page, expect) => {
+    await page.click("The excesses by all columns, side by side");
+    await told(page, ".excesses", /Marked is where a list differs/);
+    expect("without one", /Your proposal/.test(await page.text(".excesses")), false);
+    for (const [r, text] of ["40", "40", "40"].entries()) await page.type(`proposal.${r}`, text);
+    await told(page, ".excesses thead", /Your proposal\s+by whom/);
+    expect("where it differs", await page.text(".excesses"), /and Your proposal at place 1\./);
+    await page.type("proposal.0", "41");
+    await page.until("!/Your proposal/.test(document.querySelector('.excesses thead')?.innerText ?? 'Your proposal')");
+  }],
+
   ["why a proposal isn't the prenucleolus, and the comparison stays open", "gains", async (page, expect) => {
     for (const [r, text] of ["40", "40", "40"].entries()) await page.type(`proposal.${r}`, text);
     await settle(page);
