@@ -75,7 +75,9 @@ const coarser = [
     await told(page, "#case-body", /Numbers were rounded to four decimals here, each by at most 0\.000050/);
     await page.run("location.hash = '#document'");
     await openFile(page, "gains-game.json", text);
-    await page.until("document.body.dataset.view === 'case' && !/rounded/.test(document.body.innerText)");
+    // below the case stands "nucleolus, rounded", as soon as there is an answer
+    const cells = "document.getElementById('case-body').innerText";
+    await page.until(`document.body.dataset.view === 'case' && !/were rounded/.test(${cells})`);
     await settle(page);
     expect("of another file nothing", await page.run("document.querySelector('.coarse-note')"), null);
   }],
