@@ -14,7 +14,7 @@ import { coarser } from "./work/coarser.js";
 import { compare, excessLists } from "./work/compare.js";
 import { convexity } from "./work/convexity.js";
 import { warmUp } from "./work/engine.js";
-import { lookAtLine } from "./work/lines.js";
+import { isOfGame, lookAtLine } from "./work/lines.js";
 import { costsOfNetwork, fillLinks } from "./work/networks.js";
 import { estates, overrun } from "./work/others.js";
 import { pair } from "./work/pair.js";
@@ -22,7 +22,7 @@ import { fillSplits } from "./work/splits.js";
 import { standardText } from "./work/standard.js";
 
 const TASKS = {
-  warmUp: () => null, readCase, readCells, readList, lookAtLine, fillLinks, costsOfNetwork, fillSplits,
+  warmUp: () => null, readCase, readCells, readList, lookAtLine, isOfGame, fillLinks, costsOfNetwork, fillSplits,
   estates, overrun, compare, excessLists, convexity, coarser, standardText, compareFills, leave, pair,
   openDocument: openText,
   solve: ({ word, document }) => answer(word, document),

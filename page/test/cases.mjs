@@ -74,6 +74,8 @@ export const casesTyped = [
       expect(`sum of ${airline}`, own.find(([kind]) => kind === "subtotal")[2], told);
     }
     expect("rounded", lines.some(([, , text]) => text === "3.34"), true);
+    const first = /What each airline pays for all its rows is rounded first, and then the rows, so that they add/;
+    expect("and told", await page.text("#answer .moved"), first);
   }],
 
   ["64 landings, and more", "runway", async (page, expect) => {
@@ -300,6 +302,12 @@ export const otherCases = [
     expect("a table", made, /"class":"table".*"worths":\[0,0,0,0,0,0,1,0,0,0,1,0,1,1,1\]/);
     expect("columns", await page.text(".power thead"), /Votes\s+of all\s+Second votes\s+of all\s+Power/);
     expect("power", await page.text(".power tbody"), /A\s+40\s+40.0\s%\s+1\s+25.0\s%\s+25.0\s%/);
+    const drawn = "document.querySelector('.powers svg')";
+    const legend = /part of the first votespart of the second votes/;
+    expect("both in the picture", await page.run(`${drawn}.textContent`), legend);
+    expect("a mark of each", await page.run(`${drawn}.querySelectorAll(".adds, .alone").length`), 2 + 2 * 4);
+    const told = /A: power 25.0\s%, first votes 40.0\s%, second votes 25.0\s%/;
+    expect("and told", await page.run(`${drawn}.getAttribute("aria-label")`), told);
     await page.click("Only one quota");
     await settle(page);
     expect("back", await page.run("document.querySelector('.made pre').textContent"), /"class":"voting"/);

@@ -1,7 +1,7 @@
 // Scenarios: the word that the page says of a line, what it offers then, and what is printed of it.
 import { readFileSync } from "node:fs";
 import { join } from "node:path";
-import { giveLine, noted, READY, settle } from "./harness.mjs";
+import { giveLine, noted, READY, settle, told } from "./harness.mjs";
 
 const SAID = "document.querySelector('#verify .answers .word, #verify .answers .notice')"
   + " && ![...document.querySelectorAll('#verify .word.busy')].some((word) => word.textContent.includes('at work'))";
@@ -178,6 +178,37 @@ async function manyGroups(page, expect) {
   expect("and not twice", await shown(page, "#case .groups"), false);
 }
 
+/** Whether the check of a line is on paper where everything is printed. */
+async function checkIsPrinted(page) {
+  await page.run("document.body.dataset.print = 'all'; dispatchEvent(new Event('beforeprint'))");
+  await page.look({ wide: 800, print: true });
+  const isShown = await shown(page, "#verify");
+  await page.run("dispatchEvent(new Event('afterprint'))");
+  await page.look({});
+  return isShown;
+}
+
+async function besideAnotherCase(page, expect, line, agreed) {
+  const other = /^What was checked here isn’t the game of the case above, so it isn’t printed with it/;
+  await give(page, line, agreed);
+  await page.click("Open the agreed game, with the reasons");
+  await page.until("document.querySelector('#verify .of-case')");
+  await page.until(READY);
+  expect("with its own case", await checkIsPrinted(page), true);
+  await page.run("location.hash = '#estate'");
+  await told(page, "#verify .apart", other);
+  await page.until(READY);
+  expect("the check stays", await page.text("#verify .lead"), /^Yes: /);
+  expect("not with another case", await checkIsPrinted(page), false);
+  await page.run("location.hash = '#runway'");
+  await page.until("document.querySelector('#verify .of-case')");
+  expect("not marked", await page.text("#verify .apart"), "");
+  await page.type("rows.2.cost", "7");
+  await told(page, "#verify .apart", other);
+  await settle(page);
+  expect("nor with other numbers", await checkIsPrinted(page), false);
+}
+
 async function leaving(page, expect) {
   await page.click("If the whole costs more than planned");
   await page.type("more", "50 %");
@@ -198,6 +229,7 @@ export function checks(top) {
     ["checked: another game is opened as that", "verify", given(anotherGame)],
     ["checked: what can’t be read is no fraud", "verify", given(unread)],
     ["checked: without a certificate", "verify", given(bare)],
+    ["checked: a check beside another case", "verify", given(besideAnotherCase)],
     ["a line is opened, and checked too", "document", given(openedLine)],
     ["names in two alphabets", "estate", twins],
     ["a sum among the claims", "estate", sumOfOthers],

@@ -65,6 +65,42 @@ const marks = [
   }],
 ];
 
+const openText = async (page, text) => {
+  await page.run("location.hash = '#document'");
+  await page.until("document.body.dataset.view === 'document'");
+  await page.fill("#document textarea", text);
+};
+
+const workOut = async (page, amounts) => {
+  await page.click("Several amounts side by side");
+  await page.type("amounts", amounts);
+  await page.click("Work it out", "document.querySelector('.other')");
+};
+
+const estateOf = (whole) => `{"game":{"class":"bankruptcy","claims":[200000,300000],"estate":${whole}}}`;
+
+marks.push(["numbers beside a file are read by its own mark", "estate", async (page, expect) => {
+  await page.click("Clear all");
+  await page.paste('[data-cell="rows.0.name"]', "Adler\t200000,50\nBrandt\t300000");
+  await page.type("estate", "250000");
+  await told(page, ".lead", /together 250\u202f000,00/);
+  await workOut(page, "120.000 240.000");
+  await told(page, ".found thead", /120\u202f000,00\s+240\u202f000,00/);
+  await openText(page, estateOf(300000));
+  await told(page, ".lead", /together 300\u202f000\.00/);
+  await settle(page);
+  await workOut(page, "120.000 240.000");
+  await told(page, ".found", /“120.000” is read as 120: the point stands in front of decimals/);
+  await page.click("Let the comma do so");
+  await told(page, ".found thead", /120\u202f000\.00\s+240\u202f000\.00/);
+  await openText(page, `{"coop-page":1,"document":${estateOf(280000)},"entry":".","mark":","}`);
+  await told(page, ".lead", /together 280\u202f000,00/);
+  await settle(page);
+  await workOut(page, "120.000 240.000");
+  await told(page, ".found thead", /120\u202f000,00\s+240\u202f000,00/);
+  expect("no cell is another", await value(page, "rows.1.claim"), "300000");
+}]);
+
 const ROWS = ["5 3 2 10 9 6 16", "5,3,2,10,9,6,16", "5, 3, 2, 10, 9, 6, 16", "5\t3\t2\t10\t9\t6\t16", "5;3;2;10;9;6;16",
   "[1] 5 3 2 10\n[5] 9 6 16", "c(5, 3, 2, 10, 9, 6, 16)", "0 5 3 2 10 9 6 16"];
 
@@ -84,6 +120,15 @@ const lists = [
     await useList(page, "A\t5\t7\nB\t3\t7\nA+B\t9\t7");
     expect("three columns", await message(page), /a group and one number, and here one has more: “A; 5; 7”/);
     expect("and nothing changed", await page.text(".lead"), /together 16.00/);
+  }],
+
+  ["a thousand rows under a heading are told as games", "gains", async (page, expect) => {
+    const rows = Array.from({ length: 1000 }, (_, k) => `${k + 1};0;0;0;4;5;6;${k + 9}`).join("\n");
+    await useList(page, `id;v1;v2;v3;v12;v13;v23;v123\n${rows}`);
+    expect("told", await message(page), /1000 rows of 7 numbers, so 1000 games. Paste one row. One game at a time/);
+    await useList(page, `v1;v2;v3;v12;v13;v23;v123\n${rows.replace(/^\d+;/gm, "")}`);
+    expect("without their names", await message(page), /1000 rows of 7 numbers, so 1000 games/);
+    expect("and nothing changed", await page.text(".lead"), /together 120.00/);
   }],
 
   ["a row of numbers, pasted into a cell", "gains", async (page, expect) => {
@@ -155,6 +200,17 @@ const lists = [
     expect("by its headings", `${await value(page, "rows.0.cost")} ${await value(page, "rows.0.count")}`, "20.50 3");
     const told = "The first row was taken as headings: “Airline” is “Airline”, “Type” is “Type”, “Landings” is "
       + "“Landings”, “Cost” is “A landing needs alone”.";
+    expect("told", await page.text("#case .pasted"), told);
+  }],
+
+  ["row numbers of another program are left out", "estate", async (page, expect) => {
+    await page.click("Clear all");
+    await page.type("estate", "300");
+    const sheet = '"","who","claim"\n"1","Adler",100\n"2","Brandt",200\n"3","Chopra",300';
+    await page.paste('[data-cell="rows.0.name"]', sheet);
+    await settle(page);
+    expect("names", await page.text(".lead"), /^Adler gets 50.00, Brandt gets 100.00 and Chopra gets 150.00/);
+    const told = /^The first column, of row numbers, was left out. The first row was taken/;
     expect("told", await page.text("#case .pasted"), told);
   }],
 

@@ -13,7 +13,7 @@ async function pasted(page, text) {
 }
 
 /** The text of the file that a button saves. */
-async function saved(page, title) {
+async function saved(page, title, part = "answer") {
   await page.run(`(() => {
     const made = URL.createObjectURL;
     delete globalThis.savedText;
@@ -22,7 +22,7 @@ async function saved(page, title) {
       return made.call(URL, blob);
     };
   })()`);
-  await page.click(title, "document.getElementById('answer')");
+  await page.click(title, `document.getElementById("${part}")`);
   await page.until("globalThis.savedText !== undefined");
   return page.run("globalThis.savedText");
 }
@@ -42,12 +42,34 @@ const numbers = [
     for (const [key, text] of Object.entries({ name: "Aer", cost: "20", count: "5.000" })) {
       await page.type(`rows.0.${key}`, text);
     }
-    await noted(page, /“5.000” is read as 5.*the point stands in front of decimals/);
-    await page.click("Let the comma do so");
+    await noted(page, /“5.000” can be read as 5 or as 5000, and no other number here shows which/);
+    expect("no answer before", await isHidden(page), true);
+    await page.click("5000 landings");
     await told(page, "#answer-body", /These are 5,000 landings/);
+    expect("and told", await noted(page, /“5.000” is read as the whole number 5000/), /the comma stands in front/);
     await page.type("rows.0.count", "1.234");
     await page.click("Let the point do so");
     await told(page, "#answer-body", /These are 1,234 landings/);
+  }],
+
+  ["a number of landings that is whole by both marks is asked about", "runway", async (page, expect) => {
+    await page.click("Clear all");
+    for (const [key, text] of Object.entries({ name: "Aer", cost: "20", count: "3.000" })) {
+      await page.type(`rows.0.${key}`, text);
+    }
+    await noted(page, /“3.000” can be read as 3 or as 3000/);
+    expect("no answer before", await isHidden(page), true);
+    await page.click("3 landings");
+    await settle(page);
+    expect("as few", await page.text(".lead"), /Airline 1 pays 20.00 for 3 landings|Aer pays 20.00 for 3 landings/);
+    await page.type("rows.0.cost", "20,50");
+    await told(page, "#answer-body", /These are 3,000 landings/);
+    await page.click("Clear all");
+    for (const [key, text] of Object.entries({ cost: "2,5", count: "3.000" })) await page.type(`rows.0.${key}`, text);
+    await told(page, "#answer-body", /These are 3,000 landings/);
+    expect("told alone", await noted(page, /“3.000” is read as the whole number 3000/), /“2,5” shows that the comma/);
+    await page.type("rows.0.cost", "2");
+    await noted(page, /“3.000” can be read as 3 or as 3000/);
   }],
 
   ["a row without landings is open", "runway", async (page, expect) => {
@@ -123,6 +145,17 @@ const types = [
     expect("no label twice", new Set(labels).size, labels.length);
   }],
 
+  ["what each airline pays today, beside its sum", "runway", async (page, expect) => {
+    await pasted(page, FEW);
+    await settle(page);
+    await page.click("Compare with what each pays today");
+    await page.paste('[data-cell="today.0"]', "10\n20\n5\n25");
+    await settle(page);
+    expect("its change", await page.text(".subtotal"), /30,00\s+28,03\s+−1,97 \(−6,6\s%\)/);
+    const bill = /Pays todayChangeAlbatros528,0330,00−1,97 \(−6,6\s%\)Bergfalke14,105,00−0,90[^]*60,0060,000,00/;
+    expect("on paper", await sheetOf(page), bill);
+  }],
+
   ["a proposal for the rows of an airline", "runway", async (page, expect) => {
     await pasted(page, FEW);
     await settle(page);
@@ -163,6 +196,26 @@ const beyond = [
     await page.type("rows.0.count", "3");
     await settle(page);
     expect("the program again", await page.text("#evidence .words"), /says yes[\s\S]*says yes/);
+  }],
+
+  ["above 64 landings: what each pays today, and the list to keep", "runway", async (page, expect) => {
+    await pasted(page, `${HEADS}${FEW.replace("DH8;3", "DH8;300")}`);
+    await told(page, "#answer-body", /These are 305 landings/);
+    await page.click("Compare with what each pays today");
+    for (const [r, text] of ["20", "0.1", "0.1", "40"].entries()) await page.type(`today.${r}`, text);
+    const rows = await page.text(".beyond tbody");
+    expect("changes", rows, /Albatros, DH8\s+300\s+20.50\s+20.36\s+\+0.36 \(\+1.8\s%\)/);
+    expect("of an airline", rows, /Albatros, together\s+302\s+20.10\s+\d\d.\d\d\s+\+\d/);
+    expect("together", await page.text(".beyond tfoot"), /305\s+60.20\s+60.00\s+−0.20 \(−0.3\s%\)/);
+    expect("on paper", await sheetOf(page), /Pays today.*Albatros, DH830020.5020.0020.36\+0.36 \(\+1.8\s%\)/);
+    await page.run("dispatchEvent(new Event('afterprint'))");
+    expect("why no case", await page.text(".made"), /This case can’t be saved: .* which takes 64 landings/);
+    const list = await saved(page, "Save the list (CSV)", "case");
+    expect("a list", list, /^Airline;Type;Landings;A landing needs alone\r\nAlbatros;DH8;300;20,5\r\n/);
+    const calculated = await page.text(".beyond .lines");
+    await pasted(page, list);
+    await told(page, "#answer-body", /These are 305 landings/);
+    expect("the same again", await page.text(".beyond .lines"), calculated);
   }],
 
   ["Shapley shares above 32 landings", "runway", async (page, expect) => {

@@ -35,6 +35,31 @@ export const lecture = [
     expect("apart", await page.run(OVERLAPS), "");
   }],
 
+  ["the answer is hidden from the class, and from paper", "costs", async (page, expect) => {
+    await page.type("proposal.0", "4");
+    await page.click("Hide the answer");
+    expect("told", await page.text("#answer"), /The answer is hidden: the case alone is shown, and printed/);
+    const parts = "['answer', 'why-body', 'evidence-body', 'said'].map((id) => document.getElementById(id))";
+    expect("nowhere", /3.88|Nucleolus/.test(await page.run(`${parts}.map((one) => one.textContent).join()`)), false);
+    expect("nor the reasons", await page.run("document.getElementById('why').hidden"), true);
+    const what = "dispatchEvent(new Event('beforeprint')); document.body.dataset.print";
+    expect("what is printed", await page.run(what), "all");
+    await page.look({ wide: 800, print: true });
+    const isShown = (id) => page.run(`getComputedStyle(document.getElementById("${id}")).display !== "none"`);
+    expect("the case", await isShown("case"), true);
+    expect("without the answer", await isShown("answer"), false);
+    await page.run("dispatchEvent(new Event('afterprint'))");
+    await page.look({});
+    await page.type("numbers.7", "13");
+    await page.until("/\\b13\\b/.test(document.querySelector('.made pre').textContent)");
+    await page.until("!document.getElementById('answer').classList.contains('stale')");
+    expect("still", await page.text("#answer-body"), /^The answer is hidden/);
+    await page.click("Show the answer");
+    await settle(page);
+    expect("and shown again", await page.text(".lead"), /together 13.00/);
+    expect("the proposal", await page.run(`document.querySelector('[data-cell="proposal.0"]').value`), "4");
+  }],
+
   ["costs are concave, savings convex", "runway", async (page, expect) => {
     const why = await page.text("#why");
     expect("by the word of textbooks", why, /the costs are concave, and so the game of what is saved is convex/);

@@ -1,4 +1,5 @@
 // Scenarios: files and letters that come from others, under their own names, and what is printed of them.
+import { createHash } from "node:crypto";
 import { readFileSync } from "node:fs";
 import { join } from "node:path";
 import { noted, READY, settle, told } from "./harness.mjs";
@@ -80,12 +81,19 @@ async function agreedFileOnPaper(page, expect, line, agreed) {
   await page.until(READY);
   const named = new RegExp(`agreed.json: its SHA-256 is ${digest}`);
   expect("the agreed file", await page.run(PAPER), named);
+  const ofFile = /That is of the file, and not of the box below, in which the same numbers stand as this page/;
+  expect("of what the sum is", await page.run(PAPER), ofFile);
   expect("and on the screen", await page.text("#evidence .steps"), new RegExp(`agreed.json[^.]*SHA-256 ${digest}`));
   await page.run("dispatchEvent(new Event('afterprint'))");
   await page.type("rows.2.cost", "7");
   await settle(page);
   const own = /a file of its own, runway-game.json: its SHA-256 is [0-9a-f]{64}\. Numbers were changed since agreed/;
   await page.until(`${own}.test(${PAPER})`);
+  const ofText = /That is of the file: of the text in the box below, with an end of line behind it/;
+  expect("of its own file", await page.run(PAPER), ofText);
+  const [shownSum, box] = await page.run("['digest', 'document'].map((part) => "
+    + "document.querySelector('#sheet .' + part).textContent)");
+  expect("as it says", shownSum, createHash("sha256").update(`${box}\n`).digest("hex"));
   await page.run("dispatchEvent(new Event('afterprint'))");
 }
 

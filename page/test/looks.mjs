@@ -1,5 +1,5 @@
 // Scenarios: sizes and times, phone width, dark, on paper, by the keyboard alone, and as a screen reader has it.
-import { READY, settle } from "./harness.mjs";
+import { READY, settle, told } from "./harness.mjs";
 
 const CASES = ["runway", "estate", "costs", "gains", "network", "market", "votes"];
 const MOST_BLOCKED = 200; // milliseconds of the processor that one task of the page may take
@@ -93,6 +93,40 @@ async function longPaper(page, expect) {
   expect("two tables", await page.run("document.querySelectorAll('#sheet table').length"), 2);
 }
 
+/** Eight of whom much is told, since no division satisfies all groups: other columns stand beside all the same. */
+async function withColumns(page, expect) {
+  const lines = Array.from({ length: 255 }, (_, k) => {
+    const members = Array.from({ length: 8 }, (_, i) => i).filter((i) => ((k + 1) >> i) & 1), { length } = members;
+    return `${members.map((i) => `Partner ${i + 1}`).join("+")}\t${length === 8 ? 24 : length * 2 + ((k * 7919) % 5)}`;
+  });
+  await page.click("Paste a whole list");
+  await page.fill("details.inline textarea", lines.join("\n"));
+  await page.click("Use this list");
+  await page.until(`document.querySelectorAll('.shares tbody tr').length === 8 && ${READY}`);
+  await page.click("equal parts");
+  await settle(page);
+  await page.run(`document.querySelector('[data-cell="paper.withProposal"]').click()`);
+  const pages = (await page.pdf()).toString("latin1").match(/\/Type \/Page\b/g) ?? [];
+  expect("pages", pages.length, 1);
+  expect("with its columns", await page.text("#sheet thead"), /Shapley shares\s*exactly\s*Your proposal/);
+  expect("and its picture", await page.run("document.querySelectorAll('#sheet svg').length"), 1);
+}
+
+async function whatDoesNotFit(page, expect) {
+  const rows = Array.from({ length: 130 }, (_, k) => `Airline number ${k + 1}\t${100 + k}\t1`);
+  await page.run("window.print = () => { window.isPrinted = true; }");
+  await page.click("Clear all");
+  await page.paste('[data-cell="rows.0.name"]', rows.join("\n"));
+  await told(page, "#answer-body", /These are 130 landings/);
+  await page.click("On paper");
+  await page.click("Print one page");
+  await told(page, ".paper-part .note", /^That takes \d sheets, in small letters and without a picture too/);
+  expect("not printed yet", await page.run("window.isPrinted"), undefined);
+  expect("nor seen", await page.run("getComputedStyle(document.getElementById('sheet')).display"), "none");
+  await page.click("Print them");
+  await page.until("window.isPrinted");
+}
+
 /** What would send or keep anything stands nowhere in the page, and the policy of the page refuses it besides. */
 async function apart(page, expect) {
   await page.click("Costs of each group");
@@ -164,6 +198,8 @@ async function savedPicture(page, expect) {
 export const looks = [
   ...phones, ...papers,
   ["64 claims on one page", "estate", longPaper],
+  ["one page on paper: eight with other columns", "gains", withColumns],
+  ["one page on paper: what takes more is told before", "runway", whatDoesNotFit],
   ["nothing is sent or kept", "", apart],
   ["dark", "costs", dark, { dark: true }],
   ["everything on paper", "costs", everything],

@@ -56,6 +56,9 @@ export function monkey(seed, steps) {
     await page.run(`location.hash = "#${id}"`);
     await page.until(`location.hash === "#${id}" && document.body.dataset.view === "case"`);
     await page.click("Fill in the worked example");
+    // the answer may have been hidden
+    const isShown = '!document.body.classList.contains("answer-hidden")';
+    await page.until(`${isShown} || document.querySelector(".hiding")?.click()`);
     await settle(page);
     expect(`after ${last}`, await page.text("#answer-body .notice.bad"), "");
     // what was clicked last may come from a worker still, and then all is asked once more

@@ -23,6 +23,16 @@ const savedNames = (page) => {
   return page.run("[...document.querySelectorAll('#evidence .files button')].map((one) => one.textContent).join()");
 };
 
+/** The file of the answer's table. */
+async function savedTable(page) {
+  await page.run(`(() => {
+    const make = URL.createObjectURL;
+    URL.createObjectURL = (blob) => (window.savedFile = blob.text(), make.call(URL, blob));
+  })()`);
+  await page.click("Save the table (CSV)");
+  return page.run("window.savedFile");
+}
+
 /** Gives a file to the place for documents, as a person who chooses it does. */
 const openFile = (page, name, text) => page.run(`(() => {
   const chooser = document.querySelector("#document input[type=file]"), given = new DataTransfer();
@@ -65,7 +75,9 @@ const coarser = [
     await told(page, "#case-body", /Numbers were rounded to four decimals here, each by at most 0\.000050/);
     await page.run("location.hash = '#document'");
     await openFile(page, "gains-game.json", text);
-    await page.until("document.body.dataset.view === 'case' && !/rounded/.test(document.body.innerText)");
+    // below the case stands "nucleolus, rounded", as soon as there is an answer
+    const cells = "document.getElementById('case-body').innerText";
+    await page.until(`document.body.dataset.view === 'case' && !/were rounded/.test(${cells})`);
     await settle(page);
     expect("of another file nothing", await page.run("document.querySelector('.coarse-note')"), null);
   }],
@@ -84,6 +96,10 @@ const coarser = [
     expect("by how much", await page.text(".shares .verdict"), /by 0\.00007/);
     expect("files", await savedNames(page), /gains-rounded\.json/);
     expect("on paper", await sheetOf(page), near);
+    const holds = /Save the document \(rounded numbers\)[^]*holds the rounded numbers alone.*another name nobody/;
+    expect("at the button", await page.text(".made"), holds);
+    const lines = /\r\n\r\nShares beside the exact ones are rounded to decimals,2\r\nThe numbers .* to decimals,4\r\n$/;
+    expect("in the table's file", await savedTable(page), lines);
   }],
 ];
 
@@ -121,6 +137,11 @@ const empty = [
     await page.run("dispatchEvent(new Event('beforeprint'))");
     const cells = "[...document.querySelectorAll('#sheet .shares tbody .exact')].map((one) => one.textContent).join()";
     expect("of the Shapley shares", await page.run(cells), "253/6,653/12,293/12");
+    const before = "[...document.querySelectorAll('#sheet .shares tbody .exact')].map((one) => "
+      + "one.previousElementSibling.textContent).join()";
+    expect("right of each number", await page.run(before), "42.17,54.42,24.41");
+    const heads = "[...document.querySelectorAll('#sheet .shares thead th')].map((one) => one.textContent).join()";
+    expect("under a head of their own", await page.run(heads), /Shapley shares,exactly/);
   }],
 ];
 
@@ -146,6 +167,17 @@ const excesses = [
     const lines = (await page.run("window.copied")).trimEnd().split("\n");
     expect("copied", lines.length, 63);
     expect("its columns", lines[0], /^Place\tNucleolus\tNucleolus, exact\tby whom\tShapley shares\t/);
+  }],
+
+  ["the excesses of a proposal, beside those of the columns", "gains", async (page, expect) => {
+    await page.click("The excesses by all columns, side by side");
+    await told(page, ".excesses", /Marked is where a list differs/);
+    expect("without one", /Your proposal/.test(await page.text(".excesses")), false);
+    for (const [r, text] of ["40", "40", "40"].entries()) await page.type(`proposal.${r}`, text);
+    await told(page, ".excesses thead", /Your proposal\s+by whom/);
+    expect("where it differs", await page.text(".excesses"), /and Your proposal at place 1\./);
+    await page.type("proposal.0", "41");
+    await page.until("!/Your proposal/.test(document.querySelector('.excesses thead')?.innerText ?? 'Your proposal')");
   }],
 
   ["why a proposal isn't the prenucleolus, and the comparison stays open", "gains", async (page, expect) => {

@@ -46,6 +46,7 @@ export const runway = {
     const reading = new Reading(mark), kept = readLandings(state, reading);
     reading.remark([...new Set(kept.map(({ airline }) => airline))]);
     askOfSum(reading, state, ["cost", "count"]);
+    reading.askOfEither(state);
     const all = kept.reduce((sum, { count }) => sum + count, 0);
     if (!kept.length && reading.isRight()) reading.fault("rows.0.cost", "Give at least one landing.");
     if (all > MOST_LANDINGS) return { reading, rows: labelsOf(kept), tree: null, landings: kept };

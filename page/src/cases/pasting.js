@@ -34,6 +34,18 @@ function splitLine(line, by) {
   return [...cells, cell];
 }
 
+/** Rows without the numbers that R's write.csv puts in front of them, below a first heading that is empty; the same
+ * rows where there are none. */
+export function withoutRowNumbers(rows) {
+  const [heads = [], ...below] = rows, isWord = (text) => /\p{L}/u.test(text) && !SPOILT.test(text);
+  const hasHeads = heads.length > 1 && !heads[0] && heads.slice(1).every(isWord);
+  const isNumbered = hasHeads && below.length > 0 && below.every(([first], k) => first === String(k + 1));
+  return isNumbered ? rows.map((row) => row.slice(1)) : rows;
+}
+
+/** What is told of that. */
+export const ROW_NUMBERS = "The first column, of row numbers, was left out.";
+
 /** The headings of pasted rows, or null: where numbers belong, from a column on, the first row has nothing but words,
  * and a row below it has a number. */
 export function headingsOf(rows, from, mark) {

@@ -17,6 +17,7 @@ export class Reading {
     this.doubts = new Map(); // of numbers that the decimal mark decides, by how they were read: the first, and how many
     this.shown = new Map(); // marks that stand in front of decimals beyond doubt, each with a text that shows it
     this.asked = null; // a row that may be the sum of the others: {r, name}
+    this.either = null; // a whole number that is one by both marks, as 5.000: {typed, ways}, each [value, mark]
     this.notes = []; // what was changed for the program, and what is remarkable
     this.numbers = [];
     this.texts = new Map();
@@ -68,17 +69,24 @@ export class Reading {
   }
 
   /** A whole number. One as 1.234 that would have decimals shows that its mark parts thousands; of one as 5.000, which
-   * is whole in both ways, the other numbers say what it is, or the user is asked. */
+   * is whole in both ways, the other numbers say what it is, or the user is asked (`askOfEither`). */
   whole(cell, typed, what, low, high) {
     const { value, fault, doubt, by } = this.known(typed), isWhole = value?.isWhole();
     if (fault === "is empty") return this.open(cell);
     if (doubt) this.doubt(doubt, typed, value);
+    if (doubt && !this.either) this.either = eitherOf(typed);
     const shown = doubt && !isWhole ? OTHER[/[.,]/.exec(typed)[0]] : by;
     if (shown && !this.shown.has(shown)) this.shown.set(shown, typed);
     if (!isWhole) return this.fault(cell, `${what} is a whole number.`);
     const number = value.toNumber();
     if (number >= low && number <= high) return number;
     return this.fault(cell, `${what} is from ${low} to ${countText(high)}.`);
+  }
+
+  /** Where a whole number is one by both marks, no other number shows which stands in front of decimals, and the user
+   * hasn't said it (`isMarked`), it is asked. */
+  askOfEither({ isMarked }) {
+    if (isMarked || this.settles() !== null || this.mark.length !== 1) this.either = null;
   }
 
   /** Names, each with its cell; an empty one is the word with its number, or, in a list with names, still open. */
@@ -126,8 +134,16 @@ export class Reading {
   }
 
   isRight() {
-    return !this.count && !this.empty.count && !this.asked && !this.isPaused;
+    return !this.count && !this.empty.count && !this.asked && !this.either && !this.isPaused;
   }
+}
+
+/** What a text is by each mark, the lesser number first; null where it isn't whole by both. */
+function eitherOf(typed) {
+  const ways = [".", ","].map((mark) => [readNumber(typed, mark).value, mark]);
+  if (!ways.every(([value]) => value.isWhole())) return null;
+  ways.sort(([one], [other]) => one.compare(other));
+  return { typed, ways: ways.map(([value, mark]) => [String(value), mark]) };
 }
 
 export function bytesOf(text) {

@@ -3,9 +3,9 @@ import { readNumber, typedText } from "../exact/decimals.js";
 import { maskOf, masksBySize, membersOf } from "../game/groups.js";
 import { withEscapes } from "../game/names.js";
 import { rowsOf } from "./lists.js";
-import { cellsOf } from "./pasting.js";
+import { cellsOf, ROW_NUMBERS, withoutRowNumbers } from "./pasting.js";
 import { Reading } from "./reading.js";
-import { headingOf, numbersIn, vectorOf } from "./vectors.js";
+import { headingOf, manyBelow, numbersIn, vectorOf } from "./vectors.js";
 
 const MOST_BY_NAME = 6; // above, the document lists numbers alone: it would be too long by names
 const MOST_PLAYERS = 16;
@@ -108,6 +108,13 @@ export function tableOf(text, names = [], order = "size", mark = ".") {
   const found = below ? ofNumbers(below, names, order, mark) : {};
   if (found.state) return { ...found, remark: `${headingText(heading)}${found.remark}` };
   const rows = cellsOf(text), kept = rows.filter((row) => row.some(Boolean));
+  const many = kept.length > 0 && manyBelow(below ? [[], ...below] : kept);
+  if (many) return { fault: many };
+  const bare = withoutRowNumbers(kept);
+  if (bare !== kept) {
+    const inside = tableOf(bare.map((row) => row.join("\t")).join("\n"), names, order, mark);
+    return inside.state ? { ...inside, remark: ` ${ROW_NUMBERS}${inside.remark}` } : inside;
+  }
   const lines = new Map(rows.map((row, k) => [row, `Line ${k + 1}: `]));
   return kept.length ? listOf(kept, (row) => lines.get(row)) : { fault: "There is nothing in this list." };
 }

@@ -49,13 +49,26 @@ function separatorOf(lines) {
   return has(/\d\s+[-−.\d]/) ? /\s+/ : /,/;
 }
 
+/** What is said of rows that have a game each; null for others. */
+function manyText(rows) {
+  const count = rows.length, [{ length: wide }] = rows, isTable = rows.every((row) => row.length === wide);
+  if (count < 2 || wide < 2 || !isTable || !Number.isInteger(Math.log2(wide + 1))) return null;
+  return `These are ${count} rows of ${wide} numbers, so ${count} games. Paste one row. ${MANY}`;
+}
+
+/** The same of rows below a heading, which may name the groups, and behind a first column of what they are called. */
+export function manyBelow(rows) {
+  const isWord = (cell) => /\p{L}/u.test(cell) && !SPOILT.test(cell), [heads, ...below] = rows;
+  if (!below.length || !heads.slice(1).every(isWord)) return null;
+  const isNumeric = (some) => some.every((row) => row.every((cell) => isNumber(cell)));
+  const plain = [below, below.map((row) => row.slice(1))].filter(isNumeric);
+  return plain.map(manyText).find(Boolean) ?? null;
+}
+
 /** The numbers of all groups in a row, without the group of nobody: {numbers, n, hasNobody}, or {fault}. */
 export function vectorOf(rows) {
-  const isTable = rows.length > 1 && rows.every((row) => row.length === rows[0].length && row.length > 1);
-  if (isTable && Number.isInteger(Math.log2(rows[0].length + 1))) {
-    const [count, wide] = [rows.length, rows[0].length];
-    return { fault: `These are ${count} rows of ${wide} numbers, so ${count} games. Paste one row. ${MANY}` };
-  }
+  const many = manyText(rows);
+  if (many) return { fault: many };
   const all = rows.flat(), hasNobody = all.length > 2 && Number.isInteger(Math.log2(all.length)) && isZero(all[0]);
   const numbers = hasNobody ? all.slice(1) : all, n = Math.log2(numbers.length + 1);
   if (Number.isInteger(n) && n > 0 && n <= MOST_PLAYERS) return { numbers, n, hasNobody };

@@ -103,18 +103,27 @@ export function power(game, shares, { mark, wide }) {
   return el("div", {}, tableOf("power", heads, rows),
     el("p", { class: "hint" },
       `Power: in what part of all orders of joining a voter is the one who ${reaches} (Shapley and Shubik 1954).`),
-    figure("powers", "power", powerPicture(game, shares, parts[0], percent, wide)));
+    figure("powers", "power", powerPicture(game, shares, parts, percent, wide)));
 }
 
+const MARKS = ["adds", "alone"]; // of the votes of the first ballot, and of the second
+
+/** `parts` are the voters' parts of the votes, of one or two ballots. */
 export function powerPicture(game, shares, parts, percent, wide) {
+  const names = parts.length > 1 ? ["first votes", "second votes"] : ["votes"];
+  const told = (i) => parts.map((own, b) => `${names[b]} ${percent(own[i])}`).join(", ");
   const number = (value) => value.times(HUNDRED).toNumber();
   return chart({
     title: "The power of each voter", low: 0, wide, text: (tick) => `${tickText(tick)}\u202f%`,
-    high: number(Rational.max([...shares, ...parts])),
-    legend: [{ key: "shapley", title: "power" }, { kind: "adds", title: "part of the votes" }],
+    high: number(Rational.max([...shares, ...parts.flat()])),
+    legend: [
+      { key: "shapley", title: "power" },
+      ...names.map((name, b) => ({ kind: MARKS[b], title: `part of the ${name}` })),
+    ],
     rows: game.everyone().map((i) => ({
-      label: game.shown[i], told: `${game.shown[i]}: power ${percent(shares[i])}, votes ${percent(parts[i])}`,
-      bars: [{ key: "shapley", value: number(shares[i]) }], marks: [{ kind: "adds", value: number(parts[i]) }],
+      label: game.shown[i], told: `${game.shown[i]}: power ${percent(shares[i])}, ${told(i)}`,
+      bars: [{ key: "shapley", value: number(shares[i]) }],
+      marks: parts.map((own, b) => ({ kind: MARKS[b], value: number(own[i]) })),
     })),
   });
 }

@@ -12,7 +12,7 @@ import { takesPerHead } from "./questions.js";
 import { tablesOf } from "./shares-table.js";
 import { csvButton, tabbed } from "./table-lines.js";
 import { todayOf } from "./today.js";
-import { fillsPart } from "./two-fills.js";
+import { fillsAsked, fillsPart } from "./two-fills.js";
 import { whyParts } from "./why.js";
 import { pairPart } from "./why-pair.js";
 
@@ -26,6 +26,7 @@ export class AnswerView {
   constructor(session) {
     this.session = session;
     this.typed = {}; // what was typed into the parts of the answer, of this case
+    this.isHidden = false; // whether the case alone is shown, and printed
   }
 
   format() {
@@ -51,6 +52,7 @@ export class AnswerView {
       at(id).hidden = !result || (id !== "answer" && Boolean(result.refusal));
     }
     if (!result) return this.hush();
+    if (this.isHidden && !result.refusal) return this.showHidden();
     if (!result.game) return this.showBeyond(result);
     const { rows } = session.reading, wide = at("answer-body").clientWidth || 640, format = this.format();
     const proposal = {
@@ -74,11 +76,39 @@ export class AnswerView {
     refill(at("evidence-body"), evidenceParts(result, session, filled));
   }
 
+  /** Hides the answer, with the reasons, the evidence and the check of a line, or shows it again. */
+  hide(isHidden) {
+    this.isHidden = isHidden;
+    document.body.classList.toggle("answer-hidden", isHidden);
+    this.shownMore = null;
+    if (isHidden) this.showHidden();
+    else this.show();
+    at("answer-settings").querySelector(".hiding")?.focus(); // its name is another one, so it lost that
+  }
+
+  hiding() {
+    const title = this.isHidden ? "Show the answer" : "Hide the answer";
+    return button(title, () => this.hide(!this.isHidden), { class: "quiet hiding" });
+  }
+
+  /** Nothing of the answer stands in the page then. */
+  showHidden() {
+    for (const id of ["why", "evidence"]) at(id).hidden = true;
+    for (const id of ["why-body", "evidence-body"]) refill(at(id));
+    refill(at("answer-settings"), this.hiding());
+    refill(at("answer-body"), el("p", { class: "hint" }, "The answer is hidden: the case alone is shown, and ",
+      "printed."));
+    if (this.shownMore !== "hidden") refill(at("answer-more"), paperPart(this.session, this.typed));
+    this.shownMore = "hidden";
+    this.hush();
+  }
+
   /** What the page calculates by itself has no reasons and no evidence. */
   showBeyond({ beyond }) {
     for (const id of ["why", "evidence"]) at(id).hidden = true;
-    refill(at("answer-settings"), this.formats());
-    refill(at("answer-body"), beyondParts(beyond, { format: this.format() }));
+    refill(at("answer-settings"), this.formats(), this.hiding());
+    const today = todayOf(this.session, beyond.rows);
+    refill(at("answer-body"), beyondParts(beyond, { format: this.format(), today }));
     const more = at("answer-more"), isKept = this.shownMore === "beyond" && more.childElementCount;
     if (!isKept) refill(more, paperPart(this.session, this.typed));
     this.shownMore = "beyond";
@@ -100,12 +130,14 @@ export class AnswerView {
    * */
   showMore(result, rows, format, filled) {
     const { session } = this;
-    const key = [result.text, format.places, format.mark, filled].join("\n");
+    const mark = session.readMark(), isSettled = session.reading.settled !== null;
+    const key = [result.text, format.places, format.mark, filled, mark, isSettled].join("\n");
     if (this.shownMore === key && at("answer-more").childElementCount) return;
     this.shownMore = key;
     const settings = {
-      rows, format, mark: session.readMark(), typed: this.typed,
+      rows, format, mark, typed: this.typed, setEntry: isSettled ? null : (other) => session.setEntry(other),
       ask: (task, what) => session.checker.ask(task, what), assumed: (groups) => isFilled(session, groups),
+      fills: fillsAsked(session, mark),
     };
     session.pair = "";
     this.pair = pairPart(result, { ...settings, onSaid: (sentence) => { session.pair = sentence; } });
@@ -115,12 +147,13 @@ export class AnswerView {
 
   settings({ game, points }) {
     const { session } = this, tables = () => {
-      return tablesOf(session.result, { rows: session.reading.rows, format: this.format() });
+      const { result, reading: { rows }, typed: { coarse } } = session;
+      return tablesOf(result, { rows, format: this.format(), coarse });
     };
     const copied = (event) => copy(tabbed(tables()[0]), event.target);
     return [takesPerHead(game) && this.measures(game), this.formats(),
       points.length > 0 && [button("Copy the table", copied, { class: "quiet" }),
-        csvButton(`${session.kind.id}-answer`, tables, this.format())]];
+        csvButton(`${session.kind.id}-answer`, tables, this.format())], this.hiding()];
   }
 
   formats() {

@@ -1,9 +1,11 @@
 // Runways of more landings than the program takes: what the page calculates by itself, and that it says so.
 import { Rational } from "../exact/rational.js";
 import { el } from "./dom.js";
-import { MOVED, withSum } from "./format.js";
-import { linesOf, shareCell } from "./shares-table.js";
-import { airlineLines, csvButton, shareLines } from "./table-lines.js";
+import { movedText, withSum } from "./format.js";
+import { linesOf, ownSum, shareCell } from "./shares-table.js";
+import { ownInput } from "./proposal-cells.js";
+import { airlineLines, csvButton, roundingLines, shareLines } from "./table-lines.js";
+import { changeBelow, todayTitle, todayTools } from "./today.js";
 import { typeLines, typesTable } from "./types-table.js";
 
 const OURS = "So the page itself calculated what stands here, by a formula, in exact fractions. These numbers do NOT "
@@ -37,50 +39,71 @@ export function beyondTexts({ isAll, all, points }) {
     + "proved is the page’s own calculation; where the program answers too, tests compare the two."];
 }
 
+const COSTS = { costs: true }; // as of a game
+
 /** The parts of the answer that the page calculates. */
-export function beyondParts(sent, { format }) {
+export function beyondParts(sent, { format, today }) {
   const beyond = read(sent), { isAll, rows, points } = beyond;
   const tables = () => [shareLines(rows, points, format), airlineLines(rows, points, format),
-    typeLines(rows, points, format)];
+    typeLines(rows, points, format), roundingLines(points, format)];
   return el("div", { class: "beyond" },
     el("h3", {}, isAll ? "Above 64 landings" : "Shapley shares above 32 landings"),
     el("div", { class: "notice" }, beyondTexts(beyond).map((text) => el("p", {}, text))),
-    el("div", { class: "scroll" }, table(beyond, format)),
-    points.some(({ totals }) => format.isMoved(totals, rows)) && el("p", { class: "hint moved" }, MOVED),
+    el("div", { class: "scroll" }, table(beyond, { format, today, own: (row, r) => {
+      return ownInput(row, r, today, "today", todayTitle(COSTS));
+    } })),
+    points.some(({ totals }) => format.isMoved(totals, rows)) && el("p", { class: "hint moved" }, movedText(rows)),
+    isAll && todayTools(COSTS, today),
     isAll && typesTable(rows, points, format),
     isAll && el("p", { class: "hint" }, SCALED),
     el("p", { class: "tools" }, csvButton("runway-calculated", tables, format)));
 }
 
-function table({ rows, points }, format, kind = "shares") {
+/** `own(row, r)` is what stands in the column of today; where the program answers too, that stands in its own table. */
+function table({ isAll, rows, points }, { format, today, own }, kind = "shares") {
   const columns = points.map((point) => ({ ...point, steps: format.steps(point.totals, rows) }));
-  const sumOf = (steps) => format.text(withSum(steps).at(-1));
-  const landings = (some) => el("td", { class: "number" }, String(some.reduce((sum, { count }) => sum + count, 0)));
-  const rowOf = ({ row, r }) => el("tr", {}, el("th", { scope: "row" }, row.label),
-    el("td", { class: "number" }, String(row.count)), el("td", { class: "number context" }, format.show(row.cost)),
-    columns.map(({ steps, each }) => shareCell(format.text(steps[r]), each[r], row.count, format)));
-  const airline = ({ sum, of }) => el("tr", { class: "subtotal" }, el("th", { scope: "row" }, `${sum}, together`),
-    landings(of.map((r) => rows[r])), el("td", { class: "context" }), columns.map(({ steps, totals }) => {
-      return shareCell(sumOf(of.map((r) => steps[r])), Rational.sum(of.map((r) => totals[r])), 1, format);
-    }));
   const head = (title, side = "number") => el("th", { scope: "col", class: side }, title);
+  const hasToday = isAll && today.texts;
+  const view = { rows, columns, format, values: today.texts ? today.values : [], own: hasToday && own };
   return el("table", { class: kind },
     el("thead", {}, el("tr", {}, head("Who pays", ""), head("Landings"), head("A landing needs", "number context"),
+      hasToday && head(todayTitle(COSTS), "number today"),
       columns.map(({ key, title }) => el("th", { scope: "col", class: "number", "data-point": key }, title,
         el("small", {}, "calculated by the page"))))),
-    el("tbody", {}, linesOf(rows).map((line) => (line.of ? airline(line) : rowOf(line)))),
-    el("tfoot", {}, el("tr", { class: "sum" }, el("th", { scope: "row" }, "together"),
-      landings(rows), el("td", { class: "context" }),
-      columns.map(({ steps }) => el("td", { class: "number" }, sumOf(steps))))));
+    el("tbody", {}, linesOf(rows).map((line) => (line.of ? sumRow(line, view) : rowOf(line, view)))),
+    el("tfoot", {}, sumRow({ of: rows.map((_, r) => r) }, view)));
+}
+
+function rowOf({ row, r }, { columns, format, values, own }) {
+  return el("tr", {}, el("th", { scope: "row" }, row.label),
+    el("td", { class: "number" }, String(row.count)), el("td", { class: "number context" }, format.show(row.cost)),
+    own && el("td", { class: "number today" }, own(row, r)),
+    columns.map(({ steps, each }) => {
+      return shareCell(format.text(steps[r]), each[r], row.count, format, changeBelow(steps[r], values[r], format));
+    }));
+}
+
+/** The sum of the rows of an airline, or of all. */
+function sumRow({ sum, of }, { rows, columns, format, values, own }) {
+  const count = of.reduce((all, r) => all + rows[r].count, 0), now = ownSum(of, { values });
+  return el("tr", { class: sum === undefined ? "sum" : "subtotal" },
+    el("th", { scope: "row" }, sum === undefined ? "together" : `${sum}, together`),
+    el("td", { class: "number" }, String(count)), el("td", { class: "context" }),
+    own && el("td", { class: "number today" }, now ? format.show(now) : "–"),
+    columns.map(({ steps, totals }) => {
+      const step = withSum(of.map((r) => steps[r])).at(-1), exact = Rational.sum(of.map((r) => totals[r]));
+      return shareCell(format.text(step), exact, 1, format, changeBelow(step, now, format));
+    }));
 }
 
 /** The same on the one page; what one landing pays stands there by its type, where each has one. */
-export function beyondSheet(sent, { format, unit }) {
-  const beyond = read(sent), { rows, points } = beyond;
+export function beyondSheet(sent, { format, unit, today }) {
+  const beyond = read(sent), { rows, points } = beyond, shown = today.texts?.some(Boolean) ? today : {};
+  const own = (_, r) => shown.values[r] && format.show(shown.values[r]);
   return [
     el("section", {}, unit?.trim() && el("p", { class: "hint" }, `All amounts are in ${unit.trim()}.`),
-      table(beyond, format, `shares dense${rows.every(({ type }) => type) ? " whole" : ""}`),
-      points.some(({ totals }) => format.isMoved(totals, rows)) && el("p", { class: "hint" }, MOVED)),
+      table(beyond, { format, today: shown, own }, `shares dense${rows.every(({ type }) => type) ? " whole" : ""}`),
+      points.some(({ totals }) => format.isMoved(totals, rows)) && el("p", { class: "hint" }, movedText(rows))),
     el("section", {}, typesTable(rows, points, format)),
     el("section", {}, el("h2", {}, "How it was found"), beyondTexts(beyond).map((text) => el("p", {}, text))),
     el("p", { class: "sign" }, "Agreed on by", el("span"), "on", el("span", { class: "short" })),

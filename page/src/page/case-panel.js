@@ -1,12 +1,13 @@
 // The panel of a case: its grid, what is wrong with it, and the document that it makes.
 import { fileNames } from "../cases/coarse.js";
 import { withEscapes } from "../game/names.js";
-import { coarseText } from "../tell/coarse-text.js";
+import { coarseNumbers, coarseText } from "../tell/coarse-text.js";
 import { plural } from "../tell/words.js";
 import { markFaults } from "./cells.js";
 import { button, cellOf, copy, download, el, refill } from "./dom.js";
 import { doubtNotes } from "./doubts.js";
 import { shown } from "./files.js";
+import { landingsList } from "./landings-list.js";
 import { listGrid } from "./list-grid.js";
 import { marketGrid } from "./market-grid.js";
 import { networkGrid } from "./network-grid.js";
@@ -39,9 +40,12 @@ export function casePanel(kind, typed, settings) {
     refill(coarse, coarseNote(typed, settings));
     refill(faults, reading.notes.map((note) => el("p", { class: "note" }, note)),
       reading.asked && sumQuestion(reading.asked, typed, settings),
-      doubtNotes(reading, settings), emptyCells(reading, grid), faultList(reading, grid),
+      reading.either ? eitherQuestion(reading.either, settings) : doubtNotes(reading, settings),
+      emptyCells(reading, grid), faultList(reading, grid),
       reading.isTooFine && finenessHelp(settings));
-    refill(made, reading.text && documentOf(kind, reading.text, typed, settings));
+    const isBeyond = reading.beyond && !reading.text; // more landings than a document has
+    refill(made, reading.text && documentOf(kind, reading.text, typed, settings),
+      isBeyond && landingsList(typed, reading.beyond, reading.settled ?? reading.mark));
   }
 
   return { element, tell };
@@ -49,7 +53,7 @@ export function casePanel(kind, typed, settings) {
 
 /** Asks whether a row is the sum of the others: until that is settled there is no answer. */
 function sumQuestion({ r, name }, typed, { onReset, onChange }) {
-  const without = () => onReset({ ...typed, rows: typed.rows.filter((_, k) => k !== r) }, "Remove the sum");
+  const without = () => onReset({ ...typed, rows: typed.rows.filter((_, k) => k !== r) }, "Remove the sum", true);
   const keep = () => {
     typed.notSum = name;
     onChange(0);
@@ -58,6 +62,15 @@ function sumQuestion({ r, name }, typed, { onReset, onChange }) {
   const asked = `The last row${which} Is it the sum of the others? It would count as one more.${rest}`;
   return el("p", { class: "note" }, asked,
     button("Yes, remove it", without, { class: "quiet" }), name && button("No, it counts", keep, { class: "quiet" }));
+}
+
+/** Asks how many landings a number says: until that is settled there is no answer. */
+function eitherQuestion({ typed, ways: [[less, one], [more, other]] }, { setEntry }) {
+  const way = (count, mark) => button(`${count} ${count === "1" ? "landing" : "landings"}`, () => setEntry(mark), {
+    class: "quiet",
+  });
+  return el("p", { class: "note" }, `“${withEscapes(typed.trim())}” can be read as ${less} or as ${more}, and no `,
+    "other number here shows which. Which is it? ", way(less, one), way(more, other));
 }
 
 /** A vote by two quotas stays one. */
@@ -98,16 +111,19 @@ function emptyCells({ empty: { count, first } }, grid) {
 }
 
 function documentOf(kind, text, { coarse }, { caseText }) {
-  const { game: file } = fileNames(kind.id, coarse);
+  const { game: file } = fileNames(kind.id, coarse), numbers = coarse && coarseNumbers(coarse);
   return el("div", {}, shown("The document that this makes", text),
     el("p", { class: "tools" },
       button("Save the case", () => download(`${kind.id}-case.json`, caseText()), { class: "quiet" }),
-      button("Save the document", () => download(file, `${text}\n`), { class: "quiet" }),
+      button(`Save the document${numbers ? ` (${numbers})` : ""}`, () => download(file, `${text}\n`), {
+        class: "quiet",
+      }),
       button("Copy it", (event) => copy(text, event.target), { class: "quiet" })),
     el("p", { class: "hint screen" }, "The page opens a case with what was filled in, the decimal mark, heading, unit ",
       "and your proposal. The program reads the document alone."),
-    coarse && el("p", { class: "note" }, `${coarseText(coarse)} The document has no place for that; the file is named `,
-      `${file}, and this page tells it when it is opened under that name. A saved case holds it.`));
+    coarse && el("p", { class: "note" }, `${coarseText(coarse)} The document holds the ${numbers} alone, and has no `,
+      `place to say so: the file is named ${file}, and this page tells it when it is opened under that name. Under `,
+      "another name nobody can see it. A saved case holds it."));
 }
 
 /** What was done to all numbers, for as long as they are these. */

@@ -2,7 +2,7 @@
 import { Rational } from "../exact/rational.js";
 import { fractionText } from "../exact/decimals.js";
 import { el } from "./dom.js";
-import { MOVED, signedDifferences, totalsOf } from "./format.js";
+import { movedText, signedDifferences, totalsOf } from "./format.js";
 
 /** What a rule makes of it: the shares before and after, and the changes of what is shown, as texts. */
 export function changesOf({ title, before, after, leaving, ...rule }, rows, format) {
@@ -35,11 +35,11 @@ export function changesTable(columns, { rows, game, format, hasExact = true }, p
   return [el("div", { class: "scroll" }, el("table", { class: "shares small overrun" },
     el("thead", {}, el("tr", {}, name, titles), el("tr", {}, heads)),
     el("tbody", {}, lines), leavingRow(columns, format))),
-  movedHint(columns, " A change is that of the numbers shown.")];
+  movedHint(columns, rows, " A change is that of the numbers shown.")];
 }
 
-export function movedHint(columns, more = "") {
-  return columns.some(({ isMoved }) => isMoved) && el("p", { class: "hint" }, MOVED + more);
+export function movedHint(columns, rows, more = "") {
+  return columns.some(({ isMoved }) => isMoved) && el("p", { class: "hint" }, movedText(rows) + more);
 }
 
 /** Whether a group does better by itself before, and after. */

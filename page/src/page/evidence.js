@@ -1,6 +1,6 @@
 // The evidence: what was checked, by whom, what a yes means, and the files to hand on.
 import { fileNames } from "../cases/coarse.js";
-import { coarseText } from "../tell/coarse-text.js";
+import { coarseNumbers, coarseText } from "../tell/coarse-text.js";
 import { failureText } from "../tell/failures.js";
 import { ruleFile } from "../tell/rule-names.js";
 import { el } from "./dom.js";
@@ -58,7 +58,8 @@ export function evidenceParts(result, { kind, typed: { coarse }, file: opened },
         opened?.made === result.text && el("p", { class: "hint" }, `The same game stands in ${opened.name}, which was `,
           `opened here${opened.digest ? ` and has the SHA-256 ${opened.digest}` : ""}: who agreed on that keeps it.`),
         filled && el("p", { class: "hint" }, `${filled} The file doesn’t say which.`),
-        coarse && el("p", { class: "hint" }, `${coarseText(coarse)} Of that the file has but its name.`)),
+        coarse && el("p", { class: "hint" }, `${coarseText(coarse)} The file holds the ${coarseNumbers(coarse)} `,
+          "alone: of that it has but its name, and under another name nobody can see it.")),
       el("li", {}, "Send the line: the answer with its evidence. ", fileButtons(line, file)),
       el("li", {}, "Whoever gets it opens this page and checks below: is it the agreed game, and does the certificate ",
         "hold? The page shouldn’t come from you, but from the project’s repository, at the commit named at the end of ",

@@ -9,8 +9,9 @@ const MOST = 1022, MOST_COPIED = 4094; // that are shown at all, and copied: tho
 const MOST_PLAYERS = 12; // of other games than tables
 
 /** The part that opens; `typed` keeps what was opened and found of this case, `ask(task, what)` goes to a worker. */
-export function excessesPart({ game, text, points }, { rows, format, typed, ask }) {
+export function excessesPart({ game, text, points: solved }, { rows, format, typed, ask, proposal }) {
   const canBe = game.n > 1 && (game.isTable() || game.n <= MOST_PLAYERS) && !game.ballots && !game.isMarket();
+  const points = [...solved, ...ownPoint(game, proposal)];
   if (!canBe || points.length < 2) return null;
   const memory = (typed.excesses ??= { most: FEW }), found = el("div"), divisions = points.map(sharesOf);
   const asked = (most) => ask("excessLists", { text, rows, divisions, most });
@@ -20,11 +21,12 @@ export function excessesPart({ game, text, points }, { rows, format, typed, ask 
       Object.assign(memory, { key: key + memory.most, lists: asked(memory.most) });
       memory.lists.catch(() => (memory.key = "")); // stopped: it is asked anew
     }
-    if (!found.childElementCount) refill(found, "Working it out …");
-    refill(found, partsOf(await memory.lists, { game, points, format, asked, onAll: () => {
+    if (!found.childElementCount) refill(found, memory.last ?? "Working it out …");
+    memory.last = el("div", {}, partsOf(await memory.lists, { game, points, format, asked, onAll: () => {
       memory.most = MOST;
       show();
     } }));
+    refill(found, memory.last);
   };
   const details = el("details", { class: "excesses", open: Boolean(memory.isOpen), on: { toggle: () => {
     memory.isOpen = details.open;
@@ -32,6 +34,12 @@ export function excessesPart({ game, text, points }, { rows, format, typed, ask 
   } } }, el("summary", {}, "The excesses by all columns, side by side"), found);
   if (memory.isOpen) show();
   return details;
+}
+
+/** The user's proposal, where it shares out the whole, as a list to hold a division. */
+function ownPoint(game, { shares }) {
+  const isWhole = shares && Rational.sum(shares).equals(game.whole());
+  return isWhole ? [{ title: "Your proposal", shares }] : [];
 }
 
 function sharesOf({ shares }) {

@@ -1,11 +1,23 @@
 // What the page filled in by itself, in sentences: it has to be told wherever the answer goes.
-import { maskOf } from "../game/groups.js";
+import { groupLabel } from "../cases/tables.js";
+import { maskOf, masksBySize } from "../game/groups.js";
 import { listed } from "../tell/words.js";
+
+const MOST_GIVEN = 800; // characters of groups with their numbers
 
 /** The sentence for the cells of a case; null where nothing was filled. */
 export function filledText({ kind, typed }) {
   if (!typed?.filled) return null;
   return kind.isTable ? ofTable(kind, typed) : kind.isNetwork ? ofNetwork(typed) : null;
+}
+
+/** The groups of a table that have a number which the page didn't fill, each with it; "" where nothing was filled, or
+ * these are too many for a page. */
+export function givenText({ kind, typed }) {
+  if (!kind.isTable || !typed?.filled?.length) return "";
+  const masks = masksBySize(typed.names.length).filter((mask) => !typed.filled.includes(mask));
+  const told = masks.map((mask) => `${groupLabel(typed.names, mask)} ${(typed.numbers[mask] ?? "").trim()}`).join("; ");
+  return told.length > MOST_GIVEN ? "" : `Given were: ${told}.`;
 }
 
 /** Whether the page filled the number of one of these groups. */

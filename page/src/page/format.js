@@ -53,6 +53,14 @@ export function signedDifferences(values, others, rows, { steps, text }) {
 export const MOVED = "Rounded so that they add up: all are rounded down, and each unit of the last place that then "
   + "lacks goes to who lost most by that, among equals to the upper row. So equal shares may differ by one.";
 
+/** The same of these rows: where an airline has several, that is rounded before them. */
+export function movedText(rows) {
+  const sums = rows.map(({ sum }) => sum).filter((sum) => sum !== undefined);
+  const isSeveral = new Set(sums).size < sums.length;
+  return isSeveral ? `${MOVED} What each airline pays for all its rows is rounded first, and then the rows, so that `
+    + "they add to that." : MOVED;
+}
+
 /** How a player is named, as the rows have it: a landing by its row. */
 export function labelOf(rows, player) {
   return rows.find(({ players }) => players.includes(player)).label;

@@ -1,5 +1,5 @@
 // The grid of a list: a runway, an estate, a vote. A row is added while the last one is filled.
-import { columnsFor, headingsOf, pastedText } from "../cases/pasting.js";
+import { columnsFor, headingsOf, pastedText, ROW_NUMBERS, withoutRowNumbers } from "../cases/pasting.js";
 import { withEscapes } from "../game/names.js";
 import { cellInput, moveByKeys, pasteCells } from "./cells.js";
 import { button, cellOf, el, refill } from "./dom.js";
@@ -107,19 +107,21 @@ class ListGrid {
     const [, r, key] = cell.split("."), columns = this.columns(), first = columns.findIndex((one) => one.key === key);
     if (first < 0) return;
     this.remember("Paste");
-    const own = first ? columns.slice(first) : this.allColumns(), rows = pasted.filter((row) => row.some(Boolean));
+    const all = pasted.filter((row) => row.some(Boolean)), rows = withoutRowNumbers(all);
+    const own = first ? columns.slice(first) : this.allColumns(), isNumbered = rows !== all && ROW_NUMBERS;
     const from = own.filter(({ optional }) => !optional).findIndex(({ number }) => number);
     const headings = headingsOf(rows, Math.max(0, from), this.mark());
     const targets = columnsFor(own, headings, { rows, mark: this.mark(), ofFour: this.kind.ofFour });
-    const all = rows.slice(headings ? 1 : 0), below = all.slice(0, this.kind.most * 4);
-    const isCut = below.length < all.length && `Of ${all.length} rows only the first ${below.length} were taken.`;
+    const given = rows.slice(headings ? 1 : 0), below = given.slice(0, this.kind.most * 4);
+    const isCut = below.length < given.length && `Of ${given.length} rows only the first ${below.length} were taken.`;
     if (Number(r) === 0) this.forgetExample(targets, below.length);
     const filled = below.map((row, k) => {
       const target = (this.typed.rows[Number(r) + k] ??= this.blank());
       row.forEach((text, c) => targets[c] && (target[targets[c].key] = text));
       return target;
     });
-    const said = [pastedText(rows, headings, targets, columns.slice(first)), isCut, ...this.complete(filled, targets)];
+    const taken = pastedText(rows, headings, targets, columns.slice(first));
+    const said = [isNumbered, taken, isCut, ...this.complete(filled, targets)];
     this.said.textContent = withEscapes(said.filter(Boolean).join(" "));
     this.show();
     this.onChange();

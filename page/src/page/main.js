@@ -17,11 +17,14 @@ const at = (id) => document.getElementById(id);
 const WAYS = { round: "Round all to four decimals", whole: "All times a power of ten" };
 const kept = new Map(); // what was typed in cases that aren't shown
 
-let panel = null, isUnsaved = false;
+let panel = null, verify = null, isUnsaved = false;
 
 const session = new Session({
   stale: () => view.stale(),
-  read: () => panel.tell(session.reading),
+  read: () => {
+    panel.tell(session.reading);
+    verify.beside(session.reading.text ?? null);
+  },
   answer: () => view.show(),
   busy: (isBusy) => view.busy(isBusy),
   fault: (fault) => view.fault(fault),
@@ -44,13 +47,17 @@ function openCase(kind, typed, { before = null, notes = [], doubt = "", paper, .
       isUnsaved = session.isTyped = true;
       session.changed(wait);
     },
-    onReset: (next, what) => openCase(kind, next, { before: { what, ...nowTyped() } }),
+    onReset: (next, what, isSame = false) => {
+      const { entry, isTyped } = session, marks = isSame ? { entry, isTyped } : {};
+      openCase(kind, next, { ...marks, before: { what, ...nowTyped() } });
+    },
     onUndo: (back) => undo(kind, back),
     snapshot: () => structuredClone(cellsNow()),
     coarsen: (how) => coarsen(kind, how),
     asTable: (table, said) => {
       const coarse = coarseOfSums(typed.coarse, typed.names.length);
-      openCase(costs, { ...table, coarse }, { notes: said, doubt, before: replaced(costs, "Make a table of costs") });
+      const { isTyped } = session, before = replaced(costs, "Make a table of costs");
+      openCase(costs, { ...table, coarse }, { notes: said, doubt, isTyped, before });
     },
   });
   at("case-title").textContent = kind.title;
@@ -86,19 +93,19 @@ function replaced(kind, what) {
 
 /** Makes the numbers of a case coarser, as the user chose, or gives a fault in words. */
 async function coarsen(kind, how) {
-  const before = cellsNow(), { typed, measure, entry, doubt } = before, { paper, places } = nowTyped();
+  const before = cellsNow(), { typed, measure, entry, doubt, isTyped } = before, { paper, places } = nowTyped();
   const what = { id: kind.id, typed: kind.pack?.(typed) ?? typed, mark: session.entryMark(), how };
   const { typed: changed, coarse: fresh, fault } = await session.reader.ask("coarser", what);
   if (fault || session.typed !== typed) return fault;
   const next = { ...typed, ...(kind.unpack?.(changed) ?? changed), coarse: coarserStill(typed.coarse, fresh) };
-  openCase(kind, next, { measure, entry, doubt, paper, places, before: { ...before, what: WAYS[how] } });
+  openCase(kind, next, { measure, entry, doubt, isTyped, paper, places, before: { ...before, what: WAYS[how] } });
   return undefined;
 }
 
 /** What stands in the cells of the case that is shown. */
 function cellsNow() {
-  const { typed, measure, texts, todays, entry, doubt, file } = session;
-  return { typed, measure, texts, todays, entry, doubt, file };
+  const { typed, measure, texts, todays, entry, doubt, file, isTyped } = session;
+  return { typed, measure, texts, todays, entry, doubt, file, isTyped };
 }
 
 /** The same with the decimals, and what was typed below the answer. */
@@ -151,12 +158,12 @@ function begin() {
     onCase: (kind) => show(kind.id), onDocument: () => show("document"), onCheck: () => show("verify"),
   }));
   const documents = new Documents({
-    mark: () => session.mark, onLine: (text, from) => verify.setLine(text, from),
+    mark: () => session.usualMark(), onLine: (text, from) => verify.setLine(text, from),
     onOpen: (kind, typed, settings) => {
-      openCase(kind, typed, { ...settings, before: replaced(kind, "Open a document") });
+      openCase(kind, typed, { ...settings, isFile: true, before: replaced(kind, "Open a document") });
     },
   });
-  const verify = verifyPanel({
+  verify = verifyPanel({
     format: () => view.format(),
     onOpen: (text, doubt, from) => documents.open(text, { doubt, isChecked: true, from }),
     onPrint: () => paper.print("check"),

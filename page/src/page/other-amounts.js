@@ -62,7 +62,7 @@ function estatesPart(view) {
   }, view);
 }
 
-function estatesTable(found, { rows, format }) {
+function estatesTable(found, { rows, format, setEntry }) {
   const columns = found.filter(({ shares }) => shares).map(({ amount, shares }) => {
     const totals = totalsOf(rows, shares.map(Rational.of));
     return { title: format.show(Rational.of(amount)), texts: format.column(totals), isMoved: format.isMoved(totals) };
@@ -70,11 +70,16 @@ function estatesTable(found, { rows, format }) {
   const faults = found.filter(({ fault }) => fault).map(({ amount, fault }) => {
     return el("p", { class: "bad" }, amount ? `${format.show(Rational.of(amount))}: ${fault}` : fault);
   });
-  const notes = found.filter(({ note }) => note).map(({ note }) => el("p", { class: "note" }, note));
+  const way = (mark) => button(`Let the ${mark === "." ? "point" : "comma"} do so`, () => setEntry(mark), {
+    class: "quiet",
+  });
+  const notes = found.filter(({ note }) => note).map(({ note, other }) => {
+    return el("p", { class: "note" }, note, " ", other && setEntry && way(other));
+  });
   if (!columns.length) return [...notes, ...faults];
   const names = [...rows.map(({ label }) => label), "together"], titles = columns.map(({ title }) => title);
   const lines = names.map((name, r) => [name, ...columns.map(({ texts }) => texts[r])]);
-  return [...notes, tableOf(["Estate", ...titles], lines), movedHint(columns), ...faults];
+  return [...notes, tableOf(["Estate", ...titles], lines), movedHint(columns, rows), ...faults];
 }
 
 function tableOf(heads, lines) {

@@ -21,17 +21,23 @@ export function paperPart(session, typed) {
     type: "checkbox", checked: Boolean(typed.withProposal), "data-cell": "paper.withProposal",
     on: { change: (event) => { typed.withProposal = event.target.checked; } },
   });
+  const said = el("p", { class: "note", role: "status" });
   const printed = (what) => async () => {
     await typed.working; // what was typed last may be worked out still
-    printAs(what);
+    const isSheet = what === "sheet" && !document.body.classList.contains("answer-hidden");
+    const count = isSheet ? showSheet(session, typed) : 1;
+    refill(said, count > 1 && [`That takes ${count} sheets, in small letters and without a picture too. `,
+      button("Print them", () => printAs(what), { class: "quiet" })]);
+    if (count === 1) printAs(what);
   };
   return el("details", { class: "other paper-part" }, el("summary", {}, "On paper"),
     el("p", { class: "hint" }, "One page for a council or a court: who, how much, a picture, the reasons, what is ",
-      "agreed on, and how to check it. Or all that stands here, with the amounts and the check that were worked out."),
+      "agreed on, and how to check it. Or all that stands here, with the amounts that were worked out, and the check ",
+      "of a line, if it is of this case."),
     field("heading", "Heading", session.kind.title, true), field("unit", "Unit of money", "", false),
     el("label", { class: "single" }, own, " With “Your proposal” and the other columns, on the one page too"),
     el("p", { class: "tools" },
-      button("Print one page", printed("sheet")), button("Print everything", printed("all"))));
+      button("Print one page", printed("sheet")), button("Print everything", printed("all"))), said);
 }
 
 function printAs(what) {
@@ -53,6 +59,7 @@ export class Paper {
   before() {
     const { session, view } = this, { dataset } = document.body, isCase = dataset.view === "case";
     let what = dataset.print ?? (isCase ? "sheet" : dataset.view === "verify" ? "check" : "all");
+    if (isCase && view.isHidden && what === "sheet") what = "all"; // the case alone
     if (what === "sheet") showSheet(session, view.typed);
     if (what === "sheet" && !(isCase && at("sheet").childElementCount)) what = "all";
     dataset.print = what;

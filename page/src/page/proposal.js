@@ -23,7 +23,7 @@ function readAll(typed, mark) {
 /** What each player pays or gets, where the players of a row share alike. */
 function sharesOf(rows, totals) {
   const shares = [];
-  rows.forEach(({ players }, r) => {
+  rows.forEach(({ players = [] }, r) => { // of many landings the page knows no players
     for (const i of players) shares[i] = totals[r].over(Rational.of(players.length));
   });
   return shares;

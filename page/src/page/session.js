@@ -20,8 +20,9 @@ export class Session {
     this.mark = new Intl.NumberFormat().format(0.5).includes(",") ? "," : "."; // by which numbers are shown
     this.own = this.mark; // by which those that are typed are read, where they don't show it themselves
     spoken.mark = this.mark;
-    this.isChosen = false; // whether the user has chosen the mark
-    this.isTyped = false; // whether the cells of the case aren't as they were opened
+    this.chosen = null; // the mark that the user has chosen
+    this.isChosen = false; // whether what is shown has that one, or the one of a file
+    this.isTyped = false; // whether the cells aren't those of a worked example
   }
 
   /** Starts the workers, so that the first question needn't wait for them. */
@@ -30,13 +31,14 @@ export class Session {
   }
 
   /** `doubt` is why the game isn't taken for the agreed one, in words; `file` is that which was opened: {name, digest},
-   * and `made`, the document that the page makes of it. A `mark` was chosen. */
-  open(kind, typed, settings = {}) {
-    const { measure = "plain", texts = [], todays = null, entry = this.own, doubt = "", file = null } = settings;
-    const { places = kind.places ?? 2, mark = this.mark } = settings;
-    Object.assign(this, { kind, typed, measure, texts, todays, entry, doubt, places, mark });
-    this.isChosen ||= Boolean(settings.mark);
-    this.isTyped = false;
+   * and `made`, the document that the page makes of it. What `isFile` has no mark of the case before; its `mark` was
+   * chosen. */
+  open(kind, typed, { isFile = false, isTyped = isFile, ...settings } = {}) {
+    const { measure = "plain", texts = [], todays = null, doubt = "", file = null } = settings;
+    const { places = kind.places ?? 2, mark = isFile ? this.usualMark() : this.mark } = settings;
+    const { entry = isFile ? mark : this.own } = settings;
+    Object.assign(this, { kind, typed, measure, texts, todays, entry, doubt, places, mark, isTyped, isFresh: isFile });
+    this.isChosen = Boolean(settings.mark) || (isFile ? this.chosen !== null : this.isChosen);
     spoken.mark = mark;
     Object.assign(this, { reading: null, result: null, judged: {}, proposal: proposalOf([], [], entry) });
     this.changed(0);
@@ -56,9 +58,19 @@ export class Session {
   /** The mark of what is shown; no number is read anew by it. */
   setMark(mark) {
     this.isChosen = true;
-    this.mark = mark;
+    this.chosen = this.mark = mark;
     spoken.mark = mark;
     this.changed(0);
+  }
+
+  /** Where no cell of a file shows a mark, what is typed beside them is read by the one that the answer is shown with:
+   * {reading} with that. */
+  ofFile(reading) {
+    const isOpen = this.isFresh && reading.settled === null && !reading.doubts?.length;
+    this.isFresh = false;
+    if (!isOpen) return reading;
+    this.entry = this.mark;
+    return { ...reading, entry: this.mark, mark: this.mark };
   }
 
   /** What is shown has the mark that the typed numbers show, until the user chooses one. */
@@ -69,15 +81,22 @@ export class Session {
     return true;
   }
 
-  /** The mark of the numbers of this case that can be read both ways. */
+  /** The mark of the numbers of this case that can be read both ways, as the user says. */
   setEntry(mark) {
     this.entry = mark;
+    this.typed.isMarked = true;
     this.changed(0);
   }
 
-  /** The mark by which numbers beside the cells are read. */
+  /** The mark of files, which show none themselves. */
+  usualMark() {
+    return this.chosen ?? this.own;
+  }
+
+  /** The mark by which numbers beside the cells are read: the one that these show, but those of a worked example. */
   readMark() {
-    return this.reading?.mark ?? this.own;
+    const { settled = null, mark = this.own } = this.reading ?? {};
+    return (this.isTyped ? settled : null) ?? mark;
   }
 
   /** How the cells were read: that mark, or what the user chose in its place for those that can be read both ways. */
@@ -106,7 +125,7 @@ export class Session {
       const { kind, entry: mark, measure } = this, typed = kind.pack?.(this.typed) ?? this.typed;
       const reading = await engine("readCase", { id: kind.id, typed, mark, measure });
       if (!isMine()) return;
-      this.reading = reading;
+      this.reading = this.ofFile(reading);
       if (this.file) this.file.made ??= reading.text;
       if (this.follow(reading)) return;
       this.judged = {};

@@ -5,11 +5,11 @@ import { listed, Namer, plural } from "../tell/words.js";
 import { againstOf, comparisonPart } from "./comparison.js";
 import { el } from "./dom.js";
 import { excessesPart } from "./excesses.js";
-import { labelOf, MOVED, totalsOf, withSum } from "./format.js";
+import { labelOf, movedText, totalsOf, withSum } from "./format.js";
 import { meanings, monotonic, subtitleOf, words } from "./meanings.js";
 import { ownInput, proposalSum, proposalTools } from "./proposal-cells.js";
-import { airlineLines, shareLines } from "./table-lines.js";
-import { changeText, todayTitle, todayTools } from "./today.js";
+import { airlineLines, roundingLines, shareLines } from "./table-lines.js";
+import { changeBelow, todayTitle, todayTools } from "./today.js";
 
 const BRIEF = 8; // rows that are kept on one printed page
 const NARROW = 520;
@@ -32,7 +32,7 @@ export function sharesTable(result, settings) {
       headOf(view), el("tbody", {}, linesOf(rows).map((line) => (line.of ? sumRow(line, view) : shareRow(line, view)))),
       footOf(view, hasHolds))),
     columns.some(({ shares }) => format.isMoved(totalsOf(rows, shares), rows))
-      && el("p", { class: "hint moved" }, `${MOVED} The exact shares stand in small print.`),
+      && el("p", { class: "hint moved" }, `${movedText(rows)} The exact shares stand in small print.`),
     sameText(result) && el("p", { class: "hint" }, sameText(result)),
     proposal.canBe && proposalTools(result, settings),
     todayTools(game, settings.today),
@@ -100,7 +100,7 @@ export function shareCell(text, share, count, format, change) {
 
 /** How much more it is than today, where that was typed. */
 function changeOf(step, r, { texts, values }, format) {
-  return texts && values[r] && el("small", { class: "change" }, changeText(step, values[r], format));
+  return texts && changeBelow(step, values[r], format);
 }
 
 /** The rows, and behind the last row of an airline with several rows its sum. */
@@ -115,20 +115,22 @@ export function linesOf(rows) {
 
 function sumRow({ sum, of }, view) {
   const { rows, context, columns, format, proposal, today, against } = view;
+  const now = today.texts && ownSum(of, today), proposed = proposal.canBe && ownSum(of, proposal);
   const cells = columns.map(({ shares, steps }) => {
     const exact = Rational.sum(totalsOf(of.map((r) => rows[r]), shares)), shown = withSum(of.map((r) => steps[r]));
-    return shareCell(format.text(shown.at(-1)), exact, 1, format);
+    return shareCell(format.text(shown.at(-1)), exact, 1, format, now && changeBelow(shown.at(-1), now, format));
   });
   return named(view, "subtotal", `${sum}, together`, [
-    context && el("td", { class: "context" }), today.texts && el("td", { class: "number" }, ownSum(of, today, format)),
-    cells, proposal.canBe && el("td", { class: "number proposed" }, ownSum(of, proposal, format)), against && el("td"),
+    context && el("td", { class: "context" }), today.texts && el("td", { class: "number" }, now && format.show(now)),
+    cells, proposal.canBe && el("td", { class: "number proposed" }, proposed && format.show(proposed)),
+    against && el("td"),
   ]);
 }
 
-/** What the user typed for the rows of an airline, added. */
-function ownSum(of, { values }, { show }) {
+/** What the user typed for the rows of an airline, added; null where one lacks. */
+export function ownSum(of, { values }) {
   const own = of.map((r) => values[r]);
-  return own.every(Boolean) && show(Rational.sum(own));
+  return own.every(Boolean) ? Rational.sum(own) : null;
 }
 
 function footOf(view, hasHolds) {
@@ -198,8 +200,8 @@ function holdText(rows, hold, { by }) {
   return `Yes, for example ${strong} on ${weak}, by ${by(hold.by)}`;
 }
 
-/** The table for a spreadsheet, as lines of cells, and what each airline pays. */
-export function tablesOf({ points }, { rows, format }) {
+/** The table for a spreadsheet, as lines of cells, what each airline pays, and how all is rounded. */
+export function tablesOf({ points }, { rows, format, coarse }) {
   const own = points.map(({ title, shares }) => ({ title, totals: totalsOf(rows, shares) }));
-  return [shareLines(rows, own, format), airlineLines(rows, own, format)];
+  return [shareLines(rows, own, format), airlineLines(rows, own, format), roundingLines(own, format, coarse)];
 }

@@ -14,9 +14,10 @@ import { lead, notices, solutionOf } from "./answer.js";
 import { beyondSheet } from "./beyond.js";
 import { el, refill } from "./dom.js";
 import { knownDigest } from "./files.js";
-import { filledLines, filledText } from "./filled.js";
-import { formatOf, MOVED, totalsOf, withSum } from "./format.js";
-import { contextOf, sameText } from "./shares-table.js";
+import { fitOnPaper } from "./fit.js";
+import { filledLines, filledText, givenText } from "./filled.js";
+import { formatOf, movedText, totalsOf, withSum } from "./format.js";
+import { contextOf, ownSum, sameText } from "./shares-table.js";
 import { airlineLines } from "./table-lines.js";
 import { changeText, todayOf, todayTitle } from "./today.js";
 import { linesTable } from "./types-table.js";
@@ -36,16 +37,27 @@ const OPEN = "Open coop.html from the project’s repository, at the commit name
   + "you its address)";
 const TYPE_IN = " Or simply type the numbers into that page: the answer has to be the same.";
 const AREA = "The dark area, where there is one: the divisions by which no group does better by itself.";
+const OF_FILE = " That is of the file, and not of the box below, in which the same numbers stand as this page writes "
+  + "them.";
+const OF_TEXT = " That is of the file: of the text in the box below, with an end of line behind it.";
 const POWER = "Power is in what part of all orders of joining a voter is the one by whom the votes suffice (Shapley "
   + "and Shubik 1954).";
 const PRICES = "By the pairs that gain most together, and the prices at which no other pair does better.";
 
-/** Fills the sheet with the answer of a session; leaves it empty where there is none. */
+/** Fills the sheet with the answer of a session, and gives the number of sheets of paper that it takes; leaves it empty
+ * where there is no answer. */
 export function showSheet(session, typed = {}) {
-  const sheet = document.getElementById("sheet"), { result, reading } = session;
+  const sheet = document.getElementById("sheet");
+  fillSheet(sheet, session, typed);
+  return fitOnPaper(sheet);
+}
+
+function fillSheet(sheet, session, typed) {
+  const { result, reading } = session;
   if (result?.beyond && !result.game) {
-    const format = formatOf(session.places, session.mark), view = { ...session, ...typed, format };
-    sheet.classList.add("tight");
+    const format = formatOf(session.places, session.mark), today = todayOf(session, result.beyond.rows);
+    const view = { ...session, ...typed, format, today };
+    sheet.className = "tight";
     refill(sheet, headOf(view), beyondSheet(result.beyond, view));
     return;
   }
@@ -58,7 +70,7 @@ export function showSheet(session, typed = {}) {
   const view = { ...session, heading, unit, withProposal, result, rows, format, today, coarse };
   const reasons = reasonsOf(view), isLong = rows.length > MANY_ROWS || reasons.textContent.length > LONG;
   const isTight = isLong || Boolean(withProposal || coarse || result.core?.collection);
-  sheet.classList.toggle("tight", isTight);
+  sheet.className = isTight ? "tight" : "";
   refill(sheet, headOf(view), notices(result, format, coarse), answerOf(view), pictureOf(view), reasons,
     agreedOf(view), checkOf(view));
 }
@@ -87,22 +99,22 @@ function answerOf(view) {
   const beside = othersOf(view, point);
   const others = [...todaysOf(today, format.steps(totals, rows), game, format), ...beside];
   const heads = [game.ballots ? "Who votes" : who, context?.title, title, hasExact ? "exactly" : undefined,
-    ...others.map((other) => other.title)];
+    ...others.flatMap(({ title: name, exact }) => (exact ? [name, "exactly"] : [name]))];
   const line = (r) => el("tr", {},
     el("th", { scope: "row" }, rows[r].label, rows[r].players.length > 1 && ` (${rows[r].players.length} landings)`),
     context && el("td", { class: "number" }, context.texts[r]),
     el("td", { class: "number strong" }, texts[r]),
     hasExact && el("td", { class: "number" }, format.isExact(totals[r]) ? "" : fractionText(totals[r])),
-    others.map((other) => el("td", { class: "number" }, other.texts[r], other.exact?.(r))));
+    others.map((other) => [el("td", { class: "number" }, other.texts[r]), other.exact?.(r)]));
   const sum = el("tr", { class: "sum" }, el("th", { scope: "row" }, "together"),
     context && el("td", { class: "number" }, context.sum),
     el("td", { class: "number strong" }, texts.at(-1)), hasExact && el("td"),
-    others.map((other) => el("td", { class: "number" }, other.texts.at(-1))));
+    others.map((other) => [el("td", { class: "number" }, other.texts.at(-1)), other.exact && el("td")]));
   return el("section", {},
     !game.ballots && !game.isMarket() && (airlinesOf(view, point) ?? lead(result, point, { rows, format })),
     unit?.trim() && el("p", { class: "hint" }, `All amounts are in ${unit.trim()}.`),
     halves(rows.length, heads.filter((head) => head !== undefined), line, sum),
-    format.isMoved(totals, rows) && el("p", { class: "hint" }, `${MOVED} The fractions are exact.`),
+    format.isMoved(totals, rows) && el("p", { class: "hint" }, `${movedText(rows)} The fractions are exact.`),
     coarse?.times && [{ title, totals }, ...beside].map((one) => {
       return el("p", { class: "hint" }, dividedText(coarse, one.title, rows, one.totals));
     }),
@@ -110,12 +122,24 @@ function answerOf(view) {
 }
 
 /** The bill: what each airline pays for all its rows, by the columns that are shown; null where none has several. */
-function airlinesOf({ result: { points }, rows, format, withProposal, proposal }, shown) {
+function airlinesOf({ result: { points }, rows, format, withProposal, proposal, today }, shown) {
   const others = withProposal ? points.filter((point) => point !== shown) : [];
   const columns = [shown, ...others].map(({ title, shares }) => ({ title, totals: totalsOf(rows, shares) }));
   const own = withProposal && proposal?.totals ? [{ title: "Your proposal", totals: proposal.totals }] : [];
-  const lines = airlineLines(rows, [...columns, ...own], format);
+  const lines = withTodays(airlineLines(rows, [...columns, ...own], format), { rows, format, today, shown });
   return lines.length ? linesTable("What each airline pays", lines, "shares dense") : null;
+}
+
+/** The same lines with what each airline pays today, and the change, where that was typed for all its rows. */
+function withTodays(lines, { rows, format, today, shown }) {
+  if (!lines.length || !today.texts?.some(Boolean)) return lines;
+  const steps = format.steps(totalsOf(rows, shown.shares), rows), all = rows.map((_, r) => r);
+  const told = ([name], k) => {
+    if (!k) return [todayTitle({ costs: true }), "Change"];
+    const of = k === lines.length - 1 ? all : all.filter((r) => rows[r].sum === name), now = ownSum(of, today);
+    return now ? [format.show(now), changeText(withSum(of.map((r) => steps[r])).at(-1), now, format)] : ["", ""];
+  };
+  return lines.map((line, k) => [...line.slice(0, 3), ...told(line, k), ...line.slice(3)]); // behind the first column
 }
 
 /** What each pays or has today, and how much more the share is, where that was typed. */
@@ -137,14 +161,16 @@ function saidOfAll({ result, format }, { title, ...point }, others) {
   return [...told, same].map((text) => text && el("p", { class: "hint" }, text));
 }
 
-/** The other columns, and the user's proposal, where these are wanted: {title, texts, totals, exact, said}. */
+/** The other columns, and the user's proposal, where these are wanted: {title, texts, totals, exact, said}. `exact` is
+ * the cell of a row with its fraction, which stands right of the number as that of the first column does. */
 function othersOf({ result, rows, format, withProposal, proposal, judged }, shown) {
   if (!withProposal || result.game.ballots) return [];
   const { game, points } = result, own = proposal?.totals && { title: "Your proposal", ...proposal, ...judged };
   return [...points.filter((point) => point !== shown), own].filter(Boolean).map((point) => {
     const totals = point.totals ?? totalsOf(rows, point.shares), texts = format.column(totals, rows);
-    const exact = (r) => !format.isExact(totals[r]) && el("small", { class: "exact beside" }, fractionText(totals[r]));
-    return { title: point.title, texts, totals, exact, said: saidOf(game, point, format) };
+    const hasExact = totals.some((total) => !format.isExact(total));
+    const exact = (r) => el("td", { class: "number exact" }, format.isExact(totals[r]) ? "" : fractionText(totals[r]));
+    return { title: point.title, texts, totals, exact: hasExact ? exact : null, said: saidOf(game, point, format) };
   });
 }
 
@@ -207,8 +233,8 @@ function highOf(drawn) {
 }
 
 function powerOf(game, points, { show }) {
-  const { shares } = points.find(({ key }) => key === "shapley"), [{ votes }] = game.ballots;
-  const parts = votes.map((own) => own.over(Rational.sum(votes)));
+  const { shares } = points.find(({ key }) => key === "shapley");
+  const parts = game.ballots.map(({ votes }) => votes.map((own) => own.over(Rational.sum(votes))));
   const percent = (value) => `${show(value.times(Rational.of(100)))}\u202f%`;
   return powerPicture(game, shares, parts, percent, WIDE);
 }
@@ -268,9 +294,11 @@ function numbersOf({ file, kind, coarse, result: { text } }) {
 }
 
 function agreedOf(view) {
-  const { result: { text }, rows, doubt, fills, coarse } = view, filled = filledText(view);
+  const { result: { text }, rows, doubt, fills, coarse } = view, filled = filledText(view), given = givenText(view);
   const isShort = text.length <= (rows.length > MOST_PICTURED ? MOST_ALONE : MOST_DOCUMENT);
-  const what = el("p", {}, numbersOf(view), filled && ` ${filled}`, fills?.text === text && ` ${fills.sentence}`,
+  const ofBox = isShort && (view.file?.made === text ? OF_FILE : OF_TEXT);
+  const what = el("p", {}, numbersOf(view), ofBox, filled && ` ${filled}`, given && ` ${given}`,
+    fills?.text === text && ` ${fills.told(shownTitles(view))}`,
     coarse && ` ${coarseText(coarse)}`);
   return el("section", {}, el("h2", {}, doubt ? "Not agreed on" : "What is agreed on"),
     doubt && el("p", {}, doubt), what,
@@ -278,6 +306,12 @@ function agreedOf(view) {
       : el("p", { class: "hint" }, `The file has ${countText(text.length)} characters, and isn’t printed. `
         + "Keep it with this page."),
     !doubt && el("p", { class: "sign" }, "Agreed on by", el("span"), "on", el("span", { class: "short" })));
+}
+
+/** The rules whose shares stand on the page. */
+function shownTitles({ result, withProposal }) {
+  const own = solutionOf(result) ?? result.points[0];
+  return (withProposal ? result.points : [own]).map(({ title }) => title);
 }
 
 function checkOf({ result: { rule, answer, line, game }, kind, doubt, coarse }) {

@@ -30,6 +30,7 @@ class TableGrid {
     moveByKeys(list, (cell, step) => `numbers.${this.order[this.placeOf(cell) + step]}`);
     pasteCells(list, (cell, rows, text) => this.paste(cell, rows, text), readCells);
     this.show();
+    this.tellFilled();
   }
 
   placeOf(cell) {
@@ -196,6 +197,16 @@ class TableGrid {
     this.showGroups();
     this.say(fault ?? notes.join(" "), namedGroups(above));
     this.onChange(0);
+  }
+
+  /** Of a case that was opened with filled groups it is told how, and which are dearer than larger ones. */
+  async tellFilled() {
+    const { filled, how } = this.typed, costs = Boolean(this.kind.isCost), mark = this.mark();
+    if (!filled?.length) return;
+    const mine = (this.filling = (this.filling ?? 0) + 1);
+    const what = { typed: packed(this.typed), mark, costs, filled, how, again: true };
+    const { notes = [], above = [] } = await this.help("fillSplits", what);
+    if (mine === this.filling) this.say(notes.join(" "), namedGroups(above));
   }
 
   pager() {

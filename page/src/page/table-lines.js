@@ -27,6 +27,17 @@ export function airlineLines(rows, points, format) {
   ];
 }
 
+/** How the numbers of a table are rounded: a line each, with a number that a spreadsheet reads. `coarse` is what was
+ * done to the numbers of the game. */
+export function roundingLines(points, { places, isExact }, { times, rounded } = {}) {
+  const isRounded = points.some(({ totals }) => !totals.every(isExact));
+  return [
+    ...(isRounded ? [["Shares beside the exact ones are rounded to decimals", String(places)]] : []),
+    ...(rounded ? [["The numbers of the game were rounded to decimals", "4"]] : []),
+    ...(times ? [["All numbers stand here times", times]] : []),
+  ];
+}
+
 const landingsIn = ({ count, players }) => count ?? players.length;
 
 /** A cell as programs read it: without blanks in numbers, and without characters that aren't seen. */

@@ -8,7 +8,7 @@ import { proposalOf } from "./proposal.js";
 /** What was typed of today, read by rows, and how to change it; `texts` is null where the user doesn't compare. */
 export function todayOf(session, rows) {
   const { todays, result } = session, setAll = (texts) => session.setTodays(texts);
-  const canBe = !result.game.isMarket() && !result.game.ballots;
+  const canBe = !result.game || (!result.game.isMarket() && !result.game.ballots); // of many landings there is no game
   if (!todays || !canBe) return { canBe, texts: null, setAll };
   const set = (r, text) => setAll(Object.assign([...todays], { [r]: text }));
   const { texts, values, faults } = proposalOf(todays, rows, session.readMark()), isWhole = values.every(Boolean);
@@ -25,6 +25,11 @@ export function changeText(step, now, { places, mark, show }) {
   const sign = ZERO.less(change) ? "+" : "", part = change.over(now.isZero() ? Rational.of(1) : now.abs());
   const percent = decimal(part.times(Rational.of(100)), 1, { mark });
   return sign + show(change) + (now.isZero() ? "" : ` (${sign}${percent}\u202f%)`);
+}
+
+/** The same below a share, in small print; nothing where today isn't known. */
+export function changeBelow(step, now, format) {
+  return now && el("small", { class: "change" }, changeText(step, now, format));
 }
 
 /** The way to the column, and what is said of it. */

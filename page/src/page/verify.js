@@ -21,6 +21,7 @@ const NO_FILE = "No file of the game is given, so nobody can say. A certificate 
 const NOT_AGREED = "This game came with a line, and isn’t the agreed game. Nothing on this page is agreed on.";
 const NOT_RIGHT = "This game came with a line that doesn’t show that its shares are right. The shares below are worked "
   + "out anew.";
+const OTHER = "What was checked here isn’t the game of the case above, so it isn’t printed with it.";
 const RULES = ["nucleolus", "prenucleolus"];
 const ASKED = [...RULES, "shapley", "bird"]; // what the program can find anew
 
@@ -31,15 +32,17 @@ export function verifyPanel({ format, onOpen, onPrint }) {
   return {
     element: panel.element,
     setLine: (text, from) => panel.ofLine.setText(text, from),
+    beside: (text) => panel.beside(text),
   };
 }
 
 class VerifyPanel {
   constructor(format, onOpen, onPrint) {
-    Object.assign(this, { format, onOpen, onPrint, line: "", agreed: "", turn: 0 });
+    Object.assign(this, { format, onOpen, onPrint, line: "", agreed: "", turn: 0, text: null });
     this.from = { ofLine: {}, ofGame: {} }; // where the two texts come from
     this.helpers = [new Helper(), new Helper()];
     this.answers = el("div", { class: "answers", "aria-live": "polite" });
+    this.apart = el("div", { class: "in-case screen apart", "aria-live": "polite" });
     this.means = el("div", {}, meaning());
     this.ofLine = textPlace({
       title: "The line to check", hint: "What the program printed, or this page saved: an answer with its certificate.",
@@ -51,13 +54,31 @@ class VerifyPanel {
       onText: (text, from) => this.check({ agreed: text, from: { ...this.from, ofGame: from } }),
     });
     const places = el("div", { class: "places screen" }, this.ofLine, this.ofGame);
-    this.element = el("div", {}, places, this.answers, this.means, words());
+    this.element = el("div", {}, places, this.apart, this.answers, this.means, words());
+  }
+
+  /** Says where what was checked isn't the game of the case above, whose document is `text` (null where it has none).
+   * It is printed with that case alone of which it is known to be. */
+  async beside(text) {
+    const { line, agreed } = this, asked = (this.asked = {}), isHere = () => asked === this.asked;
+    this.text = text;
+    this.element.classList.remove("of-case");
+    if (!line.trim()) return refill(this.apart);
+    try {
+      const isSame = text ? await this.helpers[1].ask("isOfGame", { line, agreed, text }) : false;
+      if (!isHere()) return undefined;
+      this.element.classList.toggle("of-case", isSame);
+      return refill(this.apart, !isSame && el("p", { class: "notice" }, OTHER));
+    } catch {
+      return undefined; // stopped by another check, which asks anew
+    }
   }
 
   async check(given) {
     Object.assign(this, given);
     const mine = (this.turn += 1), isMine = () => mine === this.turn, { line, agreed } = this;
     for (const helper of this.helpers) helper.stop();
+    this.beside(this.text);
     if (this.tellNotTaken()) return undefined;
     const hint = agreed.trim() && el("p", { class: "hint" }, "Give the line to check, too.");
     if (!line.trim()) return refill(this.answers, hint);

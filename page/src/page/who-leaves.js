@@ -3,7 +3,7 @@ import { Rational } from "../exact/rational.js";
 import { capital } from "../tell/words.js";
 import { changesOf, changesTable, ruleIn } from "./changes.js";
 import { el, refill } from "./dom.js";
-import { totalsOf } from "./format.js";
+import { fillsOfRest } from "./two-fills.js";
 
 /** `view` are {game, text, rows, format, typed, ask, assumed}; `typed.leaves` keeps who was chosen. */
 export function leavingPart(view) {
@@ -14,7 +14,9 @@ export function leavingPart(view) {
     const row = rows.find(({ label }) => label === typed.leaves);
     if (!row) return refill(found);
     try {
-      return refill(found, leavingParts(await ask("leave", { text, who: row.players }), row, view));
+      const answer = await ask("leave", { text, who: row.players }), stay = stayOf(answer, row, rows);
+      const byFills = await fillsOfRest(view, row.players, stay, ` of the others without ${row.label}`);
+      return typed.leaves === row.label && refill(found, leavingParts(answer, row, stay, byFills, view));
     } catch (fault) {
       return fault.message === "stopped" || refill(found, el("p", { class: "bad" }, fault.message));
     }
@@ -33,22 +35,26 @@ export function leavingPart(view) {
   return details;
 }
 
-function leavingParts(found, gone, view) {
-  const { rows, game, format, assumed } = view, { label } = gone, [verb, cost] = game.costs ? ["pays", "cost"]
-    : ["gets", "gain"];
+/** The rows of those who stay, by their places among these. */
+function stayOf(found, gone, rows) {
   const place = new Map(found.stay.map((i, k) => [i, k]));
-  const stay = rows.filter((row) => row !== gone).map((row) => {
+  return rows.filter((row) => row !== gone).map((row) => {
     return { ...row, players: row.players.map((i) => place.get(i)) };
   });
+}
+
+function leavingParts(found, { label, players }, stay, byFills, view) {
+  const { game, format, assumed } = view, [verb, cost] = game.costs ? ["pays", "cost"] : ["gets", "gain"];
   const columns = found.rules.map((rule) => changesOf(rule, stay, format));
   const [whole, rest, alone] = [found.whole, found.rest, found.alone].map(Rational.of);
   const [others, all] = format.apart(rest, whole), adds = format.by(whole.minus(rest));
   const facts = `Without ${label} the others ${cost} ${others}, and all together ${all}: ${label} adds ${adds}. Alone `
     + `${label} ${cost}s ${format.show(alone)}.`;
-  const isAssumed = assumed([found.stay, gone.players]);
+  const isAssumed = assumed([found.stay, players]);
   return [
     el("p", {}, facts, isAssumed && " What the others, or those who leave, have by themselves was filled by the page, "
       + "and nobody has put a number on it."),
+    byFills && el("p", {}, byFills),
     ...columns.map((column) => el("p", {}, ofRule(column, { label, verb, alone, game, format }))),
     changesTable(columns, { rows: stay, game, format }),
   ];

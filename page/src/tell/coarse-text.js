@@ -10,6 +10,12 @@ export function coarseText({ times, rounded } = {}) {
   return [times && timesText(times), rounded && roundedText(rounded)].filter(Boolean).join(" ");
 }
 
+/** What the numbers of a file are, in a few words: "rounded numbers". */
+export function coarseNumbers({ times, rounded }) {
+  const numbers = rounded ? "rounded numbers" : "numbers";
+  return times ? `${numbers} times ${decimalOf(BigInt(times), 0)}` : numbers;
+}
+
 function timesText(times) {
   const ten = decimalOf(BigInt(times), 0);
   return `All numbers stand here times ${ten}, so that they are whole, and exact. So are the shares: divide them by `

@@ -16,7 +16,16 @@ const NOT_FOLLOWING = "The cells that the file calls filled have other numbers t
 /** A text as a case: as openDocument has it, and of a saved case `more` of what was typed, `settings`, and `notes`. */
 export function openText({ text, mark }) {
   const tree = text.includes('"coop-page"') ? treeOf(text) : null;
-  return isCaseFile(tree) ? openCase(tree, mark) : openDocument({ text, mark });
+  return isCaseFile(tree) ? openCase(tree, mark) : withMark(openDocument({ text, mark }), mark);
+}
+
+/** The cells of what was opened by a decimal mark: they were written with points. */
+function withMark(found, mark) {
+  if (found.refusal || mark === ".") return found;
+  const kind = caseNamed(found.id), plain = kind.unpack?.(found.typed) ?? found.typed;
+  const byMark = (text, { value } = readNumber(text)) => (value ? typedText(value, mark) : text);
+  const typed = mapNumbers(kind, plain, (text) => byMark(text));
+  return { ...found, typed: kind.pack?.(typed) ?? typed };
 }
 
 function treeOf(text) {
@@ -32,14 +41,12 @@ function openCase(tree, spoken) {
   const fault = faultOfCase(tree);
   if (fault) return { refusal: fault };
   const { entry = spoken, mark = spoken, decimals, heading, unit, source, proposal = [] } = tree;
-  const found = openDocument({ text: writeJson(tree.document), mark });
+  const found = withMark(openDocument({ text: writeJson(tree.document), mark }), entry);
   if (found.refusal) {
     const { sentence, place } = found.refusal;
     return { refusal: { sentence, place: place ? `document, ${place}` : "document" } };
   }
-  const kind = caseNamed(found.id), plain = kind.unpack?.(found.typed) ?? found.typed;
-  const byMark = (text, { value } = readNumber(text)) => (value ? typedText(value, entry) : text);
-  const typed = mapNumbers(kind, plain, (text) => byMark(text));
+  const kind = caseNamed(found.id), typed = kind.unpack?.(found.typed) ?? found.typed;
   const { fault: wrong, ...filled } = filledOf(kind, typed.names, tree.filled);
   if (wrong) return { refusal: wrong };
   const isFollowing = !kind.isTable || follows(kind, typed, filled, entry);

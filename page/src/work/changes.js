@@ -70,29 +70,39 @@ export function worstOf(side, shares) {
   return { who: who.replace(/ (alone|together)$/, ""), by: String(worst.by) };
 }
 
-/** What those who stay pay or get where `who` leave, by each rule; `own` is what those who leave paid or got. */
-export function leave({ text, who }) {
-  const game = new Game(parseJson(text).game), stay = without(game.n, who), amounts = amountsOf(game);
+/** The game of those who stay alone. */
+function restOf(game, stay, amounts = amountsOf(game)) {
   const rest = Array.from({ length: 2 ** stay.length - 1 }, (_, k) => {
     return amounts[maskOf(membersOf(k + 1).map((i) => stay[i])) - 1];
   });
-  const small = { ...sideOf(game, rest), n: stay.length, shown: stay.map((i) => game.shown[i]) };
+  return { ...sideOf(game, rest), n: stay.length, shown: stay.map((i) => game.shown[i]) };
+}
+
+/** What those who stay pay or get where `who` leave, by each rule; `own` is what those who leave paid or got. */
+export function leave({ text, who }) {
+  const game = new Game(parseJson(text).game), stay = without(game.n, who), amounts = amountsOf(game);
+  const small = restOf(game, stay, amounts);
   const rules = byEachRule([sideOf(game, amounts), small]).map(({ before, ...rule }) => {
     const own = Rational.sum(who.map((i) => Rational.of(before[i])));
     return { ...rule, own: String(own), before: stay.map((i) => before[i]) };
   });
-  return { whole: String(game.whole()), alone: String(game.told(who)), rest: String(rest.at(-1)), stay, rules };
+  const rest = String(small.amounts.at(-1));
+  return { whole: String(game.whole()), alone: String(game.told(who)), rest, stay, rules };
 }
 
-/** The shares by the two ways to fill a table of costs, the one that was taken first; null where the numbers are the
+/** The games by the two ways to fill a table of costs, the one that was taken first; null where the numbers are the
  * same by both. */
-export function compareFills({ id, typed, mark, filled, how = "split" }) {
+function gamesByFills({ id, typed, mark, filled, how = "split" }) {
   const kind = caseNamed(id), other = how === "split" ? "larger" : "split";
   const { state } = fillSplits({ typed, mark, costs: kind.isCost, filled, how: other, again: true });
   if (!state || state.numbers === typed.numbers) return null;
-  const sides = [typed, state].map((one) => {
-    const game = new Game(kind.read(one, mark).tree);
-    return sideOf(game, amountsOf(game));
+  return [typed, state].map((one) => new Game(kind.read(one, mark).tree));
+}
+
+/** The shares by each rule of both of these games; of those who stay alone where `who` leave. */
+export function compareFills({ who, ...what }) {
+  const games = gamesByFills(what), sides = games?.map((game) => {
+    return who ? restOf(game, without(game.n, who)) : sideOf(game, amountsOf(game));
   });
-  return { how, rules: byEachRule(sides) };
+  return games && { how: what.how ?? "split", rules: byEachRule(sides) };
 }

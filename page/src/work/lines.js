@@ -25,6 +25,12 @@ export function lookAtLine({ line, agreed }) {
   };
 }
 
+/** Whether what was checked is the game of a document: the line's own, or the agreed one. */
+export function isOfGame({ line, agreed, text }) {
+  const document = gameFileOf(text), checked = [lineOf(line), ...(agreed.trim() ? [gameFileOf(agreed)] : [])];
+  return checked.some((seen) => sameGame(seen, document).isYes === true);
+}
+
 function helpOf(line) {
   return { help: unreadable(line), mended: mended(line) };
 }

@@ -27,29 +27,31 @@ export function amountsIn(typed, mark) {
   return read;
 }
 
-/** One amount; `note` says how it is read where that could be doubted. */
+/** One amount; `note` says how it is read where that could be doubted, and `other` by which mark it would be another.
+ * */
 function amountIn(text, mark, { isOne, isSettled }) {
   const { value, fault, doubt } = readNumber(text.replace(UNIT, ""), mark), shown = withEscapes(text.slice(0, 20));
   if (fault) return { fault: `“${shown}” ${fault}.` };
   const other = mark === "." ? "comma" : "point", own = mark === "." ? "point" : "comma";
   if (doubt && !isSettled) {
     return { value, note: `“${shown}” is read as ${shortText(value)}: the ${own} stands in front of decimals, and the `
-      + `${other} between thousands.` };
+      + `${other} between thousands.`, other: mark === "." ? "," : "." };
   }
   const note = isOne && `This is read as one amount, ${shortText(value)}. Part several by semicolons.`;
   return note ? { value, note } : { value };
 }
 
-/** The shares of an estate for several amounts: [{amount, shares, note}], or a fault in the place of one's shares. */
+/** The shares of an estate for several amounts: [{amount, shares, note, other}], or a fault in the place of one's
+ * shares. */
 export function estates({ text, typed, mark }) {
   const { game } = parseJson(text);
-  return amountsIn(typed, mark).map(({ value, fault, note }) => {
+  return amountsIn(typed, mark).map(({ value, fault, ...told }) => {
     if (fault) return { fault };
     const { version, ...others } = game, estate = value.toDocument();
     const isWhole = value.isWhole() && version === undefined;
     try {
       const tree = { ...others, ...(isWhole ? {} : { version: 2n }), estate };
-      return { amount: String(value), shares: solutionOf(tree).shares, note };
+      return { amount: String(value), shares: solutionOf(tree).shares, ...told };
     } catch (refused) {
       return { amount: String(value), fault: refused.message };
     }
