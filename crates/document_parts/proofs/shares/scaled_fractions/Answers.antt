@@ -1,7 +1,6 @@
 use Rattle.std.proofs.Common.{◌≡◌, get_or, sym, ap, ◌∙◌, arith}
 use Rattle.std.proofs.lemmas.List.{length-map, get_or-map}
 use Rattle.std.proofs.lemmas.Result.{IfOk-from_err}
-use Rattle.fractions.specs.Fraction.{Fraction}
 use Rattle.json_trees.specs.LowestTerms.{times_scale}
 use Rattle.document_parts.specs.Shares.{scaled_fractions}
 use Rattle.document_parts.proofs.LeastDenominators.{scaled_reduced, not_kept}
