@@ -105,9 +105,9 @@ IsOfTree (Some TooLong) = ⊥
 IsOfTree (Some NotJson) = ⊥
 IsOfTree (Some r) = ⊤
 
--- a game within the limits of the class has 1 to 64 players; the values that the class gathers are all its numbers; that
--- which is described has as many players as the tree; its worths are those of the class; the refusal of the class is one of a tree; and a tree that passes the tests of the
--- class holds no float and is nested at most 4 deep
+-- a game within the limits of the class has 1 to 64 players; the values that the class gathers are all its numbers;
+-- that which is described has as many players as the tree; its worths are those of the class; the refusal of the class
+-- is one of a tree; and a tree that passes the tests of the class holds no float and is nested at most 4 deep
 pub record Laws (c : Option Class) : Type 0 where
   pub counted : (game : Data) → has_players_as c game ≡ true → IsCount (players_as c game)
   pub own : (game : Data) → is_shaped_as c game ≡ true → OwnsNumbers c game
