@@ -21,7 +21,7 @@ use Rattle.certificate_texts.specs.Shape.{mode_of}
 use Rattle.certificate_texts.specs.Levels.{level_of}
 use Rattle.certificate_texts.specs.Certificates.{level_trees, levels_of, certificate_of, allows_mode}
 use Rattle.certificate_texts.specs.Certificates.{has_few_levels, is_written, have_form, has_form}
-use Rattle.certificate_texts.proofs.Readings.{none_if, some_if}
+use Rattle.json_trees.proofs.Readings.{none_if, some_if}
 
 level_positive : (k n : ℕ) (d : Data) → pos 1 ≤ℤ (level_of k n d).excess_den
 level_positive k n d = (scaled_at_reduced k (codes "excess") d).positive

@@ -1,4 +1,3 @@
 pub mod Ascents
 pub mod FormTests
-pub mod Readings
 pub mod WrittenLevels

@@ -13,7 +13,7 @@ use Rattle.json_trees.specs.Integers.{is_integer}
 use Rattle.json_trees.specs.ScaledFractions.{scaled_of, is_scaled, scaled_or_zero}
 use Rattle.certificate_texts.specs.Levels.{weighted_coalition, weighted_player, level_of}
 use Rattle.certificate_texts.specs.Certificates.{lists_coalition, lists_player, is_written}
-use Rattle.certificate_texts.proofs.Readings.{some_if, was_read, of_some}
+use Rattle.json_trees.proofs.Readings.{some_if, was_read, of_some}
 
 -- ---- what stands at a key
 

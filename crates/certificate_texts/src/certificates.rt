@@ -4,9 +4,9 @@ ghost use Rattle.serde_json.specs.View.{view};
 ghost use Rattle.certificate_texts.specs.Certificates.{has_form, certificate_of};
 
 use crate::levels::Levels;
-use crate::reader::read_at;
 use crate::words::mode_of;
 use fractions::OutOfMemory;
+use json_trees::read_at;
 use kohlberg::Certificate;
 use serde_json::Value;
 use std::alloc::Global;

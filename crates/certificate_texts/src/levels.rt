@@ -8,9 +8,8 @@ ghost use Rattle.certificate_texts.specs.Levels.{level_of};
 ghost use Rattle.certificate_texts.specs.Certificates.{is_written};
 
 use crate::pairs::{WeightedCoalitions, WeightedPlayers};
-use crate::reader::{Reader, read_at};
 use fractions::{Frac, OutOfMemory};
-use json_trees::{integer, scaled_of};
+use json_trees::{Reader, integer, read_at, scaled_of};
 use kohlberg::Level;
 use serde_json::Value;
 use std::alloc::Global;

@@ -5,7 +5,6 @@ mod ascending;
 mod certificates;
 mod levels;
 mod pairs;
-mod reader;
 mod shape;
 mod words;
 

@@ -5,10 +5,9 @@ ghost use Rattle.certificate_texts.specs.Levels.{weighted_coalition, weighted_pl
 ghost use Rattle.certificate_texts.specs.Certificates.{lists_coalition, lists_player};
 
 use crate::ascending::coalition_of;
-use crate::reader::Reader;
 use coalitions::Coalition;
 use fractions::OutOfMemory;
-use json_trees::{integer, numbered_player, parts};
+use json_trees::{Reader, integer, numbered_player, parts};
 use serde_json::Value;
 use std::alloc::Global;
 

@@ -21,13 +21,14 @@ use Rattle.worth_core.specs.Multiples.{IsLeastMultiple}
 use Rattle.worth_core.proofs.LeastMultiples.{least_multiple, denominator_divides, one_denominator, all_multiple}
 use Rattle.document_parts.specs.CommonMultiples.{lcm, least_denominator}
 use Rattle.document_parts.specs.Denominators.{over_least, keep_limits}
-use Rattle.document_parts.specs.Shares.{has_small_numerator, scaled_share, scaled_shares, IsDenominatorOf}
+use Rattle.document_parts.specs.Shares.{written_shares, scaled_fractions, scaled_share, scaled_shares}
+use Rattle.document_parts.specs.Shares.{has_small_numerator, IsDenominatorOf}
 use Rattle.serde_json.specs.Data.{Data}
 use Rattle.json_trees.specs.Trees.{parts_at}
 use Rattle.json_trees.specs.Fractions.{fraction_or_zero}
-use Rattle.json_trees.proofs.Fractions.{written_or_zero}
+use Rattle.json_trees.specs.LowestTerms.{times_scale}
+use Rattle.json_trees.proofs.Fractions.{written_reduced}
 use Rattle.json_trees.proofs.LowestTerms.{times_ratio}
-use Rattle.serde_json.specs.Find.{as_str}
 use Rattle.definitions.proofs.Cancel.{quot_exact}
 use Rattle.fractions.proofs.Divisors.{times_quotient}
 use Rattle.fractions.proofs.Ratios.{apart}
@@ -73,16 +74,26 @@ least_denominator_is fs r =
     let h = least_is fs r in
     let p = h.positive in record { positive = omega (arith, ints); common = h.common; least = h.least }
 
-pub shares_reduced : (k : ℕ) (ds : List Data) → All IsReduced (map (scaled_share k) ds)
-shares_reduced k ds =
-    All-map IsReduced (scaled_share k) ds
-    (λ i d l.
-    let x = slice_index_or ds i d in
-    (times_ratio k (fraction_or_zero x) (written_or_zero x (as_str x)).positive).reduced)
+pub scaled_reduced : (k : ℕ) (fs : List Fraction) → All IsReduced fs → All IsReduced (scaled_fractions k fs)
+scaled_reduced k fs r =
+    All-map IsReduced (times_scale k) fs (λ i d l. (times_ratio k (slice_index_or fs i d) (r i d l).positive).reduced)
+
+scaled_each : (k : ℕ) (ds : List Data) → scaled_fractions k (map fraction_or_zero ds) ≡ map (scaled_share k) ds
+scaled_each k [] = refl
+scaled_each k (d ∷ ds) = ap (λ (fs : List Fraction). scaled_share k d ∷ fs) (scaled_each k ds)
+
+-- the fractions that are written, times the scale
+pub scaled_written : (k : ℕ) (tree : Data) → scaled_fractions k (written_shares tree) ≡ scaled_shares k tree
+scaled_written k tree = scaled_each k (parts_at (codes "shares") tree)
+
+shares_reduced : (k : ℕ) (tree : Data) → All IsReduced (scaled_shares k tree)
+shares_reduced k tree =
+    subst (All IsReduced) (scaled_written k tree)
+    (scaled_reduced k (written_shares tree) (written_reduced (parts_at (codes "shares") tree)))
 
 pub denominator_of : (k : ℕ) (tree : Data) → IsDenominatorOf k tree (least_denominator (scaled_shares k tree))
 denominator_of k tree =
-    least_denominator_is (scaled_shares k tree) (shares_reduced k (parts_at (codes "shares") tree))
+    least_denominator_is (scaled_shares k tree) (shares_reduced k tree)
 
 pub one_denominator_of : (k : ℕ) (tree : Data) (d : ℕ) → IsDenominatorOf k tree d
     → d ≡ least_denominator (scaled_shares k tree)

@@ -1,7 +1,9 @@
 -- The shares that a document proposes.
 --
 --   has_share_numbers     each share is an integer or a fraction text
+--   written_shares        the fractions that are written
 --   has_shares_for        there are so many shares
+--   scaled_fractions      fractions times a scale
 --   scaled_share          the fraction that is written, times a scale
 --   scaled_shares         the fractions that are written, times a scale
 --   negated               shares with their signs turned
@@ -23,9 +25,17 @@ use Rattle.json_trees.specs.Trees.{parts_at}
 abbrev pub has_share_numbers : Data → Bool
 has_share_numbers tree = list_all is_fraction (parts_at (codes "shares") tree)
 
+-- the fractions that are written
+abbrev pub written_shares : Data → List Fraction
+written_shares tree = map fraction_or_zero (parts_at (codes "shares") tree)
+
 -- there are n shares
 abbrev pub has_shares_for : ℕ → Data → Bool
 has_shares_for n tree = length (parts_at (codes "shares") tree) == n
+
+-- the fractions times the scale k
+abbrev pub scaled_fractions : ℕ → List Fraction → List Fraction
+scaled_fractions k fs = map (times_scale k) fs
 
 -- the fraction that is written, times the scale k
 abbrev pub scaled_share : ℕ → Data → Fraction

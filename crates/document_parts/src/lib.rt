@@ -19,7 +19,7 @@ pub use excess::{MeasureWord, measure_of};
 pub use names::{Names, know_sparse, names_of};
 pub use numbers::{Numbers, read_costs, read_worths};
 pub use rows::in_rows;
-pub use shares::{has_share_numbers, has_shares_for, shares_as_worth};
+pub use shares::{shares_as_worth, written_shares};
 pub use sizes::{is_list_size, is_short_list_size};
 pub use table::sparse_numbers;
 pub use values::{add_at, add_rows, add_seconds, add_values};

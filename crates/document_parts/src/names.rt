@@ -106,11 +106,10 @@ fn read_names<'a>(alloc: Global, values: &'a [Value]) -> Result<Option<Names<'a>
     ensures { IfOk result (λ o. o ≡ (if good_names (texts values.now) then Some (texts values.now) else None)) }
 {
     let mut names = Names::new(alloc);
-    match add_names(&mut names, values) {
-        Ok(true) => Ok(Some(names)),
-        Ok(false) => Ok(None),
-        Err(e) => Err(e),
+    if !add_names(&mut names, values)? {
+        return Ok(None);
     }
+    Ok(Some(names))
 }
 
 /// The names of a game of `players` players; no names where the game gives none. None where there isn't one name for

@@ -72,7 +72,8 @@ fn are_from_zero(numbers: &[i64]) -> bool
     numbers.iter().all(|z| *z >= 0)
 }
 
-/// The same, where none is negative.
+/// The numbers that the values write, times their scale, where that is at most 65,536 and each of them is from 0, below
+/// 2^40, then.
 ///
 /// # Errors
 ///

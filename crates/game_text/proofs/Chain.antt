@@ -1,10 +1,9 @@
 -- What reading the tree says of the bytes.
 use Rattle.std.proofs.Common.{◌≡◌, ◌≤◌, ◌&&◌, ℕ, List, length, Bool, true, false, Option}
-use Rattle.std.proofs.Common.{Some}
-use Rattle.std.proofs.Common.{None, Result, Ok, Err, MatchResult, pos, ap, ◌∙◌, subst}
-use Rattle.std.proofs.lemmas.Bool.{and_from}
+use Rattle.std.proofs.Common.{Some, None, Result, Ok, Err, MatchResult, pos, refl, sym, ap, ap₂, ◌∙◌, subst}
 use Rattle.serde_json.specs.Data.{Data}
 use Rattle.serde_json.specs.View.{view}
+use Rattle.fractions.specs.Fraction.{Fraction}
 use Rattle.document_parts.specs.Scales.{scale_of}
 use Rattle.game_text.specs.Text.{document_limit, IsTextOf}
 use Rattle.game_text.specs.Classes.{class_of, has_players, has_numbers, own_test, description_in}
@@ -14,10 +13,10 @@ use Rattle.game_text.specs.Documents.{game_tree}
 use Rattle.game_text.specs.Refusals.{unless, has_needed_numbers}
 use Rattle.game_text.specs.Refusals.{has_needed_shares, has_needed_form, IsRefused}
 use Rattle.game_text.specs.Denominators.{needed_keep_limits, contents_of, tree_refusal}
-use Rattle.game_text.specs.Steps.{own_refusal, game_refusal, share_refusal}
+use Rattle.game_text.specs.Steps.{size_refusal, number_refusal, own_refusal, game_refusal, share_refusal}
 use Rattle.game_text.specs.Steps.{certificate_refusal, needed_refusal, late_refusal}
 use Rattle.game_text.specs.Readings.{HasSizes, IsBuilt, IsBuildFault, IsGameReading, IsGameFault}
-use Rattle.game_text.specs.Readings.{IsTreeReading, IsTreeFault}
+use Rattle.game_text.specs.Readings.{IsSizeFault, AreNeededFractions, IsFractionFault, IsTreeReading, IsTreeFault}
 use Rattle.game_text.specs.Readings.{IsLateReading, IsLateFault, IsReading, IsFault, contents_in}
 use Rattle.game_text.specs.declared.command.Command.{Command}
 use Rattle.game_text.specs.declared.document.Document.{Document}
@@ -127,14 +126,10 @@ refused_by_names game h = λ rest. ap (λ b. unless b Names (own_refusal game re
 
 -- ---- behind the tests of the shape, the players and the numbers
 
-reached : (command : Command) (tree : Data) → is_shaped command tree ≡ true → has_players (game_tree tree) ≡ true
-    → (has_numbers (game_tree tree) && has_needed_numbers command tree) ≡ true
-    → tree_refusal command tree ≡ late_refusal command (game_tree tree) tree
-reached command tree shaped players numbers =
-    let late = late_refusal command (game_tree tree) tree in
-    let number = unless (has_numbers (game_tree tree) && has_needed_numbers command tree) Number late in
-    ap (λ b. unless b Shape (unless (has_players (game_tree tree)) Players number)) shaped
-    ∙ ap (λ b. unless b Players number) players ∙ ap (λ b. unless b Number late) numbers
+tested_apart : (a b : Bool) (r : Refusal) (rest : Option Refusal)
+    → unless (a && b) r rest ≡ unless a r (unless b r rest)
+tested_apart true b r rest = refl
+tested_apart false b r rest = refl
 
 late_fault : (command : Command) (tree : Data)
     → tree_refusal command tree ≡ late_refusal command (game_tree tree) tree → (e : TextFault)
@@ -165,45 +160,50 @@ late_says command tree s d m made =
     let certificate = made.certificate ∙ m.certificate in
     cc
 
--- a game that passed the tests of its shape, players and numbers, in a document whose shares are numbers where the
--- command needs them
+-- a game in a document of its shape
 module _ (command : Command) (game tree : Data) (its : game ≡ game_tree tree) (shaped : is_shaped command tree ≡ true)
-    (sizes : HasSizes game) (needed : has_needed_numbers command tree ≡ true) where
-  here : tree_refusal command tree ≡ late_refusal command (game_tree tree) tree
-  here =
-      reached command tree shaped (subst (λ g. has_players g ≡ true) its sizes.players)
-      (and_from (has_numbers (game_tree tree)) (has_needed_numbers command tree)
-      (subst (λ g. has_numbers g ≡ true) its sizes.numbers) needed)
+  where
+    behind_shape : tree_refusal command tree
+        ≡ size_refusal game (number_refusal command tree (late_refusal command (game_tree tree) tree))
+    behind_shape =
+        let late = late_refusal command (game_tree tree) tree in
+        let numbers = has_numbers (game_tree tree) && has_needed_numbers command tree in
+        ap (λ b. unless b Shape (unless (has_players (game_tree tree)) Players (unless numbers Number late))) shaped
+        ∙ ap (unless (has_players (game_tree tree)) Players)
+        (tested_apart (has_numbers (game_tree tree)) (has_needed_numbers command tree) Number late)
+        ∙ ap (λ g. size_refusal g (number_refusal command tree late)) (sym its)
 
-  pub fault_behind_numbers : (e : TextFault) → IsLateFault command game tree e → IsTreeFault command tree e
-  fault_behind_numbers e m =
-      late_fault command tree here e (subst (λ g. IsLateFault command g tree e) its m)
+    pub fault_in_sizes : (e : TextFault) → IsSizeFault game e → IsTreeFault command tree e
+    fault_in_sizes (Refused r) h =
+        behind_shape ∙ h (number_refusal command tree (late_refusal command (game_tree tree) tree))
+    fault_in_sizes Memory h = tt
 
-  pub behind_numbers : (s : Said) (d : Document) → IsLateReading command game tree s → IsMadeOf s game d
-      → IsTreeReading command tree d
-  behind_numbers s d m made =
-      let late = subst (λ g. IsLateReading command g tree s) its m in
-      record {
-        passed = here ∙ late.passed;
-        says = late_says command tree s d late (subst (λ g. IsMadeOf s g d) its made);
-      }
+    -- that passed the tests of its players and its numbers
+    module _ (sizes : HasSizes game) where
+      behind_sizes : tree_refusal command tree
+          ≡ number_refusal command tree (late_refusal command (game_tree tree) tree)
+      behind_sizes =
+          let rest = number_refusal command tree (late_refusal command (game_tree tree) tree) in
+          behind_shape ∙ ap₂ (λ a b. unless a Players (unless b Number rest)) sizes.players sizes.numbers
 
-pub few_players : (command : Command) (game tree : Data) → game ≡ game_tree tree → is_shaped command tree ≡ true
-    → has_players game ≡ false → tree_refusal command tree ≡ Some Players
-few_players command game tree e shaped players =
-    let number =
-    unless (has_numbers (game_tree tree) && has_needed_numbers command tree) Number
-    (late_refusal command (game_tree tree) tree) in
-    ap (λ b. unless b Shape (unless (has_players (game_tree tree)) Players number)) shaped
-    ∙ ap (λ b. unless b Players number) (subst (λ g. has_players g ≡ false) e players)
+      pub fault_in_fractions : (e : TextFault) → IsFractionFault command tree e → IsTreeFault command tree e
+      fault_in_fractions (Refused r) h = behind_sizes ∙ h (late_refusal command (game_tree tree) tree)
+      fault_in_fractions Memory h = tt
 
-pub bad_number : (command : Command) (game tree : Data) → game ≡ game_tree tree → is_shaped command tree ≡ true
-    → has_players game ≡ true → (has_numbers game && has_needed_numbers command tree) ≡ false
-    → tree_refusal command tree ≡ Some Number
-bad_number command game tree e shaped players numbers =
-    let late = late_refusal command (game_tree tree) tree in
-    let number = unless (has_numbers (game_tree tree) && has_needed_numbers command tree) Number late in
-    ap (λ b. unless b Shape (unless (has_players (game_tree tree)) Players number)) shaped
-    ∙ ap (λ b. unless b Players number) (subst (λ g. has_players g ≡ true) e players)
-    ∙ ap (λ b. unless b Number late)
-    (subst (λ g. (has_numbers g && has_needed_numbers command tree) ≡ false) e numbers)
+      -- where the shares that the command needs are numbers
+      module _ (written : Option (List Fraction)) (needed : AreNeededFractions command tree written) where
+        here : tree_refusal command tree ≡ late_refusal command (game_tree tree) tree
+        here = behind_sizes ∙ needed.passed (late_refusal command (game_tree tree) tree)
+
+        pub fault_behind_numbers : (e : TextFault) → IsLateFault command game tree e → IsTreeFault command tree e
+        fault_behind_numbers e m =
+            late_fault command tree here e (subst (λ g. IsLateFault command g tree e) its m)
+
+        pub behind_numbers : (s : Said) (d : Document) → IsLateReading command game tree s → IsMadeOf s game d
+            → IsTreeReading command tree d
+        behind_numbers s d m made =
+            let late = subst (λ g. IsLateReading command g tree s) its m in
+            record {
+              passed = here ∙ late.passed;
+              says = late_says command tree s d late (subst (λ g. IsMadeOf s g d) its made);
+            }

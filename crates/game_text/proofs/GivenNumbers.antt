@@ -11,7 +11,7 @@ use Rattle.std.proofs.lemmas.Bool.{false≢true, and_parts}
 use Rattle.std.proofs.lemmas.List.{append-nil, map-append, length-map, length-append}
 use Rattle.serde_json.specs.Data.{Data}
 use Rattle.serde_json.specs.Find.{get}
-use Rattle.json_trees.specs.Trees.{parts, parts_at, pair_members, passes, is_array_of, is_numeric, is_number}
+use Rattle.json_trees.specs.Trees.{parts, parts_at, pair_members, passes, is_array_of, is_numeric}
 use Rattle.json_trees.specs.Trees.{are_two, is_member}
 use Rattle.document_parts.specs.Members.{mask_of, is_mask, are_coalitions}
 use Rattle.document_parts.specs.Numbers.{in_rows, number_of_mask}
@@ -23,14 +23,13 @@ use Rattle.document_parts.specs.Version.{has_texts}
 use Rattle.game_text.specs.Classes.{class_of, own_values_as, own_numbers}
 use Rattle.game_text.specs.Classes.MatrixClass.{rows_of}
 use Rattle.game_text.specs.Classes.BankruptcyClass.{bankruptcy_keys}
-use Rattle.game_text.specs.Classes.VotingClass.{voting_keys}
 use Rattle.game_text.specs.Classes.TableClass.{is_table_shaped, is_sparse_pair, lists_worths, lists_coalitions}
 use Rattle.json_trees.specs.Keys.{has_only_keys}
 use Rattle.game_text.specs.declared.classes.Class.{Class}
-use Rattle.game_text.specs.declared.classes.Class.TheVariants.{Table, Cost, Bankruptcy, Voting}
+use Rattle.game_text.specs.declared.classes.Class.TheVariants.{Table, Cost, Bankruptcy}
 use Rattle.game_text.specs.Readings.{HasSizes, IsTableClass}
 use Rattle.game_text.proofs.GameTrees.{shaped_as}
-use Rattle.game_text.proofs.OwnNumbers.{voting_scale, pairs_of, worths_listed, table_form}
+use Rattle.game_text.proofs.OwnValues.{pairs_of, worths_listed, table_form}
 use Rattle.game_text.proofs.Sizes.{of_both_tables}
 
 -- the numbers of a game of the class
@@ -40,7 +39,7 @@ of_class c game zs e h = h ∙ ap (λ o. map (number_or_zero (scale_of game)) (o
 
 -- ---- an estate or a quota, and what stands behind it
 
-first_number : (k : ℕ) (shape : Data → Bool) (o : Option Data) (ds : List Data) → passes shape o ≡ true
+pub first_number : (k : ℕ) (shape : Data → Bool) (o : Option Data) (ds : List Data) → passes shape o ≡ true
     → map (number_or_zero k) (if_there o ++ ds)
     ≡ unwrap_or (option_and_then (small_number k) o) (pos 0) ∷ map (number_or_zero k) ds
 first_number k shape None ds h = absurd (false≢true h)
@@ -68,19 +67,6 @@ bankruptcy_numbers game zs e h n =
     of_class Bankruptcy game zs e n
     ∙ first_number (scale_of game) (is_numeric (has_texts game)) (get (codes "estate") game)
     (parts_at (codes "claims") game) estate
-
-pub voting_numbers : (game : Data) (zs : List ℤ) → class_of game ≡ Some Voting → HasSizes game
-    → zs ≡ own_numbers game → zs ≡ number_at 1 (codes "quota") game ∷ numbers_at 1 (codes "weights") game
-voting_numbers game zs e h n =
-    let shape = shaped_as game Voting e h.shaped in
-    let front =
-    and_parts (has_only_keys voting_keys game && passes is_number (get (codes "quota") game))
-    (passes (is_array_of is_number) (get (codes "weights") game)) shape in
-    let quota =
-    (and_parts (has_only_keys voting_keys game) (passes is_number (get (codes "quota") game)) front.0).1 in
-    of_class Voting game zs e n
-    ∙ ap (λ k. map (number_or_zero k) (own_values_as (Some Voting) game)) (voting_scale game shape)
-    ∙ first_number 1 is_number (get (codes "quota") game) (parts_at (codes "weights") game) quota
 
 -- ---- rows
 

@@ -15,17 +15,18 @@ use Rattle.assignment_games.proofs.Games.{assignment_is_game}
 use Rattle.json_texts.specs.Exact.{IsOrdered}
 use Rattle.json_trees.specs.Trees.{integer, parts_at}
 use Rattle.document_parts.specs.Sizes.{is_list_size, is_short_list_size}
+use Rattle.document_parts.specs.Scales.{table_numbers_in, matrix_numbers_in}
 use Rattle.document_parts.specs.ScaledNumbers.{number_or_zero, numbers_at}
 use Rattle.kinds.specs.declared.refusal.Refusal.{Refusal}
 use Rattle.kinds.specs.declared.refusal.Refusal.TheVariants.{TooLong, NotJson}
 use Rattle.game_text.specs.Classes.TableClass.{has_worths_for, players_at}
-use Rattle.game_text.specs.Classes.AirportClass.{airport_players}
-use Rattle.game_text.specs.Classes.BankruptcyClass.{bankruptcy_players}
+use Rattle.game_text.specs.Classes.AirportClass.{airport_players, airport_values}
+use Rattle.game_text.specs.Classes.BankruptcyClass.{bankruptcy_players, bankruptcy_values}
 use Rattle.game_text.specs.Classes.MatrixClass.{rows_of}
 use Rattle.game_text.specs.Classes.AssignmentClass.{sellers_at}
 use Rattle.game_text.specs.Classes.VotingClass.{voting_players}
-use Rattle.game_text.specs.Classes.{has_players_as, players_as, class_of, has_numbers_as, own_as, game_of}
-use Rattle.game_text.specs.Classes.{description_as, IsOfClass}
+use Rattle.game_text.specs.Classes.{is_shaped_as, has_players_as, players_as, class_of, has_numbers_as, own_as}
+use Rattle.game_text.specs.Classes.{game_of, description_as, IsOfClass}
 use Rattle.game_text.specs.declared.classes.Class.{Class}
 use Rattle.game_text.specs.declared.classes.Class.TheVariants.{Table, Cost, Airport, Bankruptcy, Tree, Assignment}
 use Rattle.game_text.specs.declared.classes.Class.TheVariants.{Market, Voting}
@@ -35,7 +36,10 @@ use Rattle.game_text.proofs.Sizes.{IsPlayers, players_range, of_both_tables}
 use Rattle.game_text.proofs.Laws.MatrixRows.{row_count, seller_count_of, points_in, entries_in, links_hold}
 use Rattle.game_text.proofs.PlainTrees.{IsPlain}
 use Rattle.game_text.proofs.GameTrees.{shaped_as, plain_table, plain_airport, plain_bankruptcy, plain_matrix}
-use Rattle.game_text.proofs.Laws.Votes.{plain_voting}
+use Rattle.game_text.proofs.OwnValues.{OwnsNumbers, owns_worths, owns_costs, table_numbers_are, table_tests}
+use Rattle.game_text.proofs.OwnValues.{airport_numbers_in, bankruptcy_numbers_in, bankruptcy_tests}
+use Rattle.game_text.proofs.OwnValues.{matrix_numbers_are, matrix_tests}
+use Rattle.game_text.proofs.Laws.Votes.{owns_votes, plain_voting}
 
 -- ---- the numbers of players within the limits of the classes are 1 to 64
 
@@ -101,11 +105,12 @@ IsOfTree (Some TooLong) = ⊥
 IsOfTree (Some NotJson) = ⊥
 IsOfTree (Some r) = ⊤
 
--- a game within the limits of the class has 1 to 64 players; that which is described has as many as the tree; its
--- worths are those of the class; the refusal of the class is one of a tree; and a tree that passes the tests of the
--- class holds no float and is nested at most 4 deep
+-- a game within the limits of the class has 1 to 64 players; the values that the class gathers are all its numbers;
+-- that which is described has as many players as the tree; its worths are those of the class; the refusal of the class
+-- is one of a tree; and a tree that passes the tests of the class holds no float and is nested at most 4 deep
 pub record Laws (c : Option Class) : Type 0 where
   pub counted : (game : Data) → has_players_as c game ≡ true → IsCount (players_as c game)
+  pub own : (game : Data) → is_shaped_as c game ≡ true → OwnsNumbers c game
   pub described : (k : ℕ) (game : Data) → c ≡ class_of game
       → (game_of (description_as k c game)).players ≡ players_as c game
   pub of_class : (k : ℕ) (game : Data) → has_players_as c game ≡ true → has_numbers_as k c game ≡ true
@@ -122,6 +127,7 @@ costs_length k key game =
 no_laws : Laws None
 no_laws = record {
   counted = λ game h. absurd (false≢true h);
+  own = λ game h. absurd (false≢true h);
   described = λ k game e. refl;
   of_class = λ k game p n m. tt;
   of_tree = λ k game. tt;
@@ -131,6 +137,8 @@ no_laws = record {
 table_laws : Laws (Some Table)
 table_laws = record {
   counted = λ game h. of_table (unwrap_or (players_at game) 0) (table_range game h);
+  own = λ game h. owns_worths Table game (table_numbers_in game) refl (table_numbers_are game h) refl
+      (λ k. table_tests k game h);
   described = λ k game e. ap (λ o. players_as o game) (sym e);
   of_class = λ k game p n m. tt;
   of_tree = λ k game. tt;
@@ -140,6 +148,8 @@ table_laws = record {
 cost_laws : Laws (Some Cost)
 cost_laws = record {
   counted = λ game h. of_table (unwrap_or (players_at game) 0) (table_range game h);
+  own = λ game h. owns_worths Cost game (table_numbers_in game) refl (table_numbers_are game h) refl
+      (λ k. table_tests k game h);
   described = λ k game e. ap (λ o. players_as o game) (sym e);
   of_class = λ k game p n m. tt;
   of_tree = λ k game. tt;
@@ -149,6 +159,8 @@ cost_laws = record {
 airport_laws : Laws (Some Airport)
 airport_laws = record {
   counted = λ game h. listed (airport_players game) h;
+  own = λ game h. owns_costs Airport game (airport_values game) refl (airport_numbers_in game h) refl
+      (λ k. refl);
   described = λ k game e. costs_length k (codes "costs") game;
   of_class = λ k game p n m. tt;
   of_tree = λ k game. tt;
@@ -158,6 +170,8 @@ airport_laws = record {
 bankruptcy_laws : Laws (Some Bankruptcy)
 bankruptcy_laws = record {
   counted = λ game h. listed (bankruptcy_players game) h;
+  own = λ game h. owns_costs Bankruptcy game (bankruptcy_values game) refl
+      (bankruptcy_numbers_in game h) refl (λ k. bankruptcy_tests k game h);
   described = λ k game e. costs_length k (codes "claims") game;
   of_class = λ k game p n m. tt;
   of_tree = λ k game. tt;
@@ -167,6 +181,8 @@ bankruptcy_laws = record {
 tree_laws : Laws (Some Tree)
 tree_laws = record {
   counted = λ game h. of_points (length (parts_at (codes "matrix") game)) h;
+  own = λ game h. owns_costs Tree game (matrix_numbers_in game) refl (matrix_numbers_are game h) refl
+      (λ k. matrix_tests k game h);
   described = λ k game e. ap (λ n. n - 1) (row_count k game);
   of_class = λ k game p n m. tree_is_game (rows_of k game) (record {
     points = points_in k game p;
@@ -180,6 +196,8 @@ tree_laws = record {
 assignment_laws : Laws (Some Assignment)
 assignment_laws = record {
   counted = λ game h. of_pairs (length (parts_at (codes "matrix") game)) (sellers_at game) h;
+  own = λ game h. owns_costs Assignment game (matrix_numbers_in game) refl (matrix_numbers_are game h) refl
+      (λ k. matrix_tests k game h);
   described = λ k game e. ap₂ (λ p q. p + q) (row_count k game) (seller_count_of k game);
   of_class = λ k game p n m. assignment_is_game (rows_of k game);
   of_tree = λ k game. tt;
@@ -192,6 +210,8 @@ market_laws = record {
       let n = length (parts_at (codes "matrix") game) in
       let sides = and_parts (is_short_list_size n) (is_short_list_size (sellers_at game)) h in
       of_sides n (sellers_at game) (short_listed n sides.0) (short_listed (sellers_at game) sides.1);
+  own = λ game h. owns_costs Market game (matrix_numbers_in game) refl (matrix_numbers_are game h) refl
+      (λ k. matrix_tests k game h);
   described = λ k game e. ap₂ (λ p q. p + q) (row_count k game) (seller_count_of k game);
   of_class = λ k game p n m. assignment_is_game (rows_of k game);
   of_tree = λ k game. tt;
@@ -201,6 +221,7 @@ market_laws = record {
 voting_laws : Laws (Some Voting)
 voting_laws = record {
   counted = λ game h. of_voters (voting_players game) (short_listed (voting_players game) h);
+  own = owns_votes;
   described = λ k game e. costs_length 1 (codes "weights") game;
   of_class = λ k game p n m. tt;
   of_tree = λ k game. tt;

@@ -1,10 +1,11 @@
 pub mod Choices
 pub mod Sizes
-pub mod OwnNumbers
+pub mod OwnValues
 pub mod GivenNumbers
 pub mod PlainTrees
 pub mod GameTrees
 pub mod Laws
+pub mod OwnNumbers
 pub mod Built
 pub mod Computed
 pub mod Chain

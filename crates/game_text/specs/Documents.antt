@@ -4,23 +4,25 @@
 --   game_tree          the tree of the game
 --   certificate_tree   the tree of the certificate
 --   family_for         the family that a command needs
+--   fractions_for      the fractions of the shares that a command needs
 --   shares_over        the shares as worth, over a denominator
 --   proposed_over      the shares that a command needs, over a denominator
 --   certificate_for    the certificate that a command needs
 --   contents_over      what a tree says to a command, with the shares over a denominator
-use Rattle.std.specs.Prelude.{ℕ, ℤ, pos, codes, Option, unwrap_or}
+use Rattle.std.specs.Prelude.{ℕ, ℤ, pos, codes, List, Option, unwrap_or}
 use Rattle.serde_json.specs.Data.{Data, null}
 use Rattle.serde_json.specs.Find.{get}
 use Rattle.definitions.specs.Games.{Allocation}
 use Rattle.definitions.specs.declared.Family.{Family}
 use Rattle.definitions.specs.declared.Family.TheVariants.{Imputations}
 use Rattle.definitions.specs.declared.Measure.{Measure}
+use Rattle.fractions.specs.Fraction.{Fraction}
 use Rattle.worth_core.specs.LeastDenominators.{over}
 use Rattle.kohlberg.specs.Certificate.{CertificateData}
 use Rattle.document_parts.specs.Excess.{measure_of}
 use Rattle.document_parts.specs.Scales.{scale_of}
 use Rattle.game_text.specs.Classes.{players, Description, description_of, is_cost}
-use Rattle.document_parts.specs.Shares.{scaled_shares, as_worth}
+use Rattle.document_parts.specs.Shares.{written_shares, scaled_shares, as_worth}
 use Rattle.certificate_texts.specs.Shape.{family_of}
 use Rattle.certificate_texts.specs.Certificates.{certificate_of}
 use Rattle.game_text.specs.declared.command.Command.{Command}
@@ -46,6 +48,9 @@ certificate_tree tree = unwrap_or (get (codes "certificate") tree) null
 
 abbrev pub family_for : Command → Data → Option Family
 family_for command tree = given (needs command).answer (unwrap_or (family_of tree) Imputations)
+
+abbrev pub fractions_for : Command → Data → Option (List Fraction)
+fractions_for command tree = given (needs command).shares (written_shares tree)
 
 -- the proposed shares as worth and times the scale of the game, over the denominator d
 abbrev pub shares_over : ℕ → Data → Data → Allocation

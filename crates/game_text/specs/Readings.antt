@@ -1,6 +1,8 @@
 -- What the steps of reading a document give.
 --
 --   HasSizes                                   the game passed the tests of its shape, players and numbers
+--   IsSizeFault                                the refusal of its players or its numbers
+--   AreNeededFractions, IsFractionFault        the fractions of the shares that a command needs; their refusal
 --   IsTableClass                               a class that a table describes
 --   IsBuilt, IsBuildFault                      the described game; the refusal of its class
 --   IsGameReading, IsGameFault                 the same behind the test of the names; the refusal of these too
@@ -15,14 +17,15 @@ use Rattle.std.specs.Prelude.{◌≡◌, ◌⊎◌, ⊤, true, ℕ, List, Option
 use Rattle.serde_json.specs.Data.{Data}
 use Rattle.serde_json.specs.View.{view}
 use Rattle.definitions.specs.Games.{Allocation}
+use Rattle.fractions.specs.Fraction.{Fraction}
 use Rattle.kohlberg.specs.Certificate.{CertificateData}
 use Rattle.document_parts.specs.Excess.{measure_of}
 use Rattle.game_text.specs.Shape.{is_game_shaped}
 use Rattle.game_text.specs.Classes.{has_players, has_numbers, description_of, description_in}
 use Rattle.game_text.specs.Denominators.{shares_of, shares_for, contents_of, tree_refusal}
-use Rattle.game_text.specs.Documents.{Contents, family_for, certificate_for}
+use Rattle.game_text.specs.Documents.{Contents, family_for, fractions_for, certificate_for}
 use Rattle.game_text.specs.Refusals.{IsRefused, IsDocument}
-use Rattle.game_text.specs.Steps.{own_refusal, game_refusal, proposal_refusal}
+use Rattle.game_text.specs.Steps.{size_refusal, number_refusal, own_refusal, game_refusal, proposal_refusal}
 use Rattle.game_text.specs.Steps.{share_refusal, certificate_refusal, late_refusal}
 use Rattle.game_text.specs.declared.classes.Class.{Class}
 use Rattle.game_text.specs.declared.classes.Class.TheVariants.{Table, Cost}
@@ -38,6 +41,21 @@ pub record HasSizes (game : Data) : Type 0 where
   pub shaped : is_game_shaped game ≡ true
   pub players : has_players game ≡ true
   pub numbers : has_numbers game ≡ true
+
+-- the tests of the players and the numbers refuse it so; want of memory is free
+abbrev pub IsSizeFault : Data → TextFault → Type 0
+IsSizeFault game (Refused r) = (rest : Option Refusal) → size_refusal game rest ≡ Some r
+IsSizeFault game Memory = ⊤
+
+-- the shares that the command needs are numbers, and these are the fractions that it needs
+pub record AreNeededFractions (command : Command) (tree : Data) (written : Option (List Fraction)) : Type 0 where
+  pub passed : (rest : Option Refusal) → number_refusal command tree rest ≡ rest
+  pub same : written ≡ fractions_for command tree
+
+-- a share that the command needs is no number; want of memory is free
+abbrev pub IsFractionFault : Command → Data → TextFault → Type 0
+IsFractionFault command tree (Refused r) = (rest : Option Refusal) → number_refusal command tree rest ≡ Some r
+IsFractionFault command tree Memory = ⊤
 
 abbrev pub IsTableClass : Option Class → Type 0
 IsTableClass c = (c ≡ Some Table) ⊎ (c ≡ Some Cost)

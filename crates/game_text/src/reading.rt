@@ -6,33 +6,32 @@ ghost use Rattle.serde_json.specs.View.{view};
 ghost use Rattle.serde_json.specs.Find.{get};
 ghost use Rattle.json_trees.specs.Trees.{passes};
 ghost use Rattle.certificate_texts.specs.Certificates.{has_form, certificate_of};
-ghost use Rattle.game_text.specs.Documents.{certificate_tree, family_for};
+ghost use Rattle.game_text.specs.Documents.{certificate_tree, family_for, fractions_for};
 ghost use Rattle.game_text.specs.Classes.{description_of, game_of, is_cost, description_in, players, own_numbers};
 ghost use Rattle.game_text.specs.Shape.{is_shaped};
 ghost use Rattle.game_text.specs.Kept.{IsKept};
 ghost use Rattle.document_parts.specs.Scales.{scale_of, IsScaleOf};
 ghost use Rattle.document_parts.specs.Names.{names_of};
 ghost use Rattle.game_text.specs.Names.{has_names};
-ghost use Rattle.game_text.specs.Refusals.{has_needed_numbers};
+ghost use Rattle.document_parts.specs.Shares.{written_shares};
 ghost use Rattle.game_text.specs.Text.{document_limit};
 ghost use Rattle.json_texts.specs.Newlines.{without_newline};
 ghost use Rattle.game_text.specs.Readings.{IsReading, IsFault, IsTreeReading};
 ghost use Rattle.game_text.specs.Readings.{IsTreeFault, IsLateReading, IsLateFault};
+ghost use Rattle.game_text.specs.Readings.{AreNeededFractions, IsFractionFault};
 ghost use Rattle.game_text.specs.Readings.{IsGameReading, IsGameFault, IsProposal, IsProposalFault};
 ghost use Rattle.game_text.specs.Readings.{IsShareReading, IsShareFault, IsCertificateReading, IsCertificateFault};
 
-use crate::classes::{Game, game_of, numbers, players};
+use crate::classes::{Game, game_of};
 use crate::command::Command;
 use crate::document::Document;
 use crate::fault::TextFault;
 use crate::shape::shaped_game;
-use crate::shaped::SizedGame;
+use crate::shaped::{SizedGame, sized_game};
 use certificate_texts::{certificate_of, family_of};
 use definitions::{Family, Measure};
-use document_parts::{
-    Names, has_share_numbers, has_shares_for, know_sparse, measure_of, names_of, shares_as_worth,
-};
-use fractions::OutOfMemory;
+use document_parts::{Names, know_sparse, measure_of, names_of, shares_as_worth, written_shares};
+use fractions::{Frac, OutOfMemory};
 use kinds::Refusal;
 use kohlberg::Certificate;
 use serde_json::Value;
@@ -92,33 +91,17 @@ fn document_of(alloc: Global, command: Command, tree: Value) -> Result<Document,
     let Some(shaped) = shaped_game(command, &tree) else {
         return Err(TextFault::Refused(Refusal::Shape));
     };
-    let Some(count) = players(&shaped) else {
-        return Err(TextFault::Refused(Refusal::Players));
-    };
-    let Some(numbers) = numbers(alloc, &shaped)? else {
-        return Err(TextFault::Refused(Refusal::Number));
-    };
-    if !has_needed_numbers(command, &tree) {
-        return Err(TextFault::Refused(Refusal::Number));
-    }
-    let scale = numbers.scale;
-    let game = SizedGame {
-        class: shaped.class,
-        tree: shaped.tree,
-        count,
-        scale,
-    };
+    let (game, numbers) = sized_game(alloc, &shaped)?;
+    let written = needed_fractions(alloc, command, &tree)?;
+    let scale = i64::from(game.scale());
     let said = Reading {
         alloc,
         command,
         tree: &tree,
         game,
+        written,
     }
-    .said(numbers.items);
-    let said = match said {
-        Ok(said) => said,
-        Err(e) => return Err(e),
-    };
+    .said(numbers)?;
     let Some(tree) = game_out_of(tree) else {
         return Err(TextFault::Refused(Refusal::Shape));
     };
@@ -126,17 +109,31 @@ fn document_of(alloc: Global, command: Command, tree: Value) -> Result<Document,
         game: said.game,
         tree,
         measure: said.measure,
-        scale: i64::from(scale),
+        scale,
         family: said.family,
         shares: said.shares,
         certificate: said.certificate,
     })
 }
 
-fn has_needed_numbers(command: Command, tree: &Value) -> bool
-    ensures { result ≡ has_needed_numbers command (view tree.now) }
+/// The fractions that the shares write, where the command needs shares; else none are read. They are refused where a
+/// share is neither an integer nor a fraction text.
+fn needed_fractions(
+    alloc: Global,
+    command: Command,
+    tree: &Value,
+) -> Result<Option<Vec<Frac>>, TextFault>
+    ensures { MatchResult result
+        (λ o. AreNeededFractions command (view tree.now) (option_map (λ v. v.items) o))
+        (IsFractionFault command (view tree.now)) }
 {
-    !command.needs().shares || has_share_numbers(tree)
+    if !command.needs().shares {
+        return Ok(None);
+    }
+    let Some(written) = written_shares(alloc, tree)? else {
+        return Err(TextFault::Refused(Refusal::Number));
+    };
+    Ok(Some(written))
 }
 
 /// The tree of the game, taken out of the tree of a document, so that none of it is copied.
@@ -172,10 +169,9 @@ fn right_names<'a>(
     ensures names { IfOk result
         (λ o. o ≡ (if has_names (view game.now) then Some (names_of (view game.now)) else None)) }
 {
-    match names_of(alloc, game, count) {
-        Ok(Some(names)) if know_sparse(&names, game) => Ok(Some(names)),
-        Ok(_) => Ok(None),
-        Err(e) => Err(e),
+    match names_of(alloc, game, count)? {
+        Some(names) if know_sparse(&names, game) => Ok(Some(names)),
+        _ => Ok(None),
     }
 }
 
@@ -210,39 +206,33 @@ struct Reading<'a> {
     tree: &'a Value,
     /// Its game.
     game: SizedGame<'a>,
+    /// The fractions that its shares write, where the command needs shares.
+    written: Option<Vec<Frac>>,
+    ghost shaped: { is_shaped command (view tree.now) ≡ true },
+    ghost fractions: { option_map (λ v. v.items) written ≡ fractions_for command (view tree.now) },
 }
 
 impl Reading<'_> {
     /// What the document says, where these are the numbers of its game.
     fn said(&self, numbers: Vec<i64>) -> Result<Said, TextFault>
-        requires shaped { is_shaped self.now.command (view self.now.tree.now) ≡ true }
-        requires numbers { numbers.items ≡ own_numbers (view self.now.game.tree.now) }
+        requires { numbers.items ≡ own_numbers (view self.now.game.tree.now) }
         ensures { MatchResult result
             (IsLateReading self.now.command (view self.now.game.tree.now) (view self.now.tree.now))
             (IsLateFault self.now.command (view self.now.game.tree.now) (view self.now.tree.now)) }
     {
-        match right_game(self.alloc, &self.game, numbers) {
-            Ok(described) => self.said_of(described),
-            Err(e) => Err(e),
-        }
+        let described = right_game(self.alloc, &self.game, numbers)?;
+        self.said_of(described)
     }
 
     /// What a document says whose game is right, where what the command needs beside it is right too.
     fn said_of(&self, described: Game) -> Result<Said, TextFault>
-        requires shaped { is_shaped self.now.command (view self.now.tree.now) ≡ true }
-        requires described { IsGameReading (view self.now.game.tree.now) described }
+        requires { IsGameReading (view self.now.game.tree.now) described }
         ensures { MatchResult result
             (IsLateReading self.now.command (view self.now.game.tree.now) (view self.now.tree.now))
             (IsLateFault self.now.command (view self.now.game.tree.now) (view self.now.tree.now)) }
     {
-        let shares = match self.needed_shares(described.is_cost()) {
-            Ok(shares) => shares,
-            Err(e) => return Err(e),
-        };
-        let certificate = match self.needed_certificate() {
-            Ok(certificate) => certificate,
-            Err(e) => return Err(e),
-        };
+        let shares = self.needed_shares(described.is_cost())?;
+        let certificate = self.needed_certificate()?;
         Ok(Said {
             game: described,
             measure: measure_of(self.game.tree),
@@ -252,17 +242,19 @@ impl Reading<'_> {
         })
     }
 
-    /// The proposed shares, where there is one for each player and their denominator isn't too large.
-    fn right_shares(&self, are_payments: bool) -> Result<Shares, TextFault>
-        requires { are_payments ≡ is_cost (description_of (view self.now.game.tree.now)) }
+    /// The shares that these fractions propose, where there is one for each player and their denominator isn't too
+    /// large.
+    fn right_shares(&self, written: &[Frac], are_payments: bool) -> Result<Shares, TextFault>
+        requires written { written.now ≡ written_shares (view self.now.tree.now) }
+        requires payments { are_payments ≡ is_cost (description_of (view self.now.game.tree.now)) }
         ensures { MatchResult result (IsProposal (view self.now.game.tree.now) (view self.now.tree.now))
             (IsProposalFault (view self.now.game.tree.now) (view self.now.tree.now)) }
     {
-        if !has_shares_for(self.game.players(), self.tree) {
+        if written.len() != self.game.players() {
             return Err(TextFault::Refused(Refusal::Proposal));
         }
         let scale = self.game.scale();
-        let Some(shares) = shares_as_worth(self.alloc, self.tree, scale, are_payments)? else {
+        let Some(shares) = shares_as_worth(self.alloc, written, scale, are_payments)? else {
             return Err(TextFault::Refused(Refusal::TooFine));
         };
         Ok(shares)
@@ -275,13 +267,11 @@ impl Reading<'_> {
             (IsShareReading self.now.command (view self.now.game.tree.now) (view self.now.tree.now))
             (IsShareFault self.now.command (view self.now.game.tree.now) (view self.now.tree.now)) }
     {
-        if !self.command.needs().shares {
+        let Some(written) = &self.written else {
             return Ok(None);
-        }
-        match self.right_shares(are_payments) {
-            Ok(shares) => Ok(Some(shares)),
-            Err(e) => Err(e),
-        }
+        };
+        let shares = self.right_shares(written, are_payments)?;
+        Ok(Some(shares))
     }
 
     /// The certificate for the players of the game, where it has its form.

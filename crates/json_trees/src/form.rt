@@ -4,9 +4,9 @@ ghost use Rattle.std.specs.List.{list_all};
 ghost use Rattle.serde_json.specs.Data.{Data};
 ghost use Rattle.serde_json.specs.View.{view};
 ghost use Rattle.serde_json.specs.Find.{get};
-ghost use Rattle.json_trees.specs.Trees.{parts_at, passes, passes_if_there};
+ghost use Rattle.json_trees.specs.Trees.{passes, passes_if_there};
 
-use crate::looking::{parts, parts_at};
+use crate::looking::parts;
 use serde_json::Value;
 
 /// A form that a JSON tree may have.
@@ -43,14 +43,6 @@ pub fn has_if_there<F: Form>(value: &Value, key: &str, form: &F) -> bool
         Some(part) => form.fits(part),
         None => true,
     }
-}
-
-/// Whether each item of the array at a key has the form; where there is no array, none is asked.
-#[tactic(auto, using(crate::proofs::Values::all_views))]
-pub fn each_at<F: Form>(value: &Value, key: &str, form: &F) -> bool
-    ensures { result ≡ list_all (F.form form.now) (parts_at key.now (view value.now)) }
-{
-    all_fit(form, parts_at(value, key))
 }
 
 /// A number of any kind.

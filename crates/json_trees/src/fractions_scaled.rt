@@ -28,8 +28,6 @@ pub fn scaled(number: &Frac, scale: u32) -> Option<Frac>
 pub fn scaled_of(value: &Value, scale: u32) -> Option<Frac>
     ensures { result ≡ scaled_of scale (view value.now) }
 {
-    match fraction_of(value) {
-        Some(number) => scaled(&number, scale),
-        None => None,
-    }
+    let number = fraction_of(value)?;
+    scaled(&number, scale)
 }

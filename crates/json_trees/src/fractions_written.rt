@@ -2,12 +2,13 @@
 ghost use Rattle.std.specs.Prelude.{◌≡◌};
 ghost use Rattle.serde_json.specs.View.{view};
 ghost use Rattle.json_trees.specs.Trees.{integer};
-ghost use Rattle.json_trees.specs.Fractions.{whole_fraction, fraction_of, fraction_or_zero};
+ghost use Rattle.json_trees.specs.Fractions.{whole_fraction, fraction_of};
 
-use crate::form::Form;
 use crate::integers::integer;
-use fractions::Frac;
+use crate::reader::Reader;
+use fractions::{Frac, OutOfMemory};
 use serde_json::Value;
+use std::alloc::Global;
 
 fn whole_fraction(value: &Value) -> Option<Frac>
     ensures { result ≡ whole_fraction (integer (view value.now)) }
@@ -26,23 +27,21 @@ pub fn fraction_of(value: &Value) -> Option<Frac>
     }
 }
 
-/// The fraction that is written, and 0 where it is none.
-pub fn fraction_or_zero(value: &Value) -> Frac
-    ensures { result ≡ fraction_or_zero (view value.now) }
-{
-    fraction_of(value).unwrap_or(Frac::from_int(0))
-}
-
-/// An integer, or a fraction text.
+/// Reads the fraction that an integer is, or that a text writes.
 #[derive(Clone, Copy, Debug)]
-pub struct Fraction;
+pub struct WrittenFractions;
 
-impl Form for Fraction {
-    ghost use Rattle.json_trees.specs.Fractions.{is_fraction};
+impl Reader for WrittenFractions {
+    ghost use Rattle.json_trees.specs.Fractions.{is_fraction, fraction_or_zero};
+
+    type Item = Frac;
 
     ghost form = { λ _. is_fraction };
 
-    fn fits(&self, value: &Value) -> bool {
-        fraction_of(value).is_some()
+    ghost described = { λ _. fraction_or_zero };
+
+    #[tactic(auto, using(crate::proofs::Readings::of_some))]
+    fn read(&self, _alloc: Global, value: &Value) -> Result<Option<Frac>, OutOfMemory> {
+        Ok(fraction_of(value))
     }
 }

@@ -3,7 +3,7 @@ use Rattle.std.specs.Prelude.{sum}
 use Rattle.std.specs.List.{list_all}
 use Rattle.std.proofs.Common.{◌≡◌, ◌&&◌, ℕ, ◌+◌, List, [], ◌∷◌, length, map, codes}
 use Rattle.std.proofs.Common.{true, nat_lt, nat_le, if◌then◌else◌, ℤ, pos, negsuc, Some, None, unsigned_abs}
-use Rattle.std.proofs.Common.{sum_by, refl, sym, ap, ◌∙◌, subst, arith}
+use Rattle.std.proofs.Common.{sum_by, refl, sym, ap, ap₂, ◌∙◌, subst, arith}
 use Rattle.std.proofs.lemmas.Bool.{and_parts, and_from, ltb-true, leb-true, lt-ltb, le-leb}
 use Rattle.std.proofs.lemmas.Int.{ints}
 use Rattle.std.proofs.lemmas.List.{length-map}
@@ -16,16 +16,19 @@ use Rattle.json_trees.specs.Trees.{is_array_of}
 use Rattle.json_trees.specs.Keys.{has_only_keys}
 use Rattle.document_parts.specs.ScaledNumbers.{number_or_zero, number_at, numbers_at}
 use Rattle.document_parts.specs.Sizes.{is_cost, is_short_list_size}
-use Rattle.document_parts.specs.Scales.{scale_of}
+use Rattle.document_parts.specs.Scales.{game_numbers, scale_of}
+use Rattle.document_parts.specs.Numbers.{common_scale}
 use Rattle.document_parts.proofs.LeastDenominators.{if_true}
-use Rattle.game_text.specs.Classes.VotingClass.{is_quota, voting_keys}
-use Rattle.game_text.specs.Classes.{class_of, has_players_as, has_numbers_as}
+use Rattle.game_text.specs.Classes.VotingClass.{voting_keys, is_voting_shaped, voting_values, is_quota}
+use Rattle.game_text.specs.Classes.{class_of, has_players_as, has_numbers_as, own_values_as, own_numbers}
 use Rattle.game_text.specs.declared.classes.Class.TheVariants.{Voting}
 use Rattle.game_text.specs.Readings.{HasSizes}
 use Rattle.game_text.specs.Shape.{is_game_shaped}
 use Rattle.airport.specs.Costs.{IsCost}
 use Rattle.voting.specs.Voting.{Voting as Votes, voting, IsVoting, HavePlayers, AreNumbers, IsQuota}
 use Rattle.game_text.proofs.Sizes.{all_map, cost, estate_cost, kept_sizes, numbers_within}
+use Rattle.game_text.proofs.OwnValues.{absent, integers_scale, items_pass, one_in_front, OwnsNumbers, costs_tested}
+use Rattle.game_text.proofs.GivenNumbers.{of_class, first_number}
 use Rattle.game_text.proofs.Laws.MatrixRows.{none_if}
 use Rattle.game_text.proofs.PlainTrees.{IsPlain, plain_known}
 use Rattle.game_text.proofs.GameTrees.{plain_cost, at_there, plain_numbers, plain_names, plain_excess, plain_class}
@@ -110,6 +113,58 @@ pub voting_not_made : (quota : ℤ) (weights : List ℤ) → IsCost quota → ¬
 voting_not_made quota weights number h =
     none_if (is_quota (unsigned_abs quota) (map unsigned_abs weights))
     (voting (unsigned_abs quota) (map unsigned_abs weights)) (λ t. h (quota_holds quota weights number t))
+
+-- ---- its numbers
+
+-- the keys and kinds of a voting game
+record VotingShape (game : Data) : Type 0 where
+  keys : has_only_keys voting_keys game ≡ true
+  quota : passes is_number (get (codes "quota") game) ≡ true
+  weights : passes (is_array_of is_number) (get (codes "weights") game) ≡ true
+
+voting_shape : (game : Data) → is_voting_shaped game ≡ true → VotingShape game
+voting_shape game h =
+    let both =
+    and_parts (has_only_keys voting_keys game && passes is_number (get (codes "quota") game))
+    (passes (is_array_of is_number) (get (codes "weights") game)) h in
+    let front = and_parts (has_only_keys voting_keys game) (passes is_number (get (codes "quota") game)) both.0 in
+    record { keys = front.0; quota = front.1; weights = both.1 }
+
+-- the scale looks at none of its keys
+voting_scale : (game : Data) → is_voting_shaped game ≡ true → scale_of game ≡ 1
+voting_scale game h =
+    let none = absent voting_keys game (voting_shape game h).keys in
+    let no_numbers : game_numbers game ≡ [] = simp none in
+    ap common_scale no_numbers
+
+votes_scale : (game : Data) → is_voting_shaped game ≡ true → common_scale (voting_values game) ≡ 1
+votes_scale game h =
+    let shape = voting_shape game h in
+    integers_scale (voting_values game)
+    (sym
+    (one_in_front is_number is_number (get (codes "quota") game) (parts_at (codes "weights") game) shape.quota)
+    ∙ ap₂ (λ a b. a && b) shape.quota (items_pass is_number (get (codes "weights") game) shape.weights))
+
+pub owns_votes : (game : Data) → is_voting_shaped game ≡ true → OwnsNumbers (Some Voting) game
+owns_votes game h =
+    let shape = voting_shape game h in
+    record {
+      scale = votes_scale game h ∙ sym (voting_scale game h);
+      tested =
+          ap (λ n. nat_le n 65536 && has_numbers_as 1 (Some Voting) game) (voting_scale game h)
+          ∙ costs_tested 1 (voting_values game) (has_numbers_as 1 (Some Voting) game) (votes_scale game h)
+          (one_in_front is_number (is_cost 1) (get (codes "quota") game) (parts_at (codes "weights") game)
+          shape.quota);
+    }
+
+pub voting_numbers : (game : Data) (zs : List ℤ) → class_of game ≡ Some Voting → HasSizes game
+    → zs ≡ own_numbers game → zs ≡ number_at 1 (codes "quota") game ∷ numbers_at 1 (codes "weights") game
+voting_numbers game zs e h n =
+    let shaped = shaped_as game Voting e h.shaped in
+    of_class Voting game zs e n
+    ∙ ap (λ k. map (number_or_zero k) (own_values_as (Some Voting) game)) (voting_scale game shaped)
+    ∙ first_number 1 is_number (get (codes "quota") game) (parts_at (codes "weights") game)
+    (voting_shape game shaped).quota
 
 -- ---- the tree of such a game
 

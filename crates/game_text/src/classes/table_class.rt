@@ -213,14 +213,13 @@ pub(crate) fn worths_of(
     requires numbers { numbers.items ≡ own_numbers (view game.now) }
     ensures { MatchResult result (IsBuilt (view game.now)) (IsBuildFault (view game.now)) }
 {
-    match table_of(alloc, game, count, names, numbers) {
-        Ok(Some(worths)) => Ok(Game::Table(worths)),
-        Ok(None) => Err(TextFault::Refused(Refusal::Coalition)),
-        Err(e) => Err(e),
-    }
+    let Some(worths) = table_of(alloc, game, count, names, numbers)? else {
+        return Err(TextFault::Refused(Refusal::Coalition));
+    };
+    Ok(Game::Table(worths))
 }
 
-/// The same of a table of costs.
+/// The game of a table of costs. It is refused where a pair of a sparse table has no coalition, or two have the same.
 pub(crate) fn costs_of(
     alloc: Global,
     game: &Value,
@@ -236,9 +235,8 @@ pub(crate) fn costs_of(
     requires numbers { numbers.items ≡ own_numbers (view game.now) }
     ensures { MatchResult result (IsBuilt (view game.now)) (IsBuildFault (view game.now)) }
 {
-    match table_of(alloc, game, count, names, numbers) {
-        Ok(Some(costs)) => Ok(Game::Cost(CostGame::new(costs))),
-        Ok(None) => Err(TextFault::Refused(Refusal::Coalition)),
-        Err(e) => Err(e),
-    }
+    let Some(costs) = table_of(alloc, game, count, names, numbers)? else {
+        return Err(TextFault::Refused(Refusal::Coalition));
+    };
+    Ok(Game::Cost(CostGame::new(costs)))
 }

@@ -4,7 +4,7 @@ use Rattle.serde_json.specs.View.{view}
 use Rattle.definitions.specs.Certificates.{HasForm}
 use Rattle.certificate_texts.specs.Shape.{mode_of}
 use Rattle.certificate_texts.specs.Certificates.{is_written, level_trees, levels_of}
-use Rattle.certificate_texts.proofs.Readings.{was_read}
+use Rattle.json_trees.proofs.Readings.{was_read}
 use Rattle.certificate_texts.proofs.FormTests.{formed, malformed}
 use Rattle.certificate_texts.proofs.certificates.certificate_of.Goals as goal
 

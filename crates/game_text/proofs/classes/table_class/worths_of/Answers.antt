@@ -6,13 +6,13 @@ use Rattle.document_parts.specs.Scales.{scale_of}
 use Rattle.game_text.proofs.Built.{built_if, refused_if}
 use Rattle.game_text.proofs.classes.table_class.worths_of.Goals as goal
 
-pub returns-in-Ok-Some : goal.returns-in-Ok-Some
-returns-in-Ok-Some c =
+pub returns : goal.returns
+returns c =
     built_if (Some class.Table) (scale_of (view c.args.game.now)) (view c.args.game.now) c.requires.class refl
-    games.Table _
-    c.in-Ok-Some.worths (sym c.in-Ok-Some.field-0-is ∙ c.in-Ok-Some.ensures) refl
+    games.Table _ c.in-Some.worths
+    (sym c.in-Some.is ∙ c.in_ok-worths.ensures) refl
 
-pub returns-in-Ok-None : goal.returns-in-Ok-None
-returns-in-Ok-None c =
+pub returns-in_default : goal.returns-in_default
+returns-in_default c =
     refused_if (Some class.Table) (scale_of (view c.args.game.now)) (view c.args.game.now) c.requires.class refl _
-    (sym c.in-Ok-None.field-0-is ∙ c.in-Ok-None.ensures)
+    (sym c.in_default.is ∙ c.in_ok-worths.ensures)

@@ -4,9 +4,9 @@ use Rattle.airport.specs.Costs.{IsCost}
 use Rattle.document_parts.specs.Scales.{scale_of}
 use Rattle.game_text.specs.declared.classes.Class.TheVariants as class
 use Rattle.game_text.specs.declared.classes.Game.TheVariants as games
-use Rattle.game_text.proofs.GivenNumbers.{voting_numbers, first_is, rest_is}
+use Rattle.game_text.proofs.GivenNumbers.{first_is, rest_is}
 use Rattle.game_text.proofs.Built.{built_if, refused_if}
-use Rattle.game_text.proofs.Laws.Votes.{AreVotes, voting_sizes, voting_made, voting_not_made}
+use Rattle.game_text.proofs.Laws.Votes.{AreVotes, voting_sizes, voting_numbers, voting_made, voting_not_made}
 use Rattle.game_text.proofs.classes.voting_class.voting_of.Goals as goal
 
 pub returns-in-Err-Players : goal.returns-in-Err-Players

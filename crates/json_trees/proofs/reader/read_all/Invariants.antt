@@ -1,8 +1,8 @@
 use Rattle.std.proofs.Common.{◌≡◌, [], map}
 use Rattle.serde_json.specs.View.{view}
 use Rattle.json_trees.proofs.Values.{rest}
-use Rattle.certificate_texts.proofs.Readings.{joined}
-use Rattle.certificate_texts.proofs.reader.read_all.Given as goal
+use Rattle.json_trees.proofs.Readings.{joined}
+use Rattle.json_trees.proofs.reader.read_all.Given as goal
 
 abbrev pub invariant-loop-tree : goal.invariant-loop-tree
 invariant-loop-tree g l =

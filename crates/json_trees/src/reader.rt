@@ -5,13 +5,13 @@ ghost use Rattle.serde_json.specs.Data.{Data};
 ghost use Rattle.serde_json.specs.View.{view};
 ghost use Rattle.json_trees.specs.Trees.{parts_at};
 
+use crate::looking::parts_at;
 use fractions::OutOfMemory;
-use json_trees::parts_at;
 use serde_json::Value;
 use std::alloc::Global;
 
 /// Reads what a JSON tree of a form describes.
-pub(crate) trait Reader {
+pub trait Reader {
     /// What is described.
     type Item: Drop;
 
@@ -22,6 +22,10 @@ pub(crate) trait Reader {
     ghost described: { Self → Data → Self.Item };
 
     /// What the tree describes. None exactly where it hasn't the form.
+    ///
+    /// # Errors
+    ///
+    /// Where memory was not found.
     fn read(&self, alloc: Global, tree: &Value) -> Result<Option<Self::Item>, OutOfMemory>
         ensures { IfOk result (λ o. o ≡
             (if form self.now (view tree.now) then Some (described self.now (view tree.now)) else None)) };
@@ -48,7 +52,11 @@ fn read_all<R: Reader>(
 }
 
 /// What the items of the array at a key describe. None exactly where one of them hasn't the form.
-pub(crate) fn read_at<R: Reader>(
+///
+/// # Errors
+///
+/// Where memory was not found.
+pub fn read_at<R: Reader>(
     alloc: Global,
     reader: &R,
     tree: &Value,

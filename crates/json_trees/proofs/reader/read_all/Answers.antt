@@ -1,6 +1,6 @@
 use Rattle.std.proofs.Common.{sym, ◌∙◌}
-use Rattle.certificate_texts.proofs.Readings.{one_found}
-use Rattle.certificate_texts.proofs.reader.read_all.Goals as goal
+use Rattle.json_trees.proofs.Readings.{one_found}
+use Rattle.json_trees.proofs.reader.read_all.Goals as goal
 
 pub loop-tree-preserved : goal.loop-tree-preserved
 loop-tree-preserved g c =
