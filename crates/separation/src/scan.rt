@@ -35,8 +35,7 @@ pub(crate) struct Scan<'a, W: Worth> {
 }
 
 impl<W: Worth> Scan<'_, W> {
-    ghost use Rattle.std.specs.Prelude.{◌*◌, ◌≤◌};
-    ghost use Rattle.std.specs.Bool.{Decides};
+    ghost use Rattle.std.specs.Prelude.{◌*◌, ◌≤◌, ◌↔◌, IsTrue};
     ghost use Rattle.std.specs.Option.{ForSome};
     ghost use Rattle.definitions.specs.declared.Measure.{Measure};
     ghost use Rattle.separation.specs.Values.{low_of, column_value};
@@ -69,7 +68,7 @@ impl<W: Worth> Scan<'_, W> {
     pub(crate) fn rises(&self, column: Option<Column>) -> bool
         requires within { ForSome column (λ c. ForSome c.level (λ l. l < self.now.program.now.levels)) }
         requires small { ForSome column (λ c. unsigned_abs c.cost < 2 ^ 46) }
-        ensures { Decides result (RisesIn self.now column) }
+        ensures { IsTrue result ↔ RisesIn self.now column }
     {
         let program = self.program;
         rises(
@@ -86,7 +85,7 @@ impl<W: Worth> Scan<'_, W> {
     pub(crate) fn marked_rises(&self, value: i128, s: Coalition) -> bool
         requires within { s < 2 ^ self.now.program.now.players }
         requires value { value ≡ value_in self.now s }
-        ensures { Decides result (CoalitionRises self.now s) }
+        ensures { IsTrue result ↔ CoalitionRises self.now s }
     {
         if self.program.has_mark(s) {
             let worth = counted_worth(self.program.game, s, self.with_costs);

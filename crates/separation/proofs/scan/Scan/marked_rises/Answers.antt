@@ -1,8 +1,7 @@
-use Rattle.std.proofs.Common.{◌≡◌, ◌<◌, ◌^◌, true, Some}
+use Rattle.std.proofs.Common.{◌≡◌, ◌↔◌, ◌<◌, ◌^◌, true, IsTrue, Some}
 use Rattle.std.proofs.Common.{unsigned_abs, to_z, of_z, sym, ◌∙◌, arith, rules}
 use mir.Syntax.{w64, w128}
 use Rattle.definitions.proofs.Casts.{cast_kept}
-use Rattle.std.specs.Bool.{Decides}
 use Rattle.separation.specs.Making.{plain}
 use Rattle.separation.specs.Fronts.{front_level, has_mark}
 use Rattle.separation.specs.Scanned.{RisesIn}
@@ -21,6 +20,6 @@ returns-then-has_mark g c =
     cast_kept w64 c.counted_worth-worth.result (omega (arith, small)) in
     let below =
     rw c.counted_worth-worth.ensures.value at (rw value at (rw cost at c.is_below.ensures)) in
-    let rises : Decides r (RisesIn scan (Some column)) = rw c.requires.value at below in
+    let rises : IsTrue r ↔ RisesIn scan (Some column) = rw c.requires.value at below in
     let e : has_mark p.marks c.args.s ≡ true = sym c.has_mark.ensures ∙ c.if-has_mark.true in
     rw e rises
