@@ -49,11 +49,8 @@ earlier_all n k (l ∷ levels) h =
     (all_pairs (IsEarlier n (k + length (l ∷ levels))) (λ c. (c.0, k)) (λ c. c.0 < 2 ^ n) l.coalitions
     (λ c lt. (lt, omega arith)) h.0.coalitions)
     (all_weaken (IsEarlier n ((k + 1) + length levels)) (IsEarlier n (k + length (l ∷ levels)))
-    (earlier_of (k + 1) levels) (λ c e. (e.0, next_level_below k c.1 (length levels) e.1))
+    (earlier_of (k + 1) levels) (λ c e. (e.0, let lt = e.1 in omega arith))
     (earlier_all n (k + 1) levels h.1))
-  where
-    next_level_below : (k c j : ℕ) → c < (k + 1) + j → c < k + suc j
-    next_level_below k c j h = omega arith
 
 pub levels_within : (n : ℕ) (front levels : List Level) → LevelsForm n front levels
     → AllByRecursion (AreWithin n) levels
@@ -220,11 +217,7 @@ module _ (family : Family) (measure : Measure) (g : Game) (front : List Level) (
         ap is_some is,
         rw h.0 (in_level measure g k (i - (n + n)) k false game h.1 (omega arith)),
       ))
-  outer_at i le (Some c) is (inr e) = absurd (subst is_there e tt)
-    where
-      is_there : Option Column → Type 0
-      is_there None = ⊥
-      is_there (Some x) = Unit {0}
+  outer_at i le (Some c) is (inr e) = absurd cc
 
   outer_or : (s : ℕ) → (IsPlainOr g k s (column_at outers s) × (s < 2 ^ n)) ⊎ (column_at outers s ≡ None)
   outer_or s = elim (below_or_above s (2 ^ n)) [
@@ -299,18 +292,13 @@ module _ (family : Family) (measure : Measure) (g : Game) (front : List Level) (
       ]
 
   right_same : (r : ℕ) → right_at n (k + 1) r ≡ q.right r
-  right_same r = by_row (nat_eq r (g.players + length front)) refl
+  right_same r = rw not_zero_rows (rw same_row refl)
     where
       not_zero_rows : nat_eq (length front + 1) 0 ≡ false
       not_zero_rows = grind (arith, nat_tests)
 
-      by_row : (x : Bool) → nat_eq r (g.players + length front) ≡ x → right_at n (k + 1) r ≡ q.right r
-      by_row true e =
-          let t : nat_eq (r + 1) (g.players + (length front + 1)) ≡ true = grind (arith, nat_tests) in
-          rw not_zero_rows (rw t (rw e refl))
-      by_row false e =
-          let t : nat_eq (r + 1) (g.players + (length front + 1)) ≡ false = grind (arith, nat_tests) in
-          rw not_zero_rows (rw t (rw e refl))
+      same_row : nat_eq (r + 1) (g.players + (length front + 1)) ≡ nat_eq r (g.players + length front)
+      same_row = grind (arith, nat_tests)
 
   stage_with : ((s : ℕ) → IsTrue (has_column outers s) ↔ IsOutside Span g.players front s)
       → IsStage family measure g front

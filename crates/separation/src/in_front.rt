@@ -15,7 +15,6 @@ use crate::column::Place;
 use crate::front::Front;
 use crate::making::{minus, plain, single};
 use crate::scan::Scan;
-use crate::sums::bar;
 use coalitions::Coalition;
 use kohlberg::{Family, Level};
 use simplex::ColumnId;
@@ -32,7 +31,7 @@ fn first_of_both<W: Worth>(scan: &Scan<'_, W>, s: Coalition, level: Option<u32>)
     let column = plain(scan.program.game, s, level);
     let worth = column.cost;
     let value = scan.value(column);
-    let cost = bar(scan.m, worth, scan.with_costs);
+    let cost = scan.bar(worth);
     if value < cost {
         Some(0)
     } else if cost < value {

@@ -6,7 +6,7 @@ ghost use Rattle.separation.specs.Peaks.{IsLeast};
 ghost use Rattle.separation.specs.Scanned.{NoneBetween, IsMostIn, IsHighestIn, AreValues, worth_in};
 ghost use Rattle.separation.specs.Scanned.{IsSmallTable};
 
-use crate::scan::{Scan, counted_worth};
+use crate::scan::Scan;
 use crate::tables::NarrowSums;
 use coalitions::Coalition;
 use worth_core::Worth;
@@ -48,7 +48,7 @@ fn height_of<W: Worth>(scan: &Scan<'_, W>, low: &[i64; 256], s: Coalition) -> i6
     ensures { result ≡ scan.now.m.now.den *ℤ worth_in scan.now s
         -ℤ slice_index_or low.now (s % 256) (pos 0) }
 {
-    let worth = counted_worth(scan.program.game, s, scan.with_costs);
+    let worth = scan.worth(s);
     scan.m.den as i64 * worth - low[(s.0 % 256) as usize]
 }
 

@@ -13,8 +13,8 @@ use crate::entering::first_one_by_one;
 use crate::in_front::first_in_front;
 use crate::lazy::Lazy;
 use crate::narrow::best_in_64;
-use crate::scan::{Scan, counted_worth};
-use crate::sums::{bar, narrow, wide};
+use crate::scan::Scan;
+use crate::sums::{narrow, wide};
 use crate::tables::{NarrowSums, Sums};
 use coalitions::Coalition;
 use simplex::{ColumnId, Multipliers};
@@ -27,8 +27,8 @@ fn gap<W: Worth>(scan: &Scan<'_, W>, value: i128, s: Coalition) -> i128
     requires small { unsigned_abs value ≤ 2 ^ 115 }
     ensures { result ≡ (scan.now.m.now.den *ℤ worth_in scan.now s) -ℤ value }
 {
-    let worth = counted_worth(scan.program.game, s, scan.with_costs);
-    bar(scan.m, worth, scan.with_costs) - value
+    let worth = scan.worth(s);
+    scan.bar(worth) - value
 }
 
 /// The better so far, or a coalition with a greater gap.
