@@ -1,7 +1,7 @@
 -- The columns of a stage, each under its number, are its program.
 use Rattle.std.proofs.Common.{◌≡◌, ◌⊎◌, ℕ, zero, suc, ◌+◌, ◌-◌, ◌<◌, ◌≤◌, ◌^◌}
 use Rattle.std.proofs.Common.{Bool, true, false, ◌&&◌, List, [], ◌∷◌, ◌++◌, length, length-append}
-use Rattle.std.proofs.Common.{map, get_or, refl, ap, ◌∙◌, subst, inl, inr, arith, nat_eq}
+use Rattle.std.proofs.Common.{map, get_or, refl, ap, ◌∙◌, inl, inr, arith, nat_eq}
 use Rattle.std.proofs.Common.{nat_lt, ℤ, pos, ◌-ℤ◌, Option, Some, None, unsigned_abs, ◌↔◌, IsTrue, if◌then◌else◌}
 use Rattle.std.proofs.lemmas.Bool.Decides.{nat_tests}
 use Rattle.std.proofs.lemmas.Int.{ints}
@@ -45,7 +45,8 @@ earlier_all : (n k : ℕ) (levels : List Level) → AllByRecursion (AreWithin n)
     → AllByRecursion (IsEarlier n (k + length levels)) (earlier_of k levels)
 earlier_all n k [] h = tt
 earlier_all n k (l ∷ levels) h =
-    all_join (IsEarlier n (k + length (l ∷ levels))) (map (λ c. (c.0, k)) l.coalitions) (earlier_of (k + 1) levels)
+    all_join (IsEarlier n (k + length (l ∷ levels))) (map (λ c. (c.0, k)) l.coalitions)
+    (earlier_of (k + 1) levels)
     (all_pairs (IsEarlier n (k + length (l ∷ levels))) (λ c. (c.0, k)) (λ c. c.0 < 2 ^ n) l.coalitions
     (λ c lt. (lt, omega arith)) h.0.coalitions)
     (all_weaken (IsEarlier n ((k + 1) + length levels)) (IsEarlier n (k + length (l ∷ levels)))
@@ -55,8 +56,10 @@ earlier_all n k (l ∷ levels) h =
 pub levels_within : (n : ℕ) (front levels : List Level) → LevelsForm n front levels
     → AllByRecursion (AreWithin n) levels
 levels_within n front [] h = tt
-levels_within n front (l ∷ levels) h =
-    (record { coalitions = proper-within n l.coalitions h.0.proper }, levels_within n (front ++ l ∷ []) levels h.1)
+levels_within n front (l ∷ levels) h = (
+  record { coalitions = proper-within n l.coalitions h.0.proper },
+  levels_within n (front ++ l ∷ []) levels h.1,
+)
 
 -- ---- columns, and those of the program
 
@@ -150,7 +153,8 @@ module _ (family : Family) (measure : Measure) (g : Game) (front : List Level) (
 
   settled_found : (id : ℕ) → id < b
       → Found measure g k (column_at settled id) (get_or (settled_columns g.players front) id no_column)
-  settled_found zero lt = in_no_level measure g k (grand_coalition g.players) false game (grand_coalition-within g.players)
+  settled_found zero lt =
+      in_no_level measure g k (grand_coalition g.players) false game (grand_coalition-within g.players)
   settled_found (suc zero) lt =
       in_no_level measure g k (grand_coalition g.players) true game (grand_coalition-within g.players)
   settled_found (suc (suc j)) lt =
@@ -201,7 +205,9 @@ module _ (family : Family) (measure : Measure) (g : Game) (front : List Level) (
       by_test : (x : Bool) → (is_imputations family && has_bound front (i - g.players)) ≡ x
           → FurtherAt i (bound family g front (i - n))
       by_test true e =
-          rw e (rw t (rw u (e, in_no_level measure g k (singleton (i - g.players)) true game (pow-lt (omega arith)))))
+          rw e
+          (rw t
+          (rw u (e, in_no_level measure g k (singleton (i - g.players)) true game (pow-lt (omega arith)))))
       by_test false e = rw e (rw t (rw u e))
 
   outer_at : (i : ℕ) → n + n ≤ i → (o : Option Column) → column_at outers (i - (n + n)) ≡ o
@@ -333,6 +339,7 @@ stage_of family measure g front game within outers are =
 
 pub stage_small : (family : Family) (measure : Measure) (g : Game) (front : List Level) → IsGame g
     → AllByRecursion (AreWithin g.players) front → (outers : List (Option Column))
-    → AreOuter g front (2 ^ g.players) outers → AreSmall (length front + 1) (inner_columns family g front ++ outers)
+    → AreOuter g front (2 ^ g.players) outers
+    → AreSmall (length front + 1) (inner_columns family g front ++ outers)
 stage_small family measure g front game within outers are =
     plain_small family measure g front game within outers (outer_plain g front outers are)

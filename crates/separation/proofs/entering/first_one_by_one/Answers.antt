@@ -21,11 +21,13 @@ returns-then-rises g c =
 
 pub loop-mask-preserved : goal.loop-mask-preserved
 loop-mask-preserved g c =
-    Searches.none_more c.args.scan.now c.loop-mask.mask c.loop-mask.invariant (rw (← c.marked_column-column.ensures)
+    Searches.none_more c.args.scan.now c.loop-mask.mask c.loop-mask.invariant
+    (rw (← c.marked_column-column.ensures)
     (λ r. false≢true (c.if-rises.ensures.1 r)))
 
 pub returns : goal.returns
 returns g c =
     let scan = c.args.scan.now in
-    Searches.none_at_all scan c.loop-mask.mask c.loop-mask.invariant _ (masks_of scan.program.now.players scan.are_sums.few)
+    Searches.none_at_all scan c.loop-mask.mask c.loop-mask.invariant _
+    (masks_of scan.program.now.players scan.are_sums.few)
     c.loop-mask-test.false
