@@ -18,7 +18,7 @@ use Rattle.definitions.specs.Certificates.{Level, has_bound}
 use Rattle.definitions.specs.Programs.{value_of}
 use Rattle.definitions.specs.declared.Measure.{Measure}
 use Rattle.definitions.specs.declared.Family.TheVariants.{Imputations}
-use Rattle.separation.specs.Stage.{Column, signed, earlier_of, doubled, settled_columns, further_column}
+use Rattle.separation.specs.Stage.{SignedVector, signed, earlier_of, doubled, settled_columns, further_column}
 use Rattle.separation.specs.Stage.{no_column, column, is_imputations, is_further}
 use Rattle.nested_programs.specs.Stage.{Stage, behind, program_of}
 use Rattle.nested_programs.specs.Reading.{RowMultipliers, reached, IsReading, share_of, excess_of, nowhere}
@@ -77,7 +77,7 @@ column_single n front i h = column_further n front i ∙ further_is
     further_is = let t : nat_lt i n ≡ true = grind (arith, nat_tests) in rw t refl
 
 -- a column's rise, by what the column is
-abbrev pub column_rise : Measure → Game → ℕ → (ℕ → ℤ) → (ℕ → ℤ) → ℤ → Column → ℤ
+abbrev pub column_rise : Measure → Game → ℕ → (ℕ → ℤ) → (ℕ → ℤ) → ℤ → SignedVector → ℤ
 column_rise measure g j x e den c = den *ℤ signed c.minus (g.worth c.mask) -ℤ column_value measure g.players j x e c
 
 pub rise_at : (q : Stage) (outside : ℕ → Bool) (m : RowMultipliers) (id : ℕ)
@@ -264,7 +264,7 @@ settles_own_level q t holds =
 
 -- ---- tight at later multipliers
 
-abbrev pub Tight : Measure → Game → ℕ → (ℕ → ℤ) → (ℕ → ℤ) → ℤ → Column → Type 0
+abbrev pub Tight : Measure → Game → ℕ → (ℕ → ℤ) → (ℕ → ℤ) → ℤ → SignedVector → Type 0
 Tight measure g j x e den c = column_rise measure g j x e den c ≡ pos 0
 
 minus_tight : (den w z : ℤ) → den *ℤ w ≡ z → den *ℤ (pos 0 -ℤ w) -ℤ (pos 0 -ℤ z) ≡ pos 0

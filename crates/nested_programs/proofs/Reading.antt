@@ -18,7 +18,7 @@ use Rattle.definitions.specs.Programs.{Bounds, value_of}
 use Rattle.definitions.specs.declared.Family.{Family}
 use Rattle.definitions.specs.declared.Measure.{Measure}
 use Rattle.definitions.specs.declared.Family.TheVariants.{Imputations, Preimputations}
-use Rattle.separation.specs.Stage.{Column, signed, plus_entry, earlier_of, doubled, settled_columns}
+use Rattle.separation.specs.Stage.{SignedVector, signed, plus_entry, earlier_of, doubled, settled_columns}
 use Rattle.separation.specs.Stage.{further_column, no_column, column, is_imputations, is_further}
 use Rattle.nested_programs.specs.Stage.{Stage, program_of}
 use Rattle.nested_programs.specs.Reading.{RowMultipliers, reached, IsReading, share_of, excess_of}
@@ -87,11 +87,11 @@ plus_value-is measure n j m mask row =
         ≡ excess_of n m k *ℤ (if nat_eq (n + k) (n + row) then pos (divisor measure mask) else pos 0)
     levels k h = let t : nat_lt (n + k) n ≡ false = grind (arith, nat_tests) in rw t refl
 
-abbrev pub column_value : Measure → ℕ → ℕ → (ℕ → ℤ) → (ℕ → ℤ) → Column → ℤ
+abbrev pub column_value : Measure → ℕ → ℕ → (ℕ → ℤ) → (ℕ → ℤ) → SignedVector → ℤ
 column_value measure n j x e c = signed c.minus (plus_value measure n j x e c.mask c.row)
 
 -- a column's cost isn't above its value
-abbrev pub Meets : Measure → Game → ℕ → (ℕ → ℤ) → (ℕ → ℤ) → ℤ → Column → Type 0
+abbrev pub Meets : Measure → Game → ℕ → (ℕ → ℤ) → (ℕ → ℤ) → ℤ → SignedVector → Type 0
 Meets measure g j x e den c = (den *ℤ signed c.minus (g.worth c.mask)) ≤ℤ column_value measure g.players j x e c
 
 pub column_value-is : (q : Stage) (outside : ℕ → Bool) (m : RowMultipliers) (id : ℕ)
@@ -99,7 +99,7 @@ pub column_value-is : (q : Stage) (outside : ℕ → Bool) (m : RowMultipliers) 
     ≡ column_value q.measure q.game.players (length q.front + 1)
     (share_of m) (excess_of q.game.players m) (column q.game.players q.front id)
 column_value-is q outside m id =
-    let c : Column = column q.game.players q.front id in
+    let c : SignedVector = column q.game.players q.front id in
     signed_sum (q.game.players + (length q.front + 1)) (λ r. slice_index_or m.num r (pos 0))
     (plus_entry q.measure q.game.players c.mask c.row) c.minus
     ∙ ap (signed c.minus) (plus_value-is q.measure q.game.players (length q.front + 1) m c.mask c.row)

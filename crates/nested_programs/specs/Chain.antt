@@ -12,9 +12,9 @@
 --   IsChain        each answers the stage behind the levels of those in front
 --   last_of        the last answer
 --   HaveExcesses   the levels' excesses are multipliers of the level rows
-use Rattle.std.specs.Prelude.{◌≡◌, ◌⊎◌, ℕ, ◌+◌, ◌<◌, Bool, IsTrue, List, [], ◌∷◌}
+use Rattle.std.specs.Prelude.{◌≡◌, ◌↔◌, ◌⊎◌, ℕ, ◌+◌, ◌<◌, Bool, IsTrue, List, [], ◌∷◌}
 use Rattle.std.specs.Prelude.{◌++◌}
-use Rattle.std.specs.Prelude.{length, ℤ, pos, ◌+ℤ◌, ◌-ℤ◌, ◌*ℤ◌, ◌≤ℤ◌, Decides}
+use Rattle.std.specs.Prelude.{length, ℤ, pos, ◌+ℤ◌, ◌-ℤ◌, ◌*ℤ◌, ◌≤ℤ◌}
 use Rattle.std.specs.List.{AllByRecursion}
 use Rattle.definitions.specs.Sums.{weighted_sum}
 use Rattle.definitions.specs.Coalitions.{weight_at}
@@ -64,7 +64,7 @@ pub record StageAnswer : Type 0 where
   pub multipliers : RowMultipliers
 
 pub record Answers (q : Stage) (t : StageAnswer) : Type 0 where
-  pub decides : (s : ℕ) → Decides (t.outside s) (IsOutside Span q.game.players q.front s)
+  pub decides : (s : ℕ) → IsTrue (t.outside s) ↔ IsOutside Span q.game.players q.front s
   pub optimal : IsOptimal (program_of q t.outside) t.weights t.weight_den t.multipliers.num t.multipliers.den
   pub follows : Follows q t.weights t.level
 

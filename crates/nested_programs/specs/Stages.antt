@@ -12,9 +12,8 @@
 --   IsBounded     a stage has no endless ray
 --   AreUnderway   the levels in front of the next stage, with what they fix
 --   AreDone       the levels of all stages
-use Rattle.std.specs.Prelude.{◌≡◌, ℕ, ◌+◌, ◌<◌, ◌≤◌, Bool, List, [], ◌∷◌, length}
+use Rattle.std.specs.Prelude.{◌≡◌, ◌↔◌, ℕ, ◌+◌, ◌<◌, ◌≤◌, Bool, List, [], ◌∷◌, length}
 use Rattle.std.specs.Prelude.{pos, ◌*ℤ◌, ◌≤ℤ◌, IsTrue, Option, Some, None}
-use Rattle.std.specs.Bool.{Decides}
 use Rattle.std.specs.List.{AllByRecursion}
 use Rattle.definitions.specs.Coalitions.{singleton}
 use Rattle.definitions.specs.Games.{Game}
@@ -40,7 +39,7 @@ pub record IsLeft (n : ℕ) (levels : List Level) : Type 0 where
 -- an optimum of a stage, by a test that passes exactly at the coalitions outside
 pub record IsBest (q : Stage) (best : Optimal) : Type 0 where
   pub outside : ℕ → Bool
-  pub decides : (s : ℕ) → Decides (outside s) (IsOutside Span q.game.players q.front s)
+  pub decides : (s : ℕ) → IsTrue (outside s) ↔ IsOutside Span q.game.players q.front s
   pub answer : IsAnswer (program_of q outside) best.weights.items best.weight_den best.multipliers.num.items
       best.multipliers.den
 

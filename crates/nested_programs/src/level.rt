@@ -12,15 +12,15 @@ use crate::numbers::net_of;
 use coalitions::Coalition;
 use kohlberg::{Level, put_pair, ratio};
 use separation::coalition_count;
-use simplex::Optimal;
+use simplex::{ColumnId, Optimal};
 use std::alloc::{AllocError, Global};
 
 /// The coalitions outside that have a number, in mask order, where `first` is the number of the column of the empty
 /// one.
 fn outer_numbers(
     alloc: Global,
-    weights: &[(u64, i128)],
-    first: u64,
+    weights: &[(ColumnId, i128)],
+    first: ColumnId,
 ) -> Result<Vec<(Coalition, i128)>, AllocError>
     ensures { IfOk result (λ v. v.items ≡ placed (outer_pairs first weights.now)) }
 {
@@ -39,8 +39,8 @@ fn outer_numbers(
 /// Its one error is want of memory; then those of the first coalitions are put.
 fn put_level(
     earlier: &mut Vec<(Coalition, i128)>,
-    weights: &[(u64, i128)],
-    first: u64,
+    weights: &[(ColumnId, i128)],
+    first: ColumnId,
     pairs: &[(Coalition, i128)],
 ) -> Result<(), AllocError>
     requires weights { AreNumbers weights.now }
@@ -64,7 +64,7 @@ fn put_level(
 /// The coalitions of the levels in front whose net number isn't 0, in mask order.
 fn earlier_numbers(
     alloc: Global,
-    weights: &[(u64, i128)],
+    weights: &[(ColumnId, i128)],
     front: &[Level],
 ) -> Result<Vec<(Coalition, i128)>, AllocError>
     requires weights { AreNumbers weights.now }
@@ -73,7 +73,7 @@ fn earlier_numbers(
     ensures { IfOk result (λ v. v.items ≡ placed (earlier_pairs weights.now 2 (earlier_of 0 front.now))) }
 {
     let mut earlier = Vec::new(alloc);
-    let mut id: u64 = 2;
+    let mut id: ColumnId = 2;
     for level in front {
         put_level(&mut earlier, weights, id, &level.coalitions)?;
         id += 2 * level.coalitions.len() as u64;
@@ -84,8 +84,8 @@ fn earlier_numbers(
 /// The players whose bound has a net number that isn't 0, where `first` is the number of the column of the first alone.
 fn bound_numbers(
     alloc: Global,
-    weights: &[(u64, i128)],
-    first: u64,
+    weights: &[(ColumnId, i128)],
+    first: ColumnId,
     n: u32,
 ) -> Result<Vec<(u32, i128)>, AllocError>
     requires weights { AreNumbers weights.now }

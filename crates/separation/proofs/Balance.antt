@@ -11,7 +11,7 @@ use Rattle.separation.specs.Kept.{column_at, kept_program, AreSmall}
 use Rattle.separation.specs.Same.{IsSame}
 use Rattle.separation.specs.Making.{listed, balanced_column}
 use Rattle.separation.proofs.Slots.{SameAt, same_program, small_columns, length-listed}
-use Rattle.separation.proofs.Slots.{listed_at, past_at, no_level, member_entry}
+use Rattle.separation.proofs.Slots.{listed_at, past_at, for_none, member_entry}
 use Rattle.definitions.proofs.Cases.{and_false, below_or_above}
 
 -- the number of coalitions of at most 16 players
@@ -34,7 +34,7 @@ module _ (g : Game) (game : IsGame g) where
         entry = λ r h. member_entry Plain g.players s r h;
         cost = refl;
         small = game.small s lt;
-        level = no_level 0;
+        level = for_none (λ l. l < 0);
       })
       by_test false e = rw e (ap (λ (b : Bool). b && nat_lt s (2 ^ g.players)) e)
 

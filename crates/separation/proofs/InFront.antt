@@ -28,7 +28,7 @@ use Rattle.separation.specs.declared.column.Column.{Column}
 use Rattle.separation.proofs.InnerColumns.{length-inner}
 use Rattle.separation.proofs.Counts.{level_length, columns_length}
 use Rattle.separation.proofs.EarlierColumns.{level_split, none_left}
-use Rattle.separation.proofs.Slots.{length-listed, listed_at, past_at}
+use Rattle.separation.proofs.Slots.{length-listed, listed_at, past_at, for_some}
 use Rattle.separation.proofs.Valued.{signed_sum}
 
 -- ---- a column negated
@@ -47,12 +47,6 @@ negated_below v c v' c' e f lt = omega (arith, ints)
 
 below_negated : (v c v' c' : ℤ) → v' ≡ pos 0 -ℤ v → c' ≡ pos 0 -ℤ c → v' <ℤ c' → c <ℤ v
 below_negated v c v' c' e f lt = omega (arith, ints)
-
-for_some : (c : Column) (P : Column → Type 0) → P c → ForSome (Some c) P
-for_some c P h o is = rw (some_injective c o is) at h
-  where
-    some_injective : (a b : Column) → Some a ≡ Some b → a ≡ b
-    some_injective a b e = cc
 
 module _ {X : Type 0} {W : Ghosts X} (x : Scan X W) where
   abbrev g : Game

@@ -1,9 +1,8 @@
 -- The columns that are found by their numbers: what stands under each, and that they are the programs'.
 use Rattle.std.proofs.Common.{◌≡◌, ℕ, ◌+◌, ◌-◌, ◌<◌, ◌≤◌, ◌^◌, Bool, true, false}
 use Rattle.std.proofs.Common.{List, [], ◌∷◌, ◌++◌, length, length-append, refl, ◌∙◌, arith, if◌then◌else◌}
-use Rattle.std.proofs.Common.{Option, Some, None}
+use Rattle.std.proofs.Common.{Option, Some, None, IsTrue, ◌↔◌}
 use Rattle.std.proofs.lemmas.List.{get_or-append_right, get_or_append_left}
-use Rattle.std.specs.Bool.{Decides}
 use Rattle.std.specs.List.{AllByRecursion}
 use Rattle.definitions.specs.Games.{Game, IsGame}
 use Rattle.definitions.specs.Certificates.{Level, LevelsForm, IsOutside}
@@ -98,7 +97,7 @@ marked_outer g levels words h = record {
       (by_test s (is_marked words s) (h s));
 }
   where
-    by_test : (s : ℕ) (b : Bool) → Decides b (IsOutside Span g.players levels s)
+    by_test : (s : ℕ) (b : Bool) → (IsTrue b ↔ IsOutside Span g.players levels s)
         → IsOuter g levels s (if b then Some (plain g s (Some (length levels))) else None)
     by_test s true d = (d.0 refl, refl)
     by_test s false d = λ out. clash (d.1 out)

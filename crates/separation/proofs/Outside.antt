@@ -1,10 +1,9 @@
 -- The coalitions outside, by marks.
-use Rattle.std.proofs.Common.{◌≡◌, ℕ, ◌+◌, ◌-◌, ◌<◌, ◌≤◌, ◌^◌, Bool, IsTrue, List}
+use Rattle.std.proofs.Common.{◌≡◌, ◌↔◌, ℕ, ◌+◌, ◌-◌, ◌<◌, ◌≤◌, ◌^◌, Bool, IsTrue, List}
 use Rattle.std.proofs.Common.{[], ◌∷◌, ◌++◌, length-append, append_assoc, refl, sym, ap, ◌∙◌, inl}
 use Rattle.std.proofs.Common.{inr, arith, Option, Some, None}
 use Rattle.std.proofs.lemmas.Bool.{false≢true}
 use Rattle.std.proofs.lemmas.List.{get_or-append_right, get_or_append_left, append-nil}
-use Rattle.std.specs.Bool.{Decides}
 use Rattle.std.specs.Option.{is_some}
 use Rattle.definitions.specs.Coalitions.{grand_coalition}
 use Rattle.definitions.specs.Games.{Game}
@@ -22,8 +21,8 @@ use Rattle.definitions.proofs.Cases.{less_or_last_of, below_or_above}
 
 -- of the proper coalitions, those that a span doesn't hold
 pub IsMarking-of : (n : ℕ) (kept : List ℕ) (levels : List Level) (olds marks : List ℕ) → IsSpanOf n kept levels
-    → ((s : ℕ) → Decides (is_marked olds s) ((0 < s) × (s < grand_coalition n)))
-    → ((s : ℕ) → Decides (is_marked marks s) (IsTrue (is_marked olds s) × ¬ InSpan n (IsKept kept) s))
+    → ((s : ℕ) → IsTrue (is_marked olds s) ↔ ((0 < s) × (s < grand_coalition n)))
+    → ((s : ℕ) → IsTrue (is_marked marks s) ↔ (IsTrue (is_marked olds s) × ¬ InSpan n (IsKept kept) s))
     → IsMarking n levels marks
 IsMarking-of n kept levels olds marks h proper tests s = (
   λ e. let a = (tests s).0 e in let b = (proper s).0 a.0 in (b.0, b.1, λ q. a.1 (h.outside s (within s b.1) q)),
@@ -70,13 +69,13 @@ abbrev pub has_column : List (Option Column) → ℕ → Bool
 has_column outers s = is_some (column_at outers s)
 
 decides_at : (g : Game) (front : List Level) (s : ℕ) (o : Option Column) → IsOuter g front s o
-    → Decides (is_some o) (IsOutside Span g.players front s)
+    → IsTrue (is_some o) ↔ IsOutside Span g.players front s
 decides_at g front s None h = (λ e. absurd (false≢true e), λ out. absurd (h out))
 decides_at g front s (Some c) h = (λ e. h.0, λ out. refl)
 
 pub decides : (g : Game) (front : List Level) (outers : List (Option Column))
     → AreOuter g front (2 ^ g.players) outers → (s : ℕ)
-    → Decides (has_column outers s) (IsOutside Span g.players front s)
+    → IsTrue (has_column outers s) ↔ IsOutside Span g.players front s
 decides g front outers h s = elim (below_or_above s (2 ^ g.players)) [
   | inl lt ↦ decides_at g front s (column_at outers s) (h.outer s lt)
   | inr le ↦

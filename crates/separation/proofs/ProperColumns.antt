@@ -14,6 +14,7 @@ use Rattle.definitions.specs.declared.Measure.TheVariants.{Plain, PerHead}
 use Rattle.separation.specs.Stage.{earlier_of, is_imputations}
 use Rattle.separation.specs.Kept.{column_at, AreShort}
 use Rattle.separation.proofs.HeadSizes.{IsProper, kept_short}
+use Rattle.separation.proofs.Slots.{for_some, for_none}
 use Rattle.separation.specs.Making.{listed, plain, minus, earlier_columns, whole_columns}
 use Rattle.separation.specs.Making.{single, bound, IsOuter, AreOuter, inner_columns}
 use Rattle.spans.specs.Outside.{is_marked}
@@ -36,18 +37,6 @@ plain_short players levels columns e = absurd (no_heads e)
 
 abbrev pub Proper : ℕ → Option Column → Type 0
 Proper n o = ForSome o (IsProper n)
-
-for_some : {X : Type 0} (x : X) (P : X → Type 0) → P x → ForSome (Some x) P
-for_some {X = X} x P h y e = rw (some_injective x y e) at h
-  where
-    some_injective : (x y : X) → Some x ≡ Some y → x ≡ y
-    some_injective x y e = cc
-
-for_none : {X : Type 0} (P : X → Type 0) → ForSome None P
-for_none {X = X} P y e = absurd (clash y e)
-  where
-    clash : (y : X) → None ≡ Some y → ⊥
-    clash y e = cc
 
 -- a column without a level row
 without_level : (n : ℕ) (c : Column) → c.level ≡ None → c.coalition < 2 ^ n → Proper n (Some c)

@@ -1,7 +1,7 @@
 -- What stands under a number of a list of columns, against a program.
 use Rattle.std.proofs.Common.{◌≡◌, ℕ, zero, suc, ◌+◌, ◌-◌, ◌<◌, ◌≤◌, ◌^◌, Bool}
 use Rattle.std.proofs.Common.{true, false, IsTrue, List, [], ◌∷◌, length, length-append, refl, sym}
-use Rattle.std.proofs.Common.{ap, ◌∙◌, subst, inl, inr, arith, nat_eq, nat_lt, if◌then◌else◌, pos}
+use Rattle.std.proofs.Common.{ap, ◌∙◌, inl, inr, arith, nat_eq, nat_lt, if◌then◌else◌, pos}
 use Rattle.std.proofs.Common.{Option, Some, None, unsigned_abs}
 use Rattle.std.proofs.lemmas.Bool.{false≢true}
 use Rattle.std.proofs.lemmas.Bool.Decides.{nat_tests}
@@ -97,7 +97,7 @@ past_at columns i le = get_or-eq_default columns None le
 
 -- ---- entries
 
-pub level_entry : (measure : Measure) (n s l r : ℕ)
+level_entry : (measure : Measure) (n s l r : ℕ)
     → plain_entry measure n s (Some l) r ≡ plus_entry measure n s l r
 level_entry measure n s l r = by_row (nat_lt r n) refl
   where
@@ -115,7 +115,7 @@ level_entry measure n s l r = by_row (nat_lt r n) refl
         level_test : (n l r : ℕ) → nat_lt r n ≡ false → nat_eq l (r - n) ≡ nat_eq r (n + l)
         level_test n l r e = let le : n ≤ r = grind (arith, nat_tests) in level_test_past n l r le
 
-pub no_level_entry : (measure : Measure) (n s row r : ℕ) → r < n + row
+no_level_entry : (measure : Measure) (n s row r : ℕ) → r < n + row
     → plain_entry measure n s None r ≡ plus_entry measure n s row r
 no_level_entry measure n s row r lt = by_row (nat_lt r n) refl
   where
@@ -123,17 +123,31 @@ no_level_entry measure n s row r lt = by_row (nat_lt r n) refl
     by_row true e = rw e refl
     by_row false e = let t : nat_eq r (n + row) ≡ false = grind (arith, nat_tests) in rw e (rw t refl)
 
+-- the level row of a column, and a row past the last where it has none
+abbrev pub row_of : ℕ → Option ℕ → ℕ
+row_of past None = past
+row_of past (Some l) = l
+
+pub row_entry : (measure : Measure) (n s past r : ℕ) (level : Option ℕ) → r < n + past
+    → plain_entry measure n s level r ≡ plus_entry measure n s (row_of past level) r
+row_entry measure n s past r None lt = no_level_entry measure n s past r lt
+row_entry measure n s past r (Some l) lt = level_entry measure n s l r
+
 -- the entry of a player row
 pub member_entry : (measure : Measure) (n s r : ℕ) → r < n
     → plain_entry measure n s None r ≡ (if has_player s r then pos 1 else pos 0)
 member_entry measure n s r lt = let t : nat_lt r n ≡ true = grind (arith, nat_tests) in rw t refl
 
-pub no_level : (j : ℕ) → ForSome None (λ l. l < j)
-no_level j m e = absurd (none_is_not_some m e)
-  where
-    is_there : Option ℕ → Type 0
-    is_there None = Unit {0}
-    is_there (Some t) = ⊥
+-- ---- a fact of what is there, if anything is
 
-    none_is_not_some : (m : ℕ) → None ≡ Some m → ⊥
-    none_is_not_some m e = subst is_there e tt
+pub for_some : {X : Type 0} (x : X) (P : X → Type 0) → P x → ForSome (Some x) P
+for_some {X = X} x P h y e = rw (some_injective x y e) at h
+  where
+    some_injective : (x y : X) → Some x ≡ Some y → x ≡ y
+    some_injective x y e = cc
+
+pub for_none : {X : Type 0} (P : X → Type 0) → ForSome None P
+for_none {X = X} P y e = absurd (clash y e)
+  where
+    clash : (y : X) → None ≡ Some y → ⊥
+    clash y e = cc

@@ -1,13 +1,12 @@
 -- The columns of a stage, each under its number, are its program.
 use Rattle.std.proofs.Common.{◌≡◌, ◌⊎◌, ℕ, zero, suc, ◌+◌, ◌-◌, ◌<◌, ◌≤◌, ◌^◌}
 use Rattle.std.proofs.Common.{Bool, true, false, ◌&&◌, List, [], ◌∷◌, ◌++◌, length, length-append}
-use Rattle.std.proofs.Common.{map, get_or, refl, ap, ◌∙◌, subst, inl, inr, arith, nat_eq}
-use Rattle.std.proofs.Common.{nat_lt, ℤ, pos, ◌-ℤ◌, Option, Some, None, unsigned_abs}
+use Rattle.std.proofs.Common.{map, get_or, refl, ap, ◌∙◌, inl, inr, arith, nat_eq}
+use Rattle.std.proofs.Common.{nat_lt, ℤ, pos, ◌-ℤ◌, Option, Some, None, unsigned_abs, ◌↔◌, IsTrue, if◌then◌else◌}
 use Rattle.std.proofs.lemmas.Bool.Decides.{nat_tests}
 use Rattle.std.proofs.lemmas.Int.{ints}
 use Rattle.std.proofs.lemmas.List.{get_or-append_right, get_or_append_left}
 use Rattle.std.proofs.Math.Pow.{pow-lt}
-use Rattle.std.specs.Bool.{Decides}
 use Rattle.std.specs.List.{AllByRecursion}
 use Rattle.std.specs.Option.{ForSome, is_some}
 use Rattle.definitions.specs.Coalitions.{singleton, grand_coalition}
@@ -17,7 +16,7 @@ use Rattle.definitions.specs.Programs.{Program}
 use Rattle.definitions.specs.declared.Family.{Family}
 use Rattle.definitions.specs.declared.Measure.{Measure}
 use Rattle.definitions.specs.declared.Mode.TheVariants.{Span}
-use Rattle.separation.specs.Stage.{Column as StageColumn, signed, entry_of, earlier_of, doubled, settled_columns}
+use Rattle.separation.specs.Stage.{SignedVector, signed, entry_of, earlier_of, doubled, settled_columns}
 use Rattle.separation.specs.Stage.{further_column, no_column, is_imputations, is_further, stage_program}
 use Rattle.separation.specs.Kept.{column_entry, column_at, right_at, kept_program, AreSmall}
 use Rattle.separation.specs.Same.{IsStage}
@@ -25,7 +24,7 @@ use Rattle.separation.specs.Making.{listed, plain, minus, earlier_columns, whole
 use Rattle.separation.specs.Making.{bound, IsOuter, AreOuter, inner_columns, AreWithin}
 use Rattle.separation.specs.declared.column.Column.{Column}
 use Rattle.separation.proofs.Slots.{SameAt, same_program, small_columns, length-listed, listed_at}
-use Rattle.separation.proofs.Slots.{past_at, level_entry, no_level_entry, no_level}
+use Rattle.separation.proofs.Slots.{past_at, row_of, row_entry, for_some, for_none}
 use Rattle.separation.proofs.Outside.{has_column, decides}
 use Rattle.definitions.proofs.Alls.{all_join, all_weaken}
 use Rattle.definitions.proofs.Masks.{proper-within, grand_coalition-within}
@@ -46,92 +45,75 @@ earlier_all : (n k : ℕ) (levels : List Level) → AllByRecursion (AreWithin n)
     → AllByRecursion (IsEarlier n (k + length levels)) (earlier_of k levels)
 earlier_all n k [] h = tt
 earlier_all n k (l ∷ levels) h =
-    all_join (IsEarlier n (k + length (l ∷ levels))) (map (λ c. (c.0, k)) l.coalitions) (earlier_of (k + 1) levels)
+    all_join (IsEarlier n (k + length (l ∷ levels))) (map (λ c. (c.0, k)) l.coalitions)
+    (earlier_of (k + 1) levels)
     (all_pairs (IsEarlier n (k + length (l ∷ levels))) (λ c. (c.0, k)) (λ c. c.0 < 2 ^ n) l.coalitions
     (λ c lt. (lt, omega arith)) h.0.coalitions)
     (all_weaken (IsEarlier n ((k + 1) + length levels)) (IsEarlier n (k + length (l ∷ levels)))
-    (earlier_of (k + 1) levels) (λ c e. (e.0, next_level_below k c.1 (length levels) e.1))
+    (earlier_of (k + 1) levels) (λ c e. (e.0, let lt = e.1 in omega arith))
     (earlier_all n (k + 1) levels h.1))
-  where
-    next_level_below : (k c j : ℕ) → c < (k + 1) + j → c < k + suc j
-    next_level_below k c j h = omega arith
 
 pub levels_within : (n : ℕ) (front levels : List Level) → LevelsForm n front levels
     → AllByRecursion (AreWithin n) levels
 levels_within n front [] h = tt
-levels_within n front (l ∷ levels) h =
-    (record { coalitions = proper-within n l.coalitions h.0.proper }, levels_within n (front ++ l ∷ []) levels h.1)
+levels_within n front (l ∷ levels) h = (
+  record { coalitions = proper-within n l.coalitions h.0.proper },
+  levels_within n (front ++ l ∷ []) levels h.1,
+)
 
 -- ---- columns, and those of the program
 
 -- a column is that of the program's table, and small
-record Like (measure : Measure) (g : Game) (k : ℕ) (c : Column) (sc : StageColumn) : Type 0 where
+record Like (measure : Measure) (g : Game) (k : ℕ) (c : Column) (sc : SignedVector) : Type 0 where
   entry : (r : ℕ) → r < g.players + (k + 1) → column_entry measure g.players c r ≡ entry_of measure g.players sc r
   cost : c.cost ≡ signed sc.minus (g.worth sc.mask)
   small : unsigned_abs c.cost < 2 ^ 46
   level : ForSome c.level (λ l. l < k + 1)
 
-abbrev Found : Measure → Game → ℕ → Option Column → StageColumn → Type 0
+abbrev Found : Measure → Game → ℕ → Option Column → SignedVector → Type 0
 Found measure g k None sc = ⊥
 Found measure g k (Some c) sc = Like measure g k c sc
 
 negated_small : (z : ℤ) → unsigned_abs z < 2 ^ 46 → unsigned_abs (pos 0 -ℤ z) < 2 ^ 46
 negated_small z h = omega (arith, ints)
 
-some_level : (l j : ℕ) → l < j → ForSome (Some l) (λ l. l < j)
-some_level l j h m e = rw (some_injective l m e) at h
-  where
-    or_zero : Option ℕ → ℕ
-    or_zero None = 0
-    or_zero (Some t) = t
-
-    some_injective : (l m : ℕ) → Some l ≡ Some m → l ≡ m
-    some_injective l m e = ap or_zero e
-
-plain_level : (measure : Measure) (g : Game) (k s l : ℕ) → IsGame g → s < 2 ^ g.players → l < k + 1
-    → Like measure g k (plain g s (Some l)) (record { mask = s; row = l; minus = false })
-plain_level measure g k s l game lt within = record {
-  entry = λ r h. level_entry measure g.players s l r;
-  cost = refl;
-  small = game.small s lt;
-  level = some_level l (k + 1) within;
-}
-
-minus_level : (measure : Measure) (g : Game) (k s l : ℕ) → IsGame g → s < 2 ^ g.players → l < k + 1
-    → Like measure g k (minus g s (Some l)) (record { mask = s; row = l; minus = true })
-minus_level measure g k s l game lt within = record {
-  entry = λ r h. ap (signed true) (level_entry measure g.players s l r);
+-- the column of a coalition, and the same negated
+like : (measure : Measure) (g : Game) (k s : ℕ) (level : Option ℕ) (negated : Bool) → IsGame g → s < 2 ^ g.players
+    → ForSome level (λ l. l < k + 1)
+    → Like measure g k (if negated then minus g s level else plain g s level)
+    (record { mask = s; row = row_of (k + 1) level; minus = negated })
+like measure g k s level true game lt within = record {
+  entry = λ r h. ap (signed true) (row_entry measure g.players s (k + 1) r level h);
   cost = refl;
   small = negated_small (g.worth s) (game.small s lt);
-  level = some_level l (k + 1) within;
+  level = within;
 }
-
-plain_none : (measure : Measure) (g : Game) (k s : ℕ) → IsGame g → s < 2 ^ g.players
-    → Like measure g k (plain g s None) (record { mask = s; row = k + 1; minus = false })
-plain_none measure g k s game lt = record {
-  entry = λ r h. no_level_entry measure g.players s (k + 1) r h;
+like measure g k s level false game lt within = record {
+  entry = λ r h. row_entry measure g.players s (k + 1) r level h;
   cost = refl;
   small = game.small s lt;
-  level = no_level (k + 1);
+  level = within;
 }
 
-minus_none : (measure : Measure) (g : Game) (k s : ℕ) → IsGame g → s < 2 ^ g.players
-    → Like measure g k (minus g s None) (record { mask = s; row = k + 1; minus = true })
-minus_none measure g k s game lt = record {
-  entry = λ r h. ap (signed true) (no_level_entry measure g.players s (k + 1) r h);
-  cost = refl;
-  small = negated_small (g.worth s) (game.small s lt);
-  level = no_level (k + 1);
-}
+in_level : (measure : Measure) (g : Game) (k s l : ℕ) (negated : Bool) → IsGame g → s < 2 ^ g.players → l < k + 1
+    → Like measure g k (if negated then minus g s (Some l) else plain g s (Some l))
+    (record { mask = s; row = l; minus = negated })
+in_level measure g k s l negated game lt within =
+    like measure g k s (Some l) negated game lt (for_some l (λ l. l < k + 1) within)
+
+in_no_level : (measure : Measure) (g : Game) (k s : ℕ) (negated : Bool) → IsGame g → s < 2 ^ g.players
+    → Like measure g k (if negated then minus g s None else plain g s None)
+    (record { mask = s; row = k + 1; minus = negated })
+in_no_level measure g k s negated game lt = like measure g k s None negated game lt (for_none (λ l. l < k + 1))
 
 earlier_found : (measure : Measure) (g : Game) (k : ℕ) (cs : List (ℕ × ℕ)) (j : ℕ) → IsGame g
     → AllByRecursion (IsEarlier g.players k) cs → j < length (doubled cs)
     → Found measure g k (column_at (earlier_columns g cs) j) (get_or (doubled cs) j no_column)
 earlier_found measure g k [] j game h lt = absurd (omega arith)
 earlier_found measure g k (c ∷ cs) zero game h lt =
-    plain_level measure g k c.0 c.1 game h.0.0 (let e = h.0.1 in omega (arith, e))
+    in_level measure g k c.0 c.1 false game h.0.0 (let e = h.0.1 in omega (arith, e))
 earlier_found measure g k (c ∷ cs) (suc zero) game h lt =
-    minus_level measure g k c.0 c.1 game h.0.0 (let e = h.0.1 in omega (arith, e))
+    in_level measure g k c.0 c.1 true game h.0.0 (let e = h.0.1 in omega (arith, e))
 earlier_found measure g k (c ∷ cs) (suc (suc j)) game h lt = earlier_found measure g k cs j game h.1 (omega arith)
 
 length-earlier : (g : Game) (cs : List (ℕ × ℕ)) → length (earlier_columns g cs) ≡ length (doubled cs)
@@ -171,9 +153,10 @@ module _ (family : Family) (measure : Measure) (g : Game) (front : List Level) (
 
   settled_found : (id : ℕ) → id < b
       → Found measure g k (column_at settled id) (get_or (settled_columns g.players front) id no_column)
-  settled_found zero lt = plain_none measure g k (grand_coalition g.players) game (grand_coalition-within g.players)
+  settled_found zero lt =
+      in_no_level measure g k (grand_coalition g.players) false game (grand_coalition-within g.players)
   settled_found (suc zero) lt =
-      minus_none measure g k (grand_coalition g.players) game (grand_coalition-within g.players)
+      in_no_level measure g k (grand_coalition g.players) true game (grand_coalition-within g.players)
   settled_found (suc (suc j)) lt =
       let e : 0 + length front ≡ length front = omega arith in
       earlier_found measure g k (earlier_of 0 front) j game (rw e at
@@ -207,7 +190,7 @@ module _ (family : Family) (measure : Measure) (g : Game) (front : List Level) (
       t = grind (arith, nat_tests)
 
       by_family : (x : Bool) → is_imputations family ≡ x → FurtherAt i (single family g i)
-      by_family true e = rw e (rw t (e, plain_none measure g k (singleton i) game (pow-lt lt)))
+      by_family true e = rw e (rw t (e, in_no_level measure g k (singleton i) false game (pow-lt lt)))
       by_family false e = rw e (rw t e)
 
   bound_at : (i : ℕ) → n ≤ i → i < n + n → FurtherAt i (bound family g front (i - n))
@@ -222,7 +205,9 @@ module _ (family : Family) (measure : Measure) (g : Game) (front : List Level) (
       by_test : (x : Bool) → (is_imputations family && has_bound front (i - g.players)) ≡ x
           → FurtherAt i (bound family g front (i - n))
       by_test true e =
-          rw e (rw t (rw u (e, minus_none measure g k (singleton (i - g.players)) game (pow-lt (omega arith)))))
+          rw e
+          (rw t
+          (rw u (e, in_no_level measure g k (singleton (i - g.players)) true game (pow-lt (omega arith)))))
       by_test false e = rw e (rw t (rw u e))
 
   outer_at : (i : ℕ) → n + n ≤ i → (o : Option Column) → column_at outers (i - (n + n)) ≡ o
@@ -236,13 +221,9 @@ module _ (family : Family) (measure : Measure) (g : Game) (front : List Level) (
       let u : nat_lt i (g.players + g.players) ≡ false = grind (arith, nat_tests) in
       rw t (rw u (
         ap is_some is,
-        rw h.0 (plain_level measure g k (i - (n + n)) k game h.1 (omega arith)),
+        rw h.0 (in_level measure g k (i - (n + n)) k false game h.1 (omega arith)),
       ))
-  outer_at i le (Some c) is (inr e) = absurd (subst is_there e tt)
-    where
-      is_there : Option Column → Type 0
-      is_there None = ⊥
-      is_there (Some x) = Unit {0}
+  outer_at i le (Some c) is (inr e) = absurd cc
 
   outer_or : (s : ℕ) → (IsPlainOr g k s (column_at outers s) × (s < 2 ^ n)) ⊎ (column_at outers s ≡ None)
   outer_or s = elim (below_or_above s (2 ^ n)) [
@@ -317,20 +298,15 @@ module _ (family : Family) (measure : Measure) (g : Game) (front : List Level) (
       ]
 
   right_same : (r : ℕ) → right_at n (k + 1) r ≡ q.right r
-  right_same r = by_row (nat_eq r (g.players + length front)) refl
+  right_same r = rw not_zero_rows (rw same_row refl)
     where
       not_zero_rows : nat_eq (length front + 1) 0 ≡ false
       not_zero_rows = grind (arith, nat_tests)
 
-      by_row : (x : Bool) → nat_eq r (g.players + length front) ≡ x → right_at n (k + 1) r ≡ q.right r
-      by_row true e =
-          let t : nat_eq (r + 1) (g.players + (length front + 1)) ≡ true = grind (arith, nat_tests) in
-          rw not_zero_rows (rw t (rw e refl))
-      by_row false e =
-          let t : nat_eq (r + 1) (g.players + (length front + 1)) ≡ false = grind (arith, nat_tests) in
-          rw not_zero_rows (rw t (rw e refl))
+      same_row : nat_eq (r + 1) (g.players + (length front + 1)) ≡ nat_eq r (g.players + length front)
+      same_row = grind (arith, nat_tests)
 
-  stage_with : ((s : ℕ) → Decides (has_column outers s) (IsOutside Span g.players front s))
+  stage_with : ((s : ℕ) → IsTrue (has_column outers s) ↔ IsOutside Span g.players front s)
       → IsStage family measure g front
       (kept_program measure g.players (length front + 1) (inner_columns family g front ++ outers))
   stage_with decided = record {
@@ -363,6 +339,7 @@ stage_of family measure g front game within outers are =
 
 pub stage_small : (family : Family) (measure : Measure) (g : Game) (front : List Level) → IsGame g
     → AllByRecursion (AreWithin g.players) front → (outers : List (Option Column))
-    → AreOuter g front (2 ^ g.players) outers → AreSmall (length front + 1) (inner_columns family g front ++ outers)
+    → AreOuter g front (2 ^ g.players) outers
+    → AreSmall (length front + 1) (inner_columns family g front ++ outers)
 stage_small family measure g front game within outers are =
     plain_small family measure g front game within outers (outer_plain g front outers are)

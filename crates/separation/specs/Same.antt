@@ -3,8 +3,7 @@
 --   IsSame              the same rows, right sides and columns, with the same entries and costs
 --   IsSpanOf            coalitions span exactly what levels fix
 --   IsStage             the stage program behind levels, whose coalitions outside are those of span mode
-use Rattle.std.specs.Prelude.{◌≡◌, ℕ, ◌<◌, ◌^◌, Bool, IsTrue, List}
-use Rattle.std.specs.Bool.{Decides}
+use Rattle.std.specs.Prelude.{◌≡◌, ◌↔◌, ℕ, ◌<◌, ◌^◌, Bool, IsTrue, List}
 use Rattle.definitions.specs.Games.{Game}
 use Rattle.definitions.specs.Certificates.{Level, InSpan, IsFixedVector, IsOutside}
 use Rattle.definitions.specs.Programs.{Program}
@@ -31,5 +30,5 @@ pub record IsSpanOf (n : ℕ) (kept : List ℕ) (levels : List Level) : Type 0 w
 pub record IsStage (family : Family) (measure : Measure) (g : Game) (front : List Level) (p : Program) : Type 0
   where
     pub outside : ℕ → Bool
-    pub decides : (s : ℕ) → Decides (outside s) (IsOutside Span g.players front s)
+    pub decides : (s : ℕ) → IsTrue (outside s) ↔ IsOutside Span g.players front s
     pub same : IsSame p (stage_program family measure g front outside)

@@ -12,7 +12,7 @@
 --
 -- The divisor is what the measure divides the excess of the coalition by: 1, or the number of members.
 --
---   Column                    a coalition and its level row, or this negated
+--   SignedVector              what a column has in the rows: a coalition and its level row, or this negated
 --   signed, plus_entry        a number or minus it; the entry of a column that isn't negated
 --   entry_of                  the entry of a column in a row
 --   earlier_of, doubled       the coalitions of the levels with their levels; each as a column, and negated
@@ -36,7 +36,7 @@ use Rattle.definitions.specs.declared.Measure.{Measure}
 
 -- the vector of a coalition and its divisor in a level row, which count from 0, or in none, where the number is
 -- past them; or all this negated
-pub record Column : Type 0 where
+pub record SignedVector : Type 0 where
   pub mask : ℕ
   pub row : ℕ
   pub minus : Bool
@@ -49,7 +49,7 @@ plus_entry measure n mask row r =
     if nat_lt r n then (if has_player mask r then pos 1 else pos 0)
     else (if nat_eq r (n + row) then pos (divisor measure mask) else pos 0)
 
-abbrev pub entry_of : Measure → ℕ → Column → ℕ → ℤ
+abbrev pub entry_of : Measure → ℕ → SignedVector → ℕ → ℤ
 entry_of measure n c r = signed c.minus (plus_entry measure n c.mask c.row r)
 
 -- the coalitions of the levels in their order, each with the number of its level from k on
@@ -58,26 +58,26 @@ earlier_of k [] = []
 earlier_of k (l ∷ levels) = map (λ c. (c.0, k)) l.coalitions ++ earlier_of (k + 1) levels
 
 -- each coalition with its level row, as a column and as that column negated
-abbrev pub doubled : List (ℕ × ℕ) → List Column
+abbrev pub doubled : List (ℕ × ℕ) → List SignedVector
 doubled [] = []
 doubled (c ∷ cs) =
     record { mask = c.0; row = c.1; minus = false } ∷ (record { mask = c.0; row = c.1; minus = true } ∷ doubled cs)
 
 -- the columns of all players and of the earlier coalitions
-abbrev pub settled_columns : ℕ → List Level → List Column
+abbrev pub settled_columns : ℕ → List Level → List SignedVector
 settled_columns n front = doubled ((grand_coalition n, length front + 1) ∷ earlier_of 0 front)
 
 -- the columns past these: a player alone, the same negated, and coalitions by their mask
-abbrev pub further_column : ℕ → ℕ → ℕ → Column
+abbrev pub further_column : ℕ → ℕ → ℕ → SignedVector
 further_column n k i =
     if nat_lt i n then record { mask = singleton i; row = k + 1; minus = false }
     else (if nat_lt i (n + n) then record { mask = singleton (i - n); row = k + 1; minus = true }
     else record { mask = i - (n + n); row = k; minus = false })
 
-abbrev pub no_column : Column
+abbrev pub no_column : SignedVector
 no_column = record { mask = 0; row = 0; minus = false }
 
-abbrev pub column : ℕ → List Level → ℕ → Column
+abbrev pub column : ℕ → List Level → ℕ → SignedVector
 column n front id =
     if nat_lt id (length (settled_columns n front)) then slice_index_or (settled_columns n front) id no_column
     else further_column n (length front) (id - length (settled_columns n front))

@@ -11,12 +11,12 @@ use crate::scan::Scan;
 use crate::sums::wide;
 use crate::tables::Sums;
 use coalitions::Coalition;
-use simplex::Multipliers;
+use simplex::{ColumnId, Multipliers};
 use worth_core::{Measure, Worth};
 
 /// The first coalition of the 256 from 256 * `block` on that has a column whose cost is above its value with plain
 /// excess, where no lesser coalition has one.
-fn first_of_block<W: Worth>(scan: &Scan<'_, W>, block: u64) -> Option<u64>
+fn first_of_block<W: Worth>(scan: &Scan<'_, W>, block: u64) -> Option<Coalition>
     requires block { block < 256 }
     requires plain { scan.now.program.now.measure ≡ Measure.Plain }
     requires before { NoneBelow scan.now (256 * block) }
@@ -24,9 +24,10 @@ fn first_of_block<W: Worth>(scan: &Scan<'_, W>, block: u64) -> Option<u64>
 {
     let base = scan.base(block);
     let end = (256 * block + 256).min(1 << scan.program.players);
-    for s in 256 * block..end {
-        let value = scan.sums.behind(base, Coalition(s));
-        if scan.marked_rises(value, Coalition(s)) {
+    for mask in 256 * block..end {
+        let s = Coalition(mask);
+        let value = scan.sums.behind(base, s);
+        if scan.marked_rises(value, s) {
             return Some(s);
         }
     }
@@ -34,7 +35,7 @@ fn first_of_block<W: Worth>(scan: &Scan<'_, W>, block: u64) -> Option<u64>
 }
 
 /// The first coalition that has a column whose cost is above its value with plain excess.
-fn first_by_blocks<W: Worth>(scan: &Scan<'_, W>) -> Option<u64>
+fn first_by_blocks<W: Worth>(scan: &Scan<'_, W>) -> Option<Coalition>
     requires plain { scan.now.program.now.measure ≡ Measure.Plain }
     ensures { MatchOption result (NoneRises scan.now) (IsFirstRising scan.now) }
 {
@@ -47,11 +48,12 @@ fn first_by_blocks<W: Worth>(scan: &Scan<'_, W>) -> Option<u64>
 }
 
 /// The first coalition that has a column whose cost is above its value, each value found by itself.
-pub(crate) fn first_one_by_one<W: Worth>(scan: &Scan<'_, W>) -> Option<u64>
+pub(crate) fn first_one_by_one<W: Worth>(scan: &Scan<'_, W>) -> Option<Coalition>
     ensures { MatchOption result (NoneRises scan.now) (IsFirstRising scan.now) }
 {
-    for s in 0..1u64 << scan.program.players {
-        let column = scan.program.marked_column(Coalition(s));
+    for mask in 0..1u64 << scan.program.players {
+        let s = Coalition(mask);
+        let column = scan.program.marked_column(s);
         if scan.rises(column) {
             return Some(s);
         }
@@ -62,7 +64,7 @@ pub(crate) fn first_one_by_one<W: Worth>(scan: &Scan<'_, W>) -> Option<u64>
 /// The first coalition that has a column whose cost is above its value. With plain excess the coalitions of a block
 /// have the multiplier of their level row in common; per head there are at most 8 players, and each coalition has its
 /// own entry there.
-fn first_marked<W: Worth>(scan: &Scan<'_, W>) -> Option<u64>
+fn first_marked<W: Worth>(scan: &Scan<'_, W>) -> Option<Coalition>
     ensures { MatchOption result (NoneRises scan.now) (IsFirstRising scan.now) }
 {
     match scan.program.measure {
@@ -72,16 +74,14 @@ fn first_marked<W: Worth>(scan: &Scan<'_, W>) -> Option<u64>
 }
 
 /// The number of the first column whose cost is above its value, by the sums of the multipliers.
-fn first_by_sums<W: Worth>(scan: &Scan<'_, W>) -> Option<u64>
+fn first_by_sums<W: Worth>(scan: &Scan<'_, W>) -> Option<ColumnId>
     ensures { MatchOption result ((id : ℕ) → ¬ ColumnRises scan.now id) (IsFirstColumn scan.now) }
 {
     if let Some(id) = first_in_front(scan) {
         return Some(id);
     }
-    match first_marked(scan) {
-        Some(s) => Some(scan.program.first + s),
-        None => None,
-    }
+    let s = first_marked(scan)?;
+    Some(scan.program.first + s.0)
 }
 
 /// The number of the first column whose cost is above its value, without costs as if each were 0.
@@ -89,7 +89,7 @@ pub(crate) fn first_found<'a, W: Worth>(
     program: &'a Lazy<'a, W>,
     m: &'a Multipliers,
     with_costs: bool,
-) -> Option<u64>
+) -> Option<ColumnId>
     requires rows { length m.now.num.items ≡ program.now.players + program.now.levels }
     ensures { MatchOption result ((id : ℕ) → ¬ RisesAt program.now m.now with_costs id)
         (IsFirstAt program.now m.now with_costs) }

@@ -8,10 +8,11 @@ ghost use Rattle.separation.specs.Kept.{column_at};
 ghost use Rattle.separation.specs.Making.{earlier_columns, whole_columns, inner_columns};
 ghost use Rattle.separation.specs.Fronts.{IsSmallLevel};
 
-use crate::column::Column;
+use crate::column::{Column, Place};
 use crate::making::{bound, minus, plain, single};
 use coalitions::Coalition;
 use kohlberg::{Family, Level};
+use simplex::ColumnId;
 use worth_core::Worth;
 
 /// The number of coalitions of the levels.
@@ -29,7 +30,7 @@ pub fn coalition_count(levels: &[Level]) -> u64
 }
 
 /// The column of the coalition of all players under a number, the first two of a stage.
-fn whole<W: Worth>(game: &W, id: u64) -> Option<Column>
+fn whole<W: Worth>(game: &W, id: ColumnId) -> Option<Column>
     ensures { result ≡ column_at (whole_columns (W.game game.now) (grand_coalition (W.game game.now).players)) id }
 {
     let all = Coalition::all(game.players());
@@ -40,27 +41,27 @@ fn whole<W: Worth>(game: &W, id: u64) -> Option<Column>
     }
 }
 
-/// The column under a number among those of the coalitions of level `k`.
-fn of_level<W: Worth>(game: &W, k: u32, pairs: &[(Coalition, i128)], id: u64) -> Column
+/// The column at a place among those of the coalitions of level `k`.
+fn of_level<W: Worth>(game: &W, k: u32, pairs: &[(Coalition, i128)], place: Place) -> Column
     requires within { AllByRecursion (λ c. c.0 < 2 ^ (W.game game.now).players) pairs.now }
-    requires place { id < 2 * length pairs.now }
-    ensures { Some result ≡ column_at (earlier_columns (W.game game.now) (map (λ c. (c.0, k)) pairs.now)) id }
+    requires place { place < 2 * length pairs.now }
+    ensures { Some result ≡ column_at (earlier_columns (W.game game.now) (map (λ c. (c.0, k)) pairs.now)) place }
 {
-    let (s, _) = pairs[(id / 2) as usize];
-    if id % 2 == 0 {
+    let (s, _) = pairs[(place / 2) as usize];
+    if place % 2 == 0 {
         plain(game, s, Some(k))
     } else {
         minus(game, s, Some(k))
     }
 }
 
-/// The column under a number among those of the coalitions of the levels.
-fn earlier<W: Worth>(game: &W, levels: &[Level], id: u64) -> Option<Column>
+/// The column at a place among those of the coalitions of the levels.
+fn earlier<W: Worth>(game: &W, levels: &[Level], place: Place) -> Option<Column>
     requires few { length levels.now ≤ 14 }
     requires within { AllByRecursion (IsSmallLevel (W.game game.now).players) levels.now }
-    ensures { result ≡ column_at (earlier_columns (W.game game.now) (earlier_of 0 levels.now)) id }
+    ensures { result ≡ column_at (earlier_columns (W.game game.now) (earlier_of 0 levels.now)) place }
 {
-    let mut rest = id;
+    let mut rest = place;
     for k in 0..levels.len() {
         let level = &levels[k];
         let twice = 2 * level.coalitions.len() as u64;
@@ -92,7 +93,7 @@ impl Front<'_> {
     }
 
     /// The column under a number in front of those of the coalitions.
-    pub(crate) fn column<W: Worth>(&self, game: &W, id: u64) -> Option<Column>
+    pub(crate) fn column<W: Worth>(&self, game: &W, id: ColumnId) -> Option<Column>
         requires players { (W.game game.now).players ≤ 16 }
         requires few { length self.now.levels.now ≤ 14 }
         requires small { AllByRecursion (IsSmallLevel (W.game game.now).players) self.now.levels.now }

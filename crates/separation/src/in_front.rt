@@ -1,8 +1,7 @@
 //! The first column that rises in front of those of the coalitions. The search goes from part to part, and counts the
 //! columns that it has passed.
 
-ghost use Rattle.std.specs.Prelude.{◌≡◌, ◌+◌, ◌<◌, ◌≤◌, ◌^◌, length, map, Some, MatchOption};
-ghost use Rattle.std.specs.Bool.{Decides};
+ghost use Rattle.std.specs.Prelude.{◌≡◌, ◌↔◌, ◌+◌, ◌<◌, ◌≤◌, ◌^◌, length, map, IsTrue, Some, MatchOption};
 ghost use Rattle.std.specs.List.{AllByRecursion};
 ghost use Rattle.std.specs.Option.{ForSome};
 ghost use Rattle.definitions.specs.declared.Family.{Family};
@@ -12,17 +11,18 @@ ghost use Rattle.separation.specs.Making.{alone_columns, inner_columns};
 ghost use Rattle.separation.specs.Fronts.{IsSmallLevel};
 ghost use Rattle.separation.specs.Scanned.{game_of, RisesIn, NoneOf, IsFirstOf, NoneInFront, IsFirstInFront};
 
+use crate::column::Place;
 use crate::front::Front;
 use crate::making::{minus, plain, single};
 use crate::scan::Scan;
-use crate::sums::bar;
 use coalitions::Coalition;
 use kohlberg::{Family, Level};
+use simplex::ColumnId;
 use worth_core::Worth;
 
 /// The place of the first of both columns of a coalition whose cost is above its value. The second is the first one
 /// negated, so one value tells of both.
-fn first_of_both<W: Worth>(scan: &Scan<'_, W>, s: Coalition, level: Option<u32>) -> Option<u64>
+fn first_of_both<W: Worth>(scan: &Scan<'_, W>, s: Coalition, level: Option<u32>) -> Option<Place>
     requires within { s < 2 ^ scan.now.program.now.players }
     requires level { ForSome level (λ l. l < scan.now.program.now.levels) }
     ensures { MatchOption result (NoneOf scan.now (both_columns (game_of scan.now) s level))
@@ -31,7 +31,7 @@ fn first_of_both<W: Worth>(scan: &Scan<'_, W>, s: Coalition, level: Option<u32>)
     let column = plain(scan.program.game, s, level);
     let worth = column.cost;
     let value = scan.value(column);
-    let cost = bar(scan.m, worth, scan.with_costs);
+    let cost = scan.bar(worth);
     if value < cost {
         Some(0)
     } else if cost < value {
@@ -42,7 +42,11 @@ fn first_of_both<W: Worth>(scan: &Scan<'_, W>, s: Coalition, level: Option<u32>)
 }
 
 /// The place of the first such column among those of the coalitions of level `k`.
-fn first_of_level<W: Worth>(scan: &Scan<'_, W>, k: u32, pairs: &[(Coalition, i128)]) -> Option<u64>
+fn first_of_level<W: Worth>(
+    scan: &Scan<'_, W>,
+    k: u32,
+    pairs: &[(Coalition, i128)],
+) -> Option<Place>
     requires level { k < scan.now.program.now.levels }
     requires few { length pairs.now ≤ 65536 }
     requires within { AllByRecursion (λ c. c.0 < 2 ^ scan.now.program.now.players) pairs.now }
@@ -60,7 +64,7 @@ fn first_of_level<W: Worth>(scan: &Scan<'_, W>, k: u32, pairs: &[(Coalition, i12
 }
 
 /// The place of the first such column among those of the coalitions of the levels.
-fn first_of_levels<W: Worth>(scan: &Scan<'_, W>, levels: &[Level]) -> Option<u64>
+fn first_of_levels<W: Worth>(scan: &Scan<'_, W>, levels: &[Level]) -> Option<Place>
     requires rows { length levels.now + 1 ≤ scan.now.program.now.levels }
     requires within { AllByRecursion (IsSmallLevel scan.now.program.now.players) levels.now }
     ensures { MatchOption result
@@ -79,7 +83,7 @@ fn first_of_levels<W: Worth>(scan: &Scan<'_, W>, levels: &[Level]) -> Option<u64
 }
 
 /// The first player alone whose column for imputations rises.
-fn first_single<W: Worth>(scan: &Scan<'_, W>) -> Option<u64>
+fn first_single<W: Worth>(scan: &Scan<'_, W>) -> Option<u32>
     ensures { MatchOption result
         (NoneOf scan.now (listed scan.now.program.now.players (single Family.Imputations (game_of scan.now))))
         (IsFirstOf scan.now (listed scan.now.program.now.players (single Family.Imputations (game_of scan.now)))) }
@@ -87,7 +91,7 @@ fn first_single<W: Worth>(scan: &Scan<'_, W>) -> Option<u64>
     for i in 0..scan.program.players {
         let column = single(scan.program.game, Family::Imputations, i);
         if scan.rises(column) {
-            return Some(u64::from(i));
+            return Some(i);
         }
     }
     None
@@ -97,14 +101,14 @@ fn first_single<W: Worth>(scan: &Scan<'_, W>) -> Option<u64>
 /// are looked for.
 fn bound_rises<W: Worth>(scan: &Scan<'_, W>, levels: &[Level], i: u32) -> bool
     requires { i < scan.now.program.now.players }
-    ensures { Decides result (RisesIn scan.now (bound Family.Imputations (game_of scan.now) levels.now i)) }
+    ensures { IsTrue result ↔ RisesIn scan.now (bound Family.Imputations (game_of scan.now) levels.now i) }
 {
     let column = minus(scan.program.game, Coalition::single(i), None);
     scan.rises(Some(column)) && Level::has_bound(levels, i)
 }
 
 /// The first player alone whose negated column for imputations rises.
-fn first_bound<W: Worth>(scan: &Scan<'_, W>, levels: &[Level]) -> Option<u64>
+fn first_bound<W: Worth>(scan: &Scan<'_, W>, levels: &[Level]) -> Option<u32>
     ensures { MatchOption result
         (NoneOf scan.now (listed scan.now.program.now.players
         (bound Family.Imputations (game_of scan.now) levels.now)))
@@ -113,14 +117,14 @@ fn first_bound<W: Worth>(scan: &Scan<'_, W>, levels: &[Level]) -> Option<u64>
 {
     for i in 0..scan.program.players {
         if bound_rises(scan, levels, i) {
-            return Some(u64::from(i));
+            return Some(i);
         }
     }
     None
 }
 
 /// The place of the first such column among those of the players alone, which imputations have.
-fn first_of_players<W: Worth>(scan: &Scan<'_, W>, front: &Front<'_>) -> Option<u64>
+fn first_of_players<W: Worth>(scan: &Scan<'_, W>, front: &Front<'_>) -> Option<Place>
     ensures { MatchOption result
         (NoneOf scan.now (alone_columns front.now.family (game_of scan.now) front.now.levels.now))
         (IsFirstOf scan.now (alone_columns front.now.family (game_of scan.now) front.now.levels.now)) }
@@ -129,18 +133,16 @@ fn first_of_players<W: Worth>(scan: &Scan<'_, W>, front: &Front<'_>) -> Option<u
         Family::Preimputations => None,
         Family::Imputations => {
             if let Some(i) = first_single(scan) {
-                return Some(i);
+                return Some(u64::from(i));
             }
-            match first_bound(scan, front.levels) {
-                Some(i) => Some(u64::from(scan.program.players) + i),
-                None => None,
-            }
+            let i = first_bound(scan, front.levels)?;
+            Some(u64::from(scan.program.players + i))
         }
     }
 }
 
 /// The place of the first such column in front of those of a stage's coalitions outside.
-fn first_of_stage<W: Worth>(scan: &Scan<'_, W>, front: &Front<'_>) -> Option<u64>
+fn first_of_stage<W: Worth>(scan: &Scan<'_, W>, front: &Front<'_>) -> Option<Place>
     requires { scan.now.program.now.front ≡ Some front.now }
     ensures { MatchOption result
         (NoneOf scan.now (inner_columns front.now.family (game_of scan.now) front.now.levels.now))
@@ -154,18 +156,14 @@ fn first_of_stage<W: Worth>(scan: &Scan<'_, W>, front: &Front<'_>) -> Option<u64
     if let Some(place) = first_of_levels(scan, front.levels) {
         return Some(2 + place);
     }
-    match first_of_players(scan, front) {
-        Some(place) => Some(program.first - 2 * u64::from(program.players) + place),
-        None => None,
-    }
+    let place = first_of_players(scan, front)?;
+    Some(program.first - 2 * u64::from(program.players) + place)
 }
 
 /// The number of the first column in front of those of the coalitions whose cost is above its value.
-pub(crate) fn first_in_front<W: Worth>(scan: &Scan<'_, W>) -> Option<u64>
+pub(crate) fn first_in_front<W: Worth>(scan: &Scan<'_, W>) -> Option<ColumnId>
     ensures { MatchOption result (NoneInFront scan.now) (IsFirstInFront scan.now) }
 {
-    match &scan.program.front {
-        Some(front) => first_of_stage(scan, front),
-        None => None,
-    }
+    let front = scan.program.front.as_ref()?;
+    first_of_stage(scan, front)
 }

@@ -21,7 +21,7 @@ use crate::rising::{block_of, some_found};
 use coalitions::Coalition;
 use fractions::OutOfMemory;
 use kohlberg::{Family, Level, Outside, Span};
-use simplex::{Columns, Multipliers};
+use simplex::{ColumnId, Columns, Multipliers};
 use std::alloc::Global;
 use worth_core::{Measure, Worth};
 
@@ -36,7 +36,7 @@ pub struct Lazy<'a, W: Worth> {
     /// What stands in front of the coalitions' columns, in a stage.
     pub(crate) front: Option<Front<'a>>,
     /// The number of the first of the coalitions' columns, which is that of the empty one.
-    pub(crate) first: u64,
+    pub(crate) first: ColumnId,
     /// The coalitions that have a column; without marks these are all but the empty one.
     pub(crate) marks: Option<Outside>,
     /// The greatest worth of each block of 256 coalitions, or 0 where that is more.
@@ -160,20 +160,15 @@ impl<W: Worth> Lazy<'_, W> {
     pub(crate) fn level(&self) -> Option<u32>
         ensures { result ≡ front_level self.now.front }
     {
-        match self.front {
-            Some(front) => Some(front.levels.len() as u32),
-            None => None,
-        }
+        let front = self.front?;
+        Some(front.levels.len() as u32)
     }
 
     /// The column under a number in front of those of the coalitions.
-    pub(crate) fn front_column(&self, id: u64) -> Option<Column>
+    pub(crate) fn front_column(&self, id: ColumnId) -> Option<Column>
         ensures { result ≡ column_at (front_columns (W.game self.now.game.now) self.now.front) id }
     {
-        match self.front {
-            Some(front) => front.column(self.game, id),
-            None => None,
-        }
+        self.front?.column(self.game, id)
     }
 
     /// Whether a coalition has a column.
@@ -217,7 +212,7 @@ impl<W: Worth> Lazy<'_, W> {
     }
 
     /// The column under a number.
-    pub(crate) fn column(&self, id: u64) -> Option<Column>
+    pub(crate) fn column(&self, id: ColumnId) -> Option<Column>
         ensures { result ≡ column_at (lazy_columns (W.game self.now.game.now) self.now.front self.now.marks) id }
     {
         if id < self.first {

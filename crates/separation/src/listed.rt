@@ -6,7 +6,7 @@ ghost use Rattle.separation.specs.Kept.{column_at, kept_program, AreSmall, AreSh
 use crate::column::Column;
 use crate::sums::{first_rising, wide};
 use crate::tables::Sums;
-use simplex::{Columns, Multipliers};
+use simplex::{ColumnId, Columns, Multipliers};
 use worth_core::Measure;
 
 /// A program with all its columns, the level rows behind those of the players.
@@ -23,7 +23,7 @@ pub struct Listed {
 }
 
 /// The column under a number.
-fn column_at(columns: &[Option<Column>], id: u64) -> Option<Column>
+fn column_at(columns: &[Option<Column>], id: ColumnId) -> Option<Column>
     ensures { result ≡ column_at columns.now id }
 {
     if id < columns.len() as u64 {

@@ -6,7 +6,7 @@ ghost use Rattle.separation.specs.Peaks.{IsLeast};
 ghost use Rattle.separation.specs.Scanned.{NoneBetween, IsMostIn, IsHighestIn, AreValues, worth_in};
 ghost use Rattle.separation.specs.Scanned.{IsSmallTable};
 
-use crate::scan::{Scan, counted_worth};
+use crate::scan::Scan;
 use crate::tables::NarrowSums;
 use coalitions::Coalition;
 use worth_core::Worth;
@@ -16,20 +16,20 @@ use worth_core::Worth;
 pub(crate) struct Highest {
     base: i64,
     height: i64,
-    coalition: u64,
+    coalition: Coalition,
 }
 
 impl Highest {
     /// Whether a height is greater.
-    fn is_below(self, height: i64) -> bool
-        ensures { MatchBool result (self.height <ℤ height) (height ≤ℤ self.height) }
+    fn is_below(&self, height: i64) -> bool
+        ensures { MatchBool result (self.now.height <ℤ height) (height ≤ℤ self.now.height) }
     {
         self.height < height
     }
 
     /// Another coalition, which is higher.
-    fn raised(self, coalition: u64, height: i64) -> Highest
-        ensures { result ≡ record { base = self.base; height = height; coalition = coalition } }
+    fn raised(&self, coalition: Coalition, height: i64) -> Highest
+        ensures { result ≡ record { base = self.now.base; height = height; coalition = coalition } }
     {
         Highest {
             base: self.base,
@@ -48,7 +48,7 @@ fn height_of<W: Worth>(scan: &Scan<'_, W>, low: &[i64; 256], s: Coalition) -> i6
     ensures { result ≡ scan.now.m.now.den *ℤ worth_in scan.now s
         -ℤ slice_index_or low.now (s % 256) (pos 0) }
 {
-    let worth = counted_worth(scan.program.game, s, scan.with_costs);
+    let worth = scan.worth(s);
     scan.m.den as i64 * worth - low[(s.0 % 256) as usize]
 }
 
@@ -73,11 +73,11 @@ fn highest_of_each<W: Worth>(
         .min(64);
     let mut best = before;
     for j in 0..end {
-        let coalition = 64 * place + j;
-        let height = height_of(scan, low, Coalition(coalition));
+        let s = Coalition(64 * place + j);
+        let height = height_of(scan, low, s);
         // Few are higher, so the marks of few are looked at.
         if best.is_below(height) && word.contains(j as u32) {
-            best = best.raised(coalition, height);
+            best = best.raised(s, height);
         }
     }
     best
@@ -142,7 +142,7 @@ pub(crate) fn best_in_64<W: Worth>(
     sums: &NarrowSums<'_>,
     base: i64,
     block: u64,
-) -> Option<u64>
+) -> Option<Coalition>
     requires block { block < 256 }
     requires den { unsigned_abs scan.now.m.now.den < 2 ^ 16 }
     requires low { IsSmallTable sums.now.low.now }
@@ -153,7 +153,7 @@ pub(crate) fn best_in_64<W: Worth>(
     let mut best = Highest {
         base,
         height: base,
-        coalition: 0,
+        coalition: Coalition::empty(),
     };
     for place in 4 * block..4 * block + 4 {
         let least = sums.least[(place % 4) as usize];

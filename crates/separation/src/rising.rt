@@ -13,11 +13,11 @@ use crate::entering::first_one_by_one;
 use crate::in_front::first_in_front;
 use crate::lazy::Lazy;
 use crate::narrow::best_in_64;
-use crate::scan::{Scan, counted_worth};
-use crate::sums::{bar, narrow, wide};
+use crate::scan::Scan;
+use crate::sums::{narrow, wide};
 use crate::tables::{NarrowSums, Sums};
 use coalitions::Coalition;
-use simplex::Multipliers;
+use simplex::{ColumnId, Multipliers};
 use spans::fill_sums;
 use worth_core::{Measure, Worth};
 
@@ -27,12 +27,12 @@ fn gap<W: Worth>(scan: &Scan<'_, W>, value: i128, s: Coalition) -> i128
     requires small { unsigned_abs value ≤ 2 ^ 115 }
     ensures { result ≡ (scan.now.m.now.den *ℤ worth_in scan.now s) -ℤ value }
 {
-    let worth = counted_worth(scan.program.game, s, scan.with_costs);
-    bar(scan.m, worth, scan.with_costs) - value
+    let worth = scan.worth(s);
+    scan.bar(worth) - value
 }
 
 /// The better so far, or a coalition with a greater gap.
-fn greater(best: Option<(u64, i128)>, s: u64, gap: i128) -> (u64, i128)
+fn greater(best: Option<(Coalition, i128)>, s: Coalition, gap: i128) -> (Coalition, i128)
     ensures { MatchOption best (result ≡ (s, gap))
         (λ b. (b.1 <ℤ gap → result ≡ (s, gap)) × (gap ≤ℤ b.1 → result ≡ b)) }
 {
@@ -44,7 +44,7 @@ fn greater(best: Option<(u64, i128)>, s: u64, gap: i128) -> (u64, i128)
 
 /// Of the 256 coalitions from 256 * `block` on one that has a column whose cost is above its value with plain excess:
 /// that whose cost is most above its value.
-fn best_in_128<W: Worth>(scan: &Scan<'_, W>, block: u64) -> Option<u64>
+fn best_in_128<W: Worth>(scan: &Scan<'_, W>, block: u64) -> Option<Coalition>
     requires block { block < 256 }
     requires plain { scan.now.program.now.measure ≡ Measure.Plain }
     ensures { MatchOption result (NoneBetween scan.now (256 * block) (256 * (block + 1)))
@@ -52,23 +52,21 @@ fn best_in_128<W: Worth>(scan: &Scan<'_, W>, block: u64) -> Option<u64>
 {
     let base = scan.base(block);
     let end = (256 * block + 256).min(1 << scan.program.players);
-    let mut best: Option<(u64, i128)> = None;
-    for s in 256 * block..end {
-        let value = scan.sums.behind(base, Coalition(s));
-        if scan.marked_rises(value, Coalition(s)) {
-            let here = gap(scan, value, Coalition(s));
+    let mut best: Option<(Coalition, i128)> = None;
+    for mask in 256 * block..end {
+        let s = Coalition(mask);
+        let value = scan.sums.behind(base, s);
+        if scan.marked_rises(value, s) {
+            let here = gap(scan, value, s);
             best = Some(greater(best, s, here));
         }
     }
-    match best {
-        Some((s, _)) => Some(s),
-        None => None,
-    }
+    best.map(|(s, _)| s)
 }
 
 /// Of the 256 coalitions from 256 * `block` on one that has a column whose cost is above its value with plain excess:
 /// that whose cost is most above its value. The search is in 64 bits where the block's numbers have room there.
-fn best_of_block<W: Worth>(scan: &Scan<'_, W>, block: u64) -> Option<u64>
+fn best_of_block<W: Worth>(scan: &Scan<'_, W>, block: u64) -> Option<Coalition>
     requires block { block < 256 }
     requires plain { scan.now.program.now.measure ≡ Measure.Plain }
     ensures { MatchOption result (NoneBetween scan.now (256 * block) (256 * (block + 1)))
@@ -84,7 +82,7 @@ fn best_of_block<W: Worth>(scan: &Scan<'_, W>, block: u64) -> Option<u64>
 }
 
 /// Of the blocks from one on up to another, what is found in the first that has any.
-fn best_from<W: Worth>(scan: &Scan<'_, W>, from: u64, to: u64) -> Option<u64>
+fn best_from<W: Worth>(scan: &Scan<'_, W>, from: u64, to: u64) -> Option<Coalition>
     requires to { to ≤ 256 }
     requires plain { scan.now.program.now.measure ≡ Measure.Plain }
     ensures { MatchOption result (NoneBetween scan.now (256 * from) (256 * to)) (IsSomeRising scan.now) }
@@ -98,7 +96,7 @@ fn best_from<W: Worth>(scan: &Scan<'_, W>, from: u64, to: u64) -> Option<u64>
 }
 
 /// A coalition that has a column whose cost is above its value with plain excess, sought from the last place on.
-fn best_around<W: Worth>(scan: &Scan<'_, W>) -> Option<u64>
+fn best_around<W: Worth>(scan: &Scan<'_, W>) -> Option<Coalition>
     requires plain { scan.now.program.now.measure ≡ Measure.Plain }
     ensures { MatchOption result (NoneRises scan.now) (IsSomeRising scan.now) }
 {
@@ -110,7 +108,7 @@ fn best_around<W: Worth>(scan: &Scan<'_, W>) -> Option<u64>
 }
 
 /// A coalition that has a column whose cost is above its value.
-fn some_marked<W: Worth>(scan: &Scan<'_, W>) -> Option<u64>
+fn some_marked<W: Worth>(scan: &Scan<'_, W>) -> Option<Coalition>
     ensures { MatchOption result (NoneRises scan.now) (IsSomeRising scan.now) }
 {
     match scan.program.measure {
@@ -120,16 +118,14 @@ fn some_marked<W: Worth>(scan: &Scan<'_, W>) -> Option<u64>
 }
 
 /// The number of a column whose cost is above its value, by the sums of the multipliers.
-fn some_by_sums<W: Worth>(scan: &Scan<'_, W>) -> Option<u64>
+fn some_by_sums<W: Worth>(scan: &Scan<'_, W>) -> Option<ColumnId>
     ensures { MatchOption result ((id : ℕ) → ¬ ColumnRises scan.now id) (ColumnRises scan.now) }
 {
     if let Some(id) = first_in_front(scan) {
         return Some(id);
     }
-    match some_marked(scan) {
-        Some(s) => Some(scan.program.first + s),
-        None => None,
-    }
+    let s = some_marked(scan)?;
+    Some(scan.program.first + s.0)
 }
 
 /// The number of such a column, by tables in 64 bits of the players' multipliers there.
@@ -138,7 +134,7 @@ fn some_in_64<'a, W: Worth>(
     m: &'a Multipliers,
     numbers: &[i64; 16],
     with_costs: bool,
-) -> Option<u64>
+) -> Option<ColumnId>
     requires rows { length m.now.num.items ≡ program.now.players + program.now.levels }
     requires numbers { AreNarrow m.now.num.items program.now.players numbers.now }
     ensures { MatchOption result ((id : ℕ) → ¬ RisesAt program.now m.now with_costs id)
@@ -165,7 +161,7 @@ fn some_in_128<'a, W: Worth>(
     program: &'a Lazy<'a, W>,
     m: &'a Multipliers,
     with_costs: bool,
-) -> Option<u64>
+) -> Option<ColumnId>
     requires rows { length m.now.num.items ≡ program.now.players + program.now.levels }
     ensures { MatchOption result ((id : ℕ) → ¬ RisesAt program.now m.now with_costs id)
         (RisesAt program.now m.now with_costs) }
@@ -185,7 +181,7 @@ pub(crate) fn some_found<'a, W: Worth>(
     program: &'a Lazy<'a, W>,
     m: &'a Multipliers,
     with_costs: bool,
-) -> Option<u64>
+) -> Option<ColumnId>
     requires rows { length m.now.num.items ≡ program.now.players + program.now.levels }
     ensures { MatchOption result ((id : ℕ) → ¬ RisesAt program.now m.now with_costs id)
         (RisesAt program.now m.now with_costs) }
@@ -198,7 +194,7 @@ pub(crate) fn some_found<'a, W: Worth>(
 
 /// The block of the coalition whose column was found, where those of the coalitions have the numbers from `first` on;
 /// the block before, where another column was found or none.
-pub(crate) fn block_of(found: Option<u64>, first: u64, before: u8) -> u8
+pub(crate) fn block_of(found: Option<ColumnId>, first: ColumnId, before: u8) -> u8
     ensures coalition { IfSome found (λ id. first ≤ id → result ≡ (id - first) / 256 % 256) }
     ensures front { IfSome found (λ id. id < first → result ≡ before) }
     ensures none { found ≡ None → result ≡ before }

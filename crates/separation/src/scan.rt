@@ -5,7 +5,7 @@ ghost use Rattle.separation.specs.Values.{AreSums, counted};
 
 use crate::column::Column;
 use crate::lazy::Lazy;
-use crate::sums::{is_below, rises, value};
+use crate::sums::{bar, is_below, rises, value};
 use crate::tables::Sums;
 use coalitions::Coalition;
 use simplex::Multipliers;
@@ -35,12 +35,11 @@ pub(crate) struct Scan<'a, W: Worth> {
 }
 
 impl<W: Worth> Scan<'_, W> {
-    ghost use Rattle.std.specs.Prelude.{◌*◌, ◌≤◌};
-    ghost use Rattle.std.specs.Bool.{Decides};
+    ghost use Rattle.std.specs.Prelude.{◌*◌, ◌≤◌, ◌*ℤ◌, ◌↔◌, IsTrue};
     ghost use Rattle.std.specs.Option.{ForSome};
     ghost use Rattle.definitions.specs.declared.Measure.{Measure};
     ghost use Rattle.separation.specs.Values.{low_of, column_value};
-    ghost use Rattle.separation.specs.Scanned.{AreValues, RisesIn, CoalitionRises, value_in};
+    ghost use Rattle.separation.specs.Scanned.{AreValues, RisesIn, CoalitionRises, value_in, worth_in};
 
     /// What the 256 coalitions from 256 * `block` on have in common with plain excess: the multipliers of the members
     /// past the first eight players, and that of their level row.
@@ -53,6 +52,24 @@ impl<W: Worth> Scan<'_, W> {
         let program = self.program;
         self.sums
             .base(self.m, program.players, program.level(), block)
+    }
+
+    /// What the worth of a coalition counts for.
+    pub(crate) fn worth(&self, s: Coalition) -> i64
+        requires { s < 2 ^ self.now.program.now.players }
+        ensures is { result ≡ worth_in self.now s }
+        ensures value { counted self.now.with_costs result ≡ worth_in self.now s }
+        ensures small { unsigned_abs result < 2 ^ 46 }
+    {
+        counted_worth(self.program.game, s, self.with_costs)
+    }
+
+    /// A cost over the multipliers' denominator, or 0 where costs don't count.
+    pub(crate) fn bar(&self, cost: i64) -> i128
+        requires { unsigned_abs cost < 2 ^ 46 }
+        ensures { result ≡ self.now.m.now.den *ℤ counted self.now.with_costs cost }
+    {
+        bar(self.m, cost, self.with_costs)
     }
 
     /// The value of a column.
@@ -69,7 +86,7 @@ impl<W: Worth> Scan<'_, W> {
     pub(crate) fn rises(&self, column: Option<Column>) -> bool
         requires within { ForSome column (λ c. ForSome c.level (λ l. l < self.now.program.now.levels)) }
         requires small { ForSome column (λ c. unsigned_abs c.cost < 2 ^ 46) }
-        ensures { Decides result (RisesIn self.now column) }
+        ensures { IsTrue result ↔ RisesIn self.now column }
     {
         let program = self.program;
         rises(
@@ -86,10 +103,10 @@ impl<W: Worth> Scan<'_, W> {
     pub(crate) fn marked_rises(&self, value: i128, s: Coalition) -> bool
         requires within { s < 2 ^ self.now.program.now.players }
         requires value { value ≡ value_in self.now s }
-        ensures { Decides result (CoalitionRises self.now s) }
+        ensures { IsTrue result ↔ CoalitionRises self.now s }
     {
         if self.program.has_mark(s) {
-            let worth = counted_worth(self.program.game, s, self.with_costs);
+            let worth = self.worth(s);
             is_below(value, self.m, worth, self.with_costs)
         } else {
             false

@@ -2,11 +2,10 @@
 //! members among the first eight players and one for those among the next eight, so that a coalition costs one
 //! addition.
 
-ghost use Rattle.std.specs.Prelude.{◌≡◌, IfSome, MatchOption};
+ghost use Rattle.std.specs.Prelude.{◌≡◌, ◌↔◌, IsTrue, IfSome, MatchOption};
 ghost use Rattle.std.specs.Prelude.{ℕ, ◌+◌, ◌%◌, ◌^◌, ◌<◌, ◌≤◌};
 ghost use Rattle.std.specs.Prelude.{ℤ, pos, ◌+ℤ◌, ◌*ℤ◌, ◌<ℤ◌, unsigned_abs};
 ghost use Rattle.std.specs.Prelude.{length, List, slice_index_or};
-ghost use Rattle.std.specs.Bool.{Decides};
 ghost use Rattle.std.specs.Option.{ForSome};
 ghost use Rattle.definitions.specs.Coalitions.{sum_over};
 ghost use Rattle.definitions.specs.Measures.{divisor};
@@ -18,7 +17,7 @@ ghost use Rattle.separation.specs.Values.{Rises, IsFirst};
 use crate::column::{Column, level_entry};
 use crate::tables::{Sums, WideSums};
 use coalitions::Coalition;
-use simplex::Multipliers;
+use simplex::{ColumnId, Multipliers};
 use worth_core::Measure;
 
 /// The multiplier of player `i`, and 0 past `n` players.
@@ -199,7 +198,7 @@ pub(crate) fn bar(m: &Multipliers, cost: i64, with_costs: bool) -> i128
 /// Whether a value is below a cost, or below 0 where costs don't count.
 pub(crate) fn is_below(value: i128, m: &Multipliers, cost: i64, with_costs: bool) -> bool
     requires { unsigned_abs cost < 2 ^ 46 }
-    ensures { Decides result (value <ℤ (m.now.den *ℤ counted with_costs cost)) }
+    ensures { IsTrue result ↔ (value <ℤ (m.now.den *ℤ counted with_costs cost)) }
 {
     value < bar(m, cost, with_costs)
 }
@@ -217,7 +216,7 @@ pub(crate) fn rises(
     requires small { ForSome column (λ c. unsigned_abs c.cost < 2 ^ 46) }
     requires players { n ≤ length m.now.num.items }
     requires sums { AreSums m.now.num.items n sums.now }
-    ensures { Decides result (Rises measure m.now.num.items m.now.den n with_costs column) }
+    ensures { IsTrue result ↔ Rises measure m.now.num.items m.now.den n with_costs column }
 {
     match column {
         Some(column) => {
@@ -236,7 +235,7 @@ pub(crate) fn first_rising(
     n: u32,
     sums: &Sums<'_>,
     with_costs: bool,
-) -> Option<u64>
+) -> Option<ColumnId>
     requires within { (id : ℕ) → ForSome (column_at columns.now id)
         (λ c. ForSome c.level (λ l. n + l < length m.now.num.items)) }
     requires small { (id : ℕ) → ForSome (column_at columns.now id) (λ c. unsigned_abs c.cost < 2 ^ 46) }
@@ -248,7 +247,7 @@ pub(crate) fn first_rising(
 {
     for id in 0..columns.len() {
         if rises(columns[id], m, measure, n, sums, with_costs) {
-            return Some(id as u64);
+            return Some(id as ColumnId);
         }
     }
     None

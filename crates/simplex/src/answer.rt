@@ -6,6 +6,7 @@ ghost use Rattle.determinants.specs.Matrix.{limit, entry_at, weight_at};
 ghost use Rattle.simplex.specs.Reduced.{AreReduced, IsCommon, IsMultiple, listed, with_weight};
 
 use crate::arrays::{Matrix, Numbers, STRIDE};
+use crate::columns::ColumnId;
 use crate::multipliers::Multipliers;
 use crate::state::State;
 use arrayvec::ArrayVec;
@@ -60,7 +61,7 @@ fn reduced_weights(tracked: &Matrix, n: usize, den: i128, common: i128) -> Numbe
 }
 
 /// Adds the column at a position, if there is one and its weight is positive.
-fn add_weight(weights: &mut ArrayVec<(u64, i128), 31>, id: Option<u64>, weight: i128)
+fn add_weight(weights: &mut ArrayVec<(u64, i128), 31>, id: Option<ColumnId>, weight: i128)
     requires { array_vec_len weights.old < 31 }
     ensures { weights.new.items ≡ with_weight id weight weights.old.items }
 {
@@ -73,7 +74,7 @@ fn add_weight(weights: &mut ArrayVec<(u64, i128), 31>, id: Option<u64>, weight: 
 
 /// The columns that have a positive weight, by their reduced weights.
 fn weights_from(
-    ids: &[Option<u64>; STRIDE],
+    ids: &[Option<ColumnId>; STRIDE],
     reduced: &Numbers,
     n: usize,
 ) -> ArrayVec<(u64, i128), 31>

@@ -14,6 +14,9 @@ use crate::arrays::{Numbers, STRIDE};
 use crate::multipliers::Multipliers;
 use crate::part::Part;
 
+/// The number of a column, as the calls of `Columns` have it.
+pub type ColumnId = u64;
+
 /// A linear program in standard form, known by its rows and columns. A row has a right side; a column has a cost, and
 /// an entry in each row. Sought are nonnegative weights of the columns that meet every right side, at the greatest
 /// total cost.
@@ -81,7 +84,7 @@ pub trait Columns {
 }
 
 /// A column of the program, from its last row: so the level rows come first.
-pub(crate) fn load_column<C: Columns>(columns: &C, id: u64, n: usize) -> Numbers
+pub(crate) fn load_column<C: Columns>(columns: &C, id: ColumnId, n: usize) -> Numbers
     requires column { IsTrue ((C.program columns.now).is_column id) }
     requires rows { n ≡ (C.program columns.now).rows }
     ensures { (i : ℕ) → i < n → weight_at result i ≡ column (C.program columns.now) id i }
@@ -106,7 +109,11 @@ pub(crate) fn load_right<C: Columns>(columns: &C, n: usize) -> Numbers
 }
 
 /// A column that rises in a part.
-pub(crate) fn rising_in<C: Columns>(columns: &mut C, m: &Multipliers, part: Part) -> Option<u64>
+pub(crate) fn rising_in<C: Columns>(
+    columns: &mut C,
+    m: &Multipliers,
+    part: Part,
+) -> Option<ColumnId>
     requires { array_vec_len m.now.num ≡ (C.program columns.old).rows }
     ensures same { C.program columns.new ≡ C.program columns.old }
     ensures same_players { C.players columns.new ≡ C.players columns.old }
@@ -121,7 +128,7 @@ pub(crate) fn rising_in<C: Columns>(columns: &mut C, m: &Multipliers, part: Part
 }
 
 /// The cost of a column in a part.
-pub(crate) fn price_of<C: Columns>(columns: &C, id: u64, part: Part) -> i128
+pub(crate) fn price_of<C: Columns>(columns: &C, id: ColumnId, part: Part) -> i128
     requires { IsTrue ((C.program columns.now).is_column id) }
     ensures { result ≡ price (C.program columns.now) (counts_costs part) id }
 {
@@ -132,7 +139,7 @@ pub(crate) fn price_of<C: Columns>(columns: &C, id: u64, part: Part) -> i128
 }
 
 /// The cost of what stands at a position in the second part, where an added unit costs nothing.
-pub(crate) fn cost_at<C: Columns>(columns: &C, id: Option<u64>) -> i128
+pub(crate) fn cost_at<C: Columns>(columns: &C, id: Option<ColumnId>) -> i128
     requires { IsId (C.program columns.now) id }
     ensures { result ≡ part_cost (C.program columns.now) Part.Second id }
 {

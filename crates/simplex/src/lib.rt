@@ -25,6 +25,6 @@ mod state;
 mod weights;
 
 pub use answer::Optimal;
-pub use columns::Columns;
+pub use columns::{ColumnId, Columns};
 pub use multipliers::Multipliers;
 pub use solving::{LpFault, Workspace, solve};

@@ -3,7 +3,7 @@ use Rattle.std.proofs.Common.{ap, ◌∙◌, arith}
 use Rattle.std.proofs.lemmas.Int.{ints}
 use mir.Syntax.{w128}
 use Rattle.fractions.specs.Fraction.{Fraction, IsRatio}
-use Rattle.nested_programs.specs.Numbers.{first_single, net}
+use Rattle.nested_programs.specs.Numbers.{first_single}
 use Rattle.separation.proofs.Counts.{earlier_few}
 use Rattle.nested_programs.proofs.level.level_of.Goals as goal
 use Rattle.definitions.proofs.Casts.{cast_kept}

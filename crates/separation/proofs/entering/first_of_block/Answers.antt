@@ -11,8 +11,8 @@ use Rattle.separation.proofs.entering.first_of_block.Goals as goal
 pub overflow_shl-scan : goal.overflow_shl-scan
 overflow_shl-scan g c = Searches.below_64 c.args.scan.now.program.now.players c.args.scan.now.are_sums.few
 
-pub loop-s-init : goal.loop-s-init
-loop-s-init g c = c.requires.before
+pub loop-mask-init : goal.loop-mask-init
+loop-mask-init g c = c.requires.before
 
 pub marked_rises-requires-clause-within : goal.marked_rises-requires-clause-within
 marked_rises-requires-clause-within g c =
@@ -23,23 +23,23 @@ pub returns-then-marked_rises : goal.returns-then-marked_rises
 returns-then-marked_rises g c =
     let scan = c.args.scan.now in
     let mask = masks_of scan.program.now.players scan.are_sums.few in
-    Searches.first_here scan c.loop-s.s c.loop-s.invariant (omega arith) (c.if-marked_rises.ensures.0 refl)
+    Searches.first_here scan c.loop-mask.mask c.loop-mask.invariant (omega arith) (c.if-marked_rises.ensures.0 refl)
 
-pub loop-s-preserved : goal.loop-s-preserved
-loop-s-preserved g c =
-    Searches.none_more c.args.scan.now c.loop-s.s c.loop-s.invariant
+pub loop-mask-preserved : goal.loop-mask-preserved
+loop-mask-preserved g c =
+    Searches.none_more c.args.scan.now c.loop-mask.mask c.loop-mask.invariant
     (λ r. false≢true (c.if-marked_rises.ensures.1 r))
 
 pub returns : goal.returns
 returns g c =
     let mask = masks_of c.args.scan.now.program.now.players c.args.scan.now.are_sums.few in
-    λ j lt within. c.loop-s.invariant j (omega arith)
+    λ j lt within. c.loop-mask.invariant j (omega arith)
     within
 
 pub marked_rises-requires-clause-value : goal.marked_rises-requires-clause-value
 marked_rises-requires-clause-value g c =
     let sums = c.args.scan.now.sums in
-    let s = c.loop-s.s in
+    let s = c.loop-mask.mask in
     let base = c.base-base.result in
     let small : unsigned_abs base ≤ 2 ^ 114 = c.base-base.ensures.small in
     let kept : to_z w128 (of_z w128 base) ≡ base = cast_kept w128 base (omega (arith, small)) in
@@ -47,4 +47,4 @@ marked_rises-requires-clause-value g c =
     c.behind-value.ensures.value ∙ ap (λ (z : ℤ). z +ℤ slice_index_or (low_of sums) (s % 256) (pos 0)) kept in
     let upper : s < 256 * c.args.block + 256 = omega arith in
     let whole : to_z w128 (of_z w128 c.behind-value.result) ≡ c.behind-value.result = search rules in
-    whole ∙ valued ∙ c.base-base.ensures.values s c.loop-s.auto.s upper
+    whole ∙ valued ∙ c.base-base.ensures.values s c.loop-mask.auto.mask upper

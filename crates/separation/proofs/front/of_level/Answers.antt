@@ -1,18 +1,20 @@
 use Rattle.separation.proofs.EarlierColumns.{even_at, odd_at}
 use Rattle.separation.proofs.front.of_level.Goals as goal
 
-pub returns-then-id-eq0 : goal.returns-then-id-eq0
-returns-then-id-eq0 g c =
+pub returns-then-place-eq0 : goal.returns-then-place-eq0
+returns-then-place-eq0 g c =
     let game = g.W.Worth.game c.args.game.now in
     let one =
-    even_at game c.args.k c.args.pairs.now c.args.id c.index-pairs-id.result c.requires.place c.index-pairs-id.is
-    c.if-id-eq0.true in
-    cc (c.plain.ensures, c.index-pairs-id.is)
+    even_at game c.args.k c.args.pairs.now c.args.place c.index-pairs-place.result c.requires.place
+    c.index-pairs-place.is
+    c.if-place-eq0.true in
+    cc (c.plain.ensures, c.index-pairs-place.is)
 
-pub returns-else-id-eq0 : goal.returns-else-id-eq0
-returns-else-id-eq0 g c =
+pub returns-else-place-eq0 : goal.returns-else-place-eq0
+returns-else-place-eq0 g c =
     let game = g.W.Worth.game c.args.game.now in
     let one =
-    odd_at game c.args.k c.args.pairs.now c.args.id c.index-pairs-id.result c.requires.place c.index-pairs-id.is
-    c.if-id-eq0.false in
-    cc (c.minus.ensures, c.index-pairs-id.is)
+    odd_at game c.args.k c.args.pairs.now c.args.place c.index-pairs-place.result c.requires.place
+    c.index-pairs-place.is
+    c.if-place-eq0.false in
+    cc (c.minus.ensures, c.index-pairs-place.is)

@@ -8,9 +8,8 @@ use Rattle.separation.proofs.in_front.first_bound.Goals as goal
 pub returns-then-bound_rises : goal.returns-then-bound_rises
 returns-then-bound_rises g c =
     let scan = c.args.scan.now in
-    rw c.from.ensures
-    (first_listed scan scan.program.now.players (bound Imputations (game_of scan) c.args.levels.now) c.loop-i.i
-    c.loop-i-test.true (c.bound_rises.ensures.0 c.if-bound_rises.true) c.loop-i.invariant)
+    first_listed scan scan.program.now.players (bound Imputations (game_of scan) c.args.levels.now) c.loop-i.i
+    c.loop-i-test.true (c.bound_rises.ensures.0 c.if-bound_rises.true) c.loop-i.invariant
 
 pub returns : goal.returns
 returns g c =

@@ -31,23 +31,23 @@ overflow_sub-result g c =
     cc (p.first_is, c.requires) in
     omega (arith, length-inner front.family (game_of scan) front.levels.now)
 
-pub returns-in-Some-first_of_players : goal.returns-in-Some-first_of_players
-returns-in-Some-first_of_players g c =
+pub returns : goal.returns
+returns g c =
     let scan = c.args.scan.now in
     let p = scan.program.now in
     let front = c.args.front.now in
     let all = c.all-all.ensures ∙ ap grand_coalition p.count in
     let first : p.first ≡ length (inner_columns front.family (game_of scan) front.levels.now) =
     cc (p.first_is, c.requires) in
-    rw c.from.ensures (alone_first scan front.family front.levels.now c.in-Some-first_of_players.place p.first first
+    rw c.from.ensures (alone_first scan front.family front.levels.now c.in_ok-place.place p.first first
     (subst (λ (s : ℕ). NoneOf scan (both_columns (game_of scan) s None)) all c.in_default.ensures)
-    c.in_default-first_of_levels.ensures c.in-Some-first_of_players.ensures)
+    c.in_default-first_of_levels.ensures (c.in_ok-place.ensures {u = tt}))
 
-pub returns-in-None : goal.returns-in-None
-returns-in-None g c =
+pub returns-in_err-place : goal.returns-in_err-place
+returns-in_err-place g c =
     let scan = c.args.scan.now in
     let front = c.args.front.now in
     let all = c.all-all.ensures ∙ ap grand_coalition scan.program.now.count in
-    none_in_front scan front.family front.levels.now
+    rw c.from_residual.ensures (none_in_front scan front.family front.levels.now
     (subst (λ (s : ℕ). NoneOf scan (both_columns (game_of scan) s None)) all c.in_default.ensures)
-    c.in_default-first_of_levels.ensures c.in-None.ensures
+    c.in_default-first_of_levels.ensures (c.in_err-place.ensures {u = tt}))

@@ -12,9 +12,8 @@ rises-requires-clause-small g c =
 pub returns-then-rises : goal.returns-then-rises
 returns-then-rises g c =
     let scan = c.args.scan.now in
-    rw c.from.ensures
-    (first_listed scan scan.program.now.players (single Imputations (game_of scan)) c.loop-i.i c.loop-i-test.true
-    (rw c.single-column.ensures at (c.rises.ensures.0 c.if-rises.true)) c.loop-i.invariant)
+    first_listed scan scan.program.now.players (single Imputations (game_of scan)) c.loop-i.i c.loop-i-test.true
+    (rw c.single-column.ensures at (c.rises.ensures.0 c.if-rises.true)) c.loop-i.invariant
 
 pub returns : goal.returns
 returns g c =

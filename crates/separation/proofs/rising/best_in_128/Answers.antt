@@ -13,7 +13,7 @@ use Rattle.separation.proofs.rising.best_in_128.Goals as goal
 pub marked_rises-requires-clause-value : goal.marked_rises-requires-clause-value
 marked_rises-requires-clause-value g c =
     let sums = c.args.scan.now.sums in
-    let s = c.loop-s.s in
+    let s = c.loop-mask.mask in
     let base = c.base-base.result in
     let small : unsigned_abs base ≤ 2 ^ 114 = c.base-base.ensures.small in
     let kept : to_z w128 (of_z w128 base) ≡ base = cast_kept w128 base (omega (arith, small)) in
@@ -21,13 +21,13 @@ marked_rises-requires-clause-value g c =
     c.behind-value.ensures.value ∙ ap (λ (z : ℤ). z +ℤ slice_index_or (low_of sums) (s % 256) (pos 0)) kept in
     let upper : s < 256 * c.args.block + 256 = omega arith in
     let whole : to_z w128 (of_z w128 c.behind-value.result) ≡ c.behind-value.result = search rules in
-    whole ∙ valued ∙ c.base-base.ensures.values s c.loop-s.auto.s upper
+    whole ∙ valued ∙ c.base-base.ensures.values s c.loop-mask.auto.mask upper
 
-pub loop-s-preserved : goal.loop-s-preserved
-loop-s-preserved g c =
+pub loop-mask-preserved : goal.loop-mask-preserved
+loop-mask-preserved g c =
     let scan = c.args.scan.now in
     let p = scan.program.now in
-    let s = c.loop-s.s in
+    let s = c.loop-mask.mask in
     let from = 256 * c.args.block in
     let mask = masks_of p.players scan.are_sums.few in
     let within : s < 2 ^ p.players = omega arith in
@@ -39,18 +39,18 @@ loop-s-preserved g c =
     let valued =
     whole ∙ c.behind-value.ensures.value
     ∙ ap (λ (z : ℤ). z +ℤ slice_index_or (low_of scan.sums) (s % 256) (pos 0)) kept
-    ∙ c.base-base.ensures.values s c.loop-s.auto.s upper in
+    ∙ c.base-base.ensures.values s c.loop-mask.auto.mask upper in
     let R = λ (t : ℕ). CoalitionRises scan t in
     let picked = λ (t : ℕ). IsPicked R (gap_in scan) from t (2 ^ p.players) in
     elim c.if-marked_rises.branch [
       | then-marked_rises w ↦ rw w.best-is
           (let gap = w.gap-here.result in
           let kept : to_z w128 (of_z w128 gap) ≡ gap = search rules in
-          picked_more R (gap_in scan) from s (2 ^ p.players) c.loop-s.best w.greater.result
+          picked_more R (gap_in scan) from s (2 ^ p.players) c.loop-mask.best w.greater.result
           (to_z w128 (of_z w128 gap)) within (c.marked_rises.ensures.0 w.if-marked_rises.true)
           (cc (w.gap-here.ensures))
-          w.greater.ensures c.loop-s.invariant)
+          w.greater.ensures c.loop-mask.invariant)
       | else-marked_rises w ↦ rw w.best-is
-          (passed_over R (gap_in scan) from s (2 ^ p.players) c.loop-s.best
-          (λ r. false≢true (sym w.if-marked_rises.false ∙ c.marked_rises.ensures.1 r)) c.loop-s.invariant)
+          (passed_over R (gap_in scan) from s (2 ^ p.players) c.loop-mask.best
+          (λ r. false≢true (sym w.if-marked_rises.false ∙ c.marked_rises.ensures.1 r)) c.loop-mask.invariant)
     ]

@@ -8,7 +8,7 @@ pub overflow_sub-result : goal.overflow_sub-result
 overflow_sub-result g c =
     let scan = c.args.scan.now in
     let den = scan.m.now.den in
-    let worth = c.counted_worth-worth in
+    let worth = c.worth-worth in
     let kept : to_z w64 (of_z w64 worth.result) ≡ worth.result = search rules in
     (gap_held den (worth_in scan c.args.s) c.bar.result c.args.value scan.m.now.den_small
     (rw worth.ensures.is at worth.ensures.small) (cc (c.bar.ensures, worth.ensures.value)) c.requires.small).0
@@ -17,7 +17,7 @@ pub returns : goal.returns
 returns g c =
     let scan = c.args.scan.now in
     let den = scan.m.now.den in
-    let worth = c.counted_worth-worth in
+    let worth = c.worth-worth in
     let kept : to_z w64 (of_z w64 worth.result) ≡ worth.result = search rules in
     (gap_held den (worth_in scan c.args.s) c.bar.result c.args.value scan.m.now.den_small
     (rw worth.ensures.is at worth.ensures.small) (cc (c.bar.ensures, worth.ensures.value)) c.requires.small).1
