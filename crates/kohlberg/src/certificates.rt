@@ -1,7 +1,6 @@
 //! Certificates of the nucleolus, and their form.
 
-ghost use Rattle.std.specs.Prelude.{◌≡◌, ◌≤◌, [], MatchResult};
-ghost use Rattle.std.specs.Bool.{Decides};
+ghost use Rattle.std.specs.Prelude.{◌≡◌, ◌↔◌, ◌≤◌, [], IsTrue, MatchResult};
 ghost use Rattle.definitions.specs.Certificates.{HasForm, LevelsForm};
 ghost use Rattle.kohlberg.specs.Certificate.{IsCertificate, CertificateData};
 
@@ -86,7 +85,7 @@ impl Certificate {
 /// Whether levels have the form of a certificate for `n` players.
 fn has_form(n: u32, mode: Mode, levels: &[Level]) -> bool
     requires { n ≤ 64 }
-    ensures { Decides result (HasForm mode n levels.now) }
+    ensures { IsTrue result ↔ HasForm mode n levels.now }
 {
     if mode == Mode::Span && n > 16 {
         return false;
@@ -97,7 +96,7 @@ fn has_form(n: u32, mode: Mode, levels: &[Level]) -> bool
 /// Whether each level has its form behind those in front of it.
 fn levels_have_form(n: u32, levels: &[Level]) -> bool
     requires { n ≤ 64 }
-    ensures { Decides result (LevelsForm n [] levels.now) }
+    ensures { IsTrue result ↔ LevelsForm n [] levels.now }
 {
     for i in 0..levels.len() {
         if !levels[i].has_form(n, &levels[..i]) {

@@ -1,8 +1,7 @@
 //! Levels of a certificate.
 
-ghost use Rattle.std.specs.Prelude.{◌≡◌, ◌&&◌, if◌then◌else◌, length};
+ghost use Rattle.std.specs.Prelude.{◌≡◌, ◌↔◌, ◌&&◌, IsTrue, if◌then◌else◌, length};
 ghost use Rattle.std.specs.Prelude.{◌^◌, ◌<◌, ◌≤◌, pos, ◌*ℤ◌, unsigned_abs, nat_eq, nat_lt, int_le};
-ghost use Rattle.std.specs.Bool.{Decides};
 ghost use Rattle.std.specs.Ordering.{int_cmp};
 ghost use Rattle.std.specs.List.{AllByRecursion, list_any, list_all};
 ghost use Rattle.definitions.specs.Coalitions.{weight_at, grand_coalition};
@@ -147,7 +146,7 @@ impl Level {
     /// Whether the level has its form for n players behind the levels in front.
     pub fn has_form(&self, n: u32, front: &[Level]) -> bool
         requires { n ≤ 64 }
-        ensures { Decides result (LevelForm n front.now self.now) }
+        ensures { IsTrue result ↔ LevelForm n front.now self.now }
     {
         self.excess.den();
         self.passes(n, front)

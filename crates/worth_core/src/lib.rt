@@ -21,3 +21,4 @@ pub use ratios::ratio;
 pub use shares::scaled;
 pub use split_sums::SplitSums;
 pub use splitting::raised;
+pub use worth::is_efficient;
