@@ -16,9 +16,9 @@ above s r a b e f h = λ le. omega (arith, ints)
 pub same_sum : (a b e t : ℤ) → unsigned_abs a ≤ 2 ^ 79 → unsigned_abs b ≤ 2 ^ 79 → unsigned_abs e ≤ 2 ^ 79
     → FitsSigned w128 t
     → IsTrue (nat_eq
-        (of_z w128
-        (to_z w128 (of_z w128 (to_z w128 (of_z w128 a) +ℤ to_z w128 (of_z w128 b))) +ℤ to_z w128 (of_z w128 e)))
-        (of_z w128 t))
+    (of_z w128
+    (to_z w128 (of_z w128 (to_z w128 (of_z w128 a) +ℤ to_z w128 (of_z w128 b))) +ℤ to_z w128 (of_z w128 e)))
+    (of_z w128 t))
     ↔ (a +ℤ b +ℤ e ≡ t)
 same_sum a b e t a_small b_small e_small fits =
     rw (

@@ -8,6 +8,9 @@ use crate::levels::Level;
 use definitions::Mode;
 use std::marker::Model;
 
+/// The most players of a certificate in mode span.
+const MOST_IN_SPAN: u32 = 16;
+
 /// The levels don't have the form of a certificate.
 #[derive(Clone, Copy, Debug, PartialEq, Eq)]
 pub struct Malformed;
@@ -87,7 +90,7 @@ fn has_form(n: u32, mode: Mode, levels: &[Level]) -> bool
     requires { n ≤ 64 }
     ensures { IsTrue result ↔ HasForm mode n levels.now }
 {
-    if mode == Mode::Span && n > 16 {
+    if mode == Mode::Span && n > MOST_IN_SPAN {
         return false;
     }
     levels.len() < n as usize && levels_have_form(n, levels)

@@ -14,6 +14,12 @@ use fractions::Frac;
 use std::cmp::Ordering;
 use std::marker::Model;
 
+/// The most coalitions of a level, and the most earlier ones.
+const MOST_COALITIONS: usize = 65536;
+
+/// What weights and totals stay below in size.
+const WEIGHT_LIMIT: u128 = 1 << 63;
+
 /// A level of a certificate: the coalitions of one excess, and weights that balance them.
 ///
 /// At each player the weights of the coalitions that hold it, and of its bound, add to the total.
@@ -111,7 +117,9 @@ impl Level {
     fn has_sizes(&self) -> bool
         ensures { result ≡ has_sizes self.now }
     {
-        !self.coalitions.is_empty() && self.coalitions.len() <= 65536 && self.earlier.len() <= 65536
+        !self.coalitions.is_empty()
+            && self.coalitions.len() <= MOST_COALITIONS
+            && self.earlier.len() <= MOST_COALITIONS
     }
 
     /// Whether coalitions are neither empty nor all, earlier ones are listed in front, and players are of the game.
@@ -205,7 +213,7 @@ fn weight_if_same(j: u32, i: u32, weight: i128) -> i128
 fn is_small(weight: i128) -> bool
     ensures { result ≡ is_small weight }
 {
-    weight.unsigned_abs() < 1 << 63
+    weight.unsigned_abs() < WEIGHT_LIMIT
 }
 
 /// Whether each coalition's weight is below 2^63 in size.

@@ -2,6 +2,7 @@
 #![tactic(auto)]
 
 mod best;
+mod limits;
 mod measured;
 mod ratios;
 mod shares;

@@ -20,7 +20,8 @@ paid_after-paid-requires-clause-player g c =
     let turn =
     steps-turn c.players-2.result _ c.loop-mask.yielded _ (cc) c.loop-mask.yielded_by _ _ c.in-Some.field-0
     c.in-Some.is c.next.ensures.steps in
-    flip_within c.players-2.result (length c.args.shares.now.shares) (length c.loop-mask.yielded) c.in-Some.field-0
+    flip_within c.players-2.result (length c.args.shares.now.shares) (length c.loop-mask.yielded)
+    c.in-Some.field-0
     turn.0 (c.gray-mask-items.ensures.flips (length c.loop-mask.yielded) turn.1)
     (c.players-2.ensures.count ∙ sym c.requires.shares)
 
@@ -128,7 +129,8 @@ returns-in_err-most g c =
     let count = c.players-2.ensures.count in
     let all : length c.loop-mask.yielded ≡ 2 ^ game.players = rw count at end in
     let once = subst (λ (n : ℕ). (s : ℕ) → s < 2 ^ n → IsOnce n s) count c.gray-mask-items.ensures.once in
-    rw c.from_residual.ensures (λ levels marks. none_at_end c.args.measure game c.args.shares.now c.args.outside.now levels marks once
+    rw c.from_residual.ensures
+    (λ levels marks. none_at_end c.args.measure game c.args.shares.now c.args.outside.now levels marks once
     (rw (all, c.in_err-most.was) at c.loop-mask.invariant.top))
 
 pub returns : goal.returns

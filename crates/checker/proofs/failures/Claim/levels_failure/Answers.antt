@@ -32,8 +32,8 @@ returns-then-is_some g c =
 pub loop-i-init : goal.loop-i-init
 loop-i-init g c =
     let game = g.W.Worth.game c.args.self.now.game.now in (
-      SameLevels-start c.args.mode c.args.self.now.family c.args.self.now.measure game c.args.self.now.shares.now c.args.levels.now
-          c.requires.form,
+      SameLevels-start c.args.mode c.args.self.now.family c.args.self.now.measure game c.args.self.now.shares.now
+          c.args.levels.now c.requires.form,
       c.by_none-fixed.ensures.mode,
       rw c.players-players.ensures.count at c.by_none-fixed.ensures.fixes,
     )
@@ -63,8 +63,8 @@ loop-i-preserved g c =
 
 pub level_failure-failure-requires-clause-form : goal.level_failure-failure-requires-clause-form
 level_failure-failure-requires-clause-form g c =
-    form_here (g.W.Worth.game c.args.self.now.game.now).players c.args.levels.now c.loop-i.i c.index-levels-i.result
-    c.loop-i-test.true c.index-levels-i.is c.loop-i.invariant.0.form
+    form_here (g.W.Worth.game c.args.self.now.game.now).players c.args.levels.now c.loop-i.i
+    c.index-levels-i.result c.loop-i-test.true c.index-levels-i.is c.loop-i.invariant.0.form
 
 pub level_failure-failure-requires-clause-fixes : goal.level_failure-failure-requires-clause-fixes
 level_failure-failure-requires-clause-fixes g c = c.loop-i.invariant.2
@@ -72,8 +72,8 @@ level_failure-failure-requires-clause-fixes g c = c.loop-i.invariant.2
 pub fix-requires-clause-within : goal.fix-requires-clause-within
 fix-requires-clause-within g c =
     rw c.players-players.ensures.count
-    (within_one (g.W.Worth.game c.args.self.now.game.now).players c.args.levels.now c.loop-i.i c.index-levels-i.result
-    c.loop-i-test.true c.loop-i.invariant.0.within)
+    (within_one (g.W.Worth.game c.args.self.now.game.now).players c.args.levels.now c.loop-i.i
+    c.index-levels-i.result c.loop-i-test.true c.loop-i.invariant.0.within)
 
 pub returns-in_err-player : goal.returns-in_err-player
 returns-in_err-player g c =
@@ -83,8 +83,8 @@ returns-in_err-player g c =
     let all =
     subst (λ (m : Mode). IsAllFixed m game.players front) c.loop-i.invariant.1 (ask c.loop-i.invariant.2) in
     rw c.from_residual.ensures
-    (last_holds c.args.mode c.args.self.now.family c.args.self.now.measure game c.args.self.now.shares.now c.args.levels.now c.loop-i.i
-    c.loop-i-test.false c.loop-i.invariant.0 all)
+    (last_holds c.args.mode c.args.self.now.family c.args.self.now.measure game c.args.self.now.shares.now
+    c.args.levels.now c.loop-i.i c.loop-i-test.false c.loop-i.invariant.0 all)
 
 pub returns : goal.returns
 returns g c =
@@ -93,5 +93,5 @@ returns g c =
     let r = not_all c.in_ok-player.player in
     let ask = rw c.players-players.ensures.count at (c.in_ok-player.ensures front) in
     let left = subst (λ (m : Mode). NotAllFixed m game front r) c.loop-i.invariant.1 (ask c.loop-i.invariant.2) in
-    last_fails c.args.mode c.args.self.now.family c.args.self.now.measure game c.args.self.now.shares.now c.args.levels.now c.loop-i.i
-    c.loop-i-test.false c.loop-i.invariant.0 r left
+    last_fails c.args.mode c.args.self.now.family c.args.self.now.measure game c.args.self.now.shares.now
+    c.args.levels.now c.loop-i.i c.loop-i-test.false c.loop-i.invariant.0 r left

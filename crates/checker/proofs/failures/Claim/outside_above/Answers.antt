@@ -9,10 +9,9 @@ returns-else-is_above g c =
     let game = g.W.Worth.game c.args.self.now.game.now in
     let x = c.args.self.now.shares.now in
     let den : pos 1 ≤ℤ x.den = rw c.den.ensures.value at c.den.ensures.positive in
-    λ front h. none_above (mode_of c.args.fixed.now) c.args.self.now.measure game x front c.args.level.now c.in_ok-excess.excess
-    den c.if-is_above.ensures.positive c.requires.fraction
-    (c.in_ok-excess.ensures front h)
-    (λ lt. false≢true (c.if-is_above.ensures.above.1 lt))
+    λ front h. none_above (mode_of c.args.fixed.now) c.args.self.now.measure game x front c.args.level.now
+    c.in_ok-excess.excess den c.if-is_above.ensures.positive c.requires.fraction
+    (c.in_ok-excess.ensures front h) (λ lt. false≢true (c.if-is_above.ensures.above.1 lt))
 
 pub returns-then-is_above : goal.returns-then-is_above
 returns-then-is_above g c =
@@ -21,7 +20,7 @@ returns-then-is_above g c =
     let den : pos 1 ≤ℤ x.den = rw c.den.ensures.value at c.den.ensures.positive in
     λ front h.
     let top = c.in_ok-excess.ensures front h in (
-      some_above (mode_of c.args.fixed.now) c.args.self.now.measure game x front c.args.level.now c.in_ok-excess.excess den
-          c.if-is_above.ensures.positive top (c.if-is_above.ensures.above.0 refl),
+      some_above (mode_of c.args.fixed.now) c.args.self.now.measure game x front c.args.level.now
+          c.in_ok-excess.excess den c.if-is_above.ensures.positive top (c.if-is_above.ensures.above.0 refl),
       top,
     )
