@@ -1,7 +1,7 @@
 //! The conditions on shares and on one level, each by the first place that fails.
 
 ghost use Rattle.std.specs.Prelude.{◌≡◌, ◌⊎◌, ◌↔◌, IsTrue, MatchOption, length};
-ghost use Rattle.std.specs.Prelude.{ℕ, ◌+ℤ◌, unsigned_abs, ◌^◌, ◌<◌, ◌≤◌, pos, ◌-ℤ◌, ◌*ℤ◌, ◌≤ℤ◌};
+ghost use Rattle.std.specs.Prelude.{ℕ, ◌^◌, ◌<◌, ◌≤◌, pos, ◌-ℤ◌, ◌*ℤ◌, ◌≤ℤ◌};
 ghost use Rattle.std.specs.List.{AllByRecursion};
 ghost use Rattle.definitions.specs.Coalitions.{singleton};
 ghost use Rattle.definitions.specs.Measures.{IsMeasurable};

@@ -38,7 +38,8 @@ fn first_wrong_sign(front: &[Level], level: &Level) -> Option<Place>
     Some(Place::Player(player))
 }
 
-/// What a certificate is to show: that shares are those of a family of a game by a measure.
+/// What a certificate is to show: that these shares, one for each player, are the nucleolus of a game, over a family of
+/// allocations and by a measure.
 #[derive(Drop)]
 pub(crate) struct Claim<'a, W: Worth> {
     pub(crate) game: &'a W,
