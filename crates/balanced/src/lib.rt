@@ -10,19 +10,16 @@
 mod collection;
 mod optimum;
 
-ghost use Rattle.std.specs.Prelude.{◌≡◌, ◌≤◌, IfOk, MatchResult};
-ghost use Rattle.std.specs.Bool.{Decides};
-ghost use Rattle.definitions.specs.Games.{IsEfficient};
+ghost use Rattle.std.specs.Prelude.{◌≤◌, IfOk, MatchResult};
 ghost use Rattle.balanced.specs.Answer.{IsFound, IsFault};
 
 use crate::collection::collection_of;
 use crate::optimum::best_of;
 pub use balanced_collections::Collection;
-use coalitions::Coalition;
 use fractions::OutOfMemory;
 use separation::{Lazy, shares_of};
 use std::alloc::Global;
-use worth_core::{Shares, Worth, scaled};
+use worth_core::{Shares, Worth, is_efficient};
 
 /// What is said of the core of a game.
 #[derive(Debug, Drop)]
@@ -74,12 +71,4 @@ fn found_for<W: Worth>(alloc: Global, game: &W) -> Result<CoreAnswer, OutOfMemor
     } else {
         Ok(CoreAnswer::Empty(collection_of(alloc, &best)?))
     }
-}
-
-/// Whether the shares add to the worth of all.
-fn is_efficient<W: Worth>(game: &W, shares: &Shares) -> bool
-    ensures { Decides result (IsEfficient (W.game game.now) shares.now) }
-{
-    let everyone = Coalition::all(game.players());
-    shares.sum_of(everyone) == scaled(shares.den(), game.worth(everyone))
 }

@@ -1,6 +1,5 @@
 //! One row more: columns are reached from it, and prices rise, until a free column is reached.
-ghost use Rattle.std.specs.Prelude.{◌≡◌, ℕ, ◌+◌, ◌^◌, ◌<◌, ◌≤◌, true, false, slice_index, Option};
-ghost use Rattle.std.specs.Bool.{Decides};
+ghost use Rattle.std.specs.Prelude.{◌≡◌, ◌↔◌, ℕ, ◌+◌, ◌^◌, ◌<◌, ◌≤◌, true, false, IsTrue, slice_index, Option};
 ghost use Rattle.big_assignment.specs.Deals.{AreColumns, AreDealOffers, IsCovered, IsFair, IsTight, gain_of};
 ghost use Rattle.big_assignment.specs.Deals.{mate_of, price_of, with_columns};
 ghost use Rattle.big_assignment.specs.Searches.{IsImproved, IsNearest, IsOpen, IsReached, IsSearch, rank_of, unreached};
@@ -12,7 +11,7 @@ fn is_reached(deal: &Deal, search: &Search, n: usize, i: usize) -> bool
     requires rows { n < 32 }
     requires row { i ≤ n }
     requires columns { AreColumns deal.now n }
-    ensures { Decides result (IsReached deal.now search.now n i) }
+    ensures { IsTrue result ↔ IsReached deal.now search.now n i }
 {
     i == n || search.ranks[deal.mate(i)] > 0
 }

@@ -1,12 +1,11 @@
 //! The conditions on shares and on one level, each by the first place that fails.
 
-ghost use Rattle.std.specs.Prelude.{◌≡◌, ◌⊎◌, IsTrue, MatchOption, length};
-ghost use Rattle.std.specs.Prelude.{ℕ, ◌+ℤ◌, unsigned_abs, ◌^◌, ◌<◌, ◌≤◌, pos, ◌-ℤ◌, ◌*ℤ◌, ◌≤ℤ◌};
-ghost use Rattle.std.specs.Bool.{Decides};
+ghost use Rattle.std.specs.Prelude.{◌≡◌, ◌⊎◌, ◌↔◌, IsTrue, MatchOption, length};
+ghost use Rattle.std.specs.Prelude.{ℕ, ◌^◌, ◌<◌, ◌≤◌, pos, ◌-ℤ◌, ◌*ℤ◌, ◌≤ℤ◌};
 ghost use Rattle.std.specs.List.{AllByRecursion};
 ghost use Rattle.definitions.specs.Coalitions.{singleton};
 ghost use Rattle.definitions.specs.Measures.{IsMeasurable};
-ghost use Rattle.definitions.specs.Games.{share, IsEfficient, IsIndividuallyRational};
+ghost use Rattle.definitions.specs.Games.{share, IsIndividuallyRational};
 ghost use Rattle.definitions.specs.Certificates.{IsSmall, HasExcess, has_bound};
 ghost use Rattle.definitions.specs.Failures.{IsLeastFailing, IsFirstFailing, BoundWeighs, Balances, IsTight, Excesses};
 
@@ -15,15 +14,6 @@ use fractions::Frac;
 use kohlberg::{Family, Level, bounds_at, weights_at};
 use std::cmp::Ordering;
 use worth_core::{Divided, Measure, Shares, Worth, scaled_excess};
-
-/// Whether the shares add to the worth of all.
-pub(crate) fn is_efficient<W: Worth>(game: &W, shares: &Shares) -> bool
-    requires { length shares.now.shares ≡ (W.game game.now).players }
-    ensures { Decides result (IsEfficient (W.game game.now) shares.now) }
-{
-    let all = Coalition::all(game.players());
-    scaled_excess(game, shares, all) == 0
-}
 
 /// What a player's worth alone exceeds its share by, over the denominator.
 pub(crate) fn excess_alone<W: Worth>(game: &W, shares: &Shares, i: u32) -> i128
@@ -63,7 +53,7 @@ fn has_excess<W: Worth>(
     requires measurable { IsMeasurable measure (W.game game.now).players }
     requires some { 0 < s }
     requires within { s < 2 ^ (W.game game.now).players }
-    ensures { Decides result (HasExcess measure (W.game game.now) shares.now level.now s) }
+    ensures { IsTrue result ↔ HasExcess measure (W.game game.now) shares.now level.now s }
 {
     let excess = Divided::of(game, shares, measure, s).over(shares.den());
     is_excess_of(level, &excess)
@@ -71,7 +61,7 @@ fn has_excess<W: Worth>(
 
 /// Whether a fraction is the level's excess.
 fn is_excess_of(level: &Level, excess: &Frac) -> bool
-    ensures { Decides result (excess.now.num *ℤ level.now.excess_den ≡ level.now.excess_num *ℤ excess.now.den) }
+    ensures { IsTrue result ↔ (excess.now.num *ℤ level.now.excess_den ≡ level.now.excess_num *ℤ excess.now.den) }
 {
     level.order_of(excess) == Ordering::Equal
 }
@@ -114,7 +104,7 @@ pub(crate) fn first_weightless(pairs: &[(Coalition, i128)]) -> Option<Coalition>
 
 /// Whether a weight on a player's bound is at least 1, or a level in front gave it such a weight.
 fn weighs(front: &[Level], i: u32, weight: i128) -> bool
-    ensures { Decides result ((pos 1 ≤ℤ weight) ⊎ IsTrue (has_bound front.now i)) }
+    ensures { IsTrue result ↔ ((pos 1 ≤ℤ weight) ⊎ IsTrue (has_bound front.now i)) }
 {
     weight >= 1 || Level::has_bound(front, i)
 }
@@ -142,36 +132,12 @@ fn balances(level: &Level, i: u32) -> bool
     requires small { AllByRecursion (λ p. IsSmall p.1) level.now.coalitions }
     requires small_earlier { AllByRecursion (λ p. IsSmall p.1) level.now.earlier }
     requires small_bounds { AllByRecursion (λ p. IsSmall p.1) level.now.bounds }
-    ensures { Decides result (Balances level.now i) }
+    ensures { IsTrue result ↔ Balances level.now i }
 {
     let coalitions = weights_at(&level.coalitions, i);
     let earlier = weights_at(&level.earlier, i);
     let bounds = bounds_at(&level.bounds, i);
-    is_same(sum(coalitions, earlier, bounds), total_of(level))
-}
-
-/// The total of a level.
-fn total_of(level: &Level) -> i128
-    ensures { result ≡ level.now.total }
-{
-    level.total
-}
-
-/// The sum of three numbers.
-fn sum(a: i128, b: i128, c: i128) -> i128
-    requires a_small { unsigned_abs a ≤ 2 ^ 79 }
-    requires b_small { unsigned_abs b ≤ 2 ^ 79 }
-    requires c_small { unsigned_abs c ≤ 2 ^ 79 }
-    ensures { result ≡ a +ℤ b +ℤ c }
-{
-    a + b + c
-}
-
-/// Whether two numbers are the same.
-fn is_same(a: i128, b: i128) -> bool
-    ensures { Decides result (a ≡ b) }
-{
-    a == b
+    coalitions + earlier + bounds == level.total
 }
 
 /// The least player at which the weights of a level do not add to its total.
@@ -199,8 +165,8 @@ pub(crate) fn first_unbalanced(n: u32, level: &Level) -> Option<u32>
 fn is_tight<W: Worth>(game: &W, shares: &Shares, family: Family, i: u32) -> bool
     requires shares { length shares.now.shares ≡ (W.game game.now).players }
     requires player { i < (W.game game.now).players }
-    ensures { Decides result
-        ((share shares.now i ≡ shares.now.den *ℤ (W.game game.now).worth (singleton i))
+    ensures { IsTrue result
+        ↔ ((share shares.now i ≡ shares.now.den *ℤ (W.game game.now).worth (singleton i))
         × (family ≡ Family.Imputations)) }
 {
     family == Family::Imputations && excess_alone(game, shares, i) == 0

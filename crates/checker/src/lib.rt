@@ -13,7 +13,7 @@ ghost use Rattle.definitions.specs.Games.{IsNucleolus};
 ghost use Rattle.definitions.specs.Certificates.{Certifies};
 ghost use Rattle.checker.specs.Meaning.{IsVerdict};
 
-use crate::failures::first_failure;
+use crate::failures::Claim;
 use kohlberg::{Certificate, Family};
 pub use kohlberg::{Place, Reason, Verdict};
 use worth_core::{Measure, Shares, Worth};
@@ -47,14 +47,13 @@ pub fn check<W: Worth>(
         ↔ Certifies certificate.now.mode family measure (W.game game.now) shares.now certificate.now.levels }
 {
     certificate.players();
-    match first_failure(
+    let claim = Claim {
         game,
         family,
         measure,
         shares,
-        certificate.mode(),
-        certificate.levels(),
-    ) {
+    };
+    match claim.first_failure(certificate.mode(), certificate.levels()) {
         None => Verdict::Yes,
         Some(reason) => Verdict::No(reason),
     }

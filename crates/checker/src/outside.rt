@@ -1,9 +1,8 @@
 //! What is outside of what levels fix.
 
-ghost use Rattle.std.specs.Prelude.{◌≡◌, false, IsTrue, MatchOption, List, length};
+ghost use Rattle.std.specs.Prelude.{◌≡◌, ◌↔◌, false, IsTrue, MatchOption, List, length};
 ghost use Rattle.std.specs.Prelude.{ℕ, ◌^◌, ◌<◌, ◌≤◌, unsigned_abs};
 ghost use Rattle.std.specs.Option.{ForSome};
-ghost use Rattle.std.specs.Bool.{Decides};
 ghost use Rattle.definitions.specs.Coalitions.{has_player};
 ghost use Rattle.definitions.specs.Measures.{IsMeasurable};
 ghost use Rattle.definitions.specs.Games.{HasTwo};
@@ -38,7 +37,7 @@ fn first_member(s: Coalition, from: u32, n: u32) -> Option<u32>
 /// Whether a coalition has two members.
 fn has_two(s: Coalition, n: u32) -> bool
     requires { n ≤ 64 }
-    ensures { Decides result (HasTwo n s) }
+    ensures { IsTrue result ↔ HasTwo n s }
 {
     match first_member(s, 0, n) {
         None => false,
@@ -125,10 +124,7 @@ fn greatest_unspanned<W: Worth>(
             most = kept_or_new(most, here, is_greatest);
         }
     }
-    match most {
-        None => None,
-        Some(most) => Some(most.over(shares.den())),
-    }
+    Some(most?.over(shares.den()))
 }
 
 /// The greatest measured excess of a coalition outside, if there is one.

@@ -4,7 +4,6 @@
 mod surpluses;
 
 ghost use Rattle.std.specs.Prelude.{◌≡◌, ◌≢◌, ◌↔◌, ◌<◌, ◌≤◌, length};
-ghost use Rattle.std.specs.Bool.{Decides};
 ghost use Rattle.definitions.specs.Games.{IsEfficient, IsNucleolus};
 ghost use Rattle.definitions.specs.Prekernel.{IsSurplus, InPrekernel, holds_without};
 ghost use Rattle.kernel_test.specs.Answers.{IsSurplusFraction, IsKernelAnswer};
@@ -12,7 +11,7 @@ ghost use Rattle.kernel_test.specs.Answers.{IsSurplusFraction, IsKernelAnswer};
 use crate::surpluses::Surpluses;
 use coalitions::Coalition;
 use fractions::Frac;
-use worth_core::{Family, Measure, Shares, Worth, raised, ratio, scaled_excess};
+use worth_core::{Family, Measure, Shares, Worth, is_efficient, raised, ratio};
 
 /// Whether shares are in the prekernel (Maschler, Peleg and Shapley 1972). Players count from 0.
 #[derive(Clone, Copy, Debug, PartialEq, Eq)]
@@ -69,15 +68,6 @@ pub fn prekernel<W: Worth>(game: &W, x: &Shares) -> KernelAnswer
             ji: ratio(surpluses.against(j, i), den),
         },
     }
-}
-
-/// Whether the shares add to the worth of all.
-fn is_efficient<W: Worth>(game: &W, x: &Shares) -> bool
-    requires { length x.now.shares ≡ (W.game game.now).players }
-    ensures { Decides result (IsEfficient (W.game game.now) x.now) }
-{
-    let all = Coalition::all(game.players());
-    scaled_excess(game, x, all) == 0
 }
 
 /// The surplus of one player against another, over the denominator of the shares.

@@ -1,6 +1,7 @@
 pub mod Forms
 pub mod Pairs
 pub mod FormScan
+pub mod Halved
 pub mod Kept
 pub mod WithPair
 pub mod Placed

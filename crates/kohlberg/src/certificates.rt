@@ -1,13 +1,15 @@
 //! Certificates of the nucleolus, and their form.
 
-ghost use Rattle.std.specs.Prelude.{◌≡◌, ◌≤◌, [], MatchResult};
-ghost use Rattle.std.specs.Bool.{Decides};
+ghost use Rattle.std.specs.Prelude.{◌≡◌, ◌↔◌, ◌≤◌, [], IsTrue, MatchResult};
 ghost use Rattle.definitions.specs.Certificates.{HasForm, LevelsForm};
 ghost use Rattle.kohlberg.specs.Certificate.{IsCertificate, CertificateData};
 
 use crate::levels::Level;
 use definitions::Mode;
 use std::marker::Model;
+
+/// The most players of a certificate in mode span.
+const MOST_IN_SPAN: u32 = 16;
 
 /// The levels don't have the form of a certificate.
 #[derive(Clone, Copy, Debug, PartialEq, Eq)]
@@ -86,9 +88,9 @@ impl Certificate {
 /// Whether levels have the form of a certificate for `n` players.
 fn has_form(n: u32, mode: Mode, levels: &[Level]) -> bool
     requires { n ≤ 64 }
-    ensures { Decides result (HasForm mode n levels.now) }
+    ensures { IsTrue result ↔ HasForm mode n levels.now }
 {
-    if mode == Mode::Span && n > 16 {
+    if mode == Mode::Span && n > MOST_IN_SPAN {
         return false;
     }
     levels.len() < n as usize && levels_have_form(n, levels)
@@ -97,7 +99,7 @@ fn has_form(n: u32, mode: Mode, levels: &[Level]) -> bool
 /// Whether each level has its form behind those in front of it.
 fn levels_have_form(n: u32, levels: &[Level]) -> bool
     requires { n ≤ 64 }
-    ensures { Decides result (LevelsForm n [] levels.now) }
+    ensures { IsTrue result ↔ LevelsForm n [] levels.now }
 {
     for i in 0..levels.len() {
         if !levels[i].has_form(n, &levels[..i]) {

@@ -12,21 +12,7 @@ use coalitions::Coalition;
 fn is_found(pairs: &[(Coalition, i128)], s: Coalition) -> bool
     ensures { IsTrue result → IsTrue (list_any (λ c. nat_eq c.0 s) pairs.now) }
 {
-    let mut low = 0;
-    let mut high = pairs.len();
-    'halving: while low < high {
-        let middle = low + (high - low) / 2;
-        let t = pairs[middle].0;
-        if t == s {
-            return true;
-        }
-        if t < s {
-            low = middle + 1;
-        } else {
-            high = middle;
-        }
-    }
-    false
+    pairs.binary_search_by_key(&s.0, |(t, _)| t.0).is_ok()
 }
 
 /// Whether halving finds the coalition in some level.

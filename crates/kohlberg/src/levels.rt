@@ -1,8 +1,7 @@
 //! Levels of a certificate.
 
-ghost use Rattle.std.specs.Prelude.{◌≡◌, ◌&&◌, if◌then◌else◌, length};
+ghost use Rattle.std.specs.Prelude.{◌≡◌, ◌↔◌, ◌&&◌, IsTrue, if◌then◌else◌, length};
 ghost use Rattle.std.specs.Prelude.{◌^◌, ◌<◌, ◌≤◌, pos, ◌*ℤ◌, unsigned_abs, nat_eq, nat_lt, int_le};
-ghost use Rattle.std.specs.Bool.{Decides};
 ghost use Rattle.std.specs.Ordering.{int_cmp};
 ghost use Rattle.std.specs.List.{AllByRecursion, list_any, list_all};
 ghost use Rattle.definitions.specs.Coalitions.{weight_at, grand_coalition};
@@ -14,6 +13,12 @@ use coalitions::Coalition;
 use fractions::Frac;
 use std::cmp::Ordering;
 use std::marker::Model;
+
+/// The most coalitions of a level, and the most earlier ones.
+const MOST_COALITIONS: usize = 65536;
+
+/// What weights and totals stay below in size.
+const WEIGHT_LIMIT: u128 = 1 << 63;
 
 /// A level of a certificate: the coalitions of one excess, and weights that balance them.
 ///
@@ -112,7 +117,9 @@ impl Level {
     fn has_sizes(&self) -> bool
         ensures { result ≡ has_sizes self.now }
     {
-        !self.coalitions.is_empty() && self.coalitions.len() <= 65536 && self.earlier.len() <= 65536
+        !self.coalitions.is_empty()
+            && self.coalitions.len() <= MOST_COALITIONS
+            && self.earlier.len() <= MOST_COALITIONS
     }
 
     /// Whether coalitions are neither empty nor all, earlier ones are listed in front, and players are of the game.
@@ -147,7 +154,7 @@ impl Level {
     /// Whether the level has its form for n players behind the levels in front.
     pub fn has_form(&self, n: u32, front: &[Level]) -> bool
         requires { n ≤ 64 }
-        ensures { Decides result (LevelForm n front.now self.now) }
+        ensures { IsTrue result ↔ LevelForm n front.now self.now }
     {
         self.excess.den();
         self.passes(n, front)
@@ -206,7 +213,7 @@ fn weight_if_same(j: u32, i: u32, weight: i128) -> i128
 fn is_small(weight: i128) -> bool
     ensures { result ≡ is_small weight }
 {
-    weight.unsigned_abs() < 1 << 63
+    weight.unsigned_abs() < WEIGHT_LIMIT
 }
 
 /// Whether each coalition's weight is below 2^63 in size.

@@ -1,4 +1,6 @@
 //! Verdicts on certificates.
+ghost use Rattle.std.specs.Prelude.{◌≡◌};
+ghost use Rattle.kohlberg.specs.Reasons.{reason_number};
 
 use coalitions::Coalition;
 use fractions::Frac;
@@ -40,4 +42,22 @@ pub enum Reason {
     OutsideAbove { level: u32, excess: Frac },
     /// The least player that is not fixed, where the levels do not fix everything.
     NotAll { player: u32 },
+}
+
+impl Reason {
+    /// The number of the reason, 1 to 8, in the order in which conditions are tested.
+    pub fn number(&self) -> u32
+        ensures { result ≡ reason_number self.now }
+    {
+        match self {
+            Reason::NotEfficient => 1,
+            Reason::NotIndividual { .. } => 2,
+            Reason::WrongExcess { .. } => 3,
+            Reason::WeightSign { .. } => 4,
+            Reason::Unbalanced { .. } => 5,
+            Reason::BoundNotTight { .. } => 6,
+            Reason::OutsideAbove { .. } => 7,
+            Reason::NotAll { .. } => 8,
+        }
+    }
 }

@@ -6,7 +6,6 @@
 --   no_at_coalition   a reason with a level and a coalition
 --   no_at_level       a reason with a level and a player
 --   no_above          a reason with a level and an excess
---   reason_number     the number of a reason
 --   reason_tree       the first condition that fails
 --   verdict_tree      yes, or no and why
 use Rattle.std.specs.Prelude.{ℕ, codes}
@@ -52,16 +51,6 @@ no_above k reason j e =
     (member (codes "answer") (string (codes "no"))
     (member (codes "excess") (scaled_data k e)
     (member (codes "level") (count_data j) (member (codes "reason") (count_data reason) no_members))))
-
-abbrev pub reason_number : Reason → ℕ
-reason_number NotEfficient = 1
-reason_number (NotIndividual i) = 2
-reason_number (WrongExcess j s) = 3
-reason_number (WeightSign j place) = 4
-reason_number (Unbalanced j i) = 5
-reason_number (BoundNotTight j i) = 6
-reason_number (OutsideAbove j e) = 7
-reason_number (NotAll i) = 8
 
 abbrev pub reason_tree : ℕ → Reason → Data
 reason_tree k NotEfficient = no_alone 1

@@ -4,7 +4,8 @@ ghost use Rattle.serde_json.specs.Data.{object};
 ghost use Rattle.serde_json.specs.View.{members_view};
 ghost use Rattle.report.specs.Limits.{IsFine, IsFineVerdict};
 ghost use Rattle.report.specs.Verdicts.{no_alone, no_at_player, no_at_coalition, no_at_level};
-ghost use Rattle.report.specs.Verdicts.{no_above, reason_number, reason_tree, verdict_tree};
+ghost use Rattle.kohlberg.specs.Reasons.{reason_number};
+ghost use Rattle.report.specs.Verdicts.{no_above, reason_tree, verdict_tree};
 
 use crate::objects::{with, with_answer, with_coalition, with_value};
 use crate::players::player_value;
@@ -38,7 +39,7 @@ fn reason_members(
     requires { IsFineVerdict (Verdict.No reason) }
     ensures { IfOk result (λ m. object (members_view m.entries) ≡ reason_tree scale reason) }
 {
-    let number = reason_number(&reason);
+    let number = reason.number();
     match reason {
         Reason::NotEfficient => no_alone(alloc, number),
         Reason::NotIndividual { player } => no_at_player(alloc, number, player),
@@ -65,22 +66,6 @@ fn weight_members(
     match place {
         Place::Coalition(coalition) => no_at_coalition(alloc, number, level, coalition),
         Place::Player(player) => no_at_level(alloc, number, level, player),
-    }
-}
-
-/// The number of a reason, 1 to 8, in the order in which conditions are tested.
-fn reason_number(reason: &Reason) -> u32
-    ensures { result ≡ reason_number reason.now }
-{
-    match reason {
-        Reason::NotEfficient => 1,
-        Reason::NotIndividual { .. } => 2,
-        Reason::WrongExcess { .. } => 3,
-        Reason::WeightSign { .. } => 4,
-        Reason::Unbalanced { .. } => 5,
-        Reason::BoundNotTight { .. } => 6,
-        Reason::OutsideAbove { .. } => 7,
-        Reason::NotAll { .. } => 8,
     }
 }
 

@@ -5,9 +5,8 @@
 --   ArePlaces        the last place of each slot, and before each place the last one of its slot
 --   AreSilentPlaces  the places of a block's coalitions whose two sums add to 0
 --   AreKnown         what was found for blocks
-use Rattle.std.specs.Prelude.{◌≡◌, ◌≢◌, ℕ, ℤ, ◌-◌, ◌%◌, ◌<◌, ◌≤◌, List, []}
+use Rattle.std.specs.Prelude.{◌≡◌, ◌≢◌, ◌↔◌, IsTrue, ℕ, ℤ, ◌-◌, ◌%◌, ◌<◌, ◌≤◌, List, []}
 use Rattle.std.specs.Prelude.{length, pos, ◌-ℤ◌, slice_index_or}
-use Rattle.std.specs.Bool.{Decides}
 use Rattle.std.specs.Int.{cast_unsigned, w64}
 use Rattle.spans.specs.Outside.{is_marked}
 use Rattle.spans.specs.Sums.{number_at}
@@ -31,7 +30,7 @@ pub record ArePlaces (numbers : List ℤ) (last before : List ℕ) : Type 0 wher
 -- the marks are the places where minus the number of a block stands
 abbrev pub AreSilentPlaces : List ℤ → List ℤ → ℕ → List ℕ → Type 0
 AreSilentPlaces low high block found =
-    (i : ℕ) → i < 256 → Decides (is_marked found i) (number_at low i ≡ pos 0 -ℤ number_at high block)
+    (i : ℕ) → i < 256 → (IsTrue (is_marked found i) ↔ (number_at low i ≡ pos 0 -ℤ number_at high block))
 
 -- in each of 64 slots, what was found for the latest block there. A block counts from 1 here, and 0 is none.
 pub record AreKnown (low high : List ℤ) (latest : List ℕ) (found : List (List ℕ)) : Type 0 where

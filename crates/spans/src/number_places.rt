@@ -1,8 +1,7 @@
 //! Where a number stands in a table of 256. The places whose numbers have the same lowest bits are chained, so that few
 //! places are looked at.
 
-ghost use Rattle.std.specs.Prelude.{◌≡◌, ◌&&◌, ◌||◌, nat_eq, ℕ, ◌<◌};
-ghost use Rattle.std.specs.Bool.{Decides};
+ghost use Rattle.std.specs.Prelude.{◌≡◌, ◌↔◌, ◌&&◌, ◌||◌, IsTrue, nat_eq, ℕ, ◌<◌};
 ghost use Rattle.spans.specs.Outside.{is_marked};
 ghost use Rattle.spans.specs.Places.{slot_of, ArePlaces};
 ghost use Rattle.spans.specs.Sums.{number_at};
@@ -37,7 +36,7 @@ fn slot_at(numbers: &[i64; 256], place: usize) -> usize
 /// Whether a number stands at a place.
 pub(crate) fn stands_at(numbers: &[i64; 256], place: usize, number: i64) -> bool
     requires { place < 256 }
-    ensures { Decides result (number_at numbers.now place ≡ number) }
+    ensures { IsTrue result ↔ (number_at numbers.now place ≡ number) }
 {
     numbers[place] == number
 }
@@ -70,7 +69,7 @@ impl NumberPlaces {
     /// The places where a number stands in the table, from 0 on, a bit for each.
     pub(crate) fn find(&self, numbers: &[i64; 256], wanted: i64) -> [u64; 4]
         requires { ArePlaces numbers.now self.now.last self.now.before }
-        ensures { (i : ℕ) → i < 256 → Decides (is_marked result i) (number_at numbers.now i ≡ wanted) }
+        ensures { (i : ℕ) → i < 256 → (IsTrue (is_marked result i) ↔ (number_at numbers.now i ≡ wanted)) }
     {
         let mut found = [0; 4];
         let mut after = self.last[slot(wanted)] as usize;

@@ -1,10 +1,9 @@
 //! The coalitions outside of a span, found all at once. A coalition's weight at a place is the sum of two numbers from
 //! tables, one for the members among the first eight players and one for those among the rest.
 
-ghost use Rattle.std.specs.Prelude.{◌≡◌, ◌&&◌, ◌||◌, not, false, IsTrue, slice_index_or};
+ghost use Rattle.std.specs.Prelude.{◌≡◌, ◌↔◌, ◌&&◌, ◌||◌, not, false, IsTrue, slice_index_or};
 ghost use Rattle.std.specs.Prelude.{ℕ, ◌*◌, ◌/◌, ◌%◌, ◌+◌, ◌^◌, ◌<◌, ◌≤◌, nat_eq};
 ghost use Rattle.std.specs.Prelude.{pos, ◌+ℤ◌, ◌-ℤ◌, unsigned_abs};
-ghost use Rattle.std.specs.Bool.{Decides};
 ghost use Rattle.definitions.specs.Coalitions.{grand_coalition, has_player};
 ghost use Rattle.definitions.specs.Certificates.{InSpan};
 ghost use Rattle.determinants.specs.Basis.{dot};
@@ -74,8 +73,8 @@ fn keep_in_block(words: &mut [u64; 1024], block: usize, places: &[u64; 4])
 fn keep_silent(words: &mut [u64; 1024], sums: &PlayerSums)
     requires { (a : ℕ) → a < 256 → unsigned_abs (slice_index_or sums.now.high a (pos 0)) ≤ 2 ^ 61 }
     ensures { (s : ℕ) → s < 2 ^ 16
-        → Decides (is_marked words.new s)
-        (IsTrue (is_marked words.old s) × (two_sums sums.now.low sums.now.high s ≡ pos 0)) }
+        → (IsTrue (is_marked words.new s)
+        ↔ (IsTrue (is_marked words.old s) × (two_sums sums.now.low sums.now.high s ≡ pos 0))) }
 {
     let mut places = SilentPlaces::of(sums);
     for block in 0..256 {
@@ -105,7 +104,7 @@ impl Outside {
     /// Every coalition of `n` players but the empty one and that of all.
     pub fn all(n: u32) -> Outside
         requires { n ≤ 16 }
-        ensures { (s : ℕ) → Decides (is_marked result s) ((0 < s) × (s < grand_coalition n)) }
+        ensures { (s : ℕ) → (IsTrue (is_marked result s) ↔ ((0 < s) × (s < grand_coalition n))) }
     {
         let mut words = [0; 1024];
         for place in 0..1024 {
@@ -134,8 +133,8 @@ impl Outside {
     pub fn clear(&mut self, span: &Span)
         requires { (s : ℕ) → IsTrue (is_marked self.old s) → s < 2 ^ span.now.players }
         ensures { (s : ℕ)
-            → Decides (is_marked self.new s)
-            (IsTrue (is_marked self.old s) × ¬ InSpan span.now.players (IsKept span.now.kept) s) }
+            → (IsTrue (is_marked self.new s)
+            ↔ (IsTrue (is_marked self.old s) × ¬ InSpan span.now.players (IsKept span.now.kept) s)) }
     {
         let held = span.held_among(self.words);
         take_out(&mut self.words, &held);
@@ -198,7 +197,8 @@ fn without_weights(
     requires few { n ≤ 16 }
     requires small { (k i : ℕ) → k < n → i < n → unsigned_abs (entry_at 16 entries.now k i) ≤ 2 ^ 45 }
     ensures { (s : ℕ) → s < 2 ^ 16
-        → Decides (is_marked result s) (IsTrue (is_marked words s) × HasNoWeight n fixed.now entries.now n s) }
+        → (IsTrue (is_marked result s)
+        ↔ (IsTrue (is_marked words s) × HasNoWeight n fixed.now entries.now n s)) }
 {
     let mut held = words;
     keep_silent(&mut held, &all_weight_sums(entries, fixed, n));
@@ -214,8 +214,8 @@ impl Span {
     /// Of some coalitions, those that the span holds.
     fn held_among(&self, words: [u64; 1024]) -> [u64; 1024]
         ensures { (s : ℕ) → s < 2 ^ self.now.players
-            → Decides (is_marked result s)
-            (IsTrue (is_marked words s) × InSpan self.now.players (IsKept self.now.kept) s) }
+            → (IsTrue (is_marked result s)
+            ↔ (IsTrue (is_marked words s) × InSpan self.now.players (IsKept self.now.kept) s)) }
     {
         without_weights(words, &self.entries, &self.fixed, self.players)
     }

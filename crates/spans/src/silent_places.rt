@@ -1,8 +1,7 @@
 //! The coalitions of a block whose two sums add to 0. Blocks that have the same number in the second table have them at
 //! the same places, so they are looked for once.
 
-ghost use Rattle.std.specs.Prelude.{◌≡◌, ℕ, ◌^◌, ◌<◌, ◌≤◌, pos, ◌-ℤ◌, unsigned_abs, slice_index_or};
-ghost use Rattle.std.specs.Bool.{Decides};
+ghost use Rattle.std.specs.Prelude.{◌≡◌, ◌↔◌, IsTrue, ℕ, ◌^◌, ◌<◌, ◌≤◌, pos, ◌-ℤ◌, unsigned_abs, slice_index_or};
 ghost use Rattle.spans.specs.Outside.{is_marked};
 ghost use Rattle.spans.specs.Places.{ArePlaces, AreKnown};
 ghost use Rattle.spans.specs.Sums.{number_at};
@@ -40,8 +39,8 @@ impl SilentPlaces {
         requires known { AreKnown sums.now.low sums.now.high self.old.latest self.old.found }
         ensures places { ArePlaces sums.now.low self.new.places.last self.new.places.before }
         ensures known { AreKnown sums.now.low sums.now.high self.new.latest self.new.found }
-        ensures found { (i : ℕ) → i < 256 → Decides (is_marked result i)
-            (number_at sums.now.low i ≡ pos 0 -ℤ slice_index_or sums.now.high block (pos 0)) }
+        ensures found { (i : ℕ) → i < 256 → (IsTrue (is_marked result i)
+            ↔ (number_at sums.now.low i ≡ pos 0 -ℤ slice_index_or sums.now.high block (pos 0))) }
     {
         let wanted = -sums.high[block];
         let slot = slot(wanted) % 64;

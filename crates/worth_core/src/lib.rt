@@ -2,6 +2,7 @@
 #![tactic(auto)]
 
 mod best;
+mod limits;
 mod measured;
 mod ratios;
 mod shares;
@@ -21,3 +22,4 @@ pub use ratios::ratio;
 pub use shares::scaled;
 pub use split_sums::SplitSums;
 pub use splitting::raised;
+pub use worth::is_efficient;

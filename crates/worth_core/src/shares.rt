@@ -6,6 +6,7 @@ ghost use Rattle.worth_core.specs.Allocations.{allocation};
 
 mod fracs;
 
+use crate::limits::{GREATEST_DEN, MOST_PLAYERS, NUMERATOR_LIMIT};
 use coalitions::Coalition;
 pub use fracs::SharesFault;
 use std::marker::Model;
@@ -36,10 +37,10 @@ impl Shares {
     pub fn new(num: Vec<i128>, den: i128) -> Option<Shares>
         ensures { let x = allocation num.items den in MatchOption result (¬ IsShares x) (λ y. (y ≡ x) × IsShares x) }
     {
-        if num.is_empty() || num.len() > 64 {
+        if num.is_empty() || num.len() > MOST_PLAYERS {
             return None;
         }
-        if den < 1 || den > 1 << 63 {
+        if den < 1 || den > GREATEST_DEN {
             return None;
         }
         if !all_small(&num) {
@@ -136,7 +137,7 @@ impl Shares {
 fn all_small(num: &[i128]) -> bool
     ensures { IsTrue result ↔ All (λ z. unsigned_abs z < 2 ^ 110) num.now }
 {
-    num.iter().all(|z| z.unsigned_abs() < 1 << 110)
+    num.iter().all(|z| z.unsigned_abs() < NUMERATOR_LIMIT)
 }
 
 /// A worth over a denominator.

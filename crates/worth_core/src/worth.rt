@@ -1,10 +1,11 @@
 //! What a class of games offers.
-ghost use Rattle.std.specs.Prelude.{◌≡◌, ℕ, ◌^◌, ◌<◌, length, MatchOption};
+ghost use Rattle.std.specs.Prelude.{◌≡◌, ◌↔◌, ℕ, ◌^◌, ◌<◌, length, IsTrue, MatchOption};
 ghost use Rattle.definitions.specs.Games.{Game, IsGame, Blocks, IsChosenBlocker, IsSplitMaximum, HasTwo, excess};
+ghost use Rattle.definitions.specs.Games.{IsEfficient};
 
-use crate::Shares;
 use crate::best::Best;
 use crate::splitting::{raised, splits};
+use crate::{Shares, scaled};
 use coalitions::Coalition;
 
 /// A game with transferable worth.
@@ -69,4 +70,12 @@ pub fn scaled_excess<W: Worth>(game: &W, x: &Shares, s: Coalition) -> i128
 {
     game.players(); // Brings the laws of the game.
     x.excess_over(game.worth(s), s)
+}
+
+/// Whether shares are efficient: they add to the worth of all.
+pub fn is_efficient<W: Worth>(game: &W, x: &Shares) -> bool
+    ensures { IsTrue result ↔ IsEfficient (W.game game.now) x.now }
+{
+    let everyone = Coalition::all(game.players());
+    x.sum_of(everyone) == scaled(x.den(), game.worth(everyone))
 }

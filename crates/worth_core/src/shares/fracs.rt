@@ -10,6 +10,7 @@ ghost use Rattle.worth_core.specs.LeastDenominators.{numerator_over, over, AreTo
 ghost use Rattle.worth_core.specs.Multiples.{IsLeastMultiple};
 
 use super::Shares;
+use crate::limits::{GREATEST_DEN, NUMERATOR_LIMIT};
 use coalitions::Coalition;
 use fractions::{Frac, gcd};
 use std::alloc::Global;
@@ -93,7 +94,7 @@ fn common_multiple(a: u128, b: u128) -> Option<u128>
         (λ m. IsLeastMultiple a b m × (m ≤ 2 ^ 63)) }
 {
     let multiple = a.checked_mul(b / gcd(a, b))?;
-    if multiple > 1 << 63 {
+    if multiple > GREATEST_DEN as u128 {
         return None;
     }
     Some(multiple)
@@ -105,7 +106,7 @@ fn numerator_over(f: &Frac, den: i128) -> Option<i128>
     ensures { SomeIff result (unsigned_abs (numerator_over den f.now) < 2 ^ 110) (numerator_over den f.now) }
 {
     let num = f.num().checked_mul(den / f.den())?;
-    if num.unsigned_abs() >= 1 << 110 {
+    if num.unsigned_abs() >= NUMERATOR_LIMIT {
         return None;
     }
     Some(num)

@@ -20,7 +20,8 @@ paid_after-paid-requires-clause-player g c =
     let turn =
     steps-turn c.players-2.result _ c.loop-mask.yielded _ (cc) c.loop-mask.yielded_by _ _ c.in-Some.field-0
     c.in-Some.is c.next.ensures.steps in
-    flip_within c.players-2.result (length c.args.shares.now.shares) (length c.loop-mask.yielded) c.in-Some.field-0
+    flip_within c.players-2.result (length c.args.shares.now.shares) (length c.loop-mask.yielded)
+    c.in-Some.field-0
     turn.0 (c.gray-mask-items.ensures.flips (length c.loop-mask.yielded) turn.1)
     (c.players-2.ensures.count ∙ sym c.requires.shares)
 
@@ -119,8 +120,8 @@ loop-mask-preserved-then-contains g c =
     rw (length_push c.loop-mask.yielded c.in-Some.field-0)
     (record { paid = kept ∙ paid-next x k c.paid_after-paid.result paid; top = top })
 
-pub returns-in-None-most : goal.returns-in-None-most
-returns-in-None-most g c =
+pub returns-in_err-most : goal.returns-in_err-most
+returns-in_err-most g c =
     let game = g.W.Worth.game c.args.game.now in
     let end =
     steps-end c.players-2.result _ c.loop-mask.yielded _ (cc) c.loop-mask.yielded_by _ _ c.in-None.is
@@ -128,11 +129,12 @@ returns-in-None-most g c =
     let count = c.players-2.ensures.count in
     let all : length c.loop-mask.yielded ≡ 2 ^ game.players = rw count at end in
     let once = subst (λ (n : ℕ). (s : ℕ) → s < 2 ^ n → IsOnce n s) count c.gray-mask-items.ensures.once in
-    λ levels marks. none_at_end c.args.measure game c.args.shares.now c.args.outside.now levels marks once
-    (rw (all, c.in-None-most.is) at c.loop-mask.invariant.top)
+    rw c.from_residual.ensures
+    (λ levels marks. none_at_end c.args.measure game c.args.shares.now c.args.outside.now levels marks once
+    (rw (all, c.in_err-most.was) at c.loop-mask.invariant.top))
 
-pub returns-in-Some-most : goal.returns-in-Some-most
-returns-in-Some-most g c =
+pub returns : goal.returns
+returns g c =
     let game = g.W.Worth.game c.args.game.now in
     let end =
     steps-end c.players-2.result _ c.loop-mask.yielded _ (cc) c.loop-mask.yielded_by _ _ c.in-None.is
@@ -143,5 +145,5 @@ returns-in-Some-most g c =
     let den : to_z w128 (of_z w128 c.den.result) ≡ c.den.result = search rules in
     let ratio = rw (den, c.den.ensures.value) at c.over.ensures in
     λ levels marks. greatest_at_end c.args.measure game c.args.shares.now c.args.outside.now levels
-    c.in-Some-most.most c.over.result c.requires.measurable marks once
-    (rw (all, c.in-Some-most.is) at c.loop-mask.invariant.top) ratio
+    c.in_ok-most.field-0 c.over.result c.requires.measurable marks once
+    (rw (all, c.in_ok-most.was) at c.loop-mask.invariant.top) ratio

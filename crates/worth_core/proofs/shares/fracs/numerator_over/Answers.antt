@@ -52,8 +52,8 @@ returns-in_err-num c =
     rw c.from_residual.ensures
     (λ small. none (fits_signed_from_abs w128 (numerator_over c.args.den c.args.f.now) (omega (arith, small))))
 
-pub returns-then-unsigned_abs : goal.returns-then-unsigned_abs
-returns-then-unsigned_abs c =
+pub returns-then-unsigned_abs-ge-NUMERATOR_LIMIT : goal.returns-then-unsigned_abs-ge-NUMERATOR_LIMIT
+returns-then-unsigned_abs-ge-NUMERATOR_LIMIT c =
     let fn : FitsSigned w128 c.num.result = search rules in
     let fd : FitsSigned w128 c.den.result = search rules in
     let fm : FitsSigned w128 c.in_ok-num.num = search rules in
@@ -62,7 +62,8 @@ returns-then-unsigned_abs c =
     c.den.ensures.positive c.num.ensures c.den.ensures.value in
     let made = (c.in_ok-num.ensures {u = tt}).1 ∙ same in
     let size = c.unsigned_abs.ensures.value ∙ ap unsigned_abs (to_z-of_z w128 c.in_ok-num.num fm ∙ made) in
-    not_small (numerator_over c.args.den c.args.f.now) c.unsigned_abs.result size c.if-unsigned_abs.true
+    not_small (numerator_over c.args.den c.args.f.now) c.unsigned_abs.result size
+    c.if-unsigned_abs-ge-NUMERATOR_LIMIT.true
 
 pub returns : goal.returns
 returns c =
@@ -74,4 +75,4 @@ returns c =
     c.den.ensures.positive c.num.ensures c.den.ensures.value in
     let made = to_z-of_z w128 c.in_ok-num.num fm ∙ (c.in_ok-num.ensures {u = tt}).1 ∙ same in
     let size = c.unsigned_abs.ensures.value ∙ ap unsigned_abs made in
-    (subst (λ n. n < 2 ^ 110) size c.if-unsigned_abs.false, made)
+    (subst (λ n. n < 2 ^ 110) size c.if-unsigned_abs-ge-NUMERATOR_LIMIT.false, made)

@@ -6,15 +6,15 @@ use Rattle.checker.specs.Meaning.{Means}
 use Rattle.checker.proofs.Chain.{SameLevels-start, SameLevels-more, Fixes-next, fails_here}
 use Rattle.checker.proofs.Chain.{within_one, form_here, last_holds, last_fails}
 use Rattle.checker.proofs.Judged.{level_failed, no_failure}
-use Rattle.checker.proofs.failures.levels_failure.Goals as goal
+use Rattle.checker.proofs.failures.Claim.levels_failure.Goals as goal
 
 pub returns-then-is_some : goal.returns-then-is_some
 returns-then-is_some g c =
     let mode = c.args.mode in
-    let family = c.args.family in
-    let measure = c.args.measure in
-    let game = g.W.Worth.game c.args.game.now in
-    let x = c.args.shares.now in
+    let family = c.args.self.now.family in
+    let measure = c.args.self.now.measure in
+    let game = g.W.Worth.game c.args.self.now.game.now in
+    let x = c.args.self.now.shares.now in
     let levels = c.args.levels.now in
     let i = c.loop-i.i in
     let here = c.index-levels-i in
@@ -31,9 +31,9 @@ returns-then-is_some g c =
 
 pub loop-i-init : goal.loop-i-init
 loop-i-init g c =
-    let game = g.W.Worth.game c.args.game.now in (
-      SameLevels-start c.args.mode c.args.family c.args.measure game c.args.shares.now c.args.levels.now
-          c.requires.form,
+    let game = g.W.Worth.game c.args.self.now.game.now in (
+      SameLevels-start c.args.mode c.args.self.now.family c.args.self.now.measure game c.args.self.now.shares.now
+          c.args.levels.now c.requires.form,
       c.by_none-fixed.ensures.mode,
       rw c.players-players.ensures.count at c.by_none-fixed.ensures.fixes,
     )
@@ -41,10 +41,10 @@ loop-i-init g c =
 pub loop-i-preserved : goal.loop-i-preserved
 loop-i-preserved g c =
     let mode = c.args.mode in
-    let family = c.args.family in
-    let measure = c.args.measure in
-    let game = g.W.Worth.game c.args.game.now in
-    let x = c.args.shares.now in
+    let family = c.args.self.now.family in
+    let measure = c.args.self.now.measure in
+    let game = g.W.Worth.game c.args.self.now.game.now in
+    let x = c.args.self.now.shares.now in
     let levels = c.args.levels.now in
     let i = c.loop-i.i in
     let here = c.index-levels-i in
@@ -63,8 +63,8 @@ loop-i-preserved g c =
 
 pub level_failure-failure-requires-clause-form : goal.level_failure-failure-requires-clause-form
 level_failure-failure-requires-clause-form g c =
-    form_here (g.W.Worth.game c.args.game.now).players c.args.levels.now c.loop-i.i c.index-levels-i.result
-    c.loop-i-test.true c.index-levels-i.is c.loop-i.invariant.0.form
+    form_here (g.W.Worth.game c.args.self.now.game.now).players c.args.levels.now c.loop-i.i
+    c.index-levels-i.result c.loop-i-test.true c.index-levels-i.is c.loop-i.invariant.0.form
 
 pub level_failure-failure-requires-clause-fixes : goal.level_failure-failure-requires-clause-fixes
 level_failure-failure-requires-clause-fixes g c = c.loop-i.invariant.2
@@ -72,26 +72,26 @@ level_failure-failure-requires-clause-fixes g c = c.loop-i.invariant.2
 pub fix-requires-clause-within : goal.fix-requires-clause-within
 fix-requires-clause-within g c =
     rw c.players-players.ensures.count
-    (within_one (g.W.Worth.game c.args.game.now).players c.args.levels.now c.loop-i.i c.index-levels-i.result
-    c.loop-i-test.true c.loop-i.invariant.0.within)
+    (within_one (g.W.Worth.game c.args.self.now.game.now).players c.args.levels.now c.loop-i.i
+    c.index-levels-i.result c.loop-i-test.true c.loop-i.invariant.0.within)
 
 pub returns-in_err-player : goal.returns-in_err-player
 returns-in_err-player g c =
-    let game = g.W.Worth.game c.args.game.now in
+    let game = g.W.Worth.game c.args.self.now.game.now in
     let front = take c.loop-i.i c.args.levels.now in
     let ask = rw c.players-players.ensures.count at (c.in_err-player.ensures front) in
     let all =
     subst (λ (m : Mode). IsAllFixed m game.players front) c.loop-i.invariant.1 (ask c.loop-i.invariant.2) in
     rw c.from_residual.ensures
-    (last_holds c.args.mode c.args.family c.args.measure game c.args.shares.now c.args.levels.now c.loop-i.i
-    c.loop-i-test.false c.loop-i.invariant.0 all)
+    (last_holds c.args.mode c.args.self.now.family c.args.self.now.measure game c.args.self.now.shares.now
+    c.args.levels.now c.loop-i.i c.loop-i-test.false c.loop-i.invariant.0 all)
 
 pub returns : goal.returns
 returns g c =
-    let game = g.W.Worth.game c.args.game.now in
+    let game = g.W.Worth.game c.args.self.now.game.now in
     let front = take c.loop-i.i c.args.levels.now in
     let r = not_all c.in_ok-player.player in
     let ask = rw c.players-players.ensures.count at (c.in_ok-player.ensures front) in
     let left = subst (λ (m : Mode). NotAllFixed m game front r) c.loop-i.invariant.1 (ask c.loop-i.invariant.2) in
-    last_fails c.args.mode c.args.family c.args.measure game c.args.shares.now c.args.levels.now c.loop-i.i
-    c.loop-i-test.false c.loop-i.invariant.0 r left
+    last_fails c.args.mode c.args.self.now.family c.args.self.now.measure game c.args.self.now.shares.now
+    c.args.levels.now c.loop-i.i c.loop-i-test.false c.loop-i.invariant.0 r left

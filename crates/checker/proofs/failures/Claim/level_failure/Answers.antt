@@ -1,12 +1,12 @@
 use Rattle.std.proofs.Common.{◌++◌, ◌∙◌, ap, arith, refl}
 use Rattle.definitions.specs.Certificates.{Level, IsSmall}
 use Rattle.definitions.proofs.Levels.{Ascends-few}
-use Rattle.checker.proofs.failures.level_failure.Goals as goal
+use Rattle.checker.proofs.failures.Claim.level_failure.Goals as goal
 use Rattle.definitions.proofs.Alls.{all_left, all_right}
 
 pub first_unbalanced-requires-clause-few_bounds : goal.first_unbalanced-requires-clause-few_bounds
 first_unbalanced-requires-clause-few_bounds g c =
-    let game = g.W.Worth.game c.args.game.now in
+    let game = g.W.Worth.game c.args.self.now.game.now in
     let f = c.requires.form in
     let few = Ascends-few 0 game.players c.args.tested.now.bounds f.bounds_ascend f.players in
     let laws = c.players.ensures.laws.few in
