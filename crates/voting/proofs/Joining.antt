@@ -1,6 +1,6 @@
 -- A candidate with one player more, in 128 bits, and layers that are written weight by weight.
-use Rattle.std.proofs.Common.{◌≡◌, ℕ, ◌+◌, ◌-◌, ◌*◌, ◌^◌, ◌<◌, ◌≤◌, Bool, true}
-use Rattle.std.proofs.Common.{false, cond, nat_le, List}
+use Rattle.std.proofs.Common.{◌≡◌, ℕ, ◌+◌, ◌-◌, ◌*◌, ◌^◌, ◌<◌, ◌≤◌}
+use Rattle.std.proofs.Common.{cond, nat_le, List}
 use Rattle.std.proofs.Common.{length, get_or, ℤ, pos, ◌+ℤ◌, Option, None, Some, IfSome, unsigned_abs}
 use Rattle.std.proofs.Common.{to_z, of_z, refl, sym, ◌∙◌, inl, inr, arith, add-one}
 use Rattle.std.proofs.lemmas.Int.{ints}
@@ -10,7 +10,7 @@ use Rattle.definitions.proofs.Cases.{same_or_other}
 use Rattle.definitions.proofs.Casts.{cast_kept}
 use Rattle.voting.specs.declared.candidate.Candidate.{Candidate}
 use Rattle.voting.specs.declared.layer.Layer.{Layer}
-use Rattle.voting.specs.Candidates.{is_behind, better, joined, raised, at_weight, given_or, best_below}
+use Rattle.voting.specs.Candidates.{better, joined, raised, at_weight, given_or, best_below}
 use Rattle.voting.specs.Candidates.{IsSmallCandidate}
 use Rattle.std.specs.Borrow.{Bor}
 use Rattle.definitions.proofs.Masks.{masks-double}
@@ -42,17 +42,13 @@ joined_small i a r z m k e f low small number =
 pub small_more : (i : ℕ) (x : Option Candidate) → IfSome x (IsSmallCandidate i)
     → IfSome x (IsSmallCandidate (i + 1))
 small_more i None h = tt
-small_more i (Some c) h = let p = masks-double i in (omega (arith, h.0), omega (arith, h.1))
+small_more i (Some c) h = let p = masks-double i in (omega arith, omega arith)
 
 pub small_better : (i : ℕ) (x y : Option Candidate) → IfSome x (IsSmallCandidate i) → IfSome y (IsSmallCandidate i)
     → IfSome (better x y) (IsSmallCandidate i)
 small_better i None y hx hy = hy
 small_better i (Some c) None hx hy = hx
-small_better i (Some c) (Some d) hx hy = either_small (is_behind c d)
-  where
-    either_small : (b : Bool) → IfSome (Some (cond b d c)) (IsSmallCandidate i)
-    either_small true = hy
-    either_small false = hx
+small_better i (Some c) (Some d) hx hy = grind arith
 
 -- where two layers agree, so do those that are given in their place
 pub given_or-same : (given : Option (Bor Layer)) (l k : Layer) (w : ℕ) → at_weight l w ≡ at_weight k w

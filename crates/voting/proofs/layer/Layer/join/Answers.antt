@@ -1,6 +1,6 @@
-use Rattle.std.proofs.Common.{◌≡◌, ◌+◌, ◌-◌, ◌≤◌, IfSome, refl, ◌∙◌, arith, length}
+use Rattle.std.proofs.Common.{◌+◌, ◌-◌, refl, ◌∙◌, arith}
 use Rattle.std.proofs.Math.ListN.{length-set}
-use Rattle.voting.specs.Candidates.{at_weight, given_or, IsSmallCandidate}
+use Rattle.voting.specs.Candidates.{at_weight, given_or}
 use Rattle.voting.proofs.Joining.{given_or-same, small_more, small_better, written_down, kept_below, small_down}
 use Rattle.voting.proofs.layer.Layer.join.Goals as goal
 
