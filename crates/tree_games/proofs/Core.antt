@@ -103,7 +103,7 @@ attachment-append c w u v (p ∷ plan) rest same apart a b = (
   attachment-append (joined c p.1) (removed w p.1) u (removed v p.1) plan rest onward
       (λ j t. apart j (and_right (not (nat_eq j p.1)) (w j) t)) a.2
       (attachment-more (λ j. c j || w j) (λ j. joined c p.1 j || removed w p.1 j) u u rest
-      (λ j. λ e. grind arith) (λ j. refl) b),
+      (λ j e. grind arith) (λ j. refl) b),
 )
   where
     onward : Same (removed v p.1) (λ j. removed w p.1 j || u j)
@@ -116,10 +116,10 @@ pub paid-least : (matrix : Matrix) → IsSymmetric matrix → (c w s : ℕ → B
 paid-least matrix symmetric c w s plan own within prim a =
     let rest =
     outside-attaches s c w (λ j. c j || s j) (λ j. w j && not (s j)) plan (λ j. or_left (c j) (s j))
-    (λ j. λ e. grind arith) (λ j. refl) (prim-attaches matrix c w plan prim) in
+    (λ j e. grind arith) (λ j. refl) (prim-attaches matrix c w plan prim) in
     let whole =
     attachment-append c s (λ j. w j && not (s j)) w own (outside s plan) (λ j. grind (arith, within j))
-    (λ j. λ e. grind arith) a rest in
+    (λ j e. grind arith) a rest in
     let least = prim-least matrix symmetric c w plan (own ++ outside s plan) prim whole in
     omega (arith, plan_cost-append matrix own (outside s plan), paid-outside matrix s plan)
 

@@ -57,7 +57,7 @@ passed-joined c w l p j = λ e. grind arith
 chain-attaches : (f : ℕ) (c w : ℕ → Bool) (path : List (ℕ × ℕ)) (t : ℕ) (l : ℕ → Bool) (rest : List (ℕ × ℕ))
     → c f ≡ true → IsChain f w path t l → IsAttachment (passed c w l) l rest → IsAttachment c w (path ++ rest)
 chain-attaches f c w [] t l rest e h a =
-    attachment-more (passed c w l) c l w rest (λ j. λ k. grind (arith, h.1 j)) (λ j. sym (h.1 j)) a
+    attachment-more (passed c w l) c l w rest (λ j k. grind (arith, h.1 j)) (λ j. sym (h.1 j)) a
 chain-attaches f c w (q ∷ path) t l rest e h a = (
   ap c h.0 ∙ e,
   h.1,
@@ -132,7 +132,7 @@ turned_later matrix symmetric c w p b a plan cb wa ne r = elim (same_or_other r.
       or_left (c b) (w b && not (joined r.left a b)) cb,
       rw (nat_eq-same a) refl,
       attachment-more (passed (joined c a) (removed w a) r.left) (joined (passed c w (joined r.left a)) a) r.left
-          (removed (joined r.left a) a) r.rest (λ j. λ e. grind arith) back
+          (removed (joined r.left a) a) r.rest (λ j e. grind arith) back
           r.attaches,
     );
     costs = omega arith;
