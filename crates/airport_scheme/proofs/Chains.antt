@@ -1,11 +1,10 @@
 -- The levels of the blocks have the form of a certificate, and certify the payments.
 use Rattle.std.proofs.Common.{◌≡◌, ◌≢◌, ◌⊎◌, ℕ, zero, suc, ◌+◌, ◌-◌, ◌^◌, ◌<◌}
-use Rattle.std.proofs.Common.{◌≤◌, Bool, true, false, not}
-use Rattle.std.proofs.Common.{cond, ◌||◌, nat_lt, nat_eq, List, [], ◌∷◌, ◌++◌, length, ℤ}
+use Rattle.std.proofs.Common.{◌≤◌, Bool, true, false}
+use Rattle.std.proofs.Common.{cond, nat_lt, nat_eq, List, [], ◌∷◌, ◌++◌, length, ℤ}
 use Rattle.std.proofs.Common.{pos, negsuc, ◌+ℤ◌}
 use Rattle.std.proofs.Common.{◌-ℤ◌, ◌*ℤ◌, neg_ℤ, ◌≤ℤ◌, refl, sym, ap, ◌∙◌, inl, inr}
 use Rattle.std.proofs.Common.{arith}
-use Rattle.std.specs.List.{list_any}
 use Rattle.std.proofs.lemmas.Bool.{false≢true}
 use Rattle.std.proofs.lemmas.Int.{ints}
 use Rattle.std.proofs.Math.Pow.{pow-lt}
@@ -15,7 +14,7 @@ use Rattle.definitions.specs.Sums.{sum_below}
 use Rattle.definitions.specs.Coalitions.{has_player, singleton, grand_coalition, weight_at, splits}
 use Rattle.definitions.specs.Games.{Allocation, share, excess, IsEfficient}
 use Rattle.definitions.specs.Games.{IsIndividuallyRational, InFamily, InCore}
-use Rattle.definitions.specs.Certificates.{Level, is_listed, has_bound, is_free, number_at, Ascends, IsSmall}
+use Rattle.definitions.specs.Certificates.{Level, is_listed, is_free, number_at, Ascends, IsSmall}
 use Rattle.definitions.specs.Certificates.{LevelForm, LevelsForm, HasForm, LevelHolds, LevelsHold, HasExcess}
 use Rattle.definitions.specs.Certificates.{Certifies}
 use Rattle.definitions.specs.declared.Family.{Family}
@@ -34,7 +33,7 @@ use Rattle.airport_scheme.proofs.Pairs.{any-with_others_start, others-has, other
 use Rattle.airport_scheme.proofs.Pairs.{weight_at-inside, ascends-with_others, weight_at-front}
 use Rattle.airport_scheme.proofs.Pairs.{weight_at-front_past, all-front}
 use Rattle.definitions.specs.declared.Measure.TheVariants.{Plain}
-use Rattle.definitions.proofs.Cases.{from_nat_lt, next_or_last, nat_eq-same, below_or_above, nat_lt-less, or_either}
+use Rattle.definitions.proofs.Cases.{from_nat_lt, next_or_last, nat_eq-same, below_or_above, nat_lt-less}
 use Rattle.definitions.proofs.Alls.{all_join}
 use Rattle.definitions.proofs.UnitWeights.{one_small, one_le}
 
@@ -58,17 +57,13 @@ Covers-more n at pay den i k levels l b h = record {
         listed_here levels l m
         (rw b.coalitions
         (any-with_others (λ c. nat_eq c.0 m) n at (front_pair at k (pos 1) (nat_lt k n)) i (k - i) j low
-        (omega (arith, b.some)) (nat_eq-same m)))
+        (omega arith) (nat_eq-same m)))
   ];
   fronts = λ lt le. listed_here levels l (front at k)
       (rw b.coalitions
       (any-with_others_start (λ c. nat_eq c.0 (front at k)) n at (front_pair at k (pos 1) (nat_lt k n)) i (k - i)
-      (starts (nat_lt k n) (nat_lt-less k n le))));
+      (grind (arith, nat_lt-less k n le))));
 }
-  where
-    starts : (t : Bool) → t ≡ true → list_any (λ c. nat_eq c.0 (front at k)) (front_pair at k (pos 1) t) ≡ true
-    starts true e = or_either (nat_eq (front at k) (front at k)) false (inl (nat_eq-same (front at k)))
-    starts false e = absurd (false≢true e)
 
 -- who is free stands behind the first i
 free_place : (n : ℕ) (at : ℕ → ℕ) (i h : ℕ) (levels : List Level) → Covers n at i levels
@@ -77,15 +72,9 @@ free_place n at i h levels c e = elim (below_or_above h i) [
   | inl less ↦ absurd
       (false≢true
       (sym
-      (unfree (is_listed levels (singleton (at h))) (is_listed levels (grand_coalition n - singleton (at h)))
-      (has_bound levels (at h)) (c.others h less)) ∙ e))
+      (grind (arith, c.others h less)) ∙ e))
   | inr low ↦ low
 ]
-  where
-    unfree : (a b e : Bool) → b ≡ true → not ((a || b) || e) ≡ false
-    unfree true b e h = refl
-    unfree false true e h = refl
-    unfree false false e h = absurd (false≢true h)
 
 -- ---- a level
 
@@ -112,7 +101,7 @@ balanced_at n cost at o i k h t e some le hn = elim (place_cases i k h) [
   | inr (inl (low, high)) ↦
       let first =
       weight_at-inside n cost at o (front_pair at k (pos 1) t) i (k - i) h (within_end n i k some le) low
-      (omega (arith, high)) in
+      (omega arith) in
       let start = weight_at-front n cost at o k (pos 1) t h le high in
       let early = weight_at-front_past n cost at o i (negsuc 0) (nat_lt 0 i) h low hn in
       inside t (weight_at (with_others n at (front_pair at k (pos 1) t) i (k - i)) (at h))
@@ -137,13 +126,11 @@ balanced_at n cost at o i k h t e some le hn = elim (place_cases i k h) [
 
     before : (t : Bool) (u v w : ℤ) (b : ℕ) → u ≡ v +ℤ pos b → v ≡ cond t (pos 1) (pos 0) → w ≡ negsuc 0
         → u +ℤ w +ℤ pos 0 ≡ cond t (pos b) (pos b -ℤ pos 1)
-    before true u v w b e f k = omega (arith, ints)
-    before false u v w b e f k = omega (arith, ints)
+    before t u v w b e f k = grind (arith, ints)
 
     inside : (t : Bool) (u v w : ℤ) (b : ℕ) → u ≡ v +ℤ pos b -ℤ pos 1 → v ≡ cond t (pos 1) (pos 0) → w ≡ pos 0
         → u +ℤ w +ℤ pos 0 ≡ cond t (pos b) (pos b -ℤ pos 1)
-    inside true u v w b e f k = omega (arith, ints)
-    inside false u v w b e f k = omega (arith, ints)
+    inside t u v w b e f k = grind (arith, ints)
 
     behind : (u v w : ℤ) (b : ℕ) → u ≡ v +ℤ pos b → v ≡ pos 0 → w ≡ pos 0 → u +ℤ w +ℤ pos 0 ≡ pos b
     behind u v w b e f k = omega (arith, ints)
@@ -175,7 +162,7 @@ others_proper n cost at o two j lt = with_other (another_place j lt two)
     another_place (suc j) lt two = (0, omega arith, λ e. omega arith)
 
     within : grand_coalition n - singleton (at j) < 2 ^ n
-    within = let p = pow-lt (o.below j lt) in omega (arith, p)
+    within = omega (arith, pow-lt (o.below j lt))
 
     with_other : ((h : ℕ) × (h < n) × (h ≢ j))
         → (0 < grand_coalition n - singleton (at j)) × (grand_coalition n - singleton (at j) < grand_coalition n)
@@ -198,25 +185,24 @@ block_form n cost at pay den i k levels l most o b c =
     let count : length l.coalitions ≡ (k - i) + length ps =
     ap length b.coalitions ∙ length-with_others n at ps i (k - i) in
     let short = length-front at k (pos 1) (nat_lt k n) in
-    let early_short = length-front at i (negsuc 0) (nat_lt 0 i) in
     record {
       fraction = b.fraction;
-      some = (let some = b.some in omega (arith, count));
-      few = (let le = b.within in omega (arith, count, short));
-      few_earlier = rw b.earlier (omega (arith, early_short));
+      some = omega arith;
+      few = omega arith;
+      few_earlier = rw b.earlier (omega (arith, length-front at i (negsuc 0) (nat_lt 0 i)));
       proper = rw b.coalitions
           (all-with_others (λ c. (0 < c.0) × (c.0 < grand_coalition n)) n at ps i (k - i)
-          (λ j low high. others_proper n cost at o (let two = b.two in omega arith) j (omega arith))
+          (λ j low high. others_proper n cost at o (omega arith) j (omega arith))
           (all-front (λ c. (0 < c.0) × (c.0 < grand_coalition n)) at k (pos 1) (nat_lt k n)
-          (λ e. front_proper n cost at o k (let some = b.some in omega arith) (from_nat_lt k n e))));
+          (λ e. front_proper n cost at o k (omega arith) (from_nat_lt k n e))));
       listed = rw b.earlier
           (all-front (λ c. is_listed levels c.0 ≡ true) at i (negsuc 0) (nat_lt 0 i)
-          (λ e. c.fronts (from_nat_lt 0 i e) (let two = b.two in omega arith)));
+          (λ e. c.fronts (from_nat_lt 0 i e) (omega arith)));
       players = rw b.bounds tt;
       ascend = rw b.coalitions
           (ascends-with_others n cost at o ps i (k - i) end
           (λ h low high. all-front (λ p. has_player p.0 (at h) ≡ true) at k (pos 1) (nat_lt k n)
-          (λ e. front-has n cost at o k h (let some = b.some in omega arith) b.within))
+          (λ e. front-has n cost at o k h (omega arith) b.within))
           (ascends-front at k (pos 1) (nat_lt k n)));
       earlier_ascend = rw b.earlier (ascends-front at i (negsuc 0) (nat_lt 0 i));
       bounds_ascend = rw b.bounds tt;
@@ -226,15 +212,14 @@ block_form n cost at pay den i k levels l most o b c =
           (all-with_others (λ p. IsSmall p.1) n at ps i (k - i) (λ j low high. one_small)
           (all-front (λ p. IsSmall p.1) at k (pos 1) (nat_lt k n) (λ e. one_small)))
           (all-front (λ p. IsSmall p.1) at i (negsuc 0) (nat_lt 0 i) (λ e. minus_small))) tt);
-      total_small = rw b.total (total_small (nat_lt k n) (k - i) (let le = b.within in omega (arith, most)));
+      total_small = rw b.total (total_small (nat_lt k n) (k - i) (omega arith));
     }
   where
     minus_small : IsSmall (negsuc 0)
     minus_small = omega arith
 
     total_small : (t : Bool) (b : ℕ) → b ≤ 64 → IsSmall (cond t (pos b) (pos b -ℤ pos 1))
-    total_small true b h = omega (arith, ints)
-    total_small false b h = omega (arith, ints)
+    total_small t b h = grind (arith, ints)
 
 -- ---- the conditions of a level
 
@@ -248,41 +233,41 @@ last_costs costs at pay x i k before l p b end all =
     let under = s.under before (omega arith) in
     let total : sum_below n pay ≡ x.den *ℤ pos (cost costs (at (suc before))) = s.all (suc before) end in
     let split : sum_below (suc (suc before)) pay ≡ sum_below n pay = ap (λ (m : ℕ). sum_below m pay) end in
-    let first = b.same before (let two = b.two in omega arith) (omega arith) in
-    let second = b.same (suc before) (let two = b.two in omega arith) (omega arith) in
+    let first = b.same before (omega arith) (omega arith) in
+    let second = b.same (suc before) (omega arith) (omega arith) in
     let le : (x.den *ℤ pos (cost costs (at (suc before)))) ≤ℤ (x.den *ℤ pos (cost costs (at before))) =
-    omega (arith, linear, under, total, split, first, second) in
+    omega (arith, linear) in
     let less =
     mul-le_cancelℤ x.den (pos (cost costs (at (suc before)))) (pos (cost costs (at before)))
-    (let one = s.positive in omega (arith, linear, one)) le in
-    omega (arith, ints, less)
+    (omega (arith, linear)) le in
+    omega (arith, ints)
 
 others_excess : (costs : List ℕ) (at : ℕ → ℕ) (pay : ℕ → ℤ) (x : Allocation) (i k j : ℕ) (l : Level)
     → IsPaid costs at pay x → IsBlock (length costs) at pay x.den i k l → i ≤ j → j < k
     → excess (game_of costs) x (grand_coalition (length costs) - singleton (at j)) ≡ neg_ℤ (pay i)
 others_excess costs at pay x i k j l p b low high =
-    (elim (next_or_last j (length costs) (let le = b.within in omega arith)) [
+    (elim (next_or_last j (length costs) (omega arith)) [
       | inl less ↦ excess-others costs at pay x p j (length costs - 1) (length costs - 1) (omega arith)
           (omega arith) (λ e. omega arith) (omega arith) (omega arith)
       | inr last ↦ excess-others costs at pay x p j (length costs - 2) (suc (length costs - 2)) (omega arith)
           (omega arith) (λ e. omega (arith, two)) (omega (arith, two))
           (last_costs costs at pay x i k (length costs - 2) l p b (omega (arith, two))
-          (let le = b.within in omega arith))
+          (omega arith))
     ]) ∙ ap neg_ℤ (b.same j low high)
   where
     two : 2 ≤ length costs
-    two = let t = b.two in omega arith
+    two = omega arith
 
 front_excess : (costs : List ℕ) (at : ℕ → ℕ) (pay : ℕ → ℤ) (x : Allocation) (i k : ℕ) (l : Level)
     → IsPaid costs at pay x → IsBlock (length costs) at pay x.den i k l → k < length costs
     → excess (game_of costs) x (front at k) ≡ neg_ℤ (pay i)
-front_excess costs at pay x i zero l p b lt = absurd (let some = b.some in omega arith)
+front_excess costs at pay x i zero l p b lt = absurd (omega arith)
 front_excess costs at pay x i (suc k) l p b lt =
-    let same = b.same k (let some = b.some in omega arith) (omega arith) in
+    let same = b.same k (omega arith) (omega arith) in
     let more = b.until lt in
-    let tight = p.scheme.tight k lt (omega (arith, linear, same, more)) in
+    let tight = p.scheme.tight k lt (omega (arith, linear)) in
     let e = excess-front costs at pay x p k (omega arith) in
-    omega (arith, linear, same, tight, e)
+    omega (arith, linear)
 
 pub block_holds : (family : Family) (costs : List ℕ) (at : ℕ → ℕ) (pay : ℕ → ℤ) (x : Allocation) (i k : ℕ)
     (levels : List Level) (l : Level) → IsPaid costs at pay x → IsBlock (length costs) at pay x.den i k l
@@ -337,18 +322,16 @@ levels_form n cost at pay den i k front (l ∷ levels) most o (m, b, chain) c = 
 few_levels : (n : ℕ) (at : ℕ → ℕ) (pay : ℕ → ℤ) (den : ℤ) (i k : ℕ) (levels : List Level) → i + 1 ≤ n
     → IsChain n at pay den i levels k → length levels + i + 1 ≤ n
 few_levels n at pay den i k [] le chain = omega arith
-few_levels n at pay den i k (l ∷ []) le (m, b, chain) = let two = b.two in omega arith
+few_levels n at pay den i k (l ∷ []) le (m, b, chain) = omega arith
 few_levels n at pay den i k (l ∷ (l' ∷ levels)) le (m, b, chain) =
-    let two = chain.1.two in
-    let some = b.some in
     let ih = few_levels n at pay den m k (l' ∷ levels) (omega arith) chain in
-    omega (arith, ih)
+    omega arith
 
 pub HasForm-chain : (n : ℕ) (cost at : ℕ → ℕ) (pay : ℕ → ℤ) (den : ℤ) (k : ℕ) (levels : List Level) → 1 ≤ n → n ≤ 64
     → IsOrder n cost at → IsChain n at pay den 0 levels k → HasForm Players n levels
 HasForm-chain n cost at pay den k levels one most o chain = record {
   players = inl refl;
-  few = (let e = few_levels n at pay den 0 k levels (omega arith) chain in omega (arith, e));
+  few = omega (arith, few_levels n at pay den 0 k levels (omega arith) chain);
   each = levels_form n cost at pay den 0 k [] levels most o chain (Covers-none n at);
 }
 
@@ -359,7 +342,7 @@ levels_hold : (family : Family) (costs : List ℕ) (at : ℕ → ℕ) (pay : ℕ
 levels_hold family costs at pay x i k front [] p chain end c = all_fixed
   where
     one_place : (a b : ℕ) → i ≤ a → a < length costs → i ≤ b → b < length costs → a ≡ b
-    one_place a b la ha lb hb = omega (arith, chain)
+    one_place a b la ha lb hb = omega arith
 
     all_fixed : (j h : ℕ) → j < length costs → h < length costs → is_free (length costs) front j ≡ true
         → is_free (length costs) front h ≡ true → j ≡ h
@@ -392,7 +375,7 @@ efficient costs at pay x some p =
     ≡ sum_below (suc last) pay -ℤ x.den *ℤ pos (cost costs (at last)) = rw (← whole) e in
     let total = p.scheme.all last end in
     let sums : sum_below (suc last) pay ≡ sum_below n pay = ap (λ (m : ℕ). sum_below m pay) end in
-    omega (arith, linear, same, total, sums)
+    omega (arith, linear)
 
 individual : (costs : List ℕ) (at : ℕ → ℕ) (pay : ℕ → ℤ) (x : Allocation) → IsPaid costs at pay x
     → IsIndividuallyRational (game_of costs) x
@@ -417,7 +400,7 @@ pub InCore-scheme : (costs : List ℕ) (at : ℕ → ℕ) (pay : ℕ → ℤ) (x
 InCore-scheme costs at pay x some p = (
   (p.players, p.scheme.positive),
   efficient costs at pay x some p,
-  λ s lt blocks. let e = excess-core costs at pay x p s in omega (arith, linear, e, blocks),
+  λ s lt blocks. omega (arith, linear, excess-core costs at pay x p s),
 )
 
 pub Certifies-chain : (family : Family) (costs : List ℕ) (at : ℕ → ℕ) (pay : ℕ → ℤ) (x : Allocation) (k : ℕ)

@@ -27,20 +27,16 @@ module _ (n : ℕ) (at : ℕ → ℕ) (pay : ℕ → ℤ) (den : ℤ) where
     each_of_block : AllByRecursion (λ p. IsOfBlock n at i k p.0 p.1)
         (with_others n at (front_pair at k (pos 1) (nat_lt k n)) i (k - i))
     each_of_block =
-        let some = b.some in
         all-with_others (λ p. IsOfBlock n at i k p.0 p.1) n at (front_pair at k (pos 1) (nat_lt k n)) i (k - i)
-        (λ j low high. (inl (j, low, omega (arith, some, high), refl), refl))
+        (λ j low high. (inl (j, low, omega arith, refl), refl))
         (all-front (λ p. IsOfBlock n at i k p.0 p.1) at k (pos 1) (nat_lt k n)
         (λ e. (inr (from_nat_lt k n e, refl), refl)))
 
     stands : (s : ℕ) (w : ℤ) → IsOfBlock n at i k s w
         → list_any (λ p. nat_eq p.0 s) (with_others n at (front_pair at k (pos 1) (nat_lt k n)) i (k - i)) ≡ true
     stands s w (inl other, e) =
-        let some = b.some in
-        let low = other.1 in
-        let high = other.2 in
         any-with_others (λ p. nat_eq p.0 s) n at (front_pair at k (pos 1) (nat_lt k n)) i (k - i) other.0 other.1
-        (omega (arith, some, low, high))
+        (omega arith)
         (nat_eq-equal (grand_coalition n - singleton (at other.0)) s (sym other.3))
     stands s w (inr last, e) =
         any-with_others_start (λ p. nat_eq p.0 s) n at (front_pair at k (pos 1) (nat_lt k n)) i (k - i)

@@ -60,7 +60,7 @@ room n c pay den s k lt = elim (next_or_last k n lt) [
   | inl more ↦ omega (arith, linear, s.under k more, s.least k lt)
   | inr last ↦
       let e : sum_below (suc k) pay ≡ sum_below n pay = ap (λ (m : ℕ). sum_below m pay) last in
-      omega (arith, linear, e, s.all k last)
+      omega (arith, linear, s.all k last)
 ]
 
 -- ---- the last place of a coalition
@@ -80,7 +80,7 @@ last_place n cost at o s (suc k) le h =
           (has_player-more_other (front at k) (at k) i here
           (λ same. false≢true (sym no_k ∙ sym (ap (λ (j : ℕ). has_player s j) same) ∙ e))) ∙ h i lt e in
           elim (last_place n cost at o s k (omega arith) less) [
-            | inl r ↦ inl (r.0, omega (arith, r.1), r.2, r.3)
+            | inl r ↦ inl (r.0, omega arith, r.2, r.3)
             | inr none ↦ inr none
           ]
     ]
@@ -105,7 +105,7 @@ excess-last costs at pay x p s k lt has within =
     let least = greatest_cost-at_least n (cost costs) s (at k) (p.order.below k lt) has in
     let worth = worth-at_most x.den (cost costs (at k)) g p.scheme.positive least in
     let more = sum_over-within n s (front at (suc k)) (share x) (share-low costs at pay x p) within in
-    omega (arith, linear, worth, more, amount-front costs at pay x p (suc k) lt, amount-at costs at pay x p s)
+    omega (arith, linear, amount-front costs at pay x p (suc k) lt, amount-at costs at pay x p s)
 
 excess-last_but : (costs : List ℕ) (at : ℕ → ℕ) (pay : ℕ → ℤ) (x : Allocation) → IsPaid costs at pay x → (s k j : ℕ)
     → k < length costs → has_player s (at k) ≡ true → IsWithin (length costs) s (front at (suc k)) → j < suc k
@@ -123,8 +123,6 @@ excess-last_but costs at pay x p s k j lt has within low lacks =
     omega (
       arith,
       linear,
-      worth,
-      more,
       amount-front costs at pay x p (suc k) lt,
       amount-at costs at pay x p s,
       p.shares j (omega arith),
@@ -147,11 +145,11 @@ excess-outside costs at pay x p s i h q ih hn has iq qn lacks =
             | inl le ↦
                 let e = excess-last_but costs at pay x p s k q r.1 r.2 r.3 le lacks in
                 let f = room n (λ j. cost costs (at j)) pay x.den p.scheme k r.1 in
-                omega (arith, linear, e, f, up_to q iq qn)
+                omega (arith, linear, up_to q iq qn)
             | inr gt ↦
                 let e = excess-last costs at pay x p s k r.1 r.2 r.3 in
-                let f = p.scheme.under k (omega (arith, gt, qn)) in
-                omega (arith, linear, e, f, up_to k (omega (arith, after, ih)) r.1)
+                let f = p.scheme.under k (omega arith) in
+                omega (arith, linear, up_to k (omega arith) r.1)
           ]
       | inr none ↦ absurd (false≢true (sym (has_player-empty (at h)) ∙ none (at h) (o.below h hn) has))
     ]
@@ -192,8 +190,6 @@ excess-core costs at pay x p s =
           omega (
             arith,
             linear,
-            more,
-            worth,
             mul-zeroℤ x.den,
             amount-front costs at pay x p 0 (omega arith),
             amount-at costs at pay x p s,
@@ -235,7 +231,7 @@ excess-front costs at pay x p k lt =
     most_at : (i : ℕ) → i < length costs → has_player (front at (suc k)) i ≡ true → cost costs i ≤ cost costs (at k)
     most_at i h e =
         let r = front-place (length costs) (cost costs) at p.order (suc k) i lt e in
-        let le = cost-up_to costs at pay x p r.0 k (omega (arith, r.1)) lt in
+        let le = cost-up_to costs at pay x p r.0 k (omega arith) lt in
         rw (← r.2) le
 
 -- all but the one at place j, where another place m has the greatest cost
@@ -260,10 +256,7 @@ excess-others costs at pay x p j m last lt mn ne end top =
     omega (
       arith,
       linear,
-      worth-is x.den (cost costs (at last)) g (omega (arith, least, top)) most,
-      parts,
-      mine,
-      whole,
+      worth-is x.den (cost costs (at last)) g (omega arith) most,
       p.shares j lt,
       p.scheme.all last end,
       amount-at costs at pay x p s,
@@ -278,5 +271,5 @@ excess-others costs at pay x p j m last lt mn ne end top =
         → cost costs i ≤ cost costs (at last)
     most_at i h e =
         let r = order-place (length costs) (cost costs) at p.order i h in
-        let le = cost-up_to costs at pay x p r.0 last (omega (arith, r.1, end)) (omega (arith, end)) in
+        let le = cost-up_to costs at pay x p r.0 last (omega arith) (omega arith) in
         rw (← r.2) le

@@ -24,7 +24,7 @@ pub length-with_others : (n : ℕ) (at : ℕ → ℕ) (ps : List (ℕ × ℤ)) (
 length-with_others n at ps i zero = omega arith
 length-with_others n at ps i (suc b) =
     length-with_pair (grand_coalition n - singleton (at (i + b))) (pos 1) (with_others n at ps i b)
-    ∙ (let ih = length-with_others n at ps i b in omega (arith, ih))
+    ∙ (omega (arith, length-with_others n at ps i b))
 
 pub all-with_others : (P : ℕ × ℤ → Type 0) (n : ℕ) (at : ℕ → ℕ) (ps : List (ℕ × ℤ)) (i b : ℕ)
     → ((j : ℕ) → i ≤ j → j < i + b → P (grand_coalition n - singleton (at j), pos 1)) → AllByRecursion P ps

@@ -3,7 +3,7 @@ use Rattle.std.proofs.Common.{◌≡◌, ◌⊎◌, ℕ, zero, suc, ◌+◌, ◌
 use Rattle.std.proofs.Common.{◌≤◌, Bool, true, false, cond, nat_lt}
 use Rattle.std.proofs.Common.{List, [], ◌++◌, length, get_or, replicate, take, drop, ℤ, pos}
 use Rattle.std.proofs.Common.{◌+ℤ◌, ◌-ℤ◌, ◌*ℤ◌}
-use Rattle.std.proofs.Common.{neg_ℤ, ◌≤ℤ◌, ◌<ℤ◌, unsigned_abs, refl, ap, subst, ◌∙◌, inl, inr}
+use Rattle.std.proofs.Common.{neg_ℤ, ◌≤ℤ◌, ◌<ℤ◌, unsigned_abs, refl, ap, ◌∙◌, inl, inr}
 use Rattle.std.proofs.Common.{arith}
 use Rattle.std.specs.List.{All}
 use Rattle.std.proofs.lemmas.Int.{ints, unsigned_abs-mul}
@@ -83,7 +83,7 @@ IsBest-kept n c den paid i l best m r k s b t le = record {
     | inr same ↦ rw same
         (let x = ap (λ (z : ℤ). r *ℤ z) t.size in
         let y = ap (λ (z : ℤ). z *ℤ m) t.rate in
-        omega (arith, linear, le, *ℤ_comm (pos (size_of n i l)) r, *ℤ_comm m (den *ℤ pos (c l) -ℤ paid)))
+        omega (arith, linear, *ℤ_comm (pos (size_of n i l)) r, *ℤ_comm m (den *ℤ pos (c l) -ℤ paid)))
   ];
 }
 
@@ -94,16 +94,16 @@ IsBest-better n c den paid i l best m r k s b t lt_terms = record {
   term = t;
   least = λ j low lt here. elim (last_place j l n here) [
     | inl old ↦ less_passes s k r m (den *ℤ pos (c j) -ℤ paid) (pos (size_of n i j)) one_k one_m
-        (omega (arith, ints)) (omega (arith, linear, lt_terms)) (b.least j low lt old)
+        (omega (arith, ints)) (omega (arith, linear)) (b.least j low lt old)
     | inr same ↦ rw same (own n c den paid i l k s t)
   ];
 }
   where
     one_k : pos 1 ≤ℤ k
-    one_k = let a = size-low n i l t.from t.within in let e = t.size in omega (arith, ints)
+    one_k = let a = size-low n i l t.from t.within in omega (arith, ints)
 
     one_m : pos 1 ≤ℤ m
-    one_m = let a = size-low n i best b.term.from b.term.within in let e = b.term.size in omega (arith, ints)
+    one_m = let a = size-low n i best b.term.from b.term.within in omega (arith, ints)
 
 pub IsLeastTerm-whole : (n : ℕ) (c : ℕ → ℕ) (den paid : ℤ) (i l best : ℕ) (m r : ℤ) → n ≤ l + 1
     → IsBest n c den paid i l best m r → IsLeastTerm n c den paid i best m r
@@ -152,9 +152,7 @@ scaled_cost : (den : ℤ) (c : ℕ) → pos 1 ≤ℤ den → den ≤ℤ pos (2 ^
 scaled_cost den c low high small =
     let a : unsigned_abs den ≤ 2 ^ 63 = omega (arith, ints) in
     let b : unsigned_abs (pos c) ≤ 2 ^ 40 = omega (arith, ints) in
-    let e = unsigned_abs-mul den (pos c) in
-    let m = mul-le-mul a b in
-    small_from (den *ℤ pos c) (omega (arith, e, m))
+    small_from (den *ℤ pos c) (omega (arith, unsigned_abs-mul den (pos c), mul-le-mul a b))
   where
     small_from : (z : ℤ) → unsigned_abs z ≤ 2 ^ 63 * 2 ^ 40 → z <ℤ pos (2 ^ 104)
     small_from z h = omega (arith, ints)
@@ -177,7 +175,7 @@ paid_small n c pay den paid done costs lt r =
     let end = r.part.end b e in
     let low = mul-nonnegativeℤ (pos (suc b)) r.rate (omega (arith, ints)) r.part.bottom in
     let cost = scaled_cost den (c (done + b)) r.part.positive r.common (costs (done + b) (omega arith)) in
-    omega (arith, linear, end, low, cost, r.sum)
+    omega (arith, linear)
 
 -- ---- the denominator
 
@@ -199,9 +197,8 @@ product_power : (den m : ℤ) (i b k : ℕ) → pos 1 ≤ℤ den → den ≤ℤ 
 product_power den m i b k one le e h =
     let d = natural den one in
     let most : pos d.0 ≤ℤ pos (2 ^ i) = rw (← d.1) le in
-    let du : d.0 ≤ 2 ^ i = omega (arith, ints, most) in
-    let p = size_power d.0 i b k du h in
-    rw (d.1, e) (omega (arith, ints, p))
+    let du : d.0 ≤ 2 ^ i = omega (arith, ints) in
+    rw (d.1, e) (omega (arith, ints, size_power d.0 i b k du h))
 
 -- ---- a step of the run
 
@@ -231,14 +228,14 @@ next_of n c pay den paid i b m r sum least =
 pub IsPayment-whole : (n : ℕ) (c : ℕ → ℕ) (pay : List ℤ) (den paid : ℤ) (done : ℕ) → n ≤ done
     → IsRun n c pay den paid done → IsPayment n c pay den
 IsPayment-whole n c pay den paid done le r =
-    let all : done ≡ n = let w = r.within in omega arith in
+    let all : done ≡ n = omega arith in
     record {
       long = r.long ∙ all;
       common = r.common;
       small = run_small n c pay den paid done r;
       scheme =
           IsScheme-whole n c (pay_at pay) den r.rate
-          (subst (λ (i : ℕ). IsPart n c (pay_at pay) den i r.rate) all r.part);
+          (rw all at r.part);
     }
 
 run_next_at : (n : ℕ) (c : ℕ → ℕ) (pay more : List ℤ) (den paid : ℤ) (done b : ℕ) (m r : ℤ) → n ≤ 64
@@ -246,15 +243,15 @@ run_next_at : (n : ℕ) (c : ℕ → ℕ) (pay more : List ℤ) (den paid : ℤ)
     → IsLeastTerm n c den paid done (done + b) m r → IsGrown pay m r (suc b) more
     → IsRun n c more (den *ℤ m) (paid *ℤ m +ℤ r *ℤ pos (suc b)) (done + suc b)
 run_next_at n c pay more den paid done b m r most costs lt run least grown = record {
-  long = (let a = grown.long in let l = run.long in omega arith);
-  within = (let w = least.term.within in omega arith);
+  long = omega arith;
+  within = omega arith;
   sum = sum_of;
   common = common_of next.size;
   power = λ h. power_of h next.size;
   rate = r;
   small =
       (let cost = scaled_cost den (c (done + b)) run.part.positive run.common (costs (done + b) least.term.within) in
-      omega (arith, linear, cost, least.term.rate, paid_low n c pay den paid done run));
+      omega (arith, linear, paid_low n c pay den paid done run));
   part = IsPart-next n c (pay_at pay) den done b run.rate m r (pay_at more) run.part next before block;
 }
   where
@@ -271,7 +268,7 @@ run_next_at n c pay more den paid done b m r most costs lt run least grown = rec
     sum_of =
         let whole = sum-block done (pay_at more) r (suc b) block in
         let first = sum-scaled done (pay_at pay) (pay_at more) m before done (omega arith) in
-        omega (arith, linear, whole, first, ap (λ (z : ℤ). m *ℤ z) run.sum, *ℤ_comm paid m, *ℤ_comm r (pos (suc b)))
+        omega (arith, linear, ap (λ (z : ℤ). m *ℤ z) run.sum, *ℤ_comm paid m, *ℤ_comm r (pos (suc b)))
 
     widen : (z : ℤ) (i : ℕ) → i ≤ 63 → z ≤ℤ pos (2 ^ i) → z ≤ℤ pos (2 ^ 63)
     widen z i le h = let p : 2 ^ i ≤ 2 ^ 63 = pow_mono le in omega (arith, ints)
@@ -279,28 +276,27 @@ run_next_at n c pay more den paid done b m r most costs lt run least grown = rec
     common_of : ((suc (done + b) < n) × (m ≡ pos (b + 2))) ⊎ ((suc (done + b) ≡ n) × (m ≡ pos (suc b)))
         → (den *ℤ m) ≤ℤ pos (2 ^ 63)
     common_of (inl h) =
-        widen (den *ℤ m) (done + suc b) (omega (arith, h.0))
+        widen (den *ℤ m) (done + suc b) (omega arith)
         (product_power den m done (suc b) (b + 2) run.part.positive (run.power lt) h.1
-        (let p = power_more (suc b) in omega (arith, p)))
+        (omega (arith, power_more (suc b))))
     common_of (inr h) =
-        widen (den *ℤ m) (done + b) (omega (arith, h.0))
+        widen (den *ℤ m) (done + b) (omega arith)
         (product_power den m done b (suc b) run.part.positive (run.power lt) h.1
-        (let p = power_more b in omega (arith, p)))
+        (omega (arith, power_more b)))
 
     power_of : done + suc b < n
         → ((suc (done + b) < n) × (m ≡ pos (b + 2))) ⊎ ((suc (done + b) ≡ n) × (m ≡ pos (suc b)))
         → (den *ℤ m) ≤ℤ pos (2 ^ (done + suc b))
     power_of h (inl e) =
         product_power den m done (suc b) (b + 2) run.part.positive (run.power lt) e.1
-        (let p = power_more (suc b) in omega (arith, p))
-    power_of h (inr e) = absurd (omega (arith, e.0))
+        (omega (arith, power_more (suc b)))
+    power_of h (inr e) = absurd (omega arith)
 
 pub IsRun-next : (n : ℕ) (c : ℕ → ℕ) (pay more : List ℤ) (den paid : ℤ) (done last : ℕ) (m r : ℤ) → n ≤ 64
     → ((l : ℕ) → l < n → c l < 2 ^ 40) → done < n → IsRun n c pay den paid done
     → IsLeastTerm n c den paid done last m r → IsGrown pay m r (last + 1 - done) more
     → IsRun n c more (den *ℤ m) (paid *ℤ m +ℤ r *ℤ pos (last + 1 - done)) (last + 1)
-IsRun-next n c pay more den paid done last m r most costs lt run least grown =
-    at (last - done) (let f = least.term.from in omega arith)
+IsRun-next n c pay more den paid done last m r most costs lt run least grown = at (last - done) (omega arith)
   where
     at : (b : ℕ) → last ≡ done + b → IsRun n c more (den *ℤ m) (paid *ℤ m +ℤ r *ℤ pos (last + 1 - done)) (last + 1)
     at b e =
@@ -308,8 +304,8 @@ IsRun-next n c pay more den paid done last m r most costs lt run least grown =
         let g : last + 1 ≡ done + suc b = omega arith in
         rw (f, g)
         (run_next_at n c pay more den paid done b m r most costs lt run
-        (subst (λ (l : ℕ). IsLeastTerm n c den paid done l m r) e least)
-        (subst (λ (k : ℕ). IsGrown pay m r k more) f grown))
+        (rw e at least)
+        (rw f at grown))
 
 -- ---- the lists that the code makes
 
@@ -317,8 +313,7 @@ pub grown_from : (old scaled new : List ℤ) (m r : ℤ) (count d : ℕ) → len
     → ((k : ℕ) → k < length old → get_or scaled k (pos 0) ≡ get_or old k (pos 0) *ℤ m)
     → new ≡ scaled ++ replicate d r → d ≡ count → IsGrown old m r count new
 grown_from old scaled new m r count d long each e same = record {
-  long = rw e
-      (let a = length-append scaled (replicate d r) in let b = length-replicate d r in omega (arith, a, b, long));
+  long = rw e (omega (arith, length-append scaled (replicate d r), length-replicate d r));
   before = λ k lt. rw e (get_or_append_left scaled (replicate d r) (pos 0) k (rw long lt) ∙ each k lt);
   block = λ k lt. rw e
       (rw (← long)

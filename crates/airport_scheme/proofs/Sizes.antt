@@ -20,7 +20,7 @@ pub times_value : (a b : ℤ) → unsigned_abs a < 2 ^ 112 → unsigned_abs b < 
 times_value a b h k =
     let u : to_z w128 (of_z w128 a) ≡ a = cast_kept w128 a (omega arith) in
     let v : to_z w128 (of_z w128 b) ≡ b = cast_kept w128 b (omega arith) in
-    rw (u, v) (cast_kept w128 (a *ℤ b) (let s = product_small a b h k in omega (arith, s)))
+    rw (u, v) (cast_kept w128 (a *ℤ b) (omega (arith, product_small a b h k)))
 
 cost_small : (den cost : ℤ) → pos 1 ≤ℤ den → den ≤ℤ pos (2 ^ 63) → pos 0 ≤ℤ cost → cost <ℤ pos (2 ^ 40)
     → unsigned_abs (den *ℤ cost) < 2 ^ 104
@@ -48,7 +48,7 @@ cost_kept den cost a b c d =
 pub cost_fits : (den cost : ℤ) → pos 1 ≤ℤ den → den ≤ℤ pos (2 ^ 63) → pos 0 ≤ℤ cost → cost <ℤ pos (2 ^ 40)
     → FitsSigned w128 (to_z w128 (of_z w128 den) *ℤ to_z w128 (of_z w128 (to_z w64 (of_z w64 cost))))
 cost_fits den cost a b c d = rw (cost_kept den cost a b c d)
-    (fits_signed_from_abs w128 (den *ℤ cost) (let s = cost_small den cost a b c d in omega (arith, s)))
+    (fits_signed_from_abs w128 (den *ℤ cost) (omega (arith, cost_small den cost a b c d)))
 
 -- what is left of a cost, as the code computes it
 rest_kept : (den cost paid : ℤ) → pos 1 ≤ℤ den → den ≤ℤ pos (2 ^ 63) → pos 0 ≤ℤ cost → cost <ℤ pos (2 ^ 40)
@@ -58,7 +58,7 @@ rest_kept : (den cost paid : ℤ) → pos 1 ≤ℤ den → den ≤ℤ pos (2 ^ 6
 rest_kept den cost paid a b c d e =
     let p : to_z w128 (of_z w128 paid) ≡ paid = cast_kept w128 paid (omega arith) in
     let m : to_z w128 (of_z w128 (den *ℤ cost)) ≡ den *ℤ cost =
-    cast_kept w128 (den *ℤ cost) (let s = cost_small den cost a b c d in omega (arith, s)) in
+    cast_kept w128 (den *ℤ cost) (omega (arith, cost_small den cost a b c d)) in
     rw (cost_kept den cost a b c d, m, p) refl
 
 pub rest_fits : (den cost paid : ℤ) → pos 1 ≤ℤ den → den ≤ℤ pos (2 ^ 63) → pos 0 ≤ℤ cost → cost <ℤ pos (2 ^ 40)
@@ -67,7 +67,7 @@ pub rest_fits : (den cost paid : ℤ) → pos 1 ≤ℤ den → den ≤ℤ pos (2
     (to_z w128 (of_z w128 (to_z w128 (of_z w128 den) *ℤ to_z w128 (of_z w128 (to_z w64 (of_z w64 cost)))))
     -ℤ to_z w128 (of_z w128 paid))
 rest_fits den cost paid a b c d e = rw (rest_kept den cost paid a b c d e)
-    (fits_signed_from_abs w128 (den *ℤ cost -ℤ paid) (let s = rest_small den cost paid a b c d e in omega (arith, s)))
+    (fits_signed_from_abs w128 (den *ℤ cost -ℤ paid) (omega (arith, rest_small den cost paid a b c d e)))
 
 pub rest_value : (den cost paid : ℤ) → pos 1 ≤ℤ den → den ≤ℤ pos (2 ^ 63) → pos 0 ≤ℤ cost → cost <ℤ pos (2 ^ 40)
     → unsigned_abs paid < 2 ^ 104
@@ -77,7 +77,7 @@ pub rest_value : (den cost paid : ℤ) → pos 1 ≤ℤ den → den ≤ℤ pos (
     -ℤ to_z w128 (of_z w128 paid))) ≡ den *ℤ cost -ℤ paid
 rest_value den cost paid a b c d e =
     rw (rest_kept den cost paid a b c d e)
-    (cast_kept w128 (den *ℤ cost -ℤ paid) (let s = rest_small den cost paid a b c d e in omega (arith, s)))
+    (cast_kept w128 (den *ℤ cost -ℤ paid) (omega (arith, rest_small den cost paid a b c d e)))
 
 pub negated_small : (z : ℤ) → unsigned_abs z < 2 ^ 104 → unsigned_abs (pos 0 -ℤ z) < 2 ^ 127
 negated_small z h = omega (arith, ints)

@@ -3,7 +3,7 @@ use Rattle.std.proofs.Common.{◌≡◌, ℕ, suc, ◌+◌, ◌-◌, ◌<◌, �
 use Rattle.std.proofs.Common.{cond, ◌||◌, nat_lt}
 use Rattle.std.proofs.Common.{nat_eq, List, [], ◌∷◌, ◌++◌, length, get_or, ℤ, pos, negsuc}
 use Rattle.std.proofs.Common.{◌-ℤ◌, ◌<ℤ◌}
-use Rattle.std.proofs.Common.{refl, sym, ap, subst, ◌∙◌, inl, inr, arith}
+use Rattle.std.proofs.Common.{refl, ap, ◌∙◌, inl, inr, arith}
 use Rattle.std.specs.List.{AllByRecursion}
 use Rattle.std.proofs.lemmas.Int.{ints, by_lt_z}
 use Rattle.definitions.proofs.Parts.{more-is}
@@ -62,7 +62,7 @@ total_is n i k z inner outer =
 pub IsChain-push : (n : ℕ) (at : ℕ → ℕ) (pay : ℕ → ℤ) (den : ℤ) (i m k : ℕ) (levels : List Level) (l : Level)
     → IsChain n at pay den i levels m → IsBlock n at pay den m k l → IsChain n at pay den i (levels ++ l ∷ []) k
 IsChain-push n at pay den i m k [] l chain b =
-    (k, subst (λ (j : ℕ). IsBlock n at pay den j k l) (sym chain) b, refl)
+    (k, rw chain b, refl)
 IsChain-push n at pay den i m k (l' ∷ levels) l (h, b', chain) b =
     (h, b', IsChain-push n at pay den h m k levels l chain b)
 
@@ -79,9 +79,7 @@ few_entries n at pay den i k (l ∷ levels) (m, b, chain) = (here, few_entries n
         let early = ap length b.earlier in
         let early_short = length-front at i (negsuc 0) (nat_lt 0 i) in
         let none = ap length b.bounds in
-        let two = b.two in
-        let within = b.within in
-        omega (arith, count, short, early, early_short, none)
+        omega arith
 
 -- ---- the answer
 
@@ -89,8 +87,8 @@ pub shares-fit : (a : Airport) → IsAirport a → (pay num : List ℤ) (den : �
     → IsPayment (length a.costs) (cost_at a) pay den → IsByPlayer (length a.costs) (place a) pay num
     → IsShares (allocation num den)
 shares-fit a h pay num den p b = record {
-  some = (let long = b.long in let some = h.some in omega arith);
-  few = (let long = b.long in let few = h.few in omega arith);
+  some = omega arith;
+  few = omega arith;
   positive = p.scheme.positive;
   common = p.common;
   small = λ i lt. b.small i (pos 0) lt;
@@ -116,7 +114,7 @@ pub AreSchemeLevels-made : (a : Airport) → IsAirport a
     → AreSchemeLevels a.costs (place a) x levels
 AreSchemeLevels-made a h pay num den x levels p b e (k, chain, end) =
     let form = levels-formed a h (pay_at pay) den levels (k, chain, end) in
-    subst (λ (y : Allocation). AreSchemeLevels a.costs (place a) y levels) (sym e) (
+    rw e (
       pay_at pay,
       IsPaid-made a h pay num den p b,
       (k, AreBlockLevels-chain (length a.costs) (place a) (pay_at pay) den 0 k [] levels chain form.each, end),
@@ -129,9 +127,7 @@ pub solved : (family : Family) (a : Airport) → IsAirport a
     → AllByRecursion IsLowest levels → c ≡ record { players = length a.costs; mode = Players; levels = levels }
     → IsSolved Players family Plain (airport_game a) x c
 solved family a h pay num den x levels c p b e (k, chain, end) lowest f =
-    subst (λ (y : Allocation). IsSolved Players family Plain (airport_game a) y c) (sym e)
-    (subst (λ (d : CertificateData). IsSolved Players family Plain (airport_game a) (allocation num den) d)
-    (sym f) answer)
+    rw e (rw f answer)
   where
     answer : IsSolved Players family Plain (airport_game a) (allocation num den)
         (record { players = length a.costs; mode = Players; levels = levels })
@@ -149,5 +145,5 @@ pub InCore-made : (a : Airport) → IsAirport a → (pay num : List ℤ) (den : 
     → IsPayment (length a.costs) (cost_at a) pay den → IsByPlayer (length a.costs) (place a) pay num
     → x ≡ allocation num den → InCore (airport_game a) x
 InCore-made a h pay num den x p b e =
-    subst (InCore (airport_game a)) (sym e)
+    rw e
     (InCore-scheme a.costs (place a) (pay_at pay) (allocation num den) h.some (IsPaid-made a h pay num den p b))

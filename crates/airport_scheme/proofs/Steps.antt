@@ -73,7 +73,7 @@ sum-block i g r (suc b) h =
     (h b (omega arith)))
   where
     added : (u v a : ℤ) (b : ℕ) → u ≡ a +ℤ pos b *ℤ r → v ≡ r → u +ℤ v ≡ a +ℤ pos (suc b) *ℤ r
-    added u v a b e f = omega (arith, linear, e, f, suc-mulℤ b r)
+    added u v a b e f = omega (arith, linear, suc-mulℤ b r)
 
 split_place : (i b j : ℕ) → j < i + suc b → (j < i) ⊎ ((d : ℕ) × (d < suc b) × (j ≡ i + d))
 split_place i b j lt =
@@ -84,7 +84,7 @@ split_place i b j lt =
 times_down : (m a b : ℤ) → pos 1 ≤ℤ m → (m *ℤ a) <ℤ (m *ℤ b) → a <ℤ b
 times_down m a b one h =
     by_lt_z a b (λ lt. lt)
-    (λ le. let k = mul-leℤ m b a (omega (arith, linear)) le in absurd (omega (arith, linear, k, h)))
+    (λ le. absurd (omega (arith, linear, mul-leℤ m b a (omega (arith, linear)) le)))
 
 under_scaled : (m x p den C : ℤ) → pos 1 ≤ℤ m → (x +ℤ p) ≤ℤ (den *ℤ C) → (m *ℤ x +ℤ m *ℤ p) ≤ℤ ((den *ℤ m) *ℤ C)
 under_scaled m x p den C one h =
@@ -101,7 +101,7 @@ under_new : (m x s t r den C y : ℤ) → t ≡ s +ℤ pos 1 → y ≡ m *ℤ x 
 under_new m x s t r den C y e f h =
     let g = ap (λ (z : ℤ). z *ℤ r) e ∙ add-mulℤ s (pos 1) r in
     let u = one-mulℤ r in
-    let k : (t *ℤ r) ≤ℤ (m *ℤ (den *ℤ C) -ℤ m *ℤ x) = omega (arith, linear, h, mul-subℤ m (den *ℤ C) x) in
+    let k : (t *ℤ r) ≤ℤ (m *ℤ (den *ℤ C) -ℤ m *ℤ x) = omega (arith, linear, mul-subℤ m (den *ℤ C) x) in
     let a : m *ℤ (den *ℤ C) ≡ (den *ℤ m) *ℤ C = simp ring_laws in
     omega (arith, linear)
 
@@ -109,7 +109,7 @@ room_new : (m x s t u r den C y : ℤ) → u ≡ s +ℤ t → y ≡ m *ℤ x +�
     → (t *ℤ r) ≤ℤ ((den *ℤ m) *ℤ C -ℤ y)
 room_new m x s t u r den C y e f h =
     let g = ap (λ (z : ℤ). z *ℤ r) e ∙ add-mulℤ s t r in
-    let k : (u *ℤ r) ≤ℤ (m *ℤ (den *ℤ C) -ℤ m *ℤ x) = omega (arith, linear, h, mul-subℤ m (den *ℤ C) x) in
+    let k : (u *ℤ r) ≤ℤ (m *ℤ (den *ℤ C) -ℤ m *ℤ x) = omega (arith, linear, mul-subℤ m (den *ℤ C) x) in
     let a : m *ℤ (den *ℤ C) ≡ (den *ℤ m) *ℤ C = simp ring_laws in
     omega (arith, linear)
 
@@ -133,8 +133,8 @@ all_new m x s r den C y e h f =
 
 size-positive : (n i b : ℕ) (m : ℤ)
     → ((suc (i + b) < n) × (m ≡ pos (b + 2))) ⊎ ((suc (i + b) ≡ n) × (m ≡ pos (suc b))) → pos 1 ≤ℤ m
-size-positive n i b m (inl h) = let e = h.1 in omega (arith, ints)
-size-positive n i b m (inr h) = let e = h.1 in omega (arith, ints)
+size-positive n i b m (inl h) = omega (arith, ints)
+size-positive n i b m (inr h) = omega (arith, ints)
 
 -- the rate doesn't fall
 rate-rises : (n : ℕ) (c : ℕ → ℕ) (pay : ℕ → ℤ) (den : ℤ) (i b : ℕ) (rate m r : ℤ) → IsPart n c pay den i rate
@@ -142,8 +142,8 @@ rate-rises : (n : ℕ) (c : ℕ → ℕ) (pay : ℕ → ℤ) (den : ℤ) (i b : 
 rate-rises n c pay den i b rate m r p q = cases q.size
   where
     cases : ((suc (i + b) < n) × (m ≡ pos (b + 2))) ⊎ ((suc (i + b) ≡ n) × (m ≡ pos (suc b))) → (m *ℤ rate) ≤ℤ r
-    cases (inl h) = omega (arith, linear, p.room b h.0, ap (λ (z : ℤ). z *ℤ rate) h.1, q.rate)
-    cases (inr h) = omega (arith, linear, p.end b h.0, ap (λ (z : ℤ). z *ℤ rate) h.1, q.rate)
+    cases (inl h) = omega (arith, linear, p.room b h.0, ap (λ (z : ℤ). z *ℤ rate) h.1)
+    cases (inr h) = omega (arith, linear, p.end b h.0, ap (λ (z : ℤ). z *ℤ rate) h.1)
 
 pub IsPart-next : (n : ℕ) (c : ℕ → ℕ) (pay : ℕ → ℤ) (den : ℤ) (i b : ℕ) (rate m r : ℤ) (more : ℕ → ℤ)
     → IsPart n c pay den i rate → IsNext n c pay den i b m r → ((j : ℕ) → j < i → more j ≡ m *ℤ pay j)
@@ -181,7 +181,7 @@ IsPart-next n c pay den i b rate m r more p q before block = record {
     bottom : pos 0 ≤ℤ r
     bottom =
         let z = mul-nonnegativeℤ m rate (omega (arith, linear, factor_positive)) p.bottom in
-        omega (arith, linear, z, rise)
+        omega (arith, linear, rise)
 
     whole : sum_below (i + suc b) more ≡ m *ℤ sum_below i pay +ℤ pos (suc b) *ℤ r
     whole =
@@ -198,15 +198,15 @@ IsPart-next n c pay den i b rate m r more p q before block = record {
     up_before : (k : ℕ) → k < i → more k ≤ℤ r
     up_before k lt =
         let z = mul-leℤ m (pay k) rate (omega (arith, linear, factor_positive)) (p.up k lt) in
-        omega (arith, linear, z, rise, before k lt)
+        omega (arith, linear, rise, before k lt)
 
     rising : (j k : ℕ) → j < k → (j < i) ⊎ ((d : ℕ) × (d < suc b) × (j ≡ i + d))
         → (k < i) ⊎ ((d : ℕ) × (d < suc b) × (k ≡ i + d)) → more j ≤ℤ more k
     rising j k lt (inl a) (inl e) =
         let z = mul-leℤ m (pay j) (pay k) (omega (arith, linear, factor_positive)) (p.rises j k lt e) in
-        omega (arith, linear, z, before j a, before k e)
+        omega (arith, linear, before j a, before k e)
     rising j k lt (inl a) (inr e) = rw (e.2, block e.0 e.1) (up_before j a)
-    rising j k lt (inr a) (inl e) = absurd (omega (arith, a.2))
+    rising j k lt (inr a) (inl e) = absurd (omega arith)
     rising j k lt (inr a) (inr e) = rw (a.2, e.2, block a.0 a.1, block e.0 e.1) (omega (arith, ints))
 
     under_before : (k : ℕ) → k < i → suc k < n → (sum_below (suc k) more +ℤ more k) ≤ℤ ((den *ℤ m) *ℤ pos (c k))
@@ -226,7 +226,7 @@ IsPart-next n c pay den i b rate m r more p q before block = record {
         under_new m (sum_below i pay) (pos (suc d)) (pos (d + 2)) r den (pos (c (i + d)))
         (sum_below (suc (i + d)) more) (omega (arith, ints)) t (q.inner d (omega arith)) in
         let bl = block d lt in
-        rw e (omega (arith, linear, z, bl))
+        rw e (omega (arith, linear))
 
     tight_at : (k : ℕ) → suc k < i + suc b → more k <ℤ more (suc k) → (suc k < i) ⊎ ((suc k ≡ i) ⊎ (i < suc k))
         → sum_below (suc k) more +ℤ more k ≡ (den *ℤ m) *ℤ pos (c k)
@@ -234,20 +234,20 @@ IsPart-next n c pay den i b rate m r more p q before block = record {
         let s = sum-scaled i pay more m before (suc k) (omega arith) in
         let bk = before k (omega arith) in
         let bs = before (suc k) less in
-        let up_before = times_down m (pay k) (pay (suc k)) factor_positive (omega (arith, linear, up, bk, bs)) in
+        let up_before = times_down m (pay k) (pay (suc k)) factor_positive (omega (arith, linear)) in
         rw (s, bk) (tight_scaled m (sum_below (suc k) pay) (pay k) den (pos (c k)) (p.tight k less up_before))
     tight_at k lt up (inr (inl same)) =
         let s = sum-scaled i pay more m before (suc k) (omega arith) in
         let bk = before k (omega arith) in
-        let here = p.here k same (let w = q.within in omega arith) in
+        let here = p.here k same (omega arith) in
         let x : sum_below i pay ≡ sum_below (suc k) pay = ap (λ (j : ℕ). sum_below j pay) (sym same) in
         rw (s, bk)
         (tight_scaled m (sum_below (suc k) pay) (pay k) den (pos (c k))
-        (omega (arith, linear, here, x, p.last k same)))
+        (omega (arith, linear, p.last k same)))
     tight_at k lt up (inr (inr past)) =
         let u = in_block k (omega arith) (omega arith) in
         let v = in_block (suc k) (omega arith) lt in
-        absurd (omega (arith, ints, u, v))
+        absurd (omega (arith, ints))
       where
         in_block : (j : ℕ) → i ≤ j → j < i + suc b → more j ≡ r
         in_block j le h =
@@ -260,8 +260,8 @@ IsPart-next n c pay den i b rate m r more p q before block = record {
       where
         inner_size : ((suc (i + b) < n) × (m ≡ pos (b + 2))) ⊎ ((suc (i + b) ≡ n) × (m ≡ pos (suc b)))
             → m ≡ pos (suc b) +ℤ pos 1
-        inner_size (inl h) = let e = h.1 in omega (arith, ints)
-        inner_size (inr h) = absurd (omega (arith, h.0))
+        inner_size (inl h) = omega (arith, ints)
+        inner_size (inr h) = absurd (omega arith)
 
     all_at : (k : ℕ) → k ≡ i + b → i + suc b ≡ n → sum_below n more ≡ (den *ℤ m) *ℤ pos (c k)
     all_at k e f =
@@ -271,7 +271,7 @@ IsPart-next n c pay den i b rate m r more p q before block = record {
       where
         outer_size : ((suc (i + b) < n) × (m ≡ pos (b + 2))) ⊎ ((suc (i + b) ≡ n) × (m ≡ pos (suc b)))
             → m ≡ pos (suc b)
-        outer_size (inl h) = absurd (omega (arith, h.0))
+        outer_size (inl h) = absurd (omega arith)
         outer_size (inr h) = h.1
 
 pub IsScheme-whole : (n : ℕ) (c : ℕ → ℕ) (pay : ℕ → ℤ) (den : ℤ) (rate : ℤ) → IsPart n c pay den n rate

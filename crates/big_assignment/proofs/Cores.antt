@@ -1,7 +1,7 @@
 -- Shares at which the pairs of a matching get exactly their worth, and the others nothing, are in the core.
 use Rattle.std.proofs.Common.{◌≡◌, ℕ, zero, suc, ◌+◌, ◌*◌, ◌^◌, ◌<◌, ◌≤◌, Bool}
 use Rattle.std.proofs.Common.{true, false, cond, List, length, ℤ}
-use Rattle.std.proofs.Common.{pos, ◌+ℤ◌, ◌*ℤ◌, ◌<ℤ◌, ◌≤ℤ◌, refl, sym, ap, subst, ◌∙◌}
+use Rattle.std.proofs.Common.{pos, ◌+ℤ◌, ◌*ℤ◌, ◌<ℤ◌, refl, sym, ap, ◌∙◌}
 use Rattle.std.proofs.Common.{arith, if◌then◌else◌}
 use Rattle.definitions.specs.Coalitions.{has_player, grand_coalition, sum_over}
 use Rattle.definitions.specs.Games.{Allocation, share, amount, InCore, Blocks}
@@ -65,15 +65,15 @@ grand_optimal rows v h =
 
 no_block : (a b d : ℕ) (den : ℤ) → den ≡ pos d → d * b ≤ a → (pos a <ℤ (den *ℤ pos b)) → ⊥
 no_block a b d den e le lt =
-    let g : pos a <ℤ pos (d * b) = subst (λ (z : ℤ). pos a <ℤ (z *ℤ pos b)) e lt in
-    omega (arith, linear, g, le)
+    let g : pos a <ℤ pos (d * b) = rw e at lt in
+    omega (arith, linear)
 
 pub paid_core : (rows : List (List ℤ)) (ps : List (ℕ × ℕ)) (x : Allocation) (d : ℕ) (f : ℕ → ℕ) → 1 ≤ d
     → IsWhole (count_of rows) x d f → PairsGet (entries_of rows) (length rows) (seller_count rows) d f
     → IsMatching (length rows) (all_of (count_of rows)) ps
     → IsPaid (entries_of rows) (length rows) d f (all_of (count_of rows)) ps → InCore (assignment_game rows) x
 paid_core rows ps x d f some h get m paid = (
-  (h.length_is, subst (λ (z : ℤ). pos 1 ≤ℤ z) (sym h.den) (omega (arith, linear, some))),
+  (h.length_is, rw h.den (omega (arith, linear))),
   efficient,
   stable,
 )
@@ -101,5 +101,5 @@ paid_core rows ps x d f some h get m paid = (
         prices_bound (entries_of rows) (length rows) (seller_count rows) d f (has_player t) g.reached.0 get
         (λ k e. has_player-within n t k lt e) g.reached.1 in
         let e = ap (λ (v : ℕ). d * v) g.reached.2 in
-        no_block (sum_where n (has_player t) f) (worth_of rows t) d x.den h.den (omega (arith, le, e))
-        (subst (λ (z : ℤ). z <ℤ (x.den *ℤ pos (worth_of rows t))) (amount_whole n x d f t h) b)
+        no_block (sum_where n (has_player t) f) (worth_of rows t) d x.den h.den (omega arith)
+        (rw (amount_whole n x d f t h) at b)

@@ -29,7 +29,7 @@ use Rattle.definitions.proofs.Casts.{pos-le}
 
 pub whole_of : (z : ℤ) → pos 0 ≤ℤ z → z ≡ pos (unsigned_abs z)
 whole_of (pos n) h = refl
-whole_of (negsuc n) h = absurd (omega (arith, linear, h))
+whole_of (negsuc n) h = absurd (omega (arith, linear))
 
 le_of_not : (a b : ℤ) → ¬ (a <ℤ b) → b ≤ℤ a
 le_of_not a b h = grind (arith, linear)
@@ -44,7 +44,7 @@ amount_over : (rows : List (List ℤ)) (y : Allocation) (s : ℕ) → InCore (as
 amount_over rows y s core = ap (λ (l : ℕ). sum_over l (share y) s) core.0.0
 
 den_positive : (rows : List (List ℤ)) (y : Allocation) → InCore (assignment_game rows) y → pos 0 ≤ℤ y.den
-den_positive rows y core = (let a = core.0.1 in omega (arith, linear, a))
+den_positive rows y core = omega (arith, linear)
 
 -- no player gets less than nothing
 pub not_negative : (rows : List (List ℤ)) (y : Allocation) (k : ℕ) → InCore (assignment_game rows) y
@@ -56,8 +56,8 @@ not_negative rows y k core lt =
     mul-nonnegativeℤ y.den (pos (worth_of rows (singleton k))) (den_positive rows y core)
     (omega (arith, linear)) in
     let f : (y.den *ℤ pos (worth_of rows (singleton k))) ≤ℤ share y k =
-    subst (λ (a : ℤ). (y.den *ℤ pos (worth_of rows (singleton k))) ≤ℤ a) e g in
-    omega (arith, linear, z, f)
+    rw e at g in
+    omega (arith, linear)
 
 abbrev pub den_of : Allocation → ℕ
 den_of y = unsigned_abs y.den
@@ -80,7 +80,7 @@ pair_worth : (rows : List (List ℤ)) (i j : ℕ) → i < length rows → j < se
     × (entries_of rows i j ≤ worth_of rows (singleton i + 2 ^ (length rows + j)))
 pair_worth rows i j il jl =
     let b = length rows in
-    let apart : b + j ≢ i = λ e. omega (arith, e, il) in
+    let apart : b + j ≢ i = λ e. omega arith in
     let lacks = has_player-singleton_other i (b + j) apart in
     let within =
     more-lt (count_of rows) (singleton i) (b + j) (singleton-within (count_of rows) i (omega arith))
@@ -91,7 +91,7 @@ pair_worth rows i j il jl =
     let best =
     (worth_optimal (entries_of rows) b (seller_count rows) (singleton i + 2 ^ (b + j)) within).greatest
     ((i, j) ∷ []) (il, has_row, has_column, tt) in
-    (within, lacks, omega (arith, best))
+    (within, lacks, omega arith)
 
 whole_pair : (rows : List (List ℤ)) (y : Allocation) (i j : ℕ) → InCore (assignment_game rows) y → i < length rows
     → j < seller_count rows → den_of y * entries_of rows i j ≤ whole_share y i + whole_share y (length rows + j)
@@ -107,18 +107,16 @@ whole_pair rows y i j core il jl =
     let si = w.shares i (omega arith) in
     let sj = w.shares (b + j) (omega arith) in
     let h : (pos (den_of y) *ℤ pos (worth_of rows t)) ≤ℤ (pos (whole_share y i) +ℤ pos (whole_share y (b + j))) =
-    subst (λ (z : ℤ). (z *ℤ pos (worth_of rows t)) ≤ℤ (pos (whole_share y i) +ℤ pos (whole_share y (b + j)))) w.den
-    (subst (λ (z : ℤ). (y.den *ℤ pos (worth_of rows t)) ≤ℤ (pos (whole_share y i) +ℤ z)) sj
-    (subst (λ (z : ℤ). (y.den *ℤ pos (worth_of rows t)) ≤ℤ (z +ℤ share y (b + j))) si
-    (subst (λ (z : ℤ). (y.den *ℤ pos (worth_of rows t)) ≤ℤ z) e g))) in
+    rw (sj, w.den) at (subst (λ (z : ℤ). (y.den *ℤ pos (worth_of rows t)) ≤ℤ (z +ℤ share y (b + j))) si
+    (subst (λ (z : ℤ). (y.den *ℤ pos (worth_of rows t)) ≤ℤ z) e g)) in
     times_at_most (den_of y) (entries_of rows i j) (worth_of rows t) (whole_share y i) (whole_share y (b + j)) p.2 h
   where
     times_at_most : (d m v a b : ℕ) → m ≤ v → (pos d *ℤ pos v) ≤ℤ (pos a +ℤ pos b) → d * m ≤ a + b
     times_at_most d m v a b le h =
         let k : d * m ≤ d * v = mul-le-mul (omega arith) le in
         let f : pos (d * v) ≤ℤ (pos a +ℤ pos b) = h in
-        let z : d * v ≤ a + b = omega (arith, linear, f) in
-        omega (arith, k, z)
+        let z : d * v ≤ a + b = omega (arith, linear) in
+        omega arith
 
 -- all get the worth of all
 whole_all : (rows : List (List ℤ)) (y : Allocation) → InCore (assignment_game rows) y
@@ -149,7 +147,7 @@ core_paid rows ps y m best core =
     whole_all rows y core
     ∙ ap (λ (v : ℕ). den_of y * v) (grand_optimal rows (matching_value (entries_of rows) ps) best) in
     squeezed (entries_of rows) (length rows) (seller_count rows) (den_of y) (whole_share y) (all_of (count_of rows))
-    ps (core_gets rows y core) (all_among (count_of rows)) m (omega (arith, total))
+    ps (core_gets rows y core) (all_among (count_of rows)) m (omega arith)
 
 pub core_at : (rows : List (List ℤ)) (f mate : ℕ → ℕ) (y : Allocation)
     → IsSupport (entries_of rows) (length rows) (seller_count rows) f mate → InCore (assignment_game rows) y
@@ -170,12 +168,12 @@ core_at rows f mate y s core =
       alone = λ i il ge. q.rest i (has_player-grand_coalition n i (omega arith))
           (pairs_from-all (λ p. (i ≢ p.0) × (i ≢ b + p.1)) mate c 0 b
           (λ l x z lt. (
-            (λ e. (let same = ap mate e in omega (arith, same, ge, lt))),
-            (λ e. omega (arith, e, il)),
+            (λ e. omega (arith, ap mate e)),
+            (λ e. omega arith),
           )));
       unsold = λ j jl none. q.rest (b + j) (has_player-grand_coalition n (b + j) (omega arith))
           (pairs_from-all (λ p. (b + j ≢ p.0) × (b + j ≢ b + p.1)) mate c 0 b
-          (λ l x z lt. ((λ e. omega (arith, e, z)), (λ e. none l (omega (arith, z)) (omega (arith, e))))));
+          (λ l x z lt. ((λ e. omega arith), (λ e. none l (omega arith) (omega arith)))));
     }
 
 -- ---- two allocations, player by player
@@ -191,7 +189,7 @@ less_whole n d e k x y f g a b lt le =
     le_from_pos (g k * d) (f k * e) (rw (a.den, b.den, a.shares k lt, b.shares k lt) at le)
   where
     le_from_pos : (v w : ℕ) → pos v ≤ℤ pos w → v ≤ w
-    le_from_pos v w le = omega (arith, linear, le)
+    le_from_pos v w le = omega (arith, linear)
 
 -- ---- best for a side
 
@@ -210,4 +208,4 @@ best_for rows side x f mate s whole least = (
 )
   where
     swapped : (v w d : ℕ) → v ≤ d * w → v * 1 ≤ w * d
-    swapped v w d le = (let e : w * d ≡ d * w = omega arith in omega (arith, e, le))
+    swapped v w d le = (let e : w * d ≡ d * w = omega arith in omega arith)

@@ -7,12 +7,12 @@ abbrev pub AreFew : ℕ → ℕ → Type 0
 AreFew p q = (1 ≤ p) × (p ≤ 32) × (1 ≤ q) × (q ≤ 32)
 
 pub buyers_fail : (p : ℕ) → (p < 1) ⊎ ((1 ≤ p) × (32 < p)) → (q : ℕ) → ¬ AreFew p q
-buyers_fail p (inl few) q h = omega (arith, h.0, few)
-buyers_fail p (inr many) q h = omega (arith, h.1, many.1)
+buyers_fail p (inl few) q h = omega arith
+buyers_fail p (inr many) q h = omega arith
 
 pub sellers_fail : (p q : ℕ) → (q < 1) ⊎ ((1 ≤ q) × (32 < q)) → ¬ AreFew p q
-sellers_fail p q (inl few) h = omega (arith, h.2, few)
-sellers_fail p q (inr many) h = omega (arith, h.3, many.1)
+sellers_fail p q (inl few) h = omega arith
+sellers_fail p q (inr many) h = omega arith
 
 -- what passes the tests is a market
 pub market_made : (rows : List (List ℤ)) (p q : ℕ) → AreTested AreFew rows p q → IsMarket rows

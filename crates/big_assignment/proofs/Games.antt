@@ -19,8 +19,8 @@ use Rattle.matrices.proofs.Rows.{entries-outside, entries-small}
 
 pub market_laws : (rows : List (List ℤ)) → IsMarket rows → IsGame (assignment_game rows)
 market_laws rows m = record {
-  some = (let p = m.players.0 in omega (arith, p));
-  few = (let p = m.players.1 in let q = m.players.3 in omega (arith, p, q));
+  some = omega arith;
+  few = omega arith;
   nobody =
       ap pos
       (same_optimal (entries_of rows) (length rows) (has_player 0)
@@ -31,8 +31,8 @@ market_laws rows m = record {
   small = λ s lt.
       (let a =
       optimal_value-few (entries_of rows) (2 ^ 40) (length rows) (seller_count rows)
-      (λ i j. (let k = entries-small rows i j m.entries in omega (arith, k))) (length rows) (has_player s) in
-      let few = m.players.1 in omega (arith, a, few));
+      (λ i j. omega (arith, entries-small rows i j m.entries)) (length rows) (has_player s) in
+      omega arith);
 }
 
 -- ---- the table of the offers of members
@@ -43,11 +43,9 @@ pub table_of_members : (m : Offers) (rows : List (List ℤ)) (s : ℕ) → IsMar
 table_of_members m rows s k h = record {
   rows_few = k.players.1;
   columns_few = k.players.3;
-  inside =
-      λ i j il jl. (let fr = k.players.1 in let fc = k.players.3 in h i j (omega (arith, fr)) (omega (arith, fc)));
+  inside = λ i j il jl. (h i j (omega arith) (omega arith));
   beside = λ i j il ge jl.
-      (let fr = k.players.1 in
-      h i j (omega (arith, fr)) jl ∙ offers_none i j (entries-outside rows (seller_count rows) i j k.even (inr ge)));
+      (h i j (omega arith) jl ∙ offers_none i j (entries-outside rows (seller_count rows) i j k.even (inr ge)));
 }
   where
     offers_none : (i j : ℕ) → entries_of rows i j ≡ 0 → offered (entries_of rows) (length rows) s i j ≡ 0

@@ -1,7 +1,7 @@
 -- Least prices: raised only where a row would rather have another column, they stay below all others that leave
 -- each row content.
 use Rattle.std.proofs.Common.{◌≡◌, ℕ, ◌+◌, ◌*◌, ◌^◌, ◌<◌, ◌≤◌, List, slice_index, sym}
-use Rattle.std.proofs.Common.{ap, subst, inl, inr, arith}
+use Rattle.std.proofs.Common.{ap, inl, inr, arith}
 use Rattle.big_assignment.specs.declared.deal.Deal.{Deal}
 use Rattle.big_assignment.specs.Deals.{AreDealOffers, IsBelow, IsFair, IsGain, Meets, NoneWanted, at_prices}
 use Rattle.big_assignment.specs.Deals.{mate_of, offer_of, price_of}
@@ -12,10 +12,10 @@ use Rattle.definitions.proofs.Cases.{same_or_other}
 
 -- fair prices leave each row content
 pub fair_meets : (deal : Deal) (n : ℕ) → IsFair deal n → Meets deal n 1 (price_of deal)
-fair_meets deal n f i k il kl = (let a = f.covers i k il kl in let b = f.tight i il in omega (arith, a, b))
+fair_meets deal n f i k il kl = omega (arith, f.covers i k il kl, f.tight i il)
 
 pub below_none : (deal : Deal) (n : ℕ) (p : ℕ → ℕ) → ((k : ℕ) → k ≤ 32 → p k ≡ 0) → IsBelow deal n p
-below_none deal n p h d q meets k kl = (let e = ap (λ (z : ℕ). d * z) (h k kl) in omega (arith, e))
+below_none deal n p h d q meets k kl = (let e = ap (λ (z : ℕ). d * z) (h k kl) in omega arith)
 
 -- a column whose price is raised as far as its row wants, where its own costs what it costs at the prices p
 pub below_raised : (deal : Deal) (n : ℕ) (p r r' : ℕ → ℕ) (i k x : ℕ) → IsBelow deal n p → IsBelow deal n r → i < n
@@ -23,10 +23,10 @@ pub below_raised : (deal : Deal) (n : ℕ) (p r r' : ℕ → ℕ) (i k x : ℕ) 
     → x + offer_of deal i (mate_of deal i) ≡ offer_of deal i k + p (mate_of deal i) → IsPut r r' k x
     → IsBelow deal n r'
 below_raised deal n p r r' i k x h older il kl within e put d q meets l ll = elim (same_or_other l k) [
-  | inl same ↦ subst (λ (z : ℕ). d * r' z ≤ q z) (sym same) raised_below
+  | inl same ↦ rw same raised_below
   | inr other ↦
       (let f = ap (λ (z : ℕ). d * z) (put.elsewhere l other) in
-      let g = older d q meets l ll in omega (arith, f, g))
+      let g = older d q meets l ll in omega arith)
 ]
   where
     raised_below : d * r' k ≤ q k
@@ -37,42 +37,40 @@ below_raised deal n p r r' i k x h older il kl within e put d q meets l ll = eli
         let s = times-add d x (offer_of deal i (mate_of deal i)) in
         let t = times-add d (offer_of deal i k) (p (mate_of deal i)) in
         let v = ap (λ (z : ℕ). d * z) put.here in
-        omega (arith, a, b, c, s, t, v)
+        omega arith
 
 -- prices below all others are below fair ones
 pub below_fair : (deal : Deal) (n : ℕ) (q : ℕ → ℕ) → IsFair deal n → IsBelow deal n q → (k : ℕ) → k ≤ 32
     → q k ≤ price_of deal k
-below_fair deal n q f below k kl =
-    (let a = below 1 (price_of deal) (fair_meets deal n f) k kl in omega (arith, a))
+below_fair deal n q f below k kl = omega (arith, below 1 (price_of deal) (fair_meets deal n f) k kl)
 
 -- prices below fair ones that leave each row content are fair
 pub least_fair : (deal : Deal) (n : ℕ) (gains prices : List ℕ) → IsFair deal n → IsBelow deal n (slice_index prices)
     → Meets deal n 1 (slice_index prices) → IsGain deal n (slice_index prices) (slice_index gains)
     → IsFair (at_prices deal gains prices) n
 least_fair deal n gains prices f below meets gain = record {
-  covers = λ i k il kl. (let a = meets i k il kl in let b = gain.adds i il in omega (arith, a, b));
+  covers = λ i k il kl. (let a = meets i k il kl in let b = gain.adds i il in omega arith);
   tight = λ i il. sym (gain.adds i il);
   within = f.within;
   apart = f.apart;
   sold = λ k kl. elim (f.sold k kl) [
-    | inl none ↦ inl (let a = below_fair deal n (slice_index prices) f below k (omega arith) in omega (arith, a, none))
+    | inl none ↦ inl (let a = below_fair deal n (slice_index prices) f below k (omega arith) in omega arith)
     | inr held ↦ inr held
   ];
   free =
       (let a = below_fair deal n (slice_index prices) f below 32 (omega arith) in
-      let b = f.free in omega (arith, a, b));
+      omega arith);
 }
 
 pub below_small : (deal : Deal) (n : ℕ) (q : ℕ → ℕ) → AreDealOffers deal → n ≤ 32 → IsFair deal n → IsBelow deal n q
     → (k : ℕ) → k ≤ 32 → q k ≤ 2 ^ 40
 below_small deal n q o few f below k kl =
-    (let a = below_fair deal n q f below k kl in let b = fair_price deal n o few f k kl in omega (arith, a, b))
+    omega (arith, below_fair deal n q f below k kl, fair_price deal n o few f k kl)
 
 pub content_meets : (deal : Deal) (n : ℕ) (q : ℕ → ℕ) → ((i : ℕ) → i < n → NoneWanted deal q i) → Meets deal n 1 q
-content_meets deal n q h i k il kl = (let a = h i il k kl in omega (arith, a))
+content_meets deal n q h i k il kl = omega (arith, h i il k kl)
 
 pub gain_less : (deal : Deal) (n : ℕ) (q : ℕ → ℕ) → IsFair deal n → IsBelow deal n q → (i : ℕ) → i < n
     → q (mate_of deal i) ≤ offer_of deal i (mate_of deal i)
 gain_less deal n q f below i il =
-    (let a = below_fair deal n q f below (mate_of deal i) (f.within i il) in
-    let b = f.tight i il in omega (arith, a, b))
+    omega (arith, below_fair deal n q f below (mate_of deal i) (f.within i il), f.tight i il)

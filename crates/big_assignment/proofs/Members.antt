@@ -2,7 +2,7 @@
 -- the greatest for the coalition.
 use Rattle.std.proofs.Common.{◌≡◌, ◌⊎◌, ℕ, ◌+◌, ◌^◌, ◌<◌, Bool, true, false, cond}
 use Rattle.std.proofs.Common.{◌&&◌, List, [], ◌∷◌}
-use Rattle.std.proofs.Common.{refl, sym, ap, subst, ◌∙◌, inl, inr, arith, if◌then◌else◌}
+use Rattle.std.proofs.Common.{refl, sym, ap, ◌∙◌, inl, inr, arith, if◌then◌else◌}
 use Rattle.std.proofs.lemmas.Bool.{false≢true}
 use Rattle.definitions.specs.Classes.{Matrix, removed, IsMatching, matching_value}
 use Rattle.definitions.specs.Coalitions.{has_player}
@@ -39,7 +39,7 @@ value_of_members matrix rows s w (p ∷ ps) h m =
     let ih =
     value_of_members matrix rows s (removed (removed w p.0) (rows + p.1)) ps
     (λ j e. h j (removed-out w p.0 j (removed-out (removed w p.0) (rows + p.1) j e).0).0) m.3 in
-    omega (arith, here, ih)
+    omega arith
 
 -- the mates of members alone
 abbrev pub members_mate : ℕ → ℕ → ℕ → (ℕ → ℕ) → ℕ → ℕ
@@ -65,23 +65,22 @@ members_support : (matrix : Matrix) (rows columns s : ℕ) (x mate : ℕ → ℕ
 members_support matrix rows columns s x mate h = record {
   covers = h.covers;
   tight = λ i il lt. elim (member_cases matrix rows columns s mate i) [
-    | inl a ↦ subst (λ (k : ℕ). offered matrix rows s i k ≡ x i + x (rows + k)) (sym a.2)
-        (h.tight i il (let e = a.2 in omega (arith, e, lt)))
-    | inr a ↦ absurd (let e = a.0 in omega (arith, e, lt))
+    | inl a ↦ rw a.2 (h.tight i il (omega arith))
+    | inr a ↦ absurd (omega arith)
   ];
   alone = λ i il ge. elim (below_or_above (mate i) columns) [
     | inl lt ↦ elim (member_cases matrix rows columns s mate i) [
-      | inl a ↦ absurd (let e = a.2 in omega (arith, e, ge, lt))
-      | inr a ↦ (let t = h.tight i il lt in let z = a.1 in omega (arith, t, z))
+      | inl a ↦ absurd (omega arith)
+      | inr a ↦ omega (arith, h.tight i il lt)
     ]
     | inr none ↦ h.alone i il none
   ];
   apart = λ i l il ll e lt. elim (member_cases matrix rows columns s mate i) [
     | inl a ↦ elim (member_cases matrix rows columns s mate l) [
-      | inl b ↦ h.apart i l il ll (sym a.2 ∙ e ∙ b.2) (let f = a.2 in omega (arith, f, lt))
-      | inr b ↦ absurd (let f = b.0 in omega (arith, f, e, lt))
+      | inl b ↦ h.apart i l il ll (sym a.2 ∙ e ∙ b.2) (omega arith)
+      | inr b ↦ absurd (omega arith)
     ]
-    | inr a ↦ absurd (let f = a.0 in omega (arith, f, lt))
+    | inr a ↦ absurd (omega arith)
   ];
   sold = λ j jl. elim (h.sold j jl) [
     | inl none ↦ inl none
@@ -94,8 +93,8 @@ members_support matrix rows columns s x mate h = record {
     sold_by j jl i il e = elim (member_cases matrix rows columns s mate i) [
       | inl a ↦ inr (i, il, a.2 ∙ e)
       | inr a ↦ inl
-          (let t = h.tight i il (omega (arith, e, jl)) in
-          let z = a.1 in let f = ap (λ (k : ℕ). x (rows + k)) e in omega (arith, t, z, f))
+          (let t = h.tight i il (omega arith) in
+          let f = ap (λ (k : ℕ). x (rows + k)) e in omega arith)
     ]
 
 members_paired : (matrix : Matrix) (rows columns s : ℕ) (x mate : ℕ → ℕ)
@@ -105,11 +104,11 @@ members_paired matrix rows columns s x mate h = record {
   ends = omega arith;
   row = λ l a b lt. elim (member_cases matrix rows columns s mate l) [
     | inl c ↦ c.0
-    | inr c ↦ absurd (let e = c.0 in omega (arith, e, lt))
+    | inr c ↦ absurd (omega arith)
   ];
   column = λ l a b lt. elim (member_cases matrix rows columns s mate l) [
-    | inl c ↦ subst (λ (k : ℕ). has_player s (rows + k) ≡ true) (sym c.2) c.1
-    | inr c ↦ absurd (let e = c.0 in omega (arith, e, lt))
+    | inl c ↦ rw c.2 c.1
+    | inr c ↦ absurd (omega arith)
   ];
   apart = (members_support matrix rows columns s x mate h).apart;
 }
@@ -140,5 +139,5 @@ members_optimal matrix rows columns s x mate small h =
       greatest = λ ps m.
           (let a = most.greatest ps (matching-more rows (has_player s) (all_of n) ps within m) in
           let e = value_of_members matrix rows s (has_player s) ps (λ j e. e) m in
-          let b = own.1 in omega (arith, a, e, b));
+          omega arith);
     }

@@ -2,7 +2,7 @@
 -- pair of an optimal matching shares out the same worth.
 use Rattle.std.proofs.Common.{◌≡◌, ◌⊎◌, ℕ, ◌+◌, ◌*◌, ◌<◌, ◌≤◌, Bool, List, length}
 use Rattle.std.proofs.Common.{ℤ}
-use Rattle.std.proofs.Common.{◌*ℤ◌, ◌≤ℤ◌, ap, subst, inl, inr, arith}
+use Rattle.std.proofs.Common.{◌*ℤ◌, ◌≤ℤ◌, ap, inl, inr, arith}
 use Rattle.std.specs.List.{AllByRecursion}
 use Rattle.definitions.specs.Coalitions.{grand_coalition}
 use Rattle.definitions.specs.Games.{Allocation, share, InCore}
@@ -32,7 +32,7 @@ partner_less d e a u v u' v' h k le =
     let same : d * a * e ≡ e * a * d = omega arith in
     let s : (u + v) * e ≡ u * e + v * e = omega arith in
     let t : (u' + v') * d ≡ u' * d + v' * d = omega arith in
-    omega (arith, x, y, same, s, t, le)
+    omega arith
 
 -- what a pair of a matching gets at both points
 record BothGet (matrix : Matrix) (rows n d e : ℕ) (f g : ℕ → ℕ) (p : ℕ × ℕ) : Type 0 where
@@ -65,10 +65,10 @@ columns_less matrix rows n d e f g ps both x more k lt column =
     ]
   where
     paired : (p : ℕ × ℕ) → BothGet matrix rows n d e f g p → (k ≡ p.0) ⊎ (k ≡ rows + p.1) → f k * e ≤ g k * d
-    paired p b (inl row) = absurd (let a = b.within.0 in omega (arith, a, row, column))
+    paired p b (inl row) = absurd (omega arith)
     paired p b (inr same) = rw same
         (partner_less d e (entry matrix p.0 p.1) (f p.0) (f (rows + p.1)) (g p.0) (g (rows + p.1)) b.first b.second
-        (more p.0 (let a = b.within.0 in omega (arith, a, column, lt)) b.within.0))
+        (more p.0 (omega arith) b.within.0))
 
 rows_less : (matrix : Matrix) (rows n d e : ℕ) (f g : ℕ → ℕ) (ps : List (ℕ × ℕ)) → rows ≤ n
     → AllByRecursion (BothGet matrix rows n d e f g) ps → IsPaid matrix rows d f (all_of n) ps
@@ -80,10 +80,10 @@ rows_less matrix rows n d e f g ps few both x more i lt row =
     ]
   where
     paired : (p : ℕ × ℕ) → BothGet matrix rows n d e f g p → (i ≡ p.0) ⊎ (i ≡ rows + p.1) → f i * e ≤ g i * d
-    paired p b (inr column) = absurd (omega (arith, column, row))
+    paired p b (inr column) = absurd (omega arith)
     paired p b (inl same) = rw same
         (partner_less d e (entry matrix p.0 p.1) (f (rows + p.1)) (f p.0) (g (rows + p.1)) (g p.0)
-        (let h = b.first in omega (arith, h)) (let h = b.second in omega (arith, h))
+        (omega arith) (omega arith)
         (more (rows + p.1) b.within.1 (omega arith)))
 
 -- ---- the ends of the core
@@ -107,7 +107,7 @@ two_cores rows x y core_x core_y =
     let ps = g.reached.0 in
     let m = g.reached.1 in
     let best : IsOptimalAmong (entries_of rows) (length rows) (all_of n) (matching_value (entries_of rows) ps) =
-    subst (IsOptimalAmong (entries_of rows) (length rows) (all_of n)) g.reached.2 g in
+    rw g.reached.2 at g in
     let a = core_paid rows ps x m best core_x in
     let b = core_paid rows ps y m best core_y in
     record {

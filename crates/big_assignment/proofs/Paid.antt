@@ -36,7 +36,7 @@ pub paid_value : (matrix : Matrix) (rows columns d : ℕ) (x : ℕ → ℕ) (w :
     → AmongAll (rows + columns) w → IsMatching rows w ps → IsPaid matrix rows d x w ps
     → d * matching_value matrix ps ≡ sum_where (rows + columns) w x
 paid_value matrix rows columns d x w [] all m h =
-    let z = sum_where-zero (rows + columns) w x (λ k lt e. h.rest k e tt) in omega (arith, z)
+    let z = sum_where-zero (rows + columns) w x (λ k lt e. h.rest k e tt) in omega arith
 paid_value matrix rows columns d x w (p ∷ ps) all m h =
     let inside : rows + p.1 < rows + columns = all (rows + p.1) m.2 in
     let v = removed (removed w p.0) (rows + p.1) in
@@ -51,10 +51,9 @@ paid_value matrix rows columns d x w (p ∷ ps) all m h =
     } in
     let split =
     sum_where-pair (rows + columns) p.0 (rows + p.1) w x (all p.0 m.1) inside
-    (λ e. (let lt = m.0 in omega (arith, lt, e))) m.1 m.2 in
-    let here = h.tight.0 in
+    (λ e. omega arith) m.1 m.2 in
     let both = times-add d (entry matrix p.0 p.1) (matching_value matrix ps) in
-    omega (arith, ih, split, here, both)
+    omega arith
 
 -- where no pair gets less than its worth, and all no more than the matching is worth, each of its pairs gets
 -- exactly that and the others nothing
@@ -63,7 +62,7 @@ pub squeezed : (matrix : Matrix) (rows columns d : ℕ) (x : ℕ → ℕ) (w : �
     → sum_where (rows + columns) w x ≤ d * matching_value matrix ps → IsPaid matrix rows d x w ps
 squeezed matrix rows columns d x w [] get all m le = record {
   tight = tt;
-  rest = λ k e single. (let a = sum_where-member (rows + columns) k w x (all k e) e in omega (arith, a, le));
+  rest = λ k e single. omega (arith, sum_where-member (rows + columns) k w x (all k e) e);
 }
 squeezed matrix rows columns d x w (p ∷ ps) get all m le =
     let inside : rows + p.1 < rows + columns = all (rows + p.1) m.2 in
@@ -73,12 +72,12 @@ squeezed matrix rows columns d x w (p ∷ ps) get all m le =
     let bound = prices_bound matrix rows columns d x v ps get among m.3 in
     let split =
     sum_where-pair (rows + columns) p.0 (rows + p.1) w x (all p.0 m.1) inside
-    (λ e. (let lt = m.0 in omega (arith, lt, e))) m.1 m.2 in
-    let here = get p.0 p.1 m.0 (omega (arith, inside)) in
+    (λ e. omega arith) m.1 m.2 in
+    let here = get p.0 p.1 m.0 (omega arith) in
     let both = times-add d (entry matrix p.0 p.1) (matching_value matrix ps) in
-    let ih = squeezed matrix rows columns d x v ps get among m.3 (omega (arith, le, split, bound, here, both)) in
+    let ih = squeezed matrix rows columns d x v ps get among m.3 (omega arith) in
     let tight_here : d * entry matrix p.0 p.1 ≡ x p.0 + x (rows + p.1) =
-    omega (arith, le, split, bound, here, both) in
+    omega arith in
     record {
       tight = (tight_here, ih.tight);
       rest = λ k e single. ih.rest k
@@ -89,7 +88,7 @@ times-le_cancel : (d a b : ℕ) → 1 ≤ d → d * a ≤ d * b → a ≤ b
 times-le_cancel d a b some le = elim (below_or_above b a) [
   | inl less ↦ absurd
       (let m : d * (b + 1) ≤ d * a = mul-le-mul (omega arith) (omega arith) in
-      let s = times-add d b 1 in omega (arith, m, s, le, some))
+      let s = times-add d b 1 in omega arith)
   | inr ge ↦ ge
 ]
 
@@ -102,7 +101,7 @@ paid_optimal matrix rows columns d x w ps some get all m h = record {
   greatest = λ qs n.
       (let a = prices_bound matrix rows columns d x w qs get all n in
       let e = paid_value matrix rows columns d x w ps all m h in
-      times-le_cancel d (matching_value matrix qs) (matching_value matrix ps) some (omega (arith, a, e)));
+      times-le_cancel d (matching_value matrix qs) (matching_value matrix ps) some (omega arith));
 }
 
 -- a player is in no pair, or in one of which what is said of all pairs is said

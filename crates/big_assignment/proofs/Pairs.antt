@@ -1,7 +1,7 @@
 -- The pairs of mates, row by row: they are a matching, with their rows ascending, and what is said of all pairs is
 -- said of each row with a mate.
-use Rattle.std.proofs.Common.{◌≡◌, ℕ, zero, suc, ◌+◌, ◌<◌, ◌≤◌, Bool, true, sym}
-use Rattle.std.proofs.Common.{ap, subst, inl, inr, arith}
+use Rattle.std.proofs.Common.{◌≡◌, ℕ, zero, suc, ◌+◌, ◌<◌, ◌≤◌, Bool, true}
+use Rattle.std.proofs.Common.{ap, inl, inr, arith}
 use Rattle.std.specs.List.{AllByRecursion}
 use Rattle.definitions.specs.Classes.{removed, IsMatching}
 use Rattle.big_assignment.specs.Mates.{pairs_from, AreAscending}
@@ -18,7 +18,7 @@ pub record Paired (rows columns : ℕ) (mate : ℕ → ℕ) (w : ℕ → Bool) (
 pub paired_alone : (rows columns : ℕ) (mate : ℕ → ℕ) (w : ℕ → Bool) (i k : ℕ) → Paired rows columns mate w i (suc k)
     → Paired rows columns mate w (suc i) k
 paired_alone rows columns mate w i k h = record {
-  ends = (let e = h.ends in omega (arith, e));
+  ends = omega arith;
   row = λ l a b c. h.row l (omega arith) (omega arith) c;
   column = λ l a b c. h.column l (omega arith) (omega arith) c;
   apart = h.apart;
@@ -27,14 +27,13 @@ paired_alone rows columns mate w i k h = record {
 pub paired_more : (rows columns : ℕ) (mate : ℕ → ℕ) (w : ℕ → Bool) (i k : ℕ) → Paired rows columns mate w i (suc k)
     → mate i < columns → Paired rows columns mate (removed (removed w i) (rows + mate i)) (suc i) k
 paired_more rows columns mate w i k h lt = record {
-  ends = (let e = h.ends in omega (arith, e));
+  ends = omega arith;
   row = λ l a b c.
-      (let e = h.ends in
-      removed-in (removed w i) (rows + mate i) l (λ s. omega (arith, s, e, a, b))
-      (removed-in w i l (λ s. omega (arith, s, a)) (h.row l (omega arith) (omega arith) c)));
-  column = λ l a b c. (let e = h.ends in removed-in (removed w i) (rows + mate i) (rows + mate l)
-      (λ s. (let same = h.apart l i (omega arith) (omega arith) (omega (arith, s)) c in omega (arith, same, a)))
-      (removed-in w i (rows + mate l) (λ s. omega (arith, s, e)) (h.column l (omega arith) (omega arith) c)));
+      (removed-in (removed w i) (rows + mate i) l (λ s. omega arith)
+      (removed-in w i l (λ s. omega arith) (h.row l (omega arith) (omega arith) c)));
+  column = λ l a b c. (removed-in (removed w i) (rows + mate i) (rows + mate l)
+      (λ s. omega (arith, h.apart l i (omega arith) (omega arith) (omega arith) c))
+      (removed-in w i (rows + mate l) (λ s. omega arith) (h.column l (omega arith) (omega arith) c)));
   apart = h.apart;
 }
 
@@ -44,7 +43,7 @@ pairs_match rows columns mate w i zero h = tt
 pairs_match rows columns mate w i (suc k) h = elim (below_or_above (mate i) columns) [
   | inl lt ↦
       rw (nat_lt-less (mate i) columns lt) (
-        (let e = h.ends in omega (arith, e)),
+        (omega arith),
         h.row i (omega arith) (omega arith) lt,
         h.column i (omega arith) (omega arith) lt,
         pairs_match rows columns mate (removed (removed w i) (rows + mate i)) (suc i) k
@@ -78,11 +77,11 @@ pairs_from-each P mate columns i (suc k) h l a b c = elim (below_or_above (mate 
       (let both : P (i, mate i) × AllByRecursion P (pairs_from mate columns (suc i) k) =
       rw (nat_lt-less (mate i) columns lt) at h in
       elim (same_or_other l i) [
-        | inl same ↦ subst (λ (m : ℕ). P (m, mate m)) (sym same) both.0
+        | inl same ↦ rw same both.0
         | inr other ↦ pairs_from-each P mate columns (suc i) k both.1 l (omega arith) (omega arith) c
       ])
   | inr ge ↦ elim (same_or_other l i) [
-    | inl same ↦ absurd (let e = ap mate same in omega (arith, e, c, ge))
+    | inl same ↦ absurd (omega (arith, ap mate same))
     | inr other ↦ pairs_from-each P mate columns (suc i) k (rw (nat_lt-past (mate i) columns ge) at h) l
         (omega arith) (omega arith) c
   ]

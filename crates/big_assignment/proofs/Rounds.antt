@@ -1,7 +1,7 @@
 -- Rounds in which each row has its turn: in each, one price more gets as high as the least one at which each row is
 -- content. So there are at most as many rounds as places.
 use Rattle.std.proofs.Common.{◌≡◌, ◌≢◌, ◌⊎◌, ℕ, zero, suc, ◌+◌, ◌-◌, ◌<◌, ◌≤◌, nat_eq, if◌then◌else◌}
-use Rattle.std.proofs.Common.{refl, sym, subst, ◌∙◌, inl, inr, arith}
+use Rattle.std.proofs.Common.{refl, subst, ◌∙◌, inl, inr, arith}
 use Rattle.definitions.proofs.Cases.{same_or_other, less_or_last, last_or_less_of, below_or_above}
 use Rattle.definitions.proofs.Cases.{nat_eq-same, nat_eq-other}
 use Rattle.big_assignment.specs.declared.deal.Deal.{Deal}
@@ -20,44 +20,44 @@ search_below P Q test (suc n) = elim (search_below P Q test n) [
   | inl all ↦ elim (test n) [
     | inl here ↦ inl (λ k lt. elim (less_or_last k n lt) [
       | inl less ↦ all k less
-      | inr same ↦ subst P (sym same) here
+      | inr same ↦ rw same here
     ])
     | inr found ↦ inr (n, omega arith, found)
   ]
-  | inr (k, lt, found) ↦ inr (k, omega (arith, lt), found)
+  | inr (k, lt, found) ↦ inr (k, omega arith, found)
 ]
 
 total_more : (n : ℕ) (f g : ℕ → ℕ) → ((k : ℕ) → k < n → f k ≤ g k) → total_below n f ≤ total_below n g
 total_more zero f g h = omega arith
 total_more (suc n) f g h =
-    let rest = total_more n f g (λ k lt. h k (omega (arith, lt))) in
+    let rest = total_more n f g (λ k lt. h k (omega arith)) in
     let last = h n (omega arith) in
-    omega (arith, rest, last)
+    omega arith
 
 total_less : (n : ℕ) (f g : ℕ → ℕ) (j : ℕ) → ((k : ℕ) → k < n → f k ≤ g k) → j < n → f j < g j
     → total_below n f < total_below n g
-total_less zero f g j h lt less = absurd (omega (arith, lt))
+total_less zero f g j h lt less = absurd (omega arith)
 total_less (suc n) f g j h lt less = elim (less_or_last j n lt) [
   | inl before ↦
-      let rest = total_less n f g j (λ k lt. h k (omega (arith, lt))) before less in
+      let rest = total_less n f g j (λ k lt. h k (omega arith)) before less in
       let last = h n (omega arith) in
-      omega (arith, rest, last)
+      omega arith
   | inr same ↦
-      let rest = total_more n f g (λ k lt. h k (omega (arith, lt))) in
-      let last : f n < g n = subst (λ (k : ℕ). f k < g k) same less in
-      omega (arith, rest, last)
+      let rest = total_more n f g (λ k lt. h k (omega arith)) in
+      let last : f n < g n = rw same at less in
+      omega arith
 ]
 
 total_none : (n : ℕ) (f : ℕ → ℕ) → total_below n f ≡ 0 → (k : ℕ) → k < n → f k ≡ 0
-total_none zero f e k lt = absurd (omega (arith, lt))
+total_none zero f e k lt = absurd (omega arith)
 total_none (suc n) f e k lt = elim (less_or_last k n lt) [
-  | inl before ↦ total_none n f (omega (arith, e)) k before
-  | inr same ↦ subst (λ (j : ℕ). f j ≡ 0) (sym same) (omega (arith, e))
+  | inl before ↦ total_none n f (omega arith) k before
+  | inr same ↦ rw same (omega arith)
 ]
 
 total_few : (n : ℕ) (f : ℕ → ℕ) → ((k : ℕ) → f k ≤ 1) → total_below n f ≤ n
 total_few zero f h = omega arith
-total_few (suc n) f h = (let rest = total_few n f h in let last = h n in omega (arith, rest, last))
+total_few (suc n) f h = omega (arith, total_few n f h, h n)
 
 -- ---- how many prices are not yet as high as others
 
@@ -72,21 +72,21 @@ differ-other a b ne = rw (nat_eq-other a b ne) refl
 
 differ-few : (a b : ℕ) → differ a b ≤ 1
 differ-few a b = elim (same_or_other a b) [
-  | inl same ↦ (let e = differ-same a b same in omega (arith, e))
-  | inr other ↦ (let e = differ-other a b other in omega (arith, e))
+  | inl same ↦ omega (arith, differ-same a b same)
+  | inr other ↦ omega (arith, differ-other a b other)
 ]
 
 from_differ : (a b : ℕ) → differ a b ≡ 0 → a ≡ b
 from_differ a b e = elim (same_or_other a b) [
   | inl same ↦ same
-  | inr other ↦ (let one = differ-other a b other in absurd (omega (arith, e, one)))
+  | inr other ↦ absurd (omega (arith, differ-other a b other))
 ]
 
 -- a number between two differs from the greater only where the lesser does
 differ-between : (a c b : ℕ) → a ≤ c → c ≤ b → differ c b ≤ differ a b
 differ-between a c b low high = elim (same_or_other a b) [
-  | inl same ↦ (let e = differ-same c b (omega (arith, same, low, high)) in omega (arith, e))
-  | inr other ↦ (let e = differ-other a b other in let few = differ-few c b in omega (arith, e, few))
+  | inl same ↦ omega (arith, differ-same c b (omega arith))
+  | inr other ↦ omega (arith, differ-other a b other, differ-few c b)
 ]
 
 unfoldable pub unsettled : (ℕ → ℕ) → (ℕ → ℕ) → ℕ
@@ -98,8 +98,7 @@ unsettled_few p q = total_few 33 (λ k. differ (p k) (q k)) (λ k. differ-few (p
 
 pub settled : (p q : ℕ → ℕ) → unsettled p q ≡ 0 → (k : ℕ) → k ≤ 32 → p k ≡ q k
 unfolding unsettled
-settled p q e k kl =
-    from_differ (p k) (q k) (total_none 33 (λ k. differ (p k) (q k)) e k (omega (arith, kl)))
+settled p q e k kl = from_differ (p k) (q k) (total_none 33 (λ k. differ (p k) (q k)) e k (omega arith))
 
 -- ---- there are least prices
 
@@ -142,11 +141,10 @@ unfolding room
 room_less deal p p' k x put lt more le =
     total_less 33 (λ l. price_of deal l - p' l) (λ l. price_of deal l - p l) k
     (λ l ll. elim (same_or_other l k) [
-      | inl same ↦ subst (λ (j : ℕ). price_of deal j - p' j ≤ price_of deal j - p j) (sym same)
-          (let here = put.here in omega (arith, here, more))
-      | inr other ↦ (let e = put.elsewhere l other in omega (arith, e))
+      | inl same ↦ rw same (omega arith)
+      | inr other ↦ omega (arith, put.elsewhere l other)
     ])
-    lt (let here = put.here in omega (arith, here, more, le))
+    lt (omega arith)
 
 abbrev pub AreLeastPrices : Deal → ℕ → (ℕ → ℕ) → Type 0
 AreLeastPrices deal n q = IsBelow deal n q × Meets deal n 1 q
@@ -155,18 +153,17 @@ AreLeastPrices deal n q = IsBelow deal n q × Meets deal n 1 q
 least_or_more : (deal : Deal) (n : ℕ) (p : ℕ → ℕ) → IsFair deal n → IsBelow deal n p
     → AreLeastPrices deal n p ⊎ ((p' : ℕ → ℕ) × IsBelow deal n p' × (room deal p' < room deal p))
 least_or_more deal n p f below = elim (wanted_or_none deal n p) [
-  | inl none ↦ inl (below, λ i k il kl. (let h = none i il k (omega (arith, kl)) in omega (arith, h)))
+  | inl none ↦ inl (below, λ i k il kl. omega (arith, none i il k (omega arith)))
   | inr (i, il, (k, lt, wanted)) ↦
       let x = offer_of deal i k + p (mate_of deal i) - offer_of deal i (mate_of deal i) in
       let price : x + offer_of deal i (mate_of deal i) ≡ offer_of deal i k + p (mate_of deal i) =
-      omega (arith, wanted) in
+      omega arith in
       let put = replaced_put p k x in
       let lower =
-      below_raised deal n p p (replaced p k x) i k x below below il (omega (arith, lt)) (f.within i il) price put in
-      let most = below_fair deal n (replaced p k x) f lower k (omega (arith, lt)) in
-      let here = put.here in
+      below_raised deal n p p (replaced p k x) i k x below below il (omega arith) (f.within i il) price put in
+      let most = below_fair deal n (replaced p k x) f lower k (omega arith) in
       let less =
-      room_less deal p (replaced p k x) k x put lt (omega (arith, wanted, price)) (omega (arith, most, here)) in
+      room_less deal p (replaced p k x) k x put lt (omega arith) (omega arith) in
       inr (replaced p k x, lower, less)
 ]
 
@@ -174,11 +171,11 @@ least_from : (deal : Deal) (n fuel : ℕ) (p : ℕ → ℕ) → IsFair deal n �
     → (q : ℕ → ℕ) × AreLeastPrices deal n q
 least_from deal n zero p f below enough = elim (least_or_more deal n p f below) [
   | inl least ↦ (p, least)
-  | inr (p', lower, less) ↦ absurd (omega (arith, enough, less))
+  | inr (p', lower, less) ↦ absurd (omega arith)
 ]
 least_from deal n (suc fuel) p f below enough = elim (least_or_more deal n p f below) [
   | inl least ↦ (p, least)
-  | inr (p', lower, less) ↦ least_from deal n fuel p' f lower (omega (arith, enough, less))
+  | inr (p', lower, less) ↦ least_from deal n fuel p' f lower (omega arith)
 ]
 
 -- ---- a turn
@@ -198,19 +195,17 @@ module _ (deal : Deal) (n i k : ℕ) (p r : ℕ → ℕ) (kl : k ≤ 32) (turn :
   turn_raised x r' f below il price more put = record {
     below = below_raised deal n p r r' i k x below turn.below il kl (f.within i il) price put;
     more = λ j jl. elim (same_or_other j k) [
-      | inl same ↦ subst (λ (l : ℕ). p l ≤ r' l) (sym same) (let here = put.here in omega (arith, here, more))
-      | inr other ↦ (let e = put.elsewhere j other in let h = turn.more j jl in omega (arith, e, h))
+      | inl same ↦ rw same (omega arith)
+      | inr other ↦ (let e = put.elsewhere j other in let h = turn.more j jl in omega arith)
     ];
     rest = λ j lower jl.
-        put.elsewhere j (λ (same : j ≡ k). omega (arith, same, lower)) ∙ turn.rest j (omega (arith, lower)) jl;
+        put.elsewhere j (λ (same : j ≡ k). omega arith) ∙ turn.rest j (omega arith) jl;
     content = λ j lt. elim (last_or_less_of j k lt) [
       | inl same ↦
-          subst
-          (λ (l : ℕ). offer_of deal i l + p (mate_of deal i) ≤ offer_of deal i (mate_of deal i) + r' l) (sym same)
-          (let here = put.here in omega (arith, here, price))
+          rw same (omega arith)
       | inr before ↦
-          (let e = put.elsewhere j (λ (same : j ≡ k). omega (arith, same, before)) in
-          let h = turn.content j before in omega (arith, e, h))
+          (let e = put.elsewhere j (λ (same : j ≡ k). omega arith) in
+          let h = turn.content j before in omega arith)
     ];
   }
 
@@ -220,12 +215,10 @@ module _ (deal : Deal) (n i k : ℕ) (p r : ℕ → ℕ) (kl : k ≤ 32) (turn :
   turn_passed enough = record {
     below = turn.below;
     more = turn.more;
-    rest = λ j lower jl. turn.rest j (omega (arith, lower)) jl;
+    rest = λ j lower jl. turn.rest j (omega arith) jl;
     content = λ j lt. elim (last_or_less_of j k lt) [
       | inl same ↦
-          subst
-          (λ (l : ℕ). offer_of deal i l + p (mate_of deal i) ≤ offer_of deal i (mate_of deal i) + r l) (sym same)
-          (let here = turn.rest k (omega arith) kl in omega (arith, here, enough))
+          rw same (omega (arith, turn.rest k (omega arith) kl))
       | inr before ↦ turn.content j before
     ];
   }
@@ -240,10 +233,10 @@ module _ (deal : Deal) (n : ℕ) (p p' q : ℕ → ℕ) (low : IsBelow deal n q)
   lowered k = q k - differ (p k) (q k)
 
   not_lowered : (k : ℕ) → p k ≡ q k → lowered k ≡ q k
-  not_lowered k e = (let none = differ-same (p k) (q k) e in omega (arith, none))
+  not_lowered k e = omega (arith, differ-same (p k) (q k) e)
 
   lowered_by_one : (k : ℕ) → p k ≢ q k → lowered k ≡ q k - 1
-  lowered_by_one k ne = (let one = differ-other (p k) (q k) ne in omega (arith, one))
+  lowered_by_one k ne = omega (arith, differ-other (p k) (q k) ne)
 
   -- where a round settles none, they leave each row content
   lowered_meet : ((k : ℕ) → k < 33 → (p k ≡ q k) ⊎ (p' k ≢ q k)) → Meets deal n 1 lowered
@@ -258,20 +251,20 @@ module _ (deal : Deal) (n : ℕ) (p p' q : ℕ → ℕ) (low : IsBelow deal n q)
       elim (same_or_other (p k) (q k)) [
         | inl same ↦
             let here = not_lowered k same in
-            omega (arith, h, here)
+            omega arith
         | inr other ↦
             let here = lowered_by_one k other in
             elim (same_or_other (p m) (q m)) [
               | inl own_same ↦
                   let own = not_lowered m own_same in
                   let c = content i il k kl in
-                  elim (none k (omega (arith, kl))) [
+                  elim (none k (omega arith)) [
                     | inl same ↦ absurd (other same)
-                    | inr not_yet ↦ omega (arith, here, own, own_same, c, not_yet, le)
+                    | inr not_yet ↦ omega arith
                   ]
               | inr own_other ↦
                   let own = lowered_by_one m own_other in
-                  omega (arith, h, here, own, own_other, up_own, le_own, other, up, le)
+                  omega arith
             ]
       ]
 
@@ -280,20 +273,19 @@ module _ (deal : Deal) (n : ℕ) (p p' q : ℕ → ℕ) (low : IsBelow deal n q)
   unfolding unsettled
   settles = elim (search_below (λ k. (p k ≡ q k) ⊎ (p' k ≢ q k)) (λ k. (p k ≢ q k) × (p' k ≡ q k)) newly 33) [
     | inr (k, lt, (other, same)) ↦ inr
-        (let was = differ-other (p k) (q k) other in
-        let is = differ-same (p' k) (q k) same in
-        total_less 33 (λ k. differ (p' k) (q k)) (λ k. differ (p k) (q k)) k still lt (omega (arith, was, is)))
+        (total_less 33 (λ k. differ (p' k) (q k)) (λ k. differ (p k) (q k)) k still lt
+        (omega (arith, differ-other (p k) (q k) other, differ-same (p' k) (q k) same)))
     | inl none ↦ elim (search_below (λ k. differ (p k) (q k) ≡ 0) (λ k. p k ≢ q k) settled_or_not 33) [
       | inl all ↦ inl
           (all_none 33 (λ k. differ (p' k) (q k))
-          (λ k lt. let none = all k lt in let less = still k lt in omega (arith, none, less)))
+          (λ k lt. let none = all k lt in let less = still k lt in omega arith))
       | inr (k, lt, other) ↦
-          let kl : k ≤ 32 = omega (arith, lt) in
+          let kl : k ≤ 32 = omega arith in
           let h = low 1 lowered (lowered_meet none) k kl in
           let here = lowered_by_one k other in
           let up = more k kl in
           let le = less k kl in
-          absurd (omega (arith, h, here, other, up, le))
+          absurd (omega arith)
     ]
   ]
     where
@@ -307,7 +299,7 @@ module _ (deal : Deal) (n : ℕ) (p p' q : ℕ → ℕ) (low : IsBelow deal n q)
       ]
 
       still : (k : ℕ) → k < 33 → differ (p' k) (q k) ≤ differ (p k) (q k)
-      still k lt = differ-between (p k) (p' k) (q k) (more k (omega (arith, lt))) (less k (omega (arith, lt)))
+      still k lt = differ-between (p k) (p' k) (q k) (more k (omega arith)) (less k (omega arith))
 
       settled_or_not : (k : ℕ) → (differ (p k) (q k) ≡ 0) ⊎ (p k ≢ q k)
       settled_or_not k = elim (same_or_other (p k) (q k)) [
@@ -318,14 +310,14 @@ module _ (deal : Deal) (n : ℕ) (p p' q : ℕ → ℕ) (low : IsBelow deal n q)
       all_none : (n : ℕ) (f : ℕ → ℕ) → ((k : ℕ) → k < n → f k ≡ 0) → total_below n f ≡ 0
       all_none zero f h = refl
       all_none (suc n) f h =
-          let rest = all_none n f (λ k lt. h k (omega (arith, lt))) in
+          let rest = all_none n f (λ k lt. h k (omega arith)) in
           let last = h n (omega arith) in
-          omega (arith, rest, last)
+          omega arith
 
 -- prices below all that leave each row content are at most the least ones
 pub below_least : (deal : Deal) (n : ℕ) (p q : ℕ → ℕ) → IsBelow deal n p → Meets deal n 1 q → (k : ℕ) → k ≤ 32
     → p k ≤ q k
-below_least deal n p q below meets k kl = (let h = below 1 q meets k kl in omega (arith, h))
+below_least deal n p q below meets k kl = omega (arith, below 1 q meets k kl)
 
 -- after so many rounds as there are places each row is content
 pub content_at_last : (deal : Deal) (n : ℕ) (p : ℕ → ℕ) → IsFair deal n → IsBelow deal n p
@@ -333,9 +325,5 @@ pub content_at_last : (deal : Deal) (n : ℕ) (p : ℕ → ℕ) → IsFair deal 
     → NoneWanted deal p i
 content_at_last deal n p f below left i il within k kl =
     let (q, least) = least_from deal n (room deal p) p f below (omega arith) in
-    let none = left q least in
-    let same = settled p q (omega (arith, none)) in
-    let here = same k kl in
-    let own = same (mate_of deal i) within in
-    let h = least.1 i k il kl in
-    omega (arith, here, own, h)
+    let same = settled p q (omega (arith, left q least)) in
+    omega (arith, same k kl, same (mate_of deal i) within, least.1 i k il kl)

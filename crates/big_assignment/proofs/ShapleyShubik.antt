@@ -1,7 +1,7 @@
 -- What supports a matching is the core (Shapley and Shubik 1971).
 use Rattle.std.proofs.Common.{◌≡◌, ℕ, ◌+◌, ◌*◌, ◌<◌, ◌≤◌, List, length, ℤ, pos}
 use Rattle.std.proofs.Common.{◌+ℤ◌, ◌*ℤ◌}
-use Rattle.std.proofs.Common.{◌≤ℤ◌, unsigned_abs, ap, subst, ◌∙◌, arith}
+use Rattle.std.proofs.Common.{◌≤ℤ◌, unsigned_abs, ap, ◌∙◌, arith}
 use Rattle.definitions.specs.Games.{Allocation, share, InCore}
 use Rattle.definitions.specs.Classes.{IsMatching, matching_value, entry}
 use Rattle.definitions.proofs.Alls.{all_with}
@@ -21,47 +21,49 @@ use Rattle.big_assignment.proofs.Ends.{den_of, whole_share, whole_of, not_negati
 use Rattle.big_assignment.proofs.Ends.{core_whole, core_gets, core_paid}
 
 some_den : (z : ℤ) → pos 1 ≤ℤ z → 1 ≤ unsigned_abs z
-some_den z h = one_at_least (unsigned_abs z) (subst (λ (y : ℤ). pos 1 ≤ℤ y) (whole_of z (omega (arith, linear, h))) h)
+some_den z h = one_at_least (unsigned_abs z) (rw (whole_of z (omega (arith, linear))) at h)
   where
     one_at_least : (m : ℕ) → pos 1 ≤ℤ pos m → 1 ≤ m
-    one_at_least m h = omega (arith, linear, h)
+    one_at_least m h = omega (arith, linear)
 
 supports_whole : (rows : List (List ℤ)) (ps : List (ℕ × ℕ)) (x : Allocation) → Supports rows ps x
     → IsWhole (count_of rows) x (den_of x) (whole_share x)
 supports_whole rows ps x h = record {
   length_is = h.allocation.0;
-  den = whole_of x.den (let a = h.allocation.1 in omega (arith, linear, a));
+  den = whole_of x.den (omega (arith, linear));
   shares = λ k lt. whole_of (share x k) (h.some k lt);
 }
 
 -- what a pair gets, in natural numbers
 pair_enough : (n d i j m : ℕ) (x : Allocation) (f : ℕ → ℕ) → IsWhole n x d f → i < n → j < n
     → (x.den *ℤ pos m) ≤ℤ (share x i +ℤ share x j) → d * m ≤ f i + f j
-pair_enough n d i j m x f h il jl le = at_most_sum (d * m) (f i) (f j) (rw (h.den, h.shares i il, h.shares j jl) at le)
+pair_enough n d i j m x f h il jl le =
+    at_most_sum (d * m) (f i) (f j) (rw (h.den, h.shares i il, h.shares j jl) at le)
   where
     at_most_sum : (v a b : ℕ) → pos v ≤ℤ (pos a +ℤ pos b) → v ≤ a + b
-    at_most_sum v a b le = omega (arith, linear, le)
+    at_most_sum v a b le = omega (arith, linear)
 
 pair_exact : (n d i j m : ℕ) (x : Allocation) (f : ℕ → ℕ) → IsWhole n x d f → i < n → j < n
     → x.den *ℤ pos m ≡ share x i +ℤ share x j → d * m ≡ f i + f j
 pair_exact n d i j m x f h il jl e = is_sum (d * m) (f i) (f j) (rw (h.den, h.shares i il, h.shares j jl) at e)
   where
     is_sum : (v a b : ℕ) → pos v ≡ pos a +ℤ pos b → v ≡ a + b
-    is_sum v a b e = omega (arith, linear, e)
+    is_sum v a b e = omega (arith, linear)
 
 enough_pair : (n d i j m : ℕ) (x : Allocation) (f : ℕ → ℕ) → IsWhole n x d f → i < n → j < n → d * m ≤ f i + f j
     → (x.den *ℤ pos m) ≤ℤ (share x i +ℤ share x j)
-enough_pair n d i j m x f h il jl le = rw (h.den, h.shares i il, h.shares j jl) (pos-at_most_sum (d * m) (f i) (f j) le)
+enough_pair n d i j m x f h il jl le =
+    rw (h.den, h.shares i il, h.shares j jl) (pos-at_most_sum (d * m) (f i) (f j) le)
   where
     pos-at_most_sum : (v a b : ℕ) → v ≤ a + b → pos v ≤ℤ (pos a +ℤ pos b)
-    pos-at_most_sum v a b le = omega (arith, linear, le)
+    pos-at_most_sum v a b le = omega (arith, linear)
 
 exact_pair : (n d i j m : ℕ) (x : Allocation) (f : ℕ → ℕ) → IsWhole n x d f → i < n → j < n → d * m ≡ f i + f j
     → x.den *ℤ pos m ≡ share x i +ℤ share x j
 exact_pair n d i j m x f h il jl e = rw (h.den, h.shares i il, h.shares j jl) (pos-is_sum (d * m) (f i) (f j) e)
   where
     pos-is_sum : (v a b : ℕ) → v ≡ a + b → pos v ≡ pos a +ℤ pos b
-    pos-is_sum v a b e = omega (arith, linear, e)
+    pos-is_sum v a b e = omega (arith, linear)
 
 supports_gets : (rows : List (List ℤ)) (ps : List (ℕ × ℕ)) (x : Allocation) → Supports rows ps x
     → PairsGet (entries_of rows) (length rows) (seller_count rows) (den_of x) (whole_share x)
@@ -86,7 +88,7 @@ supports_paid rows ps x m h =
     record {
       tight = all_with (IsWithin (length rows) n) (IsExact rows x) (IsTight rows x) ps
           (λ p a e. pair_exact n (den_of x) p.0 (length rows + p.1) (entries_of rows p.0 p.1) x (whole_share x)
-          (supports_whole rows ps x h) (let lt = a.0 in omega (arith, lt)) a.1 e)
+          (supports_whole rows ps x h) (omega arith) a.1 e)
           (pairs_within (length rows) n (all_of n) ps (all_among n) m) h.exact;
       rest = λ k e single. ap unsigned_abs (h.nothing k (all_among n k e) single);
     }
@@ -106,7 +108,7 @@ core_supports rows ps x m best core =
           (omega arith) (omega arith) (core_gets rows x core i j il jl);
       exact = all_with (IsWithin (length rows) n) (IsTight rows x) (IsExact rows x) ps
           (λ p a e. exact_pair n (den_of x) p.0 (length rows + p.1) (entries_of rows p.0 p.1) x (whole_share x) w
-          (let lt = a.0 in omega (arith, lt)) a.1 e)
+          (omega arith) a.1 e)
           (pairs_within (length rows) n (all_of n) ps (all_among n) m) paid.tight;
       nothing =
           λ k lt single. (let e = paid.rest k (has_player-grand_coalition n k lt) single in w.shares k lt ∙ ap pos e);

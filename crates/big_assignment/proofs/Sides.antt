@@ -2,7 +2,7 @@
 -- mate, so the least such prices are no higher, and each row gets the most.
 use Rattle.std.proofs.Common.{◌≡◌, ◌≢◌, ℕ, ◌+◌, ◌*◌, ◌<◌, ◌≤◌, nat_lt, List, slice_index}
 use Rattle.std.proofs.Common.{refl, ap}
-use Rattle.std.proofs.Common.{subst, ◌∙◌, inl, inr, arith, if◌then◌else◌}
+use Rattle.std.proofs.Common.{◌∙◌, inl, inr, arith, if◌then◌else◌}
 use Rattle.definitions.specs.Classes.{Matrix}
 use Rattle.big_assignment.specs.declared.deal.Deal.{Deal}
 use Rattle.big_assignment.specs.Deals.{IsBelow, IsFair, IsOutside, IsTurned, Meets, at_prices, mate_of, offer_of}
@@ -43,12 +43,12 @@ buyers_meet deal matrix rows columns d y t c i k il kl = elim (below_or_above (m
         let g = times_offer k inside in
         let v = only-inside columns (λ j. y (rows + j)) (mate_of deal i) mated in
         let w = only-inside columns (λ j. y (rows + j)) k inside in
-        omega (arith, a, b, e, g, v, w))
+        omega arith)
     | inr outside ↦ (let a = c.tight i il mated in
         let e = times_offer (mate_of deal i) mated in
         let g = times-zero d (offer_of deal i k) (t.beside i k il outside kl) in
         let v = only-inside columns (λ j. y (rows + j)) (mate_of deal i) mated in
-        omega (arith, a, e, g, v))
+        omega arith)
   ]
   | inr alone ↦
       (let v = only-outside columns (λ j. y (rows + j)) (mate_of deal i) alone in
@@ -56,9 +56,9 @@ buyers_meet deal matrix rows columns d y t c i k il kl = elim (below_or_above (m
         | inl inside ↦
             (let b = c.get i k il inside in let g = times_offer k inside in
             let w = only-inside columns (λ j. y (rows + j)) k inside in
-            omega (arith, b, g, v, w, z))
+            omega arith)
         | inr outside ↦
-            (let g = times-zero d (offer_of deal i k) (t.beside i k il outside kl) in omega (arith, g, v))
+            (let g = times-zero d (offer_of deal i k) (t.beside i k il outside kl) in omega arith)
       ])
 ]
   where
@@ -80,8 +80,8 @@ buyers_best deal matrix rows columns d v q y t g below c i il = elim (below_or_a
       let m = times-same d (offer_of deal i k) (matrix i k) (t.inside i k il mated) in
       let s = times-add d (slice_index v i) (slice_index q k) in
       let o = only-inside columns (λ j. y (rows + j)) k mated in
-      omega (arith, a, b, e, m, s, o))
-  | inr alone ↦ (let z = c.alone i il alone in omega (arith, z))
+      omega arith)
+  | inr alone ↦ omega (arith, c.alone i il alone)
 ]
 
 -- a deal t with rows and columns exchanged
@@ -91,25 +91,21 @@ module _ (deal : Deal) (matrix : Matrix) (rows columns d : ℕ) (t : Deal) (y : 
   -- what column j asks of row k
   asked : (j k : ℕ) → j < columns → k < rows → d * offer_of t j k ≡ d * matrix k j
   asked j k jl lt =
-      (let fr = b.rows_few in
-      let fc = b.columns_few in
-      times-same d (offer_of t j k) (matrix k j)
-      (h.offers j k (omega (arith, fc)) (omega (arith, fr)) ∙ b.inside k j lt jl))
+      (times-same d (offer_of t j k) (matrix k j)
+      (h.offers j k (omega arith) (omega arith) ∙ b.inside k j lt jl))
 
   asked_beside : (j k : ℕ) → j < columns → rows ≤ k → k ≤ 32 → d * offer_of t j k ≡ 0
-  asked_beside j k jl ge kl = (let fc = b.columns_few in elim (below_or_above k 32) [
+  asked_beside j k jl ge kl = (elim (below_or_above k 32) [
     | inl lt ↦ times-zero d (offer_of t j k)
-        (h.offers j k (omega (arith, fc)) lt ∙ out k j lt (omega (arith, fc)) (inl ge))
+        (h.offers j k (omega arith) lt ∙ out k j lt (omega arith) (inl ge))
     | inr last ↦ times-zero d (offer_of t j k)
-        (let e : k ≡ 32 = omega arith in ap (offer_of t j) e ∙ h.none j (omega (arith, fc)))
+        (let e : k ≡ 32 = omega arith in ap (offer_of t j) e ∙ h.none j (omega arith))
   ])
 
   -- what the row that has column j gets, beside what the column gets
   holder_tight : (j : ℕ) → j < columns → mate_of t j < rows → mate_of deal (mate_of t j) ≡ j
       → d * matrix (mate_of t j) j ≡ y (mate_of t j) + y (rows + j)
-  holder_tight j jl lt e =
-      subst (λ (z : ℕ). d * matrix (mate_of t j) z ≡ y (mate_of t j) + y (rows + z)) e
-      (c.tight (mate_of t j) lt (omega (arith, e, jl)))
+  holder_tight j jl lt e = rw e at (c.tight (mate_of t j) lt (omega arith))
 
   pub sellers_meet : Meets t columns d (only_below rows y)
   sellers_meet j k jl kl = elim (h.holds j jl) [
@@ -128,40 +124,38 @@ module _ (deal : Deal) (matrix : Matrix) (rows columns d : ℕ) (t : Deal) (y : 
             | inl inside ↦
                 (let g = c.get k j inside jl in
                 let s = asked j k jl inside in
-                let w = only-inside rows y k inside in omega (arith, a, own, o, g, s, w))
-            | inr outside ↦ (let s = asked_beside j k jl outside kl in omega (arith, a, own, o, s))
+                let w = only-inside rows y k inside in omega arith)
+            | inr outside ↦ (let s = asked_beside j k jl outside kl in omega arith)
           ]
 
       without : mate_of t j ≡ 32 → ((l : ℕ) → l < rows → mate_of deal l ≢ j)
           → d * offer_of t j k + only_below rows y (mate_of t j)
           ≤ d * offer_of t j (mate_of t j) + only_below rows y k
       without e none =
-          let fr = b.rows_few in
           let z = c.unsold j jl none in
-          let o = only-outside rows y (mate_of t j) (omega (arith, e, fr)) in
+          let o = only-outside rows y (mate_of t j) (omega arith) in
           elim (below_or_above k rows) [
             | inl inside ↦
                 (let g = c.get k j inside jl in
                 let s = asked j k jl inside in
-                let w = only-inside rows y k inside in omega (arith, z, o, g, s, w))
-            | inr outside ↦ (let s = asked_beside j k jl outside kl in omega (arith, o, s))
+                let w = only-inside rows y k inside in omega arith)
+            | inr outside ↦ (let s = asked_beside j k jl outside kl in omega arith)
           ]
 
   pub sellers_best : (v q : List ℕ) → IsFair (at_prices t v q) columns → IsBelow t columns (slice_index q)
       → (j : ℕ) → j < columns → y (rows + j) ≤ d * slice_index v j
   sellers_best v q g below j jl = elim (h.holds j jl) [
     | inl held ↦ sold held.0 held.1
-    | inr none ↦ (let z = c.unsold j jl none.1 in omega (arith, z))
+    | inr none ↦ omega (arith, c.unsold j jl none.1)
   ]
     where
       sold : mate_of t j < rows → mate_of deal (mate_of t j) ≡ j → y (rows + j) ≤ d * slice_index v j
       sold lt e =
-          let fr = b.rows_few in
           let i = mate_of t j in
           let a = holder_tight j jl lt e in
           let own = asked j i jl lt in
-          let under = below d (only_below rows y) sellers_meet i (omega (arith, fr, lt)) in
+          let under = below d (only_below rows y) sellers_meet i (omega arith) in
           let o = only-inside rows y i lt in
           let s = times-same d (offer_of t j i) (slice_index v j + slice_index q i) (g.tight j jl) in
           let r = times-add d (slice_index v j) (slice_index q i) in
-          omega (arith, a, own, under, o, s, r)
+          omega arith

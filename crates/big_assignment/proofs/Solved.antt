@@ -66,9 +66,8 @@ pub turned_deal : (d : Deal) (rows : List (List ℤ)) (r c : ℕ) (t : Deal) →
     → IsTurned d r c t → IsFair t c
 turned_deal d rows r c t k h f er ec turned =
     let g : IsTurned d (length rows) (seller_count rows) t =
-    subst (λ (z : ℕ). IsTurned d (length rows) z t) ec (subst (λ (z : ℕ). IsTurned d z c t) er turned) in
-    subst (λ (z : ℕ). IsFair t z) (sym ec)
-    (turned_fair d (length rows) (seller_count rows) t g k.players.1 k.players.3
+    rw (er, ec) at turned in
+    rw ec (turned_fair d (length rows) (seller_count rows) t g k.players.1 k.players.3
     (all_outside (offer_of d) rows k h) f)
 
 -- sizes of the exchanged payoffs
@@ -77,7 +76,7 @@ pub turned_small : (t : Deal) (r c n k : ℕ) → AreDealOffers t → r ≤ 32 �
 turned_small t r c n k o few fc e f lt = elim (below_or_above k r) [
   | inl row ↦
       (let a = fair_price t c o fc f k (omega arith) in
-      let b = payoff-row r (price_of t) (gain_of t) k row in omega (arith, a, b))
+      let b = payoff-row r (price_of t) (gain_of t) k row in omega arith)
   | inr ge ↦ rw (nat_lt-past k r ge) (fair_gain t c o fc f (k - r) (omega arith))
 ]
 
@@ -92,16 +91,15 @@ buyers_end d rows r n v q x k h er en g below whole =
     let b = length rows in
     let c = seller_count rows in
     let t = table_of_all (offer_of d) rows k h in
-    let fair : IsFair (at_prices d v q) b = subst (λ (z : ℕ). IsFair (at_prices d v q) z) er g in
-    let under : IsBelow d b (slice_index q) = subst (λ (z : ℕ). IsBelow d z (slice_index q)) er below in
+    let fair : IsFair (at_prices d v q) b = rw er at g in
+    let under : IsBelow d b (slice_index q) = rw er at below in
     let w : IsWhole (b + c) x 1 (payoff b (slice_index v) (slice_index q)) =
-    subst (λ (z : ℕ). IsWhole (b + c) x 1 (payoff z (slice_index v) (slice_index q))) er
-    (subst (λ (z : ℕ). IsWhole z x 1 (payoff r (slice_index v) (slice_index q))) en whole) in
+    rw (en, er) at whole in
     best_for rows (IsBuyer b) x (payoff b (slice_index v) (slice_index q)) (mate_of d)
     (fair_supports (at_prices d v q) (entries_of rows) b c t fair) w
     (λ e y core i lt of_side.
     (let a = buyers_best d (entries_of rows) b c e v q y t fair under core i of_side in
-    subst (λ (z : ℕ). y i ≤ e * z) (sym (payoff-row b (slice_index v) (slice_index q) i of_side)) a))
+    rw (payoff-row b (slice_index v) (slice_index q) i of_side) a))
 
 pub sellers_end : (d : Deal) (rows : List (List ℤ)) (r c n : ℕ) (t : Deal) (v q : List ℕ) (x : Allocation)
     → IsMarket rows → IsTableOfAll (offer_of d) rows → IsFair d (length rows) → r ≡ length rows
@@ -149,8 +147,7 @@ pairs_end d rows r c pairs value k h f er ec e worth =
     record {
       matched = pairs_from (mate_of d) s 0 b;
       same =
-          subst (λ (z : ℕ). pairs ≡ player_pairs b (pairs_from (mate_of d) z 0 b)) ec
-          (subst (λ (z : ℕ). pairs ≡ player_pairs z (pairs_from (mate_of d) c 0 z)) er e);
+          rw (er, ec) at e;
       matching = both.0;
       ascending = pairs_ascend (mate_of d) s 0 b 0 (omega arith);
       worth = worth ∙ ap pos best;
@@ -165,5 +162,5 @@ value_kept rows s z k e is =
     let n = length rows + seller_count rows in
     let at : z ≡ (assignment_game rows).worth (grand_coalition n) = is ∙ ap (assignment_game rows).worth e in
     let small = (market_laws rows k).small (grand_coalition n) (grand_coalition-within n) in
-    let size : unsigned_abs z < 2 ^ 63 = (let f = ap unsigned_abs at in omega (arith, small, f)) in
+    let size : unsigned_abs z < 2 ^ 63 = (let f = ap unsigned_abs at in omega arith) in
     to_z-of_z (fits_signed_from_abs w64 z size) ∙ at

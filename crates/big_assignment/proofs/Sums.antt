@@ -1,8 +1,8 @@
 -- Sums over those that pass a test, and the bound that prices give: where each pair gets together at least what it
 -- is worth, no matching is worth more than its members get.
 use Rattle.std.proofs.Common.{◌≡◌, ◌≢◌, ℕ, zero, suc, ◌+◌, ◌*◌, ◌<◌, ◌≤◌, Bool}
-use Rattle.std.proofs.Common.{true, false, cond, List, []}
-use Rattle.std.proofs.Common.{◌∷◌, refl, sym, ap, subst, ◌∙◌, inl, inr, arith, if◌then◌else◌}
+use Rattle.std.proofs.Common.{true, List, []}
+use Rattle.std.proofs.Common.{◌∷◌, refl, sym, ap, ◌∙◌, inl, inr, arith, if◌then◌else◌}
 use Rattle.definitions.specs.Classes.{Matrix, removed, IsMatching, matching_value, entry}
 use Rattle.definitions.proofs.Cases.{same_or_other, nat_eq-same, nat_eq-other}
 use Rattle.assignment_games.proofs.Matchings.{removed-in, removed-out}
@@ -21,7 +21,7 @@ pub sum_where-removed : (n k : ℕ) (w : ℕ → Bool) (f : ℕ → ℕ) → k <
     → sum_where n w f ≡ sum_where n (removed w k) f + f k
 sum_where-removed zero k w f h e = absurd (omega arith)
 sum_where-removed (suc n) k w f h e = elim (same_or_other k n) [
-  | inl same ↦ subst (λ (m : ℕ). sum_where (suc n) w f ≡ sum_where (suc n) (removed w m) f + f m) (sym same)
+  | inl same ↦ rw same
       (rw (nat_eq-same n, ap w (sym same) ∙ e, sum_where-apart n n w f (omega arith)) (omega arith))
   | inr other ↦ rw (nat_eq-other n k (λ s. other (sym s)), sum_where-removed n k w f (omega arith) e) (omega arith)
 ]
@@ -31,11 +31,7 @@ pub sum_where-zero : (n : ℕ) (w : ℕ → Bool) (f : ℕ → ℕ) → ((k : �
     → sum_where n w f ≡ 0
 sum_where-zero zero w f h = refl
 sum_where-zero (suc n) w f h =
-    let ih = sum_where-zero n w f (λ k lt e. h k (omega arith) e) in nothing_more (w n) (f n) (h n (omega arith)) ih
-  where
-    nothing_more : (b : Bool) (x : ℕ) → (b ≡ true → x ≡ 0) → sum_where n w f ≡ 0 → sum_where n w f + cond b x 0 ≡ 0
-    nothing_more true x g ih = let e = g refl in omega arith
-    nothing_more false x g ih = omega arith
+    let ih = sum_where-zero n w f (λ k lt e. h k (omega arith) e) in grind (arith, h n (omega arith))
 
 -- one of the members has no more than all
 pub sum_where-member : (n k : ℕ) (w : ℕ → Bool) (f : ℕ → ℕ) → k < n → w k ≡ true → f k ≤ sum_where n w f
@@ -59,7 +55,7 @@ pub sum_where-pair : (n i j : ℕ) (w : ℕ → Bool) (f : ℕ → ℕ) → i < 
 sum_where-pair n i j w f il jl ne wi wj =
     let a = sum_where-removed n i w f il wi in
     let b = sum_where-removed n j (removed w i) f jl (removed-in w i j (λ e. ne (sym e)) wj) in
-    omega (arith, a, b)
+    omega arith
 
 pub times-add : (d a b : ℕ) → d * (a + b) ≡ d * a + d * b
 times-add d a b = omega arith
@@ -78,7 +74,7 @@ prices_bound matrix rows columns d x w (p ∷ ps) get all m =
     m.3 in
     let split =
     sum_where-pair (rows + columns) p.0 (rows + p.1) w x (all p.0 m.1) inside
-    (λ e. (let lt = m.0 in omega (arith, lt, e))) m.1 m.2 in
-    let here = get p.0 p.1 m.0 (omega (arith, inside)) in
+    (λ e. omega arith) m.1 m.2 in
+    let here = get p.0 p.1 m.0 (omega arith) in
     let both = times-add d (entry matrix p.0 p.1) (matching_value matrix ps) in
-    omega (arith, ih, split, here, both)
+    omega arith

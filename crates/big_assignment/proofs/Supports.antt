@@ -1,7 +1,7 @@
 -- What a pair of sides gets: fair prices support a matching, and so they bound every other, and are in the core.
 use Rattle.std.proofs.Common.{◌≡◌, ◌≢◌, ◌⊎◌, ℕ, ◌+◌, ◌*◌, ◌-◌, ◌<◌, ◌≤◌, Bool}
 use Rattle.std.proofs.Common.{List, slice_index, refl}
-use Rattle.std.proofs.Common.{sym, ap, subst, ◌∙◌, inl, inr, arith}
+use Rattle.std.proofs.Common.{sym, ap, ◌∙◌, inl, inr, arith}
 use Rattle.definitions.specs.Coalitions.{has_player, grand_coalition}
 use Rattle.definitions.specs.Classes.{Matrix, IsMatching, matching_value, entry}
 use Rattle.definitions.proofs.Masks.{grand_coalition-within}
@@ -10,7 +10,7 @@ use Rattle.big_assignment.specs.Supports.{IsSingle}
 use Rattle.assignment_games.specs.Values.{IsOptimalAmong}
 use Rattle.big_assignment.specs.Mates.{pairs_from, payoff}
 use Rattle.big_assignment.specs.declared.deal.Deal.{Deal}
-use Rattle.big_assignment.specs.Deals.{Holds, IsFair, IsTight, IsTurned, Offers}
+use Rattle.big_assignment.specs.Deals.{Holds, IsFair, IsTurned, Offers}
 use Rattle.big_assignment.specs.Deals.{at_prices, gain_of, mate_of, offer_of}
 use Rattle.big_assignment.specs.Deals.{price_of}
 use Rattle.definitions.proofs.Cases.{below_or_above, nat_lt-less, nat_lt-past}
@@ -45,20 +45,19 @@ pub fair_supports : (d : Deal) (matrix : Matrix) (rows columns : ℕ) → IsTabl
     → IsFair d rows → IsSupport matrix rows columns (payoff rows (gain_of d) (price_of d)) (mate_of d)
 fair_supports d matrix rows columns t f = record {
   covers = λ i j il jl.
-      (let few = t.columns_few in
-      let a = f.covers i j il (omega (arith, few)) in
+      (let a = f.covers i j il (omega arith) in
       let b = t.inside i j il jl in
-      let c = row i il in let e = column j in omega (arith, a, b, c, e));
+      let c = row i il in let e = column j in omega arith);
   tight = λ i il jl.
       (let a = f.tight i il in
       let b = t.inside i (mate_of d i) il jl in
-      let c = row i il in let e = column (mate_of d i) in omega (arith, a, b, c, e));
+      let c = row i il in let e = column (mate_of d i) in omega arith);
   alone = λ i il ge.
       (let a = f.tight i il in
       let b = t.beside i (mate_of d i) il ge (f.within i il) in
-      let c = row i il in omega (arith, a, b, c));
-  apart = λ i l il ll e lt. (let few = t.columns_few in f.apart i l il ll e (omega (arith, few)));
-  sold = λ j jl. (let few = t.columns_few in elim (f.sold j (omega (arith, few))) [
+      let c = row i il in omega arith);
+  apart = λ i l il ll e lt. (f.apart i l il ll e (omega arith));
+  sold = λ j jl. (elim (f.sold j (omega arith)) [
     | inl none ↦ inl (column j ∙ none)
     | inr held ↦ inr held
   ]);
@@ -76,20 +75,19 @@ pub turned_supports : (d : Deal) (matrix : Matrix) (rows columns : ℕ) (t : Dea
     → IsFair (at_prices t v q) columns
     → IsSupport matrix rows columns (payoff rows (slice_index q) (slice_index v)) (mate_of d)
 turned_supports d matrix rows columns t v q b f h g = record {
-  covers = λ i j il jl. (let fr = b.rows_few in let fc = b.columns_few in
-      let a = g.covers j i jl (omega (arith, fr)) in
-      let e = h.offers j i (omega (arith, fc)) (omega (arith, fr)) in let k = b.inside i j il jl in
-      let c = row i il in let o = column j in omega (arith, a, e, k, c, o));
-  tight = λ i il jl. (let fr = b.rows_few in let fc = b.columns_few in
+  covers = λ i j il jl. (let a = g.covers j i jl (omega arith) in
+      let e = h.offers j i (omega arith) (omega arith) in let k = b.inside i j il jl in
+      let c = row i il in let o = column j in omega arith);
+  tight = λ i il jl. (let fc = b.columns_few in
       let back = hold_back d rows columns t h fc f i il jl in
       let a =
-      subst (λ (z : ℕ). IsTight (at_prices t v q) (mate_of d i) z) back (g.tight (mate_of d i) jl) in
-      let e = h.offers (mate_of d i) i (omega (arith, fc)) (omega (arith, fr)) in
+      rw back at (g.tight (mate_of d i) jl) in
+      let e = h.offers (mate_of d i) i (omega arith) (omega arith) in
       let k = b.inside i (mate_of d i) il jl in
       let c = row i il in
-      let o = column (mate_of d i) in omega (arith, a, e, k, c, o));
-  alone = λ i il ge. (let fr = b.rows_few in row i il ∙ unsold i ge (g.sold i (omega (arith, fr))) il);
-  apart = λ i l il ll e lt. (let few = b.columns_few in f.apart i l il ll e (omega (arith, few)));
+      let o = column (mate_of d i) in omega arith);
+  alone = λ i il ge. (row i il ∙ unsold i ge (g.sold i (omega arith)) il);
+  apart = λ i l il ll e lt. (f.apart i l il ll e (omega arith));
   sold = λ j jl. elim (h.holds j jl) [
     | inl held ↦ inr (mate_of t j, held.0, held.1)
     | inr none ↦ inl (column j ∙ gains_none j jl none.0)
@@ -108,17 +106,11 @@ turned_supports d matrix rows columns t v q b f h g = record {
     unsold i ge (inr held) il = absurd (no_holder held.0 held.1 held.2 (h.holds held.0 held.1))
       where
         no_holder : (j : ℕ) → j < columns → mate_of t j ≡ i → Holds d rows j (mate_of t j) → ⊥
-        no_holder j jl e (inl a) =
-            (let same = ap (mate_of d) e in let back = a.1 in omega (arith, same, back, ge, jl))
-        no_holder j jl e (inr a) = (let none = a.0 in let fr = b.rows_few in omega (arith, none, e, fr, il))
+        no_holder j jl e (inl a) = omega (arith, ap (mate_of d) e)
+        no_holder j jl e (inr a) = omega arith
 
     gains_none : (j : ℕ) → j < columns → mate_of t j ≡ 32 → slice_index v j ≡ 0
-    gains_none j jl e =
-        let fc = b.columns_few in
-        let a = subst (λ (z : ℕ). IsTight (at_prices t v q) j z) e (g.tight j jl) in
-        let free = g.free in
-        let c = h.none j (omega (arith, fc)) in
-        omega (arith, a, c, free)
+    gains_none j jl e = omega (arith, rw e at (g.tight j jl), h.none j (omega arith))
 
 -- everybody
 abbrev pub all_of : ℕ → ℕ → Bool
@@ -141,7 +133,7 @@ pub support_paid : (matrix : Matrix) (rows columns : ℕ) (x mate : ℕ → ℕ)
 support_paid matrix rows columns x mate s = record {
   tight =
       pairs_from-all (λ p. 1 * entry matrix p.0 p.1 ≡ x p.0 + x (rows + p.1)) mate columns 0 rows
-      (λ l a b c. (let t = s.tight l (omega arith) c in omega (arith, t)));
+      (λ l a b c. omega (arith, s.tight l (omega arith) c));
   rest = λ p e single. (let lt = all_among (rows + columns) p e in elim (below_or_above p rows) [
     | inl row ↦ elim (below_or_above (mate p) columns) [
       | inl mated ↦ absurd
@@ -160,7 +152,7 @@ support_paid matrix rows columns x mate s = record {
           | inl none ↦ ap x e ∙ none
           | inr held ↦ absurd
               ((pairs_from-each (λ q. (p ≢ q.0) × (p ≢ rows + q.1)) mate columns 0 rows single held.0 (omega arith)
-              (let a = held.1 in omega (arith, a)) (let a = held.2 in omega (arith, a, lt, ge))).1
+              (omega arith) (omega arith)).1
               (e ∙ ap (λ (j : ℕ). rows + j) (sym held.2)))
         ]
 
@@ -176,7 +168,7 @@ support_pairs matrix rows columns x mate s =
     let e =
     paid_value matrix rows columns 1 x (all_of (rows + columns)) (pairs_from mate columns 0 rows)
     (all_among (rows + columns)) m (support_paid matrix rows columns x mate s) in
-    (m, omega (arith, e))
+    (m, omega arith)
 
 -- so it is optimal
 pub support_optimal : (matrix : Matrix) (rows columns : ℕ) (x mate : ℕ → ℕ) → IsSupport matrix rows columns x mate

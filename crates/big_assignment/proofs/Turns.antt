@@ -1,5 +1,5 @@
 -- The deal with rows and columns exchanged is fair.
-use Rattle.std.proofs.Common.{◌≡◌, ◌≢◌, ℕ, ◌<◌, ◌≤◌, refl, sym, ap, subst, ◌∙◌}
+use Rattle.std.proofs.Common.{◌≡◌, ◌≢◌, ℕ, ◌<◌, ◌≤◌, refl, sym, ap, ◌∙◌}
 use Rattle.std.proofs.Common.{inl, inr, arith}
 use Rattle.big_assignment.specs.declared.deal.Deal.{Deal}
 use Rattle.big_assignment.specs.Deals.{AreDealOffers, IsFair, IsOutside, IsTight, IsTurned}
@@ -10,8 +10,8 @@ module _ (d : Deal) (rows columns : ℕ) (t : Deal) (h : IsTurned d rows columns
   pub turned_offers : AreDealOffers d → AreDealOffers t
   turned_offers o = record {
     small = λ k i kl il. elim (below_or_above i 32) [
-      | inl lt ↦ (let a = h.offers k i kl lt in let b = o.small i k lt (omega arith) in omega (arith, a, b))
-      | inr ge ↦ (let e : i ≡ 32 = omega arith in let a = ap (offer_of t k) e ∙ h.none k kl in omega (arith, a))
+      | inl lt ↦ (let a = h.offers k i kl lt in let b = o.small i k lt (omega arith) in omega arith)
+      | inr ge ↦ (let e : i ≡ 32 = omega arith in let a = ap (offer_of t k) e ∙ h.none k kl in omega arith)
     ];
     nothing = h.none;
   }
@@ -26,7 +26,7 @@ module _ (d : Deal) (rows columns : ℕ) (t : Deal) (h : IsTurned d rows columns
   pub hold_back : columns ≤ 32 → IsFair d rows → (i : ℕ) → i < rows → mate_of d i < columns
       → mate_of t (mate_of d i) ≡ i
   hold_back few f i il lt = elim (h.holds (mate_of d i) lt) [
-    | inl held ↦ f.apart (mate_of t (mate_of d i)) i held.0 il held.1 (let e = held.1 in omega (arith, e, lt))
+    | inl held ↦ f.apart (mate_of t (mate_of d i)) i held.0 il held.1 (omega arith)
     | inr none ↦ absurd (none.1 i il refl)
   ]
 
@@ -34,9 +34,7 @@ module _ (d : Deal) (rows columns : ℕ) (t : Deal) (h : IsTurned d rows columns
   lone_gain : rows ≤ 32 → columns ≤ 32 → IsOutside (offer_of d) rows columns → IsFair d rows → (i : ℕ) → i < rows
       → columns ≤ mate_of d i → gain_of d i ≡ 0
   lone_gain fr few out f i il ge =
-      let a = f.tight i il in
-      let b = out i (mate_of d i) (omega arith) (f.within i il) (inr ge) in
-      omega (arith, a, b)
+      omega (arith, f.tight i il, out i (mate_of d i) (omega arith) (f.within i il) (inr ge))
 
   pub turned_fair : rows ≤ 32 → columns ≤ 32 → IsOutside (offer_of d) rows columns → IsFair d rows → IsFair t columns
   turned_fair fr few out f = record {
@@ -44,23 +42,23 @@ module _ (d : Deal) (rows columns : ℕ) (t : Deal) (h : IsTurned d rows columns
       | inl lt ↦
           (let a = h.offers k i (omega arith) (omega arith) in
           let b = h.gains k (omega arith) in
-          let c = h.prices i lt in let e = f.covers i k lt (omega arith) in omega (arith, a, b, c, e))
-      | inr ge ↦ (let a = turned_outside out k i (omega arith) il (inr ge) in omega (arith, a))
+          let c = h.prices i lt in let e = f.covers i k lt (omega arith) in omega arith)
+      | inr ge ↦ (let a = turned_outside out k i (omega arith) il (inr ge) in omega arith)
     ];
     tight = λ k kl. elim (h.holds k kl) [
       | inl held ↦ held_tight k kl held.0 held.1
       | inr none ↦ free_tight k kl none.0 none.1
     ];
     within = λ k kl. elim (h.holds k kl) [
-      | inl held ↦ (let a = held.0 in omega (arith, a))
-      | inr none ↦ (let a = none.0 in omega (arith, a))
+      | inl held ↦ omega arith
+      | inr none ↦ omega arith
     ];
     apart = λ k l kl ll e small. elim (h.holds k kl) [
       | inl held ↦ elim (h.holds l ll) [
         | inl other ↦ sym held.1 ∙ ap (mate_of d) e ∙ other.1
-        | inr none ↦ absurd (let a = none.0 in omega (arith, a, e, small))
+        | inr none ↦ absurd (omega arith)
       ]
-      | inr none ↦ absurd (let a = none.0 in omega (arith, a, small))
+      | inr none ↦ absurd (omega arith)
     ];
     sold = λ i il. elim (below_or_above i rows) [
       | inl lt ↦ elim (below_or_above (mate_of d i) columns) [
@@ -72,13 +70,14 @@ module _ (d : Deal) (rows columns : ℕ) (t : Deal) (h : IsTurned d rows columns
     free = h.beside 32 fr;
   }
     where
-      held_tight : (k : ℕ) → k < columns → mate_of t k < rows → mate_of d (mate_of t k) ≡ k → IsTight t k (mate_of t k)
+      held_tight : (k : ℕ) → k < columns → mate_of t k < rows → mate_of d (mate_of t k) ≡ k
+          → IsTight t k (mate_of t k)
       held_tight k kl lt e =
           let a = h.offers k (mate_of t k) (omega arith) (omega arith) in
           let b = h.gains k (omega arith) in
           let c = h.prices (mate_of t k) lt in
-          let g = subst (λ (z : ℕ). IsTight d (mate_of t k) z) e (f.tight (mate_of t k) lt) in
-          omega (arith, a, b, c, g)
+          let g = rw e at (f.tight (mate_of t k) lt) in
+          omega arith
 
       price_zero : (k : ℕ) → k < columns → ((l : ℕ) → l < rows → mate_of d l ≢ k) → price_of d k ≡ 0
       price_zero k kl none = elim (f.sold k (omega arith)) [
@@ -92,5 +91,5 @@ module _ (d : Deal) (rows columns : ℕ) (t : Deal) (h : IsTurned d rows columns
           let a = ap (offer_of t k) e ∙ h.none k (omega arith) in
           let b = h.gains k (omega arith) in
           let c = price_zero k kl none in
-          let g = h.beside (mate_of t k) (omega (arith, e)) in
-          omega (arith, a, b, c, g)
+          let g = h.beside (mate_of t k) (omega arith) in
+          omega arith

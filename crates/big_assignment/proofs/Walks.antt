@@ -1,7 +1,7 @@
 -- A free column is handed from parent to parent: each row takes the column and gives up its own, until the row in
 -- hand takes one.
 use Rattle.std.proofs.Common.{◌≡◌, ◌≢◌, ℕ, ◌+◌, ◌<◌, ◌≤◌, List, Option, sym, ap}
-use Rattle.std.proofs.Common.{subst, ◌∙◌, inl, inr, arith}
+use Rattle.std.proofs.Common.{◌∙◌, inl, inr, arith}
 use Rattle.big_assignment.specs.declared.deal.Deal.{Deal}
 use Rattle.big_assignment.specs.declared.deal.Search.{Search}
 use Rattle.big_assignment.specs.Deals.{IsFair, IsTight, mates, mate_of, with_columns}
@@ -21,7 +21,7 @@ walk_start d s t n i k h m kl unheld = record {
   open_column = unheld;
   free = h.fair.free;
   column = kl;
-  ranked = (let e = m.ranks.here in omega (arith, e));
+  ranked = omega arith;
   joined = λ l ll some le. mark_joined d s t n i k h m l ll some;
 }
 
@@ -30,15 +30,14 @@ module _ (d : Deal) (s : Search) (n j r : ℕ) (columns : List (Option ℕ)) (h 
     (put : IsPut (mate_of d) (mates columns) r j) where
   taken_tight : IsTight d r j → (i : ℕ) → (i ≢ r → i < n) → IsTight d i (mates columns i)
   taken_tight tight i il = elim (same_or_other i r) [
-    | inl same ↦ subst (λ (g : ℕ). IsTight d g (mates columns g)) (sym same)
-        (subst (λ (c : ℕ). IsTight d r c) (sym put.here) tight)
-    | inr other ↦ subst (λ (c : ℕ). IsTight d i c) (sym (put.elsewhere i other)) (h.tight i (il other))
+    | inl same ↦ rw same (rw put.here tight)
+    | inr other ↦ rw (put.elsewhere i other) (h.tight i (il other))
   ]
 
   taken_within : (i : ℕ) → (i ≢ r → i < n) → mates columns i ≤ 32
   taken_within i il = elim (same_or_other i r) [
-    | inl same ↦ (let e = ap (mates columns) same ∙ put.here in let c = h.column in omega (arith, e, c))
-    | inr other ↦ (let e = put.elsewhere i other in let c = h.within i (il other) in omega (arith, e, c))
+    | inl same ↦ (let e = ap (mates columns) same ∙ put.here in omega arith)
+    | inr other ↦ (let e = put.elsewhere i other in let c = h.within i (il other) in omega arith)
   ]
 
   taken_apart : (i l : ℕ) → (i ≢ r → i < n) → (l ≢ r → l < n) → mates columns i ≡ mates columns l
@@ -48,14 +47,14 @@ module _ (d : Deal) (s : Search) (n j r : ℕ) (columns : List (Option ℕ)) (h 
       | inl b ↦ a ∙ sym b
       | inr b ↦ absurd
           (let f = sym (put.elsewhere l b) ∙ (sym e ∙ ap (mates columns) a ∙ put.here) in
-          h.open_column l (ll b) f (let g = ap (mates columns) a ∙ put.here in omega (arith, g, small)))
+          h.open_column l (ll b) f (let g = ap (mates columns) a ∙ put.here in omega arith))
     ]
     | inr a ↦ elim (same_or_other l r) [
       | inl b ↦ absurd
           (let f = sym (put.elsewhere i a) ∙ (e ∙ ap (mates columns) b ∙ put.here) in
-          h.open_column i (il a) f (let g = e ∙ ap (mates columns) b ∙ put.here in omega (arith, g, small)))
+          h.open_column i (il a) f (let g = e ∙ ap (mates columns) b ∙ put.here in omega arith))
       | inr b ↦ h.apart i l (il a) (ll b) (sym (put.elsewhere i a) ∙ e ∙ put.elsewhere l b)
-          (let g = put.elsewhere i a in omega (arith, g, small))
+          (let g = put.elsewhere i a in omega arith)
     ]
   ]
 
@@ -87,10 +86,10 @@ walk_on d s n j columns h ne put = elim (h.joined j h.column h.ranked (omega ari
         ]
       ];
       open_column = λ i il e small. elim (same_or_other i (parent_of s j)) [
-        | inl same ↦ (let f = ap (rank_of s) (sym e ∙ ap (mates columns) same ∙ put.here) in omega (arith, f, below))
+        | inl same ↦ (let f = ap (rank_of s) (sym e ∙ ap (mates columns) same ∙ put.here) in omega arith)
         | inr other ↦ other
             (h.apart i (parent_of s j) il lt (sym (put.elsewhere i other) ∙ e)
-            (let f = sym (put.elsewhere i other) ∙ e in omega (arith, f, small)))
+            (let f = sym (put.elsewhere i other) ∙ e in omega arith))
       ];
       free = h.free;
       column = h.within (parent_of s j) lt;
@@ -110,9 +109,9 @@ walk_on d s n j columns h ne put = elim (h.joined j h.column h.ranked (omega ari
         same_ranks g k some less le =
             let same =
             ap (rank_of s)
-            (put.elsewhere g (λ e. (let f = ap (λ (z : ℕ). rank_of s (mate_of d z)) e in omega (arith, f, less, le))))
+            (put.elsewhere g (λ e. (let f = ap (λ (z : ℕ). rank_of s (mate_of d z)) e in omega arith)))
             in
-            (omega (arith, same, some), omega (arith, same, less))
+            (omega arith, omega arith)
 
 -- the row in hand takes column j
 pub walk_end : (d : Deal) (s : Search) (n j : ℕ) (columns : List (Option ℕ)) → IsOpen d s n j → parent_of s j ≡ n
@@ -120,7 +119,7 @@ pub walk_end : (d : Deal) (s : Search) (n j : ℕ) (columns : List (Option ℕ))
 walk_end d s n j columns h e put = record {
   covers = λ i k il kl. h.covers i k (omega arith) kl;
   tight = λ i il. taken_tight d s n j n columns h put
-      (subst (λ (g : ℕ). IsTight d g j) e (h.joined j h.column h.ranked (omega arith)).tight) i
+      (rw e at (h.joined j h.column h.ranked (omega arith)).tight) i
       (λ other. omega arith);
   within = λ i il. taken_within d s n j n columns h put i (λ other. omega arith);
   apart = λ i l il ll. taken_apart d s n j n columns h put i l (λ other. omega arith) (λ other. omega arith);
@@ -130,8 +129,8 @@ walk_end d s n j columns h e put = record {
       | inl none ↦ inl none
       | inr held ↦ inr (
         held.0,
-        (let a = held.1 in omega (arith, a)),
-        put.elsewhere held.0 (λ e. (let a = held.1 in omega (arith, a, e))) ∙ held.2,
+        (omega arith),
+        put.elsewhere held.0 (λ e. omega arith) ∙ held.2,
       )
     ]
   ];

@@ -24,7 +24,7 @@ pub sum_where-total : (n : ℕ) (w : ℕ → Bool) (x : ℕ → ℕ) → ((k : �
     → sum_where n w x ≡ total_below n x
 sum_where-total zero w x h = refl
 sum_where-total (suc n) w x h =
-    rw (h n (omega arith)) (let ih = sum_where-total n w x (λ k lt. h k (omega arith)) in omega (arith, ih))
+    rw (h n (omega arith)) (let ih = sum_where-total n w x (λ k lt. h k (omega arith)) in omega arith)
 
 pub sum_all : (n : ℕ) (x : ℕ → ℕ) → sum_where n (all_of n) x ≡ total_below n x
 sum_all n x = sum_where-total n (all_of n) x (has_player-grand_coalition n)
@@ -52,6 +52,6 @@ payoff_small d rows k o few f lt = elim (below_or_above k rows) [
   | inl row ↦
       (let a = f.tight k row in
       let b = o.small k (mate_of d k) (omega arith) (f.within k row) in
-      let e = payoff-row rows (gain_of d) (price_of d) k row in omega (arith, a, b, e))
+      let e = payoff-row rows (gain_of d) (price_of d) k row in omega arith)
   | inr ge ↦ rw (nat_lt-past k rows ge) (fair_price d rows o few f (k - rows) (omega arith))
 ]

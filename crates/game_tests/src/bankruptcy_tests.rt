@@ -1,9 +1,7 @@
 //! Bankruptcy games that are made and refused, and their blockers and bounds.
-ghost use Rattle.std.specs.Prelude.{length, IsTrue};
-ghost use Rattle.definitions.specs.Games.{HasTwo};
-ghost use Rattle.bankruptcy.specs.Bankruptcy.{bankruptcy_game};
 
 use crate::digits::chosen;
+use crate::listed::{agrees, has_two};
 use crate::shares::shares_of;
 use bankruptcy::{BankruptcyFault, BankruptcyGame};
 use coalitions::Coalition;
@@ -89,7 +87,7 @@ fn blocker_and_bound(
 ) -> (Option<Coalition>, i128) {
     assert!(rt; game.players() == 64 && x.players() == 64);
     let everyone = Coalition::all(64);
-    assert!(rt; has_two(game, everyone));
+    assert!(rt; has_two(64, everyone));
     (game.blocker(x), game.split_bound(x, everyone))
 }
 
@@ -107,55 +105,6 @@ fn sixty_four_players_need_no_list_of_coalitions(rt: HostRuntime) -> Result<(), 
         assert_eq!(rt; blocker_and_bound(&rt, &game, &x), (blocker, bound));
     }
     Ok(())
-}
-
-/// The same game, with the bodies that list every coalition.
-#[derive(Clone, Copy)]
-struct Listed<'a>(&'a BankruptcyGame);
-
-impl Worth for Listed<'_> {
-    ghost game = { λ l. bankruptcy_game l.0.now };
-
-    fn players(&self) -> u32 {
-        self.0.players()
-    }
-
-    fn worth(&self, s: Coalition) -> i64 {
-        self.0.worth(s)
-    }
-}
-
-/// Whether a coalition has two of the players.
-fn has_two(game: &BankruptcyGame, s: Coalition) -> bool
-    ensures { IsTrue result → HasTwo (length game.now.claims) s }
-{
-    let players = game.players();
-    for i in 0..players {
-        for j in i + 1..players {
-            if s.contains(i) && s.contains(j) {
-                return true;
-            }
-        }
-    }
-    false
-}
-
-/// Whether the blocker and each split bound at some shares are those of the bodies that list every coalition.
-fn agrees(game: &BankruptcyGame, x: &Shares) -> bool {
-    let listed = Listed(game);
-    let players = game.players();
-    if x.players() != players || game.blocker(x) != listed.blocker(x) {
-        return false;
-    }
-    for free in Coalition::subsets(players) {
-        if free > Coalition::all(players) {
-            return false;
-        }
-        if has_two(game, free) && game.split_bound(x, free) != listed.split_bound(x, free) {
-            return false;
-        }
-    }
-    true
 }
 
 /// Shares that the digits of a number choose.

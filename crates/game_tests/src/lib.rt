@@ -22,6 +22,8 @@ mod fractions_tests;
 #[cfg(test)]
 mod greatest_games_tests;
 #[cfg(test)]
+mod listed;
+#[cfg(test)]
 mod matrices_tests;
 #[cfg(test)]
 mod orders_tests;

@@ -1,9 +1,7 @@
 //! Voting games that are made and refused, their blockers and bounds, and their Shapley values.
-ghost use Rattle.std.specs.Prelude.{length, IsTrue};
-ghost use Rattle.definitions.specs.Games.{HasTwo};
-ghost use Rattle.voting.specs.Voting.{voting_game};
 
 use crate::digits::chosen;
+use crate::listed::{agrees, has_two};
 use crate::shares::shares_of;
 use coalitions::Coalition;
 use std::alloc::Global;
@@ -123,7 +121,7 @@ fn shares_but_one(alloc: Global, numerator: i128) -> Result<Shares, Fail> {
 fn blocker_and_bound(rt: &impl Abort, game: &VotingGame, x: &Shares) -> (Option<Coalition>, i128) {
     assert!(rt; game.players() == 32 && x.players() == 32);
     let everyone = Coalition::all(32);
-    assert!(rt; has_two(game, everyone));
+    assert!(rt; has_two(32, everyone));
     (game.blocker(x), game.split_bound(x, everyone))
 }
 
@@ -192,55 +190,6 @@ fn thirty_two_like_players_share_alike(rt: HostRuntime) -> Result<(), Fail> {
         assert_eq!(rt; x.num(i), 144_403_552_893_600 / 32);
     }
     Ok(())
-}
-
-/// The same game, with the bodies that list every coalition.
-#[derive(Clone, Copy)]
-struct Listed<'a>(&'a VotingGame);
-
-impl Worth for Listed<'_> {
-    ghost game = { λ l. voting_game l.0.now };
-
-    fn players(&self) -> u32 {
-        self.0.players()
-    }
-
-    fn worth(&self, s: Coalition) -> i64 {
-        self.0.worth(s)
-    }
-}
-
-/// Whether a coalition has two of the players.
-fn has_two(game: &VotingGame, s: Coalition) -> bool
-    ensures { IsTrue result → HasTwo (length game.now.weights) s }
-{
-    let players = game.players();
-    for i in 0..players {
-        for j in i + 1..players {
-            if s.contains(i) && s.contains(j) {
-                return true;
-            }
-        }
-    }
-    false
-}
-
-/// Whether the blocker and each split bound at some shares are those of the bodies that list every coalition.
-fn agrees(game: &VotingGame, x: &Shares) -> bool {
-    let listed = Listed(game);
-    let players = game.players();
-    if x.players() != players || game.blocker(x) != listed.blocker(x) {
-        return false;
-    }
-    for free in Coalition::subsets(players) {
-        if free > Coalition::all(players) {
-            return false;
-        }
-        if has_two(game, free) && game.split_bound(x, free) != listed.split_bound(x, free) {
-            return false;
-        }
-    }
-    true
 }
 
 /// Shares that the digits of a number choose.

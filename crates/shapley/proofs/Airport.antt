@@ -99,7 +99,7 @@ weights-add j r n e = products_add (factorial j) (factorial r)
         let one : a * (suc r * b) ≡ suc r * (a * b) = omega arith in
         let two : suc j * a * b ≡ suc j * (a * b) = omega arith in
         let all = ap (λ (k : ℕ). k * (a * b)) e in
-        omega (arith, linear, one, two, all)
+        omega (arith, linear)
 
 open_step_in : (m : ℕ → Bool) (n d s : ℕ) → m n ≡ true → s < 2 ^ n
     → open_term m (suc n) d s +ℤ open_term m (suc n) d (2 ^ n + s) ≡ open_term m n (suc d) s
@@ -115,8 +115,7 @@ open_step_in m n d s e lt =
 
     first_term_alone : (b c f : Bool) (x y z : ℤ) → b ≡ f → c ≡ false → x ≡ z
         → cond b x (pos 0) +ℤ cond c y (pos 0) ≡ cond f z (pos 0)
-    first_term_alone b c true x y z h k i = rw (h, k) (omega (arith, linear, i))
-    first_term_alone b c false x y z h k i = rw (h, k) refl
+    first_term_alone b c f x y z h k i = grind (arith, linear)
 
 open_step_out : (m : ℕ → Bool) (n d s : ℕ) → m n ≡ false → s < 2 ^ n
     → open_term m (suc n) d s +ℤ open_term m (suc n) d (2 ^ n + s) ≡ pos (suc (suc (n + d))) *ℤ open_term m n d s
@@ -131,15 +130,14 @@ open_step_out m n d s e lt =
     (weight (size_below (suc n) s) (lacks (suc n) s + d))
     (weight (size_below (suc n) (2 ^ n + s)) (lacks (suc n) (2 ^ n + s) + d))
     (weight (size_below n s) (lacks n s + d)) (pos (suc (suc (n + d)))) (clear-without m n s lt)
-    (clear-with m n s lt ∙ rw e (and_true (clear m n s))) (omega (arith, linear, a, b, c))
+    (clear-with m n s lt ∙ rw e (and_true (clear m n s))) (omega (arith, linear))
   where
     more : (r : ℕ) → suc r + d ≡ suc (r + d)
     more r = omega arith
 
     both_terms : (b c f : Bool) (x y z k : ℤ) → b ≡ f → c ≡ f → x +ℤ y ≡ k *ℤ z
         → cond b x (pos 0) +ℤ cond c y (pos 0) ≡ k *ℤ cond f z (pos 0)
-    both_terms b c true x y z k h i e = rw (h, i) e
-    both_terms b c false x y z k h i e = rw (h, i) (sym (mul-zeroℤ k))
+    both_terms b c f x y z k h i e = grind arith
 
 abbrev open_sum : (ℕ → Bool) → ℕ → ℕ → ℤ
 open_sum m n d = sum_below (2 ^ n) (open_term m n d)
@@ -207,9 +205,7 @@ clear-out m (suc n) s i lt e h = elim (less_or_last i n lt) [
 ]
   where
     last : (a b c : Bool) → c ≡ true → (a && not (b && c)) ≡ true → b ≡ false
-    last a false c e k = refl
-    last true true c e k = absurd (false≢true (sym (ap not e) ∙ k))
-    last false true c e k = absurd (false≢true k)
+    last a b c e k = grind arith
 
 pred_zero : (r : ℕ) → suc r - 1 ≡ r + 0
 pred_zero r = omega arith
@@ -228,12 +224,7 @@ closed_step_in m n i s e out lt =
   where
     first_term_alone : (p q b c f : Bool) (x y z : ℤ) → (p ≡ true → f ≡ false) → b ≡ f → c ≡ false → x ≡ z
         → cond p (pos 0) (cond b x (pos 0)) +ℤ cond q (pos 0) (cond c y (pos 0)) ≡ cond f z (pos 0)
-    first_term_alone true true b c f x y z o h k i = rw (o refl) refl
-    first_term_alone true false b c f x y z o h k i = rw (k, o refl) refl
-    first_term_alone false true b c true x y z o h k i = rw h (omega (arith, linear, i))
-    first_term_alone false true b c false x y z o h k i = rw h refl
-    first_term_alone false false b c true x y z o h k i = rw (h, k) (omega (arith, linear, i))
-    first_term_alone false false b c false x y z o h k i = rw (h, k) refl
+    first_term_alone p q b c f x y z o h k i = grind (arith, linear)
 
 -- the last player is another one outside the set
 closed_step_out : (m : ℕ → Bool) (n i s : ℕ) → m n ≡ false → i < n → s < 2 ^ n
@@ -335,18 +326,8 @@ clear-is zero cost u s = nothing u
     nothing : (u : ℕ) → nat_le 0 u ≡ true
     nothing u = grind (arith, nat_tests)
 clear-is (suc n) cost u s =
-    max_at_most (has_player s n) (greatest_cost n cost s) (cost n)
+    grind (arith, nat_tests)
     ∙ ap (λ b. b && not (has_player s n && nat_lt u (cost n))) (clear-is n cost u s)
-  where
-    max_at_most : (b : Bool) (g c : ℕ) → nat_le (max g (cond b c 0)) u ≡ (nat_le g u && not (b && nat_lt u c))
-    max_at_most true g c = both g c
-      where
-        both : (g c : ℕ) → nat_le (max g c) u ≡ (nat_le g u && not (nat_lt u c))
-        both g c = grind (arith, nat_tests)
-    max_at_most false g c = max_zero_at_most g
-      where
-        max_zero_at_most : (g : ℕ) → nat_le (max g 0) u ≡ (nat_le g u && true)
-        max_zero_at_most g = grind (arith, nat_tests)
 
 -- a number times how far c is above g, unit by unit
 layers : (w : ℤ) (g c : ℕ) → sum_below c (λ u. if nat_le g u then w else pos 0) ≡ w *ℤ pos (c - g)
@@ -357,7 +338,7 @@ layers w g zero = sym (ap (λ (k : ℕ). w *ℤ pos k) (nothing_above g) ∙ mul
 layers w g (suc c) = cases (nat_le g c) refl (layers w g c)
   where
     at_most : (g c : ℕ) → nat_le g c ≡ true → pos (suc c - g) ≡ pos (c - g) +ℤ pos 1
-    at_most g c e = let le : g ≤ c = grind (arith, nat_tests) in omega (arith, linear, le)
+    at_most g c e = let le : g ≤ c = grind (arith, nat_tests) in omega (arith, linear)
 
     beyond : (g c : ℕ) → nat_le g c ≡ false → suc c - g ≡ c - g
     beyond g c e = let lt : c < g = grind (arith, nat_tests) in omega arith
@@ -366,10 +347,10 @@ layers w g (suc c) = cases (nat_le g c) refl (layers w g c)
         → sum_below c (λ u. if nat_le g u then w else pos 0) +ℤ cond b w (pos 0) ≡ w *ℤ pos (suc c - g)
     cases true e ih =
         let more = ap (λ z. w *ℤ z) (at_most g c e) in
-        omega (arith, linear, ih, more, mul-addℤ w (pos (c - g)) (pos 1), mul-oneℤ w)
+        omega (arith, linear, more, mul-addℤ w (pos (c - g)) (pos 1), mul-oneℤ w)
     cases false e ih =
         let same = ap (λ (k : ℕ). w *ℤ pos k) (beyond g c e) in
-        omega (arith, linear, ih, same)
+        omega (arith, linear)
 
 -- what unit u of the cost of player i adds to the term of s
 abbrev layer_term : ℕ → ℕ → (ℕ → ℕ) → ℕ → ℕ → ℤ
@@ -381,13 +362,11 @@ layer-closed : (n i : ℕ) (cost : ℕ → ℕ) (u s : ℕ) → layer_term n i c
 layer-closed n i cost u s =
     let all = size-lacks n s in
     let rest : n - 1 - size_below n s ≡ lacks n s - 1 = omega arith in
-    terms_same (has_player s i) (nat_le (greatest_cost n cost s) u) (clear (above cost u) n s) _ _ (clear-is n cost u s)
-    (weight-at (size_below n s) (size_below n s) (n - 1 - size_below n s) (lacks n s - 1) refl rest)
-  where
-    terms_same : (p b c : Bool) (x y : ℤ) → b ≡ c → x ≡ y
-        → cond p (pos 0) (cond b x (pos 0)) ≡ cond p (pos 0) (cond c y (pos 0))
-    terms_same true b c x y e f = refl
-    terms_same false b c x y e f = rw (e, f) refl
+    grind (
+      arith,
+      clear-is n cost u s,
+      weight-at (size_below n s) (size_below n s) (n - 1 - size_below n s) (lacks n s - 1) refl rest,
+    )
 
 term-layers : (costs : List ℕ) (i s : ℕ) → i < length costs
     → subset_term (airport_worth costs) (length costs) i s

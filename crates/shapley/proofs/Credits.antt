@@ -34,15 +34,11 @@ subset_term-parts v n i s h = cases (has_player s i) refl
         let more =
         ap (λ (k : ℕ). pos (orders_with n (k - 1)) *ℤ v (s + 2 ^ i)) (size_below-more n i s h e)
         ∙ ap (λ (k : ℕ). pos (orders_with n k) *ℤ v (s + 2 ^ i)) (suc-less_one (size_below n s)) in
-        omega (arith, linear, more, mul-subℤ (pos (orders_with n (size_below n s))) (v (s + 2 ^ i)) (v s))
+        omega (arith, linear, mul-subℤ (pos (orders_with n (size_below n s))) (v (s + 2 ^ i)) (v s))
 
 credit-parts : (v : ℕ → ℤ) (n i s : ℕ) → credit n s (v s) i ≡ held (for_member v n) i s +ℤ against v n i s
 credit-parts v n i s =
-    split_either (has_player s i) (for_member v n s) (neg_ℤ (pos (orders_with n (size_below n s)) *ℤ v s))
-  where
-    split_either : (b : Bool) (x y : ℤ) → cond b x y ≡ cond b x (pos 0) +ℤ cond b (pos 0) y
-    split_either true x y = omega (arith, linear)
-    split_either false x y = omega (arith, linear)
+    grind (arith, linear)
 
 -- what the worths of the first m coalitions add to the total of player i
 abbrev pub credits : (ℕ → ℤ) → ℕ → ℕ → ℕ → ℤ
@@ -63,4 +59,4 @@ credits-total g i h =
     (λ s k. credit-parts v n i s) in
     let e = sum_below-add (2 ^ n) (held (for_member v n) i) (against v n i) in
     let f = orders_are_subsets g i h in
-    omega (arith, linear, a, b, c, d, e, f)
+    omega (arith, linear)

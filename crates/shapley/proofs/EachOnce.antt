@@ -25,11 +25,7 @@ holds n (p ∷ o) = nat_eq p n || holds n o
 
 All-strip : (P : ℕ → Type 0) (n : ℕ) (o : List ℕ) → AllByRecursion P o → AllByRecursion P (strip n o)
 All-strip P n [] h = tt
-All-strip P n (p ∷ o) h = all_either (nat_eq p n) (All-strip P n o h.1)
-  where
-    all_either : (b : Bool) → AllByRecursion P (strip n o) → AllByRecursion P (cond b o (p ∷ strip n o))
-    all_either true k = h.1
-    all_either false k = (h.0, k)
+All-strip P n (p ∷ o) h = grind (arith, All-strip P n o h.1)
 
 strip-distinct : (n : ℕ) (o : List ℕ) → AllDiffer o → AllDiffer (strip n o)
 strip-distinct n [] h = tt
@@ -62,12 +58,7 @@ strip-below n (p ∷ o) h k = below_either (nat_eq p n) refl (strip-below n o h.
 
 strip-length : (n : ℕ) (o : List ℕ) → holds n o ≡ true → length o ≡ suc (length (strip n o))
 strip-length n [] e = absurd (false≢true e)
-strip-length n (p ∷ o) e = length_either (nat_eq p n) e (strip-length n o)
-  where
-    length_either : (b : Bool) → (b || holds n o) ≡ true → (holds n o ≡ true → length o ≡ suc (length (strip n o)))
-        → suc (length o) ≡ suc (length (cond b o (p ∷ strip n o)))
-    length_either true e ih = refl
-    length_either false e ih = ap suc (ih e)
+strip-length n (p ∷ o) e = grind (arith, strip-length n o)
 
 none_below : (n : ℕ) (o : List ℕ) → holds n o ≡ false → AllByRecursion (λ y. y < suc n) o
     → AllByRecursion (λ y. y < n) o
@@ -79,14 +70,14 @@ none_below n (p ∷ o) e k =
 -- no more than n numbers below n
 few_below : (n : ℕ) (o : List ℕ) → AllDiffer o → AllByRecursion (λ y. y < n) o → length o ≤ n
 few_below zero [] h k = omega arith
-few_below zero (p ∷ o) h k = let lt = k.0 in absurd (omega (arith, lt))
+few_below zero (p ∷ o) h k = absurd (omega arith)
 few_below (suc n) o h k =
     cases (holds n o) refl (few_below n (strip n o) (strip-distinct n o h) (strip-below n o h k)) (few_below n o h)
   where
     cases : (b : Bool) → holds n o ≡ b → length (strip n o) ≤ n → (AllByRecursion (λ y. y < n) o → length o ≤ n)
         → length o ≤ suc n
-    cases true e le f = let l = strip-length n o e in omega (arith, l, le)
-    cases false e le f = let l = f (none_below n o e k) in omega (arith, l)
+    cases true e le f = omega (arith, strip-length n o e)
+    cases false e le f = omega (arith, f (none_below n o e k))
 
 -- an order of more players holds the last one
 last_held : (n : ℕ) (o : List ℕ) → IsOrder (suc n) o → holds n o ≡ true
@@ -107,17 +98,8 @@ times-append o (x ∷ xs) ys = omega (arith, times-append o xs ys)
 
 times-map : (p y : ℕ) (o : List ℕ) (xs : List (List ℕ))
     → times (p ∷ o) (map (λ zs. y ∷ zs) xs) ≡ cond (nat_eq p y) (times o xs) 0
-times-map p y o [] = never_either (nat_eq p y)
-  where
-    never_either : (b : Bool) → times o [] ≡ cond b (times o []) 0
-    never_either true = refl
-    never_either false = refl
-times-map p y o (x ∷ xs) = times_either (nat_eq p y) (times (p ∷ o) (map (λ zs. y ∷ zs) xs)) (times-map p y o xs)
-  where
-    times_either : (b : Bool) (k : ℕ) → k ≡ cond b (times o xs) 0
-        → one_if (b && is_same o x) + k ≡ cond b (one_if (is_same o x) + times o xs) 0
-    times_either true k e = ap (λ (z : ℕ). one_if (is_same o x) + z) e
-    times_either false k e = omega (arith, e)
+times-map p y o [] = grind arith
+times-map p y o (x ∷ xs) = grind (arith, times-map p y o xs)
 
 -- o comes of a list by putting n in just where it is the list with n, and then at one place
 times-insertions : (n : ℕ) (x o : List ℕ) → holds n o ≡ true → AllByRecursion (λ y. nat_eq y n ≡ false) x
@@ -151,12 +133,12 @@ times-insertions n (y ∷ ys) (p ∷ o) e others =
         ≡ one_if (is_same (cond b o (p ∷ strip n o)) (y ∷ ys))
     cases true f held ih =
         let none = times-map p y o (insertions n ys) ∙ take (nat_eq p y) (times o (insertions n ys)) (here f) in
-        omega (arith, none)
+        omega arith
     cases false f held ih =
         let some =
         times-map p y o (insertions n ys)
         ∙ join (nat_eq p y) (times o (insertions n ys)) (is_same (strip n o) ys) (ih held) in
-        omega (arith, some)
+        omega arith
 
 times-flat_map : (n : ℕ) (o : List ℕ) (xs : List (List ℕ)) → holds n o ≡ true
     → AllByRecursion (AllByRecursion (λ y. nat_eq y n ≡ false)) xs
@@ -184,7 +166,7 @@ insertions-distinct n (y ∷ ys) below h = (
   All-map AllDiffer (λ zs. y ∷ zs) (insertions n ys)
       (both (insertions n ys)
       (All-insertions (λ z. nat_eq y z ≡ false) n ys
-      (nat_eq-other y n (λ same. let lt = below.0 in omega (arith, lt))) h.0)
+      (nat_eq-other y n (λ same. omega arith)) h.0)
       (insertions-distinct n ys below.1 h.1)),
 )
   where
@@ -213,18 +195,20 @@ are_orders (suc n) =
 
 each_once : (n : ℕ) (o : List ℕ) → IsOrder n o → times o (orders n) ≡ 1
 each_once zero [] h = refl
-each_once zero (p ∷ o) h = let l = h.all in absurd (omega (arith, l))
+each_once zero (p ∷ o) h = absurd (omega arith)
 each_once (suc n) o h =
     let held = last_held n o h in
-    let l = strip-length n o held in
     let all = h.all in
     times-flat_map n o (orders n) held
     (all_weaken (AllByRecursion (λ p. p < n)) (AllByRecursion (λ y. nat_eq y n ≡ false)) (orders n)
     (λ x below. all_weaken (λ p. p < n) (λ y. nat_eq y n ≡ false) x
     (λ p lt. nat_eq-other p n (λ same. omega arith)) below) (orders-below n))
     ∙ each_once n (strip n o)
-    (record
-    { all = omega (arith, l, all); below = strip-below n o h.once h.below; once = strip-distinct n o h.once })
+    (record {
+      all = omega (arith, strip-length n o held);
+      below = strip-below n o h.once h.below;
+      once = strip-distinct n o h.once;
+    })
 
 pub orders_all : (n : ℕ)
     → AllByRecursion (IsOrder n) (orders n) × ((o : List ℕ) → IsOrder n o → times o (orders n) ≡ 1)
@@ -236,12 +220,10 @@ length-flat_map : (n : ℕ) (os : List (List ℕ)) → AllByRecursion (IsOrder n
     → length (flat_map (insertions n) os) ≡ suc n * length os
 length-flat_map n [] h = omega arith
 length-flat_map n (o ∷ os) h =
-    let all = h.0.all in
     omega (
       arith,
       length-append (insertions n o) (flat_map (insertions n) os),
       length-insertions n o,
-      all,
       length-flat_map n os h.1,
     )
 

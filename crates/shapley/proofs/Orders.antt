@@ -41,7 +41,7 @@ total-flat_map f g (x ∷ xs) =
 
 total-same : {X : Type 0} (f g : X → ℤ) (xs : List X) → AllByRecursion (λ x. f x ≡ g x) xs → total f xs ≡ total g xs
 total-same f g [] h = refl
-total-same f g (x ∷ xs) h = let e = total-same f g xs h.1 in let d = h.0 in cc
+total-same f g (x ∷ xs) h = let e = total-same f g xs h.1 in cc
 
 total-same_all : {X : Type 0} (f g : X → ℤ) (xs : List X) → ((x : X) → f x ≡ g x) → total f xs ≡ total g xs
 total-same_all f g [] h = refl
@@ -114,13 +114,7 @@ at_player-add : (h k : Number) (i : ℕ) (ps : List ℕ)
     → at_player h i ps +ℤ at_player k i ps ≡ at_player (λ j r c. h j r c +ℤ k j r c) i ps
 at_player-add h k i [] = refl
 at_player-add h k i (p ∷ ps) =
-    either (nat_eq p i) (h 0 (length ps) 0) (k 0 (length ps) 0) (at_player (behind p h) i ps)
-    (at_player (behind p k) i ps) (at_player (λ j r c. behind p h j r c +ℤ behind p k j r c) i ps)
-    (at_player-add (behind p h) (behind p k) i ps)
-  where
-    either : (b : Bool) (x y z w s : ℤ) → z +ℤ w ≡ s → cond b x z +ℤ cond b y w ≡ cond b (x +ℤ y) s
-    either true x y z w s e = refl
-    either false x y z w s e = e
+    grind (arith, at_player-add (behind p h) (behind p k) i ps)
 
 at_places-same : (h k : Number) (ps : List ℕ) → ((j r c : ℕ) → h j r c ≡ k j r c) → at_places h ps ≡ at_places k ps
 at_places-same h k [] e = e 0 0 0
@@ -270,7 +264,7 @@ weigh n h j r s =
         mul_assocℤ (pos (a * b)) (pos (suc r)) y in
         let g : pos (a * b * suc j) *ℤ x ≡ pos (a * b) *ℤ (pos (suc j) *ℤ x) =
         mul_assocℤ (pos (a * b)) (pos (suc j)) x in
-        rw (one, two) (omega (arith, linear, f, g, mul-addℤ (pos (a * b)) (pos (suc j) *ℤ x) (pos (suc r) *ℤ y)))
+        rw (one, two) (omega (arith, linear, mul-addℤ (pos (a * b)) (pos (suc j) *ℤ x) (pos (suc r) *ℤ y)))
 
 abbrev term : Number → ℕ → ℕ → ℕ → ℤ
 term h j r s = weight j r *ℤ h j r s
@@ -287,7 +281,7 @@ place_step h n s lt =
     let a = term-at h _ _ _ _ s (size_below-without n s lt) (lacks-without n s lt) in
     let b = term-at h _ _ _ _ (2 ^ n + s) (size_below-with n s lt) (lacks-with n s lt) in
     let c = weigh n h (size_below n s) (lacks n s) s in
-    omega (arith, linear, a, b, c)
+    omega (arith, linear)
 
 places_total : (n : ℕ) (h : Number) → total (at_places h) (orders n) ≡ sum_below (2 ^ n) (place_term h n)
 places_total zero h =
@@ -342,7 +336,7 @@ last_step h n s lt =
     one_of_two (has_player s n) (has_player (2 ^ n + s) n) _ _ _ (has_player-last n s lt) (has_player-upper n s lt) a
   where
     one_of_two : (b c : Bool) (x y z : ℤ) → b ≡ false → c ≡ true → y ≡ x → x ≡ cond b (pos 0) y +ℤ cond c (pos 0) z
-    one_of_two b c x y z e f k = rw (e, f) (omega (arith, linear, k))
+    one_of_two b c x y z e f k = rw (e, f) (omega (arith, linear))
 
 player_step : (h : Number) (n i s : ℕ) → i < n → s < 2 ^ n
     → player_term (with_one n h) n i s ≡ player_term h (suc n) i s +ℤ player_term h (suc n) i (2 ^ n + s)
@@ -365,12 +359,11 @@ player_step h n i s below lt =
         let b =
         term-at h (suc (size_below n s)) (suc (size_below n s)) (suc r - 1) r (2 ^ n + s) refl (suc-less_one r) in
         let c = weigh n h (size_below n s) r s in
-        omega (arith, linear, a, b, c)
+        omega (arith, linear)
 
     either_alike : (b c : Bool) (x y z u w : ℤ) → c ≡ b → y ≡ u → z ≡ w → (b ≡ false → x ≡ u +ℤ w)
         → cond b (pos 0) x ≡ cond b (pos 0) y +ℤ cond c (pos 0) z
-    either_alike true c x y z u w e f g k = rw e refl
-    either_alike false c x y z u w e f g k = rw e (omega (arith, linear, f, g, k refl))
+    either_alike b c x y z u w e f g k = grind (arith, linear)
 
 pub player_total : (n i : ℕ) (h : Number) → i < n
     → total (at_player h i) (orders n) ≡ sum_below (2 ^ n) (player_term h n i)

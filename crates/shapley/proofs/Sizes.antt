@@ -19,14 +19,14 @@ factorial-mul (suc j) r =
     rw e (factors_regrouped (suc j) (suc (j + r)) (factorial j) (factorial r) (factorial (j + r)) (mul-le-mul le ih))
   where
     factors_regrouped : (k m a b c : ℕ) → k * (a * b) ≤ m * c → k * a * b ≤ m * c
-    factors_regrouped k m a b c h = let e : k * a * b ≡ k * (a * b) = omega arith in omega (arith, h, e)
+    factors_regrouped k m a b c h = let e : k * a * b ≡ k * (a * b) = omega arith in omega arith
 
 pub factorial-some : (n : ℕ) → 1 ≤ factorial n
 factorial-some zero = omega arith
 factorial-some (suc n) =
     let one : 1 ≤ suc n = omega arith in
     let m : 1 * 1 ≤ suc n * factorial n = mul-le-mul one (factorial-some n) in
-    omega (arith, m)
+    omega arith
 
 pub factorial-sixteen : (n : ℕ) → n ≤ 16 → factorial n ≤ 20922789888000
 factorial-sixteen n h =
@@ -41,7 +41,7 @@ pub factorial_step : (n i p : ℕ) → i < n → n ≤ 16 → p ≡ factorial i 
 factorial_step n i p lt h e =
     let m = factorial-sixteen (suc i) (omega arith) in
     let k : p * (i + 1) ≡ suc i * factorial i = ap (λ (z : ℕ). z * (i + 1)) e ∙ omega arith in
-    omega (arith, m, k)
+    omega arith
 
 factorial-fifteen : (n : ℕ) → n ≤ 15 → factorial n ≤ 1307674368000
 factorial-fifteen n h =
@@ -59,7 +59,7 @@ orders_with-small n k a b lt h e f =
     let sum : k + (n - 1 - k) ≡ n - 1 = omega arith in
     let s = ap factorial sum in
     let o = factorial-fifteen (n - 1) (omega arith) in
-    rw (e, f) (omega (arith, m, s, o))
+    rw (e, f) (omega arith)
 
 -- ---- numbers of 128 bits
 

@@ -1,6 +1,6 @@
 -- The steps of the costs, and the common denominator.
 use Rattle.std.proofs.Common.{◌≡◌, ℕ, zero, suc, ◌+◌, ◌-◌, ◌*◌, ◌/◌, ◌<◌, ◌≤◌}
-use Rattle.std.proofs.Common.{Bool, true, false, cond}
+use Rattle.std.proofs.Common.{Bool, true}
 use Rattle.std.proofs.Common.{List, length, ℤ, pos, ◌+ℤ◌, ◌*ℤ◌, neg_ℤ, refl, sym, ap}
 use Rattle.std.proofs.Common.{◌∙◌, inl, inr, arith}
 use Rattle.std.proofs.Common.{nat_eq, nat_lt, slice_index, mul-le-mul, div-le_self, [], ◌∷◌, ◌++◌, get_or}
@@ -22,21 +22,13 @@ use Rattle.shapley.proofs.Airport.{game_of_costs, airport-shares}
 count-some : (m : ℕ → Bool) (n i : ℕ) → i < n → m i ≡ true → 1 ≤ count m n
 count-some m zero i lt e = absurd (omega arith)
 count-some m (suc n) i lt e = elim (less_or_last i n lt) [
-  | inl less ↦ some_either (m n) (count m n) (count-some m n i less e)
+  | inl less ↦ grind (arith, count-some m n i less e)
   | inr same ↦ rw (ap m (sym same) ∙ e) (omega arith)
 ]
-  where
-    some_either : (b : Bool) (k : ℕ) → 1 ≤ k → 1 ≤ cond b (suc k) k
-    some_either true k h = omega arith
-    some_either false k h = h
 
 pub count-few : (m : ℕ → Bool) (n : ℕ) → count m n ≤ n
 count-few m zero = omega arith
-count-few m (suc n) = few_either (m n) (count m n) (count-few m n)
-  where
-    few_either : (b : Bool) (k : ℕ) → k ≤ n → cond b (suc k) k ≤ suc n
-    few_either true k h = omega arith
-    few_either false k h = omega arith
+count-few m (suc n) = grind (arith, count-few m n)
 
 count-same : (m k : ℕ → Bool) (n : ℕ) → ((j : ℕ) → j < n → m j ≡ k j) → count m n ≡ count k n
 count-same m k zero h = refl
@@ -89,7 +81,7 @@ step_small sum from next l q r le h e k =
     sum_within d w e =
         let m : d * q ≤ d * l = mul-le-mul (le_refl d) k in
         let f : next * l ≡ from * l + d * l = ap (λ (z : ℕ). z * l) w ∙ omega arith in
-        omega (arith, m, f, h, e)
+        omega arith
 
 -- ---- the common denominator
 
@@ -126,7 +118,7 @@ paid_more costs from next sum r k le upto before same e =
     sums before here ∙ sym more
   where
     sums : {a b : ℤ} → pos sum ≡ a → pos r ≡ b → pos (sum + r) ≡ a +ℤ b
-    sums e f = omega (arith, linear, e, f)
+    sums e f = omega (arith, linear)
 
 -- ---- a list of results that grows
 
@@ -153,4 +145,4 @@ pushed f xs ys r n e len before here small =
     )
   where
     longer : (xs : List ℤ) (r : ℤ) → length xs ≡ n → length (xs ++ r ∷ []) ≡ n + 1
-    longer xs r len = omega (arith, len, length-append xs (r ∷ []))
+    longer xs r len = omega (arith, length-append xs (r ∷ []))

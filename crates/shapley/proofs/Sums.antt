@@ -35,11 +35,11 @@ credit-is n s members k worth gain loss lt count for against = cases (has_player
         ≡ cond b (pos (orders_with n (size_below n s - 1)) *ℤ worth)
         (neg_ℤ (pos (orders_with n (size_below n s)) *ℤ worth))
     cases true e =
-        for (omega (arith, count, size_below-some n k s lt e))
+        for (omega (arith, size_below-some n k s lt e))
         ∙ ap (λ (j : ℕ). pos (orders_with n (j - 1)) *ℤ worth) count
     cases false e =
         ap neg_ℤ
-        (against (omega (arith, count, size_below-less n k s lt e))
+        (against (omega (arith, size_below-less n k s lt e))
         ∙ ap (λ (j : ℕ). pos (orders_with n j) *ℤ worth) count)
 
 times-small : (n k : ℕ) (worth : ℤ) → k < n → n ≤ 16 → unsigned_abs worth < 2 ^ 46
@@ -116,21 +116,17 @@ totals_next g n mask xs ys laws count few lt most before long more = rw add-one 
 pub totals_small : (g : Game) (n mask : ℕ) (xs : List ℤ) → mask ≤ 65536 → AreTotals g n mask xs
     → All (λ z. unsigned_abs z < 2 ^ 109) xs
 totals_small g n mask xs few h k d lt =
-    let long = h.long in
-    let small = h.small k (omega (arith, long, lt)) in
-    rw (get_or_default xs k d (pos 0) lt) (omega (arith, small, few))
+    rw (get_or_default xs k d (pos 0) lt) (omega (arith, h.small k (omega arith)))
 
 -- ---- the shares
 
 pub totals_fit : (n : ℕ) (num : List ℤ) → 1 ≤ n → n ≤ 16 → length num ≡ n → All (λ z. unsigned_abs z < 2 ^ 109) num
     → IsShares (allocation num (pos (factorial n)))
 totals_fit n num some few long small =
-    let top = factorial-sixteen n few in
-    let low = factorial-some n in
     record {
       some = omega arith;
       few = omega arith;
-      positive = omega (arith, linear, low);
-      common = omega (arith, linear, top);
-      small = λ i lt. let h = small i (pos 0) lt in omega (arith, h);
+      positive = omega (arith, linear, factorial-some n);
+      common = omega (arith, linear, factorial-sixteen n few);
+      small = λ i lt. omega (arith, small i (pos 0) lt);
     }

@@ -3,7 +3,7 @@ use Rattle.std.proofs.Common.{◌≡◌, ◌≢◌, ℕ, zero, suc, ◌-◌, ◌
 use Rattle.std.proofs.Common.{Bool, true, false, cond, List}
 use Rattle.std.proofs.Common.{length, get_or, map, min, int_le, ℤ, pos, ◌+ℤ◌, ◌-ℤ◌}
 use Rattle.std.proofs.Common.{◌*ℤ◌, ◌<ℤ◌, ◌≤ℤ◌}
-use Rattle.std.proofs.Common.{unsigned_abs, refl, sym, ap, subst, ◌∙◌, inl, inr, arith}
+use Rattle.std.proofs.Common.{unsigned_abs, refl, sym, ap, ◌∙◌, inl, inr, arith}
 use Rattle.std.specs.Int.{int_min}
 use Rattle.std.proofs.lemmas.Int.{ints}
 use Rattle.std.proofs.lemmas.List.{length-map, get_or-map}
@@ -66,7 +66,7 @@ sum-less : (n : ℕ) (q : ℤ) (d p s : ℕ → ℤ) → ((i : ℕ) → i < n �
 sum-less zero q d p s e = omega (arith, linear, mul-zeroℤ q)
 sum-less (suc n) q d p s e =
     let ih = sum-less n q d p s (λ i lt. e i (omega arith)) in
-    omega (arith, linear, ih, e n (omega arith), mul-addℤ q (sum_below n d) (d n))
+    omega (arith, linear, e n (omega arith), mul-addℤ q (sum_below n d) (d n))
 
 -- ---- the rule by place
 
@@ -76,15 +76,15 @@ pub IsRule-division : (estate : ℕ) (claims : List ℕ) (c : OrderedNumbers) (g
 IsRule-division estate claims c gain m h t x o e d a = record {
   order = order;
   players = a.players;
-  positive = (let den = a.den in let some = d.some in omega (arith, ints));
+  positive = omega (arith, ints);
   all = all_of gain d a;
-  within = (let within = d.within in omega (arith, within, long));
+  within = omega (arith, long);
   low = omega (arith, ints);
   half = λ j lt.
       let b = at_half j lt in
-      let u = award_at j (inside j lt) in let v = scaled j in omega (arith, linear, b.0, b.1, u, v);
+      let u = award_at j (inside j lt) in let v = scaled j in omega (arith, linear);
   under = λ j lt. rw (award_at j (inside j lt), (at_half j lt).0)
-      (let least = subst (λ (k : ℕ). k * h ≤ t) (at j) (d.half j lt) in omega (arith, ints, least));
+      (omega (arith, ints, rw (at j) at (d.half j lt)));
   rest = λ j low high. (at_rest j low high).0;
   over = λ j low high. (at_rest j low high).1;
   little = λ g. rw sums at (d.side.little g);
@@ -97,8 +97,8 @@ IsRule-division estate claims c gain m h t x o e d a = record {
     order : IsOrder (length claims) (cut estate claims) (place c)
     order =
         let listed : IsOrder (length (cut_claims estate claims)) (cut estate claims) (place c) =
-        subst (λ (ds : List ℕ). IsOrder (length ds) (λ i. get_or ds i 0) (place c)) e o.sorted.lists in
-        subst (λ (n : ℕ). IsOrder n (cut estate claims) (place c)) (length-map claims (λ c. min c estate)) listed
+        rw e at o.sorted.lists in
+        rw (length-map claims (λ c. min c estate)) at listed
 
     sums : claim_sum c ≡ cut_sum estate claims
     sums = claim_sum-cut estate claims c.numbers e
@@ -107,7 +107,7 @@ IsRule-division estate claims c gain m h t x o e d a = record {
     at j = ap (λ (ds : List ℕ). get_or ds (place c j) 0) e
 
     inside : (j : ℕ) → j < m → j < length claims
-    inside j lt = let within = d.within in omega (arith, within, long)
+    inside j lt = omega (arith, long)
 
     award_at : (j : ℕ) → j < length claims
         → share x (place c j) ≡ pos (award gain h t (cut estate claims (place c j)))
@@ -121,7 +121,7 @@ IsRule-division estate claims c gain m h t x o e d a = record {
         × (pos (2 * (cut estate claims (place c j) * h)) -ℤ pos (award gain h t (cut estate claims (place c j)))
         ≡ pos (cut estate claims (place c j) * h))
     at_half j lt =
-        at_bound_half gain (cut estate claims (place c j) * h) t (subst (λ (k : ℕ). k * h ≤ t) (at j) (d.half j lt))
+        at_bound_half gain (cut estate claims (place c j) * h) t (rw (at j) at (d.half j lt))
 
     at_rest : (j : ℕ) → m ≤ j → j < length claims
         → (cond gain (share x (place c j)) (loss estate claims x (place c j)) ≡ pos t)
@@ -129,7 +129,7 @@ IsRule-division estate claims c gain m h t x o e d a = record {
     at_rest j low high =
         above_bound gain (cut estate claims (place c j) * h) t (share x (place c j))
         (loss estate claims x (place c j))
-        (subst (λ (k : ℕ). t < k * h) (at j) (d.rest j low (omega (arith, high, long)))) (award_at j high)
+        (rw (at j) at (d.rest j low (omega (arith, long)))) (award_at j high)
         (ap (λ (z : ℤ). z -ℤ share x (place c j)) (scaled j))
 
     parts : ℤ
@@ -166,21 +166,13 @@ IsRule-division estate claims c gain m h t x o e d a = record {
         sum-less (length claims) x.den (λ i. pos (cut estate claims i))
         (λ i. pos (min (cut estate claims i * h) t)) (share x) each in
         let over = parts_of false d ∙ ap (λ (z : ℤ). z *ℤ (claim_sum c -ℤ pos estate)) (sym twice) in
-        omega (arith, linear, sum, over, mul-subℤ x.den (claim_sum c) (pos estate), ap (λ (z : ℤ). x.den *ℤ z) sums)
+        omega (arith, linear, mul-subℤ x.den (claim_sum c) (pos estate), ap (λ (z : ℤ). x.den *ℤ z) sums)
 
 -- ---- the rule by player
 
 side-is : (gain : Bool) (a b : ℤ) → (gain ≡ true → a ≤ℤ b) → (gain ≡ false → b <ℤ a) → gain ≡ int_le a b
-side-is true a b le more = sym (int_le_yes (int_le a b) refl (le refl))
-  where
-    int_le_yes : (t : Bool) → int_le a b ≡ t → a ≤ℤ b → int_le a b ≡ true
-    int_le_yes true e h = e
-    int_le_yes false e h = absurd (omega (arith, ints))
-side-is false a b le more = sym (int_le_no (int_le a b) refl (more refl))
-  where
-    int_le_no : (t : Bool) → int_le a b ≡ t → b <ℤ a → int_le a b ≡ false
-    int_le_no true e h = absurd (omega (arith, ints))
-    int_le_no false e h = e
+side-is true a b le more = sym (grind (arith, ints, le refl))
+side-is false a b le more = sym (grind (arith, ints, more refl))
 
 pub little-is : (estate : ℕ) (claims : List ℕ) (at : ℕ → ℕ) (m : ℕ) (gain : Bool) (t : ℤ) (x : Allocation)
     → IsRule estate claims at m gain t x → gain ≡ is_little estate claims
@@ -190,20 +182,20 @@ little-is estate claims at m gain t x r =
 -- the part at a place
 half_part : (g : Bool) (y z w t : ℤ) → y ≡ z → z ≡ w -ℤ y → y ≤ℤ t → cond g y z +ℤ cond g y z ≡ int_min w (t +ℤ t)
 half_part true y z w t e f h =
-    (let s : y +ℤ y ≡ w = omega (arith, linear, e, f) in
-    s ∙ sym (int_min-left w (t +ℤ t) (omega (arith, linear, s, h))))
+    (let s : y +ℤ y ≡ w = omega (arith, linear) in
+    s ∙ sym (int_min-left w (t +ℤ t) (omega (arith, linear))))
 half_part false y z w t e f h =
-    (let s : z +ℤ z ≡ w = omega (arith, linear, e, f) in
-    s ∙ sym (int_min-left w (t +ℤ t) (omega (arith, linear, s, e, h))))
+    (let s : z +ℤ z ≡ w = omega (arith, linear) in
+    s ∙ sym (int_min-left w (t +ℤ t) (omega (arith, linear))))
 
 rest_part : (g : Bool) (y z w t : ℤ) → cond g y z ≡ t → t <ℤ cond g z y → z ≡ w -ℤ y
     → cond g y z +ℤ cond g y z ≡ int_min w (t +ℤ t)
 rest_part true y z w t e o f =
-    (let s : y +ℤ y ≡ t +ℤ t = omega (arith, linear, e) in
-    s ∙ sym (int_min-right w (t +ℤ t) (omega (arith, linear, e, o, f))))
+    (let s : y +ℤ y ≡ t +ℤ t = omega (arith, linear) in
+    s ∙ sym (int_min-right w (t +ℤ t) (omega (arith, linear))))
 rest_part false y z w t e o f =
-    (let s : z +ℤ z ≡ t +ℤ t = omega (arith, linear, e) in
-    s ∙ sym (int_min-right w (t +ℤ t) (omega (arith, linear, e, o, f))))
+    (let s : z +ℤ z ≡ t +ℤ t = omega (arith, linear) in
+    s ∙ sym (int_min-right w (t +ℤ t) (omega (arith, linear))))
 
 pub IsTalmud-rule : (estate : ℕ) (claims : List ℕ) (at : ℕ → ℕ) (m : ℕ) (gain : Bool) (t : ℤ) (x : Allocation)
     → IsRule estate claims at m gain t x → IsTalmud estate claims x
@@ -216,7 +208,7 @@ IsTalmud-rule estate claims at m gain t x r = record {
     r.low,
     λ i lt.
         let p = order-place (length claims) (cut estate claims) at r.order i lt in
-        subst IsPart p.2 (at_place p.0 p.1),
+        rw p.2 at (at_place p.0 p.1),
   );
 }
   where
@@ -237,15 +229,11 @@ IsTalmud-rule estate claims at m gain t x r = record {
 
     at_place : (p : ℕ) → p < length claims → IsPart (at p)
     at_place p lt =
-        subst
-        (λ (g : Bool). cond g (share x (at p)) (loss estate claims x (at p))
-        +ℤ cond g (share x (at p)) (loss estate claims x (at p))
-        ≡ int_min (x.den *ℤ pos (cut estate claims (at p))) (t +ℤ t)) (little-is estate claims at m gain t x r)
-        (place_part p lt)
+        rw (little-is estate claims at m gain t x r) at (place_part p lt)
 
 not_half : (g : Bool) (y z t : ℤ) → cond g y z ≡ t → t <ℤ cond g z y → y ≢ z
-not_half true y z t e o f = omega (arith, linear, e, o, f)
-not_half false y z t e o f = omega (arith, linear, e, o, f)
+not_half true y z t e o f = omega (arith, linear)
+not_half false y z t e o f = omega (arith, linear)
 
 pub IsHalfOrder-rule : (estate : ℕ) (claims : List ℕ) (at : ℕ → ℕ) (m : ℕ) (gain : Bool) (t : ℤ) (x : Allocation)
     → IsRule estate claims at m gain t x → IsHalfOrder estate claims x at m t
@@ -255,30 +243,24 @@ IsHalfOrder-rule estate claims at m gain t x r = record {
   half = r.half;
   not_half = λ j low high. not_half gain (share x (at j)) (loss estate claims x (at j)) t (r.rest j low high)
       (r.over j low high);
-  rest = λ j low high. subst (λ (g : Bool). cond g (share x (at j)) (loss estate claims x (at j)) ≡ t)
-      (little-is estate claims at m gain t x r) (r.rest j low high);
+  rest = λ j low high. rw (little-is estate claims at m gain t x r) at (r.rest j low high);
 }
 
 -- ---- the sizes of the shares
 
 award_small : (g : Bool) (h t d : ℕ) → h ≤ 64 → d < 2 ^ 40 → unsigned_abs (pos (award g h t d)) < 2 ^ 110
-award_small g h t d few small = by_side g (d * h) (mul-le-mul most few)
+award_small g h t d few small = grind (arith, ints, mul-le-mul most few)
   where
     most : d ≤ 2 ^ 40
     most = omega arith
-
-    by_side : (g : Bool) (u : ℕ) → u ≤ 2 ^ 40 * 64
-        → unsigned_abs (pos (cond g (min u t) (2 * u - min u t))) < 2 ^ 110
-    by_side true u le = omega (arith, ints)
-    by_side false u le = omega (arith, ints)
 
 pub IsShares-awards : (c : OrderedNumbers) (gain : Bool) (h t : ℕ) → IsOrdered c → 1 ≤ h → h ≤ 64
     → IsShares (allocation (map (λ d. pos (award gain h t d)) c.numbers) (pos (2 * h)))
 IsShares-awards c gain h t o some few =
     let long = length-map c.numbers (λ d. pos (award gain h t d)) in
     record {
-      some = (let one = o.some in omega (arith, long));
-      few = (let most = o.few in omega (arith, long));
+      some = omega (arith, long);
+      few = omega (arith, long);
       positive = omega (arith, ints);
       common = omega (arith, ints);
       small = λ i lt.

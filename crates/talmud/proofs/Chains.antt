@@ -1,7 +1,7 @@
 -- The levels of the rule have the form of a certificate, and certify the shares.
-use Rattle.std.proofs.Common.{◌≡◌, ◌⊎◌, ℕ, ◌+◌, ◌-◌, ◌<◌, ◌≤◌, Bool, true, false}
+use Rattle.std.proofs.Common.{◌≡◌, ◌⊎◌, ℕ, ◌+◌, ◌-◌, ◌<◌, ◌≤◌, Bool, true}
 use Rattle.std.proofs.Common.{nat_eq, List, [], ◌∷◌, ◌++◌}
-use Rattle.std.proofs.Common.{length, ℤ, pos, ◌*ℤ◌, refl, sym, ap, subst, ◌∙◌, inl}
+use Rattle.std.proofs.Common.{length, ℤ, pos, ◌*ℤ◌, refl, sym, ap, ◌∙◌, inl}
 use Rattle.std.proofs.Common.{inr, arith}
 use Rattle.std.proofs.Math.Pow.{pow-lt}
 use Rattle.definitions.proofs.Ring.{linear}
@@ -44,7 +44,7 @@ rest_after : (n : ℕ) (cost at : ℕ → ℕ) (m i : ℕ) (gain : Bool) (t den 
     → n ≤ 64 → m ≤ n → IsOrder n cost at → AreHalves n cost at m i levels m → IsRestLevel n at m gain t den l
     → Covers n at i front → LevelsForm n front (levels ++ l ∷ [])
 rest_after n cost at m i gain t den front [] l most mn o chain b c =
-    (rest_form n cost at m gain t den front l most o b (subst (λ (j : ℕ). Covers n at j front) chain c), tt)
+    (rest_form n cost at m gain t den front l most o b (rw chain at c), tt)
 rest_after n cost at m i gain t den front (l' ∷ levels) l most mn o (h, b', chain) b c = (
   half_form n cost at m i h front l' most mn o b',
   rest_after n cost at m h gain t den (front ++ l' ∷ []) levels l most mn o chain b
@@ -54,34 +54,29 @@ rest_after n cost at m i gain t den front (l' ∷ levels) l most mn o (h, b', ch
 few_halves : (n : ℕ) (claim at : ℕ → ℕ) (m i k : ℕ) (levels : List Level) → i + 1 ≤ n
     → AreHalves n claim at m i levels k → length levels + i + 1 ≤ n
 few_halves n claim at m i k [] le chain = omega arith
-few_halves n claim at m i k (l ∷ []) le (h, b, chain) = let two = b.two in omega arith
+few_halves n claim at m i k (l ∷ []) le (h, b, chain) = omega arith
 few_halves n claim at m i k (l ∷ (l' ∷ levels)) le (h, b, chain) =
-    let two = chain.1.two in
-    let some = b.end.some in
     let ih = few_halves n claim at m h k (l' ∷ levels) (omega arith) chain in
-    omega (arith, ih)
+    omega arith
 
 short_halves : (n : ℕ) (claim at : ℕ → ℕ) (m i k : ℕ) (levels : List Level) → AreHalves n claim at m i levels k
     → length levels + i ≤ k
-short_halves n claim at m i k [] chain = omega (arith, chain)
+short_halves n claim at m i k [] chain = omega arith
 short_halves n claim at m i k (l ∷ levels) (h, b, chain) =
-    let some = b.end.some in
-    let ih = short_halves n claim at m h k levels chain in
-    omega (arith, ih)
+    omega (arith, short_halves n claim at m h k levels chain)
 
 pub HasForm-rule : (n : ℕ) (cost at : ℕ → ℕ) (m : ℕ) (gain : Bool) (t den : ℤ) (levels : List Level) → 1 ≤ n
     → n ≤ 64 → m ≤ n → IsOrder n cost at → AreLevels n cost at m gain t den levels → HasForm Players n levels
 HasForm-rule n cost at m gain t den levels one most mn o (inl (k, chain, end)) = record {
   players = inl refl;
-  few = (let e = few_halves n cost at m 0 k levels (omega arith) chain in omega (arith, e));
+  few = (let e = few_halves n cost at m 0 k levels (omega arith) chain in omega arith);
   each = halves_form n cost at m 0 k [] levels most mn o chain;
 }
 HasForm-rule n cost at m gain t den levels one most mn o (inr (ls, l, e, chain, b)) = record {
   players = inl refl;
   few =
-      (let two = b.two in
-      let short = short_halves n cost at m 0 m ls chain in
-      let count = ap length e ∙ length-append ls (l ∷ []) in omega (arith, short, count));
+      (let short = short_halves n cost at m 0 m ls chain in
+      let count = ap length e ∙ length-append ls (l ∷ []) in omega arith);
   each = rw e (rest_after n cost at m 0 gain t den [] ls l most mn o chain b (Covers-none n at));
 }
 
@@ -91,7 +86,7 @@ halves_hold : (family : Family) (estate : ℕ) (claims : List ℕ) (at : ℕ →
     → Covers (length claims) at i front → LevelsHold Players family Plain (game_of estate claims) x front levels
 halves_hold family estate claims at m gain t x i k front [] r chain end c =
     all_fixed (length claims) (cut estate claims) at i front r.order (fixes (length claims) at i front c)
-    (omega (arith, chain))
+    (omega arith)
 halves_hold family estate claims at m gain t x i k front (l ∷ levels) r (h, b, chain) end c = (
   half_holds family estate claims at m gain t x i h front l r b c,
   halves_hold family estate claims at m gain t x h k (front ++ l ∷ []) levels r chain end
@@ -113,8 +108,7 @@ rest_fixes n at m gain t den front l mn b c j lt = elim (below_or_above j m) [
   where
     by_kind : (g : Bool) → is_listed (front ++ l ∷ []) (key_of n at g j) ≡ true
         → (is_listed (front ++ l ∷ []) (single at j) ≡ true) ⊎ (is_listed (front ++ l ∷ []) (others n at j) ≡ true)
-    by_kind true h = inl h
-    by_kind false h = inr h
+    by_kind g h = grind arith
 
 rest_hold : (family : Family) (estate : ℕ) (claims : List ℕ) (at : ℕ → ℕ) (m : ℕ) (gain : Bool) (t : ℤ)
     (x : Allocation) (i : ℕ) (front levels : List Level) (l : Level) → IsRule estate claims at m gain t x
@@ -122,7 +116,7 @@ rest_hold : (family : Family) (estate : ℕ) (claims : List ℕ) (at : ℕ → �
     → IsRestLevel (length claims) at m gain t x.den l → Covers (length claims) at i front
     → LevelsHold Players family Plain (game_of estate claims) x front (levels ++ l ∷ [])
 rest_hold family estate claims at m gain t x i front [] l r chain b c =
-    let cm = subst (λ (j : ℕ). Covers (length claims) at j front) chain c in (
+    let cm = rw chain at c in (
       rest_holds family estate claims at m gain t x front l r b cm,
       all_fixed (length claims) (cut estate claims) at (length claims) (front ++ l ∷ []) r.order
           (rest_fixes (length claims) at m gain t x.den front l r.within b cm) (omega arith),
@@ -172,7 +166,7 @@ InCore-rule estate claims at m gain t x r =
     let d = Divides-rule estate claims at m gain t x r in (
       (d.players, d.positive),
       efficient estate claims x d,
-      λ s lt blocks. let e = excess-core estate claims x s d lt in omega (arith, linear, e, blocks),
+      λ s lt blocks. omega (arith, linear, excess-core estate claims x s d lt),
     )
 
 pub Certifies-rule : (family : Family) (estate : ℕ) (claims : List ℕ) (at : ℕ → ℕ) (m : ℕ) (gain : Bool) (t : ℤ)

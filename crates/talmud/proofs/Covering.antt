@@ -1,7 +1,7 @@
 -- What the half levels list fixes their players, and what a coalition outside has at most.
 use Rattle.std.proofs.Common.{◌≡◌, ◌⊎◌, ℕ, ◌+◌, ◌-◌, ◌^◌, ◌<◌, ◌≤◌, Bool, true}
 use Rattle.std.proofs.Common.{false, not, ◌||◌, nat_eq, List, []}
-use Rattle.std.proofs.Common.{◌∷◌, ◌++◌, length, ℤ, neg_ℤ, ◌≤ℤ◌, refl, sym, ap, subst}
+use Rattle.std.proofs.Common.{◌∷◌, ◌++◌, length, ℤ, neg_ℤ, ◌≤ℤ◌, refl, sym, ap}
 use Rattle.std.proofs.Common.{◌∙◌, inl, inr, arith}
 use Rattle.std.proofs.lemmas.Bool.{false≢true}
 use Rattle.definitions.specs.Coalitions.{singleton, grand_coalition, splits}
@@ -36,14 +36,14 @@ Covers-more n claim at m i k levels l b h = record {
     | inl less ↦ listed_before levels l (single at j) (h.singles j less)
     | inr low ↦ listed_here levels l (single at j)
         (rw b.coalitions
-        (any-both_single (λ c. nat_eq c.0 (single at j)) n at i (k - i) j low (omega (arith, b.end.some))
+        (any-both_single (λ c. nat_eq c.0 (single at j)) n at i (k - i) j low (omega arith)
         (nat_eq-same (single at j))))
   ];
   rest = λ j lt. elim (below_or_above j i) [
     | inl less ↦ listed_before levels l (others n at j) (h.rest j less)
     | inr low ↦ listed_here levels l (others n at j)
         (rw b.coalitions
-        (any-both_others (λ c. nat_eq c.0 (others n at j)) n at i (k - i) j low (omega (arith, b.end.some))
+        (any-both_others (λ c. nat_eq c.0 (others n at j)) n at i (k - i) j low (omega arith)
         (nat_eq-same (others n at j))))
   ];
 }
@@ -103,8 +103,7 @@ outside_most estate claims at m gain t x i z levels r c least s small out =
     placed j lt free =
         let p = order-place (length claims) (cut estate claims) at r.order j lt in
         let f : is_free (length claims) levels (at p.0) ≡ true = rw p.2 free in
-        subst (λ (h : ℕ). (z ≤ℤ share x h) × (z ≤ℤ loss estate claims x h)) p.2
-        (least p.0 (free_place (length claims) at i p.0 levels c f) p.1)
+        rw p.2 at (least p.0 (free_place (length claims) at i p.0 levels c f) p.1)
 
 pub fixes : (n : ℕ) (at : ℕ → ℕ) (i : ℕ) (levels : List Level) → Covers n at i levels → (j : ℕ) → j < i
     → (is_listed levels (single at j) ≡ true) ⊎ (is_listed levels (others n at j) ≡ true)

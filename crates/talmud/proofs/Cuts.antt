@@ -1,6 +1,6 @@
 -- The list of the claims, cut to the estate.
 use Rattle.std.proofs.Common.{◌≡◌, ℕ, ◌^◌, ◌<◌, ◌≤◌, List, length, get_or, min, pos}
-use Rattle.std.proofs.Common.{◌≤ℤ◌, sym, ap, subst, ◌∙◌, inl, inr, arith, sum}
+use Rattle.std.proofs.Common.{◌≤ℤ◌, ap, ◌∙◌, inl, inr, arith, sum}
 use Rattle.std.specs.List.{All}
 use Rattle.std.proofs.lemmas.List.{length-map, get_or-map}
 use Rattle.std.proofs.lemmas.Int.{ints}
@@ -25,19 +25,19 @@ claim_sum-cut estate claims cuts e =
 all-cut : (estate : ℕ) (claims : List ℕ) (P : ℕ → Type 0)
     → ((k : ℕ) → k < length claims → P (min (get_or claims k 0) estate)) → All P (cut_claims estate claims)
 all-cut estate claims P each k d lt =
-    let within : k < length claims = subst (λ (n : ℕ). k < n) (length-map claims (λ c. min c estate)) lt in
-    subst P (sym (get_or-map (λ c. min c estate) claims k 0 d within)) (each k within)
+    let within : k < length claims = rw (length-map claims (λ c. min c estate)) at lt in
+    rw (get_or-map (λ c. min c estate) claims k 0 d within) (each k within)
 
 -- no claim is left above the estate
 pub all-cut_low : (estate : ℕ) (claims cuts : List ℕ) → cuts ≡ cut_claims estate claims → All (λ c. c ≤ estate) cuts
 all-cut_low estate claims cuts e =
-    subst (All (λ c. c ≤ estate)) (sym e) (all-cut estate claims (λ c. c ≤ estate) (λ k lt. omega arith))
+    rw e (all-cut estate claims (λ c. c ≤ estate) (λ k lt. omega arith))
 
 pub all-cut_small : (b : Bankruptcy) → IsBankruptcy b → (cuts : List ℕ) → cuts ≡ cut_claims b.estate b.claims
     → All (λ d. d < 2 ^ 40) cuts
 all-cut_small b h cuts e =
-    subst (All (λ d. d < 2 ^ 40)) (sym e)
-    (all-cut b.estate b.claims (λ d. d < 2 ^ 40) (λ k lt. let small = h.small k 0 lt in omega (arith, small)))
+    rw e
+    (all-cut b.estate b.claims (λ d. d < 2 ^ 40) (λ k lt. omega (arith, h.small k 0 lt)))
 
 -- cut or not, the claims cover the estate
 pub cut-enough : (b : Bankruptcy) → IsBankruptcy b → (cuts : List ℕ) → cuts ≡ cut_claims b.estate b.claims
@@ -51,8 +51,7 @@ cut-enough b h cuts e =
     let same = claim_sum-cut b.estate b.claims cuts e in
     elim covers.2 [
       | inl equal ↦
-          let natural = h.enough in
-          let enough : pos b.estate ≤ℤ pos (sum b.claims) = omega (arith, ints, natural) in
-          omega (arith, linear, same, cut_all, equal, all, total, enough)
-      | inr more ↦ omega (arith, linear, same, cut_all, more)
+          let enough : pos b.estate ≤ℤ pos (sum b.claims) = omega (arith, ints) in
+          omega (arith, linear)
+      | inr more ↦ omega (arith, linear)
     ]

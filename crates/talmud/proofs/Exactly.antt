@@ -1,7 +1,7 @@
 -- The lists of the levels hold exactly the pairs of their places.
 use Rattle.std.proofs.Common.{◌≡◌, ◌⊎◌, ℕ, ◌+◌, ◌-◌, ◌<◌, ◌≤◌, Bool, true, nat_eq}
 use Rattle.std.proofs.Common.{List, [], ◌∷◌}
-use Rattle.std.proofs.Common.{◌++◌, ℤ, refl, sym, subst, append-nil, inl, inr, arith}
+use Rattle.std.proofs.Common.{◌++◌, ℤ, refl, sym, append-nil, inl, inr, arith}
 use Rattle.std.specs.List.{list_any}
 use Rattle.definitions.specs.Certificates.{Level, Ascends, LevelForm, LevelsForm}
 use Rattle.kohlberg.specs.Pairs.{AreExactly}
@@ -18,8 +18,8 @@ exactly_keys key i b k end up = record {
   ascend = up;
   each =
       all-keys (λ p. IsOfKeys key i k p.0 p.1) key i b
-      (λ j low high. ((j, low, omega (arith, end, high), refl), refl));
-  all = λ s w h. any-keys (λ p. nat_eq p.0 s) key i b h.0.0 h.0.1 (let high = h.0.2 in omega (arith, end, high))
+      (λ j low high. ((j, low, omega arith, refl), refl));
+  all = λ s w h. any-keys (λ p. nat_eq p.0 s) key i b h.0.0 h.0.1 (omega arith)
       (nat_eq-equal (key h.0.0) s (sym h.0.3));
 }
 
@@ -36,9 +36,9 @@ module _ (n : ℕ) (at : ℕ → ℕ) (i k : ℕ) (le : i ≤ k) where
     ascend = up;
     each =
         all-both (λ p. IsOfBoth n at i k p.0 p.1) n at i (k - i)
-        (λ j low high. ((j, low, omega (arith, le, high), inl refl), refl))
-        (λ j low high. ((j, low, omega (arith, le, high), inr refl), refl));
-    all = λ s w h. stands s h.0.0 h.0.1 (let high = h.0.2 in omega (arith, le, high)) h.0.3;
+        (λ j low high. ((j, low, omega arith, inl refl), refl))
+        (λ j low high. ((j, low, omega arith, inr refl), refl));
+    all = λ s w h. stands s h.0.0 h.0.1 (omega arith) h.0.3;
   }
 
 -- ---- levels
@@ -47,16 +47,13 @@ module _ (n : ℕ) (claim at : ℕ → ℕ) (m : ℕ) where
   holds_half : (i k : ℕ) (levels : List Level) (l : Level) → IsHalfLevel n claim at m i k l → LevelForm n levels l
       → HoldsHalf n claim at m i k l
   holds_half i k levels l b form =
-      let some = b.end.some in
-      let up : Ascends 0 (with_both n at i (k - i)) = subst (Ascends 0) b.coalitions form.ascend in
+      let up : Ascends 0 (with_both n at i (k - i)) = rw b.coalitions at form.ascend in
       record {
         two = b.two;
         end = b.end;
         fraction = b.fraction;
         excess = b.excess;
-        coalitions =
-            subst (AreExactly (IsOfBoth n at i k)) (sym b.coalitions)
-            (exactly_both n at i k (omega (arith, some)) up);
+        coalitions = rw b.coalitions (exactly_both n at i k (omega arith) up);
         earlier = b.earlier;
         bounds = b.bounds;
         total = b.total;
@@ -78,17 +75,14 @@ module _ (n : ℕ) (claim at : ℕ → ℕ) (m : ℕ) where
   holds_rest gain t den levels l b form =
       let two = b.two in
       let key = key_of n at gain in
-      let up : Ascends 0 (with_keys key m (n - m)) = subst (Ascends 0) b.coalitions form.ascend in
-      let early : Ascends 0 (with_keys key 0 m) = subst (Ascends 0) b.earlier form.earlier_ascend in
+      let up : Ascends 0 (with_keys key m (n - m)) = rw b.coalitions at form.ascend in
+      let early : Ascends 0 (with_keys key 0 m) = rw b.earlier at form.earlier_ascend in
       record {
         two = b.two;
         fraction = b.fraction;
         excess = b.excess;
-        coalitions =
-            subst (AreExactly (IsOfKeys key m n)) (sym b.coalitions)
-            (exactly_keys key m (n - m) n (omega (arith, two)) up);
-        earlier =
-            subst (AreExactly (IsOfKeys key 0 m)) (sym b.earlier) (exactly_keys key 0 m m (omega arith) early);
+        coalitions = rw b.coalitions (exactly_keys key m (n - m) n (omega arith) up);
+        earlier = rw b.earlier (exactly_keys key 0 m m (omega arith) early);
         bounds = b.bounds;
         total = b.total;
       }
@@ -96,8 +90,8 @@ module _ (n : ℕ) (claim at : ℕ → ℕ) (m : ℕ) where
   pub hold_all : (gain : Bool) (t den : ℤ) (levels : List Level) → AreLevels n claim at m gain t den levels
       → LevelsForm n [] levels → HoldAll n claim at m gain t den levels
   hold_all gain t den levels (inl (k, chain, end)) form =
-      inl (k, hold_halves 0 k [] levels [] chain (subst (LevelsForm n []) (sym (append-nil levels)) form), end)
+      inl (k, hold_halves 0 k [] levels [] chain (rw (append-nil levels) form), end)
   hold_all gain t den levels (inr (ls, l, e, chain, b)) form =
-      let here : LevelsForm n [] (ls ++ l ∷ []) = subst (LevelsForm n []) e form in
+      let here : LevelsForm n [] (ls ++ l ∷ []) = rw e at form in
       let last = last_form [] ls l here in
       inr (ls, l, e, hold_halves 0 m [] ls (l ∷ []) chain here, holds_rest gain t den last.0 l b last.1)

@@ -2,7 +2,7 @@
 use Rattle.std.proofs.Common.{◌≡◌, ◌≢◌, ◌⊎◌, ℕ, ◌-◌, ◌^◌, ◌<◌, ◌≤◌, Bool, true}
 use Rattle.std.proofs.Common.{false, not, List, length, ℤ, pos}
 use Rattle.std.proofs.Common.{◌+ℤ◌, ◌-ℤ◌, ◌*ℤ◌, neg_ℤ, ◌≤ℤ◌, refl, sym, ap, ◌∙◌, inl}
-use Rattle.std.proofs.Common.{inr, arith, subst}
+use Rattle.std.proofs.Common.{inr, arith}
 use Rattle.std.proofs.lemmas.Int.{ints}
 use Rattle.std.proofs.Math.Pow.{pow-lt}
 use Rattle.definitions.proofs.Ring.{linear, mul-leℤ, mul-nonnegativeℤ, mul-ltℤ, mul-le_cancelℤ, mul-subℤ, mul-addℤ}
@@ -39,10 +39,10 @@ rest_least estate claims at m false t x r p le lt =
 half_rises : (estate : ℕ) (claims : List ℕ) (at : ℕ → ℕ) (m : ℕ) (gain : Bool) (t : ℤ) (x : Allocation)
     → IsRule estate claims at m gain t x → (i p : ℕ) → i < p → p < m → share x (at i) ≤ℤ share x (at p)
 half_rises estate claims at m gain t x r i p lt le =
-    let rising = r.order.rising i p lt (let w = r.within in omega arith) in
+    let rising = r.order.rising i p lt (omega arith) in
     let scaled =
     mul-leℤ x.den (pos (cut estate claims (at i))) (pos (cut estate claims (at p)))
-    (let one = r.positive in omega (arith, linear)) (omega (arith, ints)) in
+    (omega (arith, linear)) (omega (arith, ints)) in
     let a = r.half i (omega arith) in
     let b = r.half p le in
     omega (arith, linear)
@@ -58,7 +58,7 @@ half_least estate claims at m gain t x r i p half le lt = elim (cases i m p le) 
       let h = r.half p inner in (a, omega (arith, linear))
   | inr (inr outer) ↦
       let a = rest_least estate claims at m gain t x r p outer lt in
-      let u = r.under i half in (omega (arith, linear, a.0), omega (arith, linear, a.1))
+      let u = r.under i half in (omega (arith, linear), omega (arith, linear))
 ]
   where
     cases : (i m p : ℕ) → i ≤ p → (i ≡ p) ⊎ (((i < p) × (p < m)) ⊎ (m ≤ p))
@@ -74,7 +74,7 @@ at_place estate claims at m gain t x r p lt = elim (below_or_above p m) [
       (omega (arith, linear), omega (arith, linear))
   | inr rest ↦
       let a = rest_least estate claims at m gain t x r p rest lt in
-      let low = r.low in (omega (arith, linear, a.0), omega (arith, linear, a.1))
+      (omega (arith, linear), omega (arith, linear))
 ]
 
 pub Divides-rule : (estate : ℕ) (claims : List ℕ) (at : ℕ → ℕ) (m : ℕ) (gain : Bool) (t : ℤ) (x : Allocation)
@@ -85,10 +85,10 @@ Divides-rule estate claims at m gain t x r = record {
   all = r.all;
   gains = λ i lt.
       let p = order-place (length claims) (cut estate claims) at r.order i lt in
-      subst (λ (j : ℕ). pos 0 ≤ℤ share x j) p.2 (at_place estate claims at m gain t x r p.0 p.1).0;
+      rw p.2 at (at_place estate claims at m gain t x r p.0 p.1).0;
   losses = λ i lt.
       let p = order-place (length claims) (cut estate claims) at r.order i lt in
-      subst (λ (j : ℕ). pos 0 ≤ℤ loss estate claims x j) p.2 (at_place estate claims at m gain t x r p.0 p.1).1;
+      rw p.2 at (at_place estate claims at m gain t x r p.0 p.1).1;
 }
 
 -- ---- outside
@@ -111,8 +111,7 @@ excess-core estate claims x s d small =
     let n = length claims in
     let a = sum_over-nonnegative n s (share x) d.gains in
     let b = sum_over-nonnegative n (grand_coalition n - s) (loss estate claims x) d.losses in
-    let e = excess-at_most estate claims x s (pos 0) d small a b in
-    omega (arith, linear, e)
+    omega (arith, linear, excess-at_most estate claims x s (pos 0) d small a b)
 
 -- ---- a player alone is worth nothing
 
@@ -125,7 +124,7 @@ all_half estate claims at m gain t x r all = sum_below-same (length claims) (los
     each : (i : ℕ) → i < length claims → loss estate claims x i ≡ share x i
     each i lt =
         let p = order-place (length claims) (cut estate claims) at r.order i lt in
-        subst (λ (j : ℕ). loss estate claims x j ≡ share x j) p.2 (sym (r.half p.0 (omega (arith, p.1))))
+        rw p.2 at (sym (r.half p.0 (omega arith)))
 
 loss-all : (estate : ℕ) (claims : List ℕ) (x : Allocation)
     → sum_below (length claims) (loss estate claims x)
@@ -136,7 +135,7 @@ loss-all estate claims x =
     let a = sum_over-grand_coalition n (loss estate claims x) in
     let b = sum_over-grand_coalition n (cut_claim estate claims) in
     let c = sum_over-grand_coalition n (share x) in
-    omega (arith, linear, e, a, c, ap (λ (z : ℤ). x.den *ℤ z) b)
+    omega (arith, linear, ap (λ (z : ℤ). x.den *ℤ z) b)
 
 pub enough_gain : (estate : ℕ) (claims : List ℕ) (i : ℕ) → (pos estate +ℤ pos estate) ≤ℤ cut_sum estate claims
     → pos estate ≤ℤ (cut_sum estate claims -ℤ pos (cut estate claims i))
@@ -162,29 +161,18 @@ enough_half estate claims at m t x r j half = elim (below_or_above m (length cla
       let h = r.half j half in
       let total = loss-all estate claims x in
       let scaled : (x.den *ℤ pos (cut estate claims (at j))) ≤ℤ (x.den *ℤ (cut_sum estate claims -ℤ pos estate)) =
-      omega (
-        arith,
-        linear,
-        other,
-        parts,
-        mine,
-        least.1,
-        h,
-        total,
-        r.all,
-        mul-subℤ x.den (cut_sum estate claims) (pos estate),
-      ) in
+      omega (arith, linear, mul-subℤ x.den (cut_sum estate claims) (pos estate)) in
       let e =
       mul-le_cancelℤ x.den (pos (cut estate claims (at j))) (cut_sum estate claims -ℤ pos estate)
-      (let one = r.positive in omega (arith, linear)) scaled in
-      omega (arith, linear, e)
+      (omega (arith, linear)) scaled in
+      omega (arith, linear)
   | inr none ↦
       let total = loss-all estate claims x in
       let same = all_half estate claims at m false t x r none in
       let much =
       mul-ltℤ x.den (cut_sum estate claims) (pos estate +ℤ pos estate)
-      (let one = r.positive in omega (arith, linear)) (r.much refl) in
-      absurd (omega (arith, linear, total, same, much, r.all, mul-addℤ x.den (pos estate) (pos estate)))
+      (omega (arith, linear)) (r.much refl) in
+      absurd (omega (arith, linear, mul-addℤ x.den (pos estate) (pos estate)))
 ]
 
 pub enough : (estate : ℕ) (claims : List ℕ) (at : ℕ → ℕ) (m : ℕ) (gain : Bool) (t : ℤ) (x : Allocation)

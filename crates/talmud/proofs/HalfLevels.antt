@@ -36,7 +36,7 @@ pub others_proper : (n : ℕ) (cost at : ℕ → ℕ) → IsOrder n cost at → 
 others_proper n cost at o two j lt = with_other (other_place j n lt two)
   where
     others_within : others n at j < 2 ^ n
-    others_within = let p = pow-lt (o.below j lt) in omega (arith, p)
+    others_within = omega (arith, pow-lt (o.below j lt))
 
     with_other : ((h : ℕ) × (h < n) × (j ≢ h)) → (0 < others n at j) × (others n at j < grand_coalition n)
     with_other (h, hn, ne) =
@@ -59,8 +59,8 @@ ascends-half : (n : ℕ) (cost at : ℕ → ℕ) (m i k : ℕ) (l : Level) → m
     → IsHalfLevel n cost at m i k l → Ascends 0 (with_both n at i (k - i))
 ascends-half n cost at m i k l mn o b = elim (three_or_two n b.two) [
   | inl three ↦ ascends-both n cost at o three i (k - i)
-      (let some = b.end.some in let within = b.end.within in omega arith)
-  | inr two ↦ rw (one_apart k i (b.end.pair two)) (ascends-one n cost at o i (let t = b.two in omega arith))
+      (omega arith)
+  | inr two ↦ rw (one_apart k i (b.end.pair two)) (ascends-one n cost at o i (omega arith))
 ]
   where
     three_or_two : (n : ℕ) → i + 2 ≤ n → (3 ≤ n) ⊎ (n ≡ 2)
@@ -73,13 +73,12 @@ pub half_form : (n : ℕ) (cost at : ℕ → ℕ) (m i k : ℕ) (levels : List L
     → IsOrder n cost at → IsHalfLevel n cost at m i k l → LevelForm n levels l
 half_form n cost at m i k levels l most mn o b =
     let some = b.end.some in
-    let within = b.end.within in
-    let two : 2 ≤ n = (let t = b.two in omega arith) in
+    let two : 2 ≤ n = omega arith in
     let count = ap length b.coalitions ∙ length-both n at i (k - i) in
     record {
       fraction = b.fraction;
-      some = omega (arith, count);
-      few = omega (arith, count);
+      some = omega arith;
+      few = omega arith;
       few_earlier = rw b.earlier (omega arith);
       proper = rw b.coalitions
           (all-both (λ c. (0 < c.0) × (c.0 < grand_coalition n)) n at i (k - i)
@@ -105,10 +104,8 @@ half_balanced : (n : ℕ) (cost at : ℕ → ℕ) (m i k : ℕ) (l : Level) → 
     → IsHalfLevel n cost at m i k l → (j : ℕ) → j < n
     → weight_at l.coalitions j +ℤ weight_at l.earlier j +ℤ number_at l.bounds j ≡ l.total
 half_balanced n cost at m i k l mn o b j lt =
-    let within = b.end.within in
-    let some = b.end.some in
-    let w = weight-both n cost at o i (k - i) j (omega arith) lt in
-    rw (b.coalitions, b.earlier, b.bounds, b.total) (omega (arith, ints, w))
+    rw (b.coalitions, b.earlier, b.bounds, b.total)
+    (omega (arith, ints, weight-both n cost at o i (k - i) j (omega arith) lt))
 
 -- minus half of a claim, over the denominator of the shares
 half_excess : (y c den en ed : ℤ) → y +ℤ y ≡ den *ℤ c → en *ℤ pos 2 ≡ neg_ℤ c *ℤ ed → neg_ℤ y *ℤ ed ≡ en *ℤ den
@@ -161,19 +158,19 @@ half_holds family estate claims at m gain t x i k levels l r b c = record {
     d = Divides-rule estate claims at m gain t x r
 
     start : i < m
-    start = let some = b.end.some in let within = b.end.within in omega arith
+    start = omega arith
 
     inside : (j : ℕ) → j < i + (k - i) → j < k
-    inside j h = let some = b.end.some in omega arith
+    inside j h = omega arith
 
     below : (j : ℕ) → j < k → j < m
-    below j h = let within = b.end.within in omega arith
+    below j h = omega arith
 
     place : (j : ℕ) → j < k → j < length claims
-    place j h = let within = b.end.within in let w = r.within in omega arith
+    place j h = omega arith
 
     twice : (j : ℕ) → j < m → share x (at j) +ℤ share x (at j) ≡ x.den *ℤ pos (cut estate claims (at j))
-    twice j lt = let h = r.half j lt in omega (arith, linear, h)
+    twice j lt = omega (arith, linear, r.half j lt)
 
     -- equal claims have equal halves
     equal_halves : (j : ℕ) → i ≤ j → j < k → share x (at j) ≡ share x (at i)

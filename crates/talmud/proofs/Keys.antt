@@ -122,7 +122,7 @@ length-both n at i (suc b) =
     (with_pair (single at (i + b)) (pos 1) (with_both n at i b)) in
     let c = length-with_pair (single at (i + b)) (pos 1) (with_both n at i b) in
     let ih = length-both n at i b in
-    omega (arith, a, c, ih)
+    omega arith
 
 pub any-keys : (test : ℕ × ℤ → Bool) (key : ℕ → ℕ) (i b j : ℕ) → i ≤ j → j < i + b → test (key j, pos 1) ≡ true
     → list_any test (with_keys key i b) ≡ true

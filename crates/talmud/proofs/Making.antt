@@ -1,7 +1,7 @@
 -- The lists of coalitions and of levels grow at their end.
 use Rattle.std.proofs.Common.{◌≡◌, ◌⊎◌, ℕ, suc, ◌+◌, ◌-◌, ◌≤◌, Bool, List, []}
 use Rattle.std.proofs.Common.{◌∷◌, ◌++◌, ℤ}
-use Rattle.std.proofs.Common.{pos, refl, sym, ap, subst, ◌∙◌, inl, inr, arith}
+use Rattle.std.proofs.Common.{pos, refl, ap, ◌∙◌, inl, inr, arith}
 use Rattle.definitions.specs.Certificates.{Level}
 use Rattle.kohlberg.specs.Pairs.{with_pair}
 use Rattle.talmud.specs.Levels.{single, others, with_keys, with_both, IsHalfLevel}
@@ -32,7 +32,7 @@ pub AreHalves-push : (n : ℕ) (claim at : ℕ → ℕ) (m i h k : ℕ) (levels 
     → AreHalves n claim at m i levels h → IsHalfLevel n claim at m h k l
     → AreHalves n claim at m i (levels ++ l ∷ []) k
 AreHalves-push n claim at m i h k [] l chain b =
-    (k, subst (λ (j : ℕ). IsHalfLevel n claim at m j k l) (sym chain) b, refl)
+    (k, rw chain b, refl)
 AreHalves-push n claim at m i h k (l' ∷ levels) l (j, b', chain) b =
     (j, b', AreHalves-push n claim at m j h k levels l chain b)
 
@@ -42,12 +42,12 @@ AreAllHalves n claim at m levels = (k : ℕ) × AreHalves n claim at m 0 levels 
 
 pub AreLevels-halves : (n : ℕ) (claim at : ℕ → ℕ) (m : ℕ) (gain : Bool) (t den : ℤ) (levels : List Level)
     → AreAllHalves n claim at m levels → n ≤ m + 1 → AreLevels n claim at m gain t den levels
-AreLevels-halves n claim at m gain t den levels (k, chain, inl all) le = inl (k, chain, omega (arith, all))
+AreLevels-halves n claim at m gain t den levels (k, chain, inl all) le = inl (k, chain, omega arith)
 AreLevels-halves n claim at m gain t den levels (k, chain, inr end) le = inl (k, chain, end)
 
 halves-within : (n : ℕ) (claim at : ℕ → ℕ) (m i k : ℕ) (levels : List Level) → i ≤ m
     → AreHalves n claim at m i levels k → k ≤ m
-halves-within n claim at m i k [] le chain = omega (arith, chain)
+halves-within n claim at m i k [] le chain = omega arith
 halves-within n claim at m i k (l ∷ levels) le (h, b, chain) =
     halves-within n claim at m h k levels b.end.within chain
 
@@ -55,8 +55,7 @@ pub AreLevels-rest : (n : ℕ) (claim at : ℕ → ℕ) (m : ℕ) (gain : Bool) 
     → AreAllHalves n claim at m levels → IsRestLevel n at m gain t den l
     → AreLevels n claim at m gain t den (levels ++ l ∷ [])
 AreLevels-rest n claim at m gain t den levels l (k, chain, inl all) b =
-    inr (levels, l, refl, subst (λ (j : ℕ). AreHalves n claim at m 0 levels j) all chain, b)
+    inr (levels, l, refl, rw all at chain, b)
 AreLevels-rest n claim at m gain t den levels l (k, chain, inr end) b =
     absurd
-    (let within = halves-within n claim at m 0 k levels (omega arith) chain in
-    let two = b.two in omega (arith, within))
+    (omega (arith, halves-within n claim at m 0 k levels (omega arith) chain))

@@ -44,14 +44,13 @@ key_listed n at i levels c false j lt = c.rest j lt
 pub rest_form : (n : ℕ) (cost at : ℕ → ℕ) (m : ℕ) (gain : Bool) (t den : ℤ) (levels : List Level) (l : Level)
     → n ≤ 64 → IsOrder n cost at → IsRestLevel n at m gain t den l → Covers n at m levels → LevelForm n levels l
 rest_form n cost at m gain t den levels l most o b c =
-    let two = b.two in
     let count = ap length b.coalitions ∙ length-keys (key_of n at gain) m (n - m) in
     let early = ap length b.earlier ∙ length-keys (key_of n at gain) 0 m in
     record {
       fraction = b.fraction;
-      some = omega (arith, count);
-      few = omega (arith, count);
-      few_earlier = omega (arith, early);
+      some = omega arith;
+      few = omega arith;
+      few_earlier = omega arith;
       proper = rw b.coalitions
           (all-keys (λ c. (0 < c.0) × (c.0 < grand_coalition n)) (key_of n at gain) m (n - m)
           (λ j low high. key_proper n cost at o (omega arith) gain j (omega arith)));
@@ -70,12 +69,8 @@ rest_form n cost at m gain t den levels l most o b c =
           (all_join (λ p. IsSmall p.1) (with_keys (key_of n at gain) m (n - m)) (with_keys (key_of n at gain) 0 m)
           (all-keys (λ p. IsSmall p.1) (key_of n at gain) m (n - m) (λ j low high. one_small))
           (all-keys (λ p. IsSmall p.1) (key_of n at gain) 0 m (λ j low high. one_small))) tt);
-      total_small = rw b.total (small_total gain);
+      total_small = rw b.total (grind (arith, ints));
     }
-  where
-    small_total : (g : Bool) → IsSmall (cond g (pos 1) (pos n -ℤ pos 1))
-    small_total true = omega arith
-    small_total false = omega (arith, ints)
 
 -- each place is once among those from m on and those in front of it
 singles_once : (n : ℕ) (cost at : ℕ → ℕ) → IsOrder n cost at → (m h : ℕ) → m ≤ n → h < n
@@ -133,7 +128,7 @@ rest_holds family estate claims at m gain t x levels l r b c = record {
 }
   where
     inside : (j : ℕ) → j < m + (length claims - m) → j < length claims
-    inside j h = let two = b.two in omega arith
+    inside j h = omega arith
 
     key_excess : (g : Bool) → IsRule estate claims at m g t x → (j : ℕ) → m ≤ j → j < length claims
         → excess (game_of estate claims) x (key_of (length claims) at g j) ≡ neg_ℤ t

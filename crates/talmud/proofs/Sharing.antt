@@ -1,8 +1,8 @@
 -- How many players get half of their claims, and that the shares made of it are those of the rule.
 use Rattle.std.proofs.Common.{◌≡◌, ◌⊎◌, ℕ, zero, suc, ◌+◌, ◌-◌, ◌*◌, ◌<◌, ◌≤◌}
-use Rattle.std.proofs.Common.{Bool, true, false, length, get_or}
+use Rattle.std.proofs.Common.{Bool, length, get_or}
 use Rattle.std.proofs.Common.{min, ℤ, pos, ◌+ℤ◌, ◌*ℤ◌, ◌≤ℤ◌, refl, sym, ap, ◌∙◌}
-use Rattle.std.proofs.Common.{inl, inr, arith, add-one, subst}
+use Rattle.std.proofs.Common.{inl, inr, arith, add-one}
 use Rattle.std.proofs.lemmas.Int.{ints}
 use Rattle.std.proofs.Math.Nat.{mul-le-mul, le_refl}
 use Rattle.definitions.proofs.Ring.{linear, mul-addℤ, mul-zeroℤ, add-mulℤ, suc-mulℤ}
@@ -22,7 +22,7 @@ pub IsSplit-more : (n : ℕ) (c : ℕ → ℕ) (double m left : ℕ) → ((j k :
 IsSplit-more n c double m left rising lt le s = record {
   within = omega arith;
   sum = sum_more;
-  most = (let most = s.most in omega arith);
+  most = omega arith;
   under =
       λ j h. at j (elim (less_or_last_of j m h) [ inl less ↦ rising j m less lt | inr same ↦ rw same (omega arith) ]);
 }
@@ -31,7 +31,7 @@ IsSplit-more n c double m left rising lt le s = record {
     behind = omega arith
 
     enough : c m * suc (n - (m + 1)) ≤ left
-    enough = subst (λ (r : ℕ). c m * r ≤ left) behind le
+    enough = rw behind at le
 
     at : (j : ℕ) → c j ≤ c m → c j * (n - (m + 1)) ≤ left - c m
     at j h =
@@ -40,7 +40,7 @@ IsSplit-more n c double m left rising lt le s = record {
         rest (c j * r) (c m * r) (c m) r a enough refl
       where
         rest : (u v k r : ℕ) → u ≤ v → k * suc r ≤ left → v ≡ k * r → u ≤ left - k
-        rest u v k r h e f = omega (arith, f)
+        rest u v k r h e f = omega arith
 
     sum_more : sum_below (m + 1) (λ j. pos (c j)) +ℤ pos (left - c m) ≡ pos double
     sum_more = rw add-one (joined (sum_below m (λ j. pos (c j))) s.sum fits)
@@ -57,13 +57,13 @@ sum-times : (k : ℕ) (h : ℤ) (f g : ℕ → ℤ) → ((j : ℕ) → j < k →
 sum-times zero h f g e = sym (mul-zeroℤ h)
 sum-times (suc k) h f g e =
     let ih = sum-times k h f g (λ j lt. e j (omega arith)) in
-    omega (arith, linear, ih, e k (omega arith), mul-addℤ h (sum_below k f) (f k))
+    omega (arith, linear, e k (omega arith), mul-addℤ h (sum_below k f) (f k))
 
 sum-constant : (r : ℕ) (t : ℤ) (g : ℕ → ℤ) → ((j : ℕ) → j < r → g j ≡ t) → sum_below r g ≡ pos r *ℤ t
 sum-constant zero t g e = omega (arith, ints)
 sum-constant (suc r) t g e =
     let ih = sum-constant r t g (λ j lt. e j (omega arith)) in
-    omega (arith, linear, ih, e r (omega arith), suc-mulℤ r t)
+    omega (arith, linear, e r (omega arith), suc-mulℤ r t)
 
 -- by place or by player
 pub sum-places : (n : ℕ) (cost at : ℕ → ℕ) → IsOrder n cost at → (f : ℕ → ℤ)
@@ -142,16 +142,7 @@ IsDivision-rest estate c gain amount m left o side e s lt stop = record {
         let whole = ap (λ (k : ℕ). sum_below k (λ j. counted c h left (place c j))) all in
         let a = sum-times m (pos h) (λ j. pos (number_at c j)) (λ j. counted c h left (place c j)) first in
         let b = sum-constant h (pos left) (λ d. counted c h left (place c (m + d))) second in
-        omega (
-          arith,
-          linear,
-          places,
-          split,
-          whole,
-          a,
-          b,
-          mul-addℤ (pos h) (sum_below m (λ j. pos (number_at c j))) (pos left),
-        )
+        omega (arith, linear, mul-addℤ (pos h) (sum_below m (λ j. pos (number_at c j))) (pos left))
 
     scaled : pos h *ℤ (sum_below m (λ j. pos (number_at c j)) +ℤ pos left)
         ≡ (pos h +ℤ pos h) *ℤ divided estate c gain
@@ -173,7 +164,7 @@ IsDivision-all estate c gain amount m left o low side e s le = record {
   sum =
       sum_below-same (length c.numbers) (counted c 1 estate) (λ i. pos (get_or c.numbers i 0))
       (λ i lt. one_least (get_or c.numbers i 0) (low i 0 lt))
-      ∙ both_sides gain side (sums ∙ double_of amount (divided estate c gain) e);
+      ∙ grind (arith, ints, linear, sums ∙ double_of amount (divided estate c gain) e);
 }
   where
     one_low : (d : ℕ) → d ≤ estate → d * 1 ≤ estate
@@ -184,17 +175,12 @@ IsDivision-all estate c gain amount m left o low side e s le = record {
 
     sums : claim_sum c +ℤ pos left ≡ pos (2 * amount)
     sums =
-        let all : m ≡ length c.numbers = (let within = s.within in omega arith) in
+        let all : m ≡ length c.numbers = omega arith in
         let places =
         sum-places (length c.numbers) (λ i. get_or c.numbers i 0) (place c) o.sorted.lists
         (λ i. pos (get_or c.numbers i 0)) in
         let whole = ap (λ (k : ℕ). sum_below k (λ j. pos (number_at c j))) all in
-        omega (arith, linear, places, whole, s.sum)
+        omega (arith, linear)
 
     natural : pos 0 ≤ℤ pos left
     natural = omega (arith, ints)
-
-    both_sides : (g : Bool) → IsSide estate c g → claim_sum c +ℤ pos left ≡ divided estate c g +ℤ divided estate c g
-        → claim_sum c ≡ (pos 1 +ℤ pos 1) *ℤ divided estate c g
-    both_sides true d f = let little = d.little refl in omega (arith, ints, little, f, natural)
-    both_sides false d f = let much = d.much refl in absurd (omega (arith, linear, much, f, natural))

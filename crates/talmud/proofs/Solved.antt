@@ -1,7 +1,7 @@
 -- What the code made is a certified answer.
 use Rattle.std.proofs.Common.{◌≡◌, ℕ, ◌-◌, ◌*◌, ◌≤◌, Bool, List, [], ◌∷◌, length}
 use Rattle.std.proofs.Common.{map}
-use Rattle.std.proofs.Common.{slice_index, ℤ, pos, refl, sym, ap, subst, inl, inr, arith}
+use Rattle.std.proofs.Common.{slice_index, ℤ, pos, refl, ap, subst, inl, inr, arith}
 use Rattle.std.specs.List.{AllByRecursion}
 use Rattle.definitions.specs.Games.{Allocation}
 use Rattle.definitions.specs.Certificates.{Level, HasForm}
@@ -15,13 +15,13 @@ use Rattle.talmud.specs.Rule.{cut_claims, cut}
 use Rattle.orders.specs.Ordered.{OrderedNumbers, IsOrdered, place}
 use Rattle.talmud.specs.Division.{IsDivision, award}
 use Rattle.worth_core.specs.Allocations.{allocation}
-use Rattle.talmud.specs.Levels.{key_of, IsRestLevel, AreHalves, AreLevels, HoldAll, AreRuleLevels}
+use Rattle.talmud.specs.Levels.{key_of, IsRestLevel, AreHalves, AreLevels, AreRuleLevels}
 use Rattle.talmud.proofs.ByPlace.{IsRule}
 use Rattle.talmud.proofs.Cuts.{length-cut}
 use Rattle.talmud.proofs.Keys.{length-keys, length-both}
 use Rattle.talmud.proofs.Exactly.{hold_all}
 use Rattle.talmud.proofs.Chains.{HasForm-rule, Certifies-rule}
-use Rattle.talmud.proofs.Awarded.{IsAwarded, IsAwarded-awards, IsRule-division, little-is, IsHalfOrder-rule}
+use Rattle.talmud.proofs.Awarded.{IsAwarded-awards, IsRule-division, little-is, IsHalfOrder-rule}
 use Rattle.definitions.proofs.Alls.{all_join}
 
 -- ---- at most twice as many entries in a level as players
@@ -37,8 +37,7 @@ few_halves n claim at m i k (l ∷ levels) le (h, b, chain) = (here, few_halves 
         let both = length-both n at i (h - i) in
         let early = ap length b.earlier in
         let none = ap length b.bounds in
-        let within = b.end.within in
-        omega (arith, count, both, early, none)
+        omega arith
 
 few_rest : (n : ℕ) (at : ℕ → ℕ) (m : ℕ) (gain : Bool) (t den : ℤ) (l : Level) → IsRestLevel n at m gain t den l
     → HasFew n l
@@ -48,8 +47,7 @@ few_rest n at m gain t den l b =
     let early = ap length b.earlier in
     let others = length-keys (key_of n at gain) 0 m in
     let none = ap length b.bounds in
-    let two = b.two in
-    omega (arith, count, keys, early, others, none)
+    omega arith
 
 few_entries : (n : ℕ) (claim at : ℕ → ℕ) (m : ℕ) (gain : Bool) (t den : ℤ) (levels : List Level) → m ≤ n
     → AreLevels n claim at m gain t den levels → AllByRecursion (HasFew n) levels
@@ -81,11 +79,9 @@ pub made : (b : Bankruptcy) (c : OrderedNumbers) (gain : Bool) (m h t : ℕ) (x 
 made b c gain m h t x levels o e d is l = record {
   rule =
       IsRule-division b.estate b.claims c gain m h t x o e d
-      (subst (IsAwarded b.estate b.claims gain h t) (sym is)
-      (IsAwarded-awards b.estate b.claims c.numbers gain h t e));
+      (rw is (IsAwarded-awards b.estate b.claims c.numbers gain h t e));
   chain =
-      subst (λ (q : ℤ). AreLevels (length b.claims) (cut b.estate b.claims) (place c) m gain (pos t) q levels)
-      (sym (ap (λ (y : Allocation). y.den) is))
+      rw (ap (λ (y : Allocation). y.den) is)
       (AreLevels-cut b.estate b.claims c.numbers (place c) m gain (pos t) (pos (2 * h)) levels e l);
 }
 
@@ -101,7 +97,7 @@ pub solved : (family : Family) (b : Bankruptcy) (at : ℕ → ℕ) (m : ℕ) (ga
     → c ≡ record { players = length b.claims; mode = Players; levels = levels }
     → IsSolved Players family Plain (bankruptcy_game b) x c
 solved family b at m gain t x levels c k lowest e =
-    subst (IsSolved Players family Plain (bankruptcy_game b) x) (sym e) (record {
+    rw e (record {
       players = refl;
       in_mode = refl;
       certifies = Certifies-rule family b.estate b.claims at m gain t x levels k.rule k.chain;
@@ -120,6 +116,5 @@ AreRuleLevels-made b h at m gain t x levels k =
       m,
       t,
       IsHalfOrder-rule b.estate b.claims at m gain t x k.rule,
-      subst (λ (g : Bool). HoldAll n (cut b.estate b.claims) at m g t x.den levels)
-          (little-is b.estate b.claims at m gain t x k.rule) held,
+      rw (little-is b.estate b.claims at m gain t x k.rule) at held,
     )

@@ -75,7 +75,8 @@ pub worth-cut : (estate : ℕ) (claims : List ℕ) (s : ℕ)
 worth-cut estate claims s =
     let t = grand_coalition (length claims) - s in
     let c = cut-covers estate claims (length claims) t in
-    same_left (sum_over (length claims) (cut_claim estate claims) t) (sum_over (length claims) (number_of claims) t) c.0
+    same_left (sum_over (length claims) (cut_claim estate claims) t) (sum_over (length claims) (number_of claims) t)
+    c.0
     c.2
   where
     same_left : (u v : ℤ) → u ≤ℤ v → (u ≡ v) ⊎ (pos estate ≤ℤ u)
@@ -83,9 +84,9 @@ worth-cut estate claims s =
     same_left u v le (inl e) = ap (λ (z : ℤ). int_max (pos 0) (pos estate -ℤ z)) (sym e)
     same_left u v le (inr e) = elim (int_max-cases (pos 0) (pos estate -ℤ v)) [
       | inl a ↦ elim (int_max-cases (pos 0) (pos estate -ℤ u))
-          [ inl b ↦ a.0 ∙ sym b.0 | inr b ↦ omega (arith, ints, a.0, b.0, b.1) ]
+          [ inl b ↦ a.0 ∙ sym b.0 | inr b ↦ omega (arith, ints) ]
       | inr a ↦ elim (int_max-cases (pos 0) (pos estate -ℤ u))
-          [ inl b ↦ omega (arith, ints, a.0, a.1, b.0) | inr b ↦ omega (arith, ints, a.0, a.1, b.0, b.1) ]
+          [ inl b ↦ omega (arith, ints) | inr b ↦ omega (arith, ints) ]
     ]
 
 -- ---- sums of numbers that are at least 0
@@ -94,20 +95,16 @@ pub sum-least : (n s p : ℕ) (f : ℕ → ℤ) → ((i : ℕ) → i < n → pos
     → f p ≤ℤ sum_over n f s
 sum-least n s p f low lt has =
     let le = sum_below-le n (part f (singleton p)) (part f s) each in
-    omega (arith, linear, le, sum_over-singleton n p f lt)
+    omega (arith, linear, sum_over-singleton n p f lt)
   where
     at_p : (i : ℕ) → i ≡ p → part f (singleton p) i ≤ℤ part f s i
     at_p i e = rw e (rw (has, has_player-singleton p) (omega (arith, linear)))
-
-    low_part : (b : Bool) (z : ℤ) → pos 0 ≤ℤ z → pos 0 ≤ℤ cond b z (pos 0)
-    low_part true z h = h
-    low_part false z h = omega (arith, linear)
 
     each : (i : ℕ) → i < n → part f (singleton p) i ≤ℤ part f s i
     each i h =
         elim (same_or_other i p) [
           | inl e ↦ at_p i e
-          | inr ne ↦ rw (has_player-singleton_other p i ne) (low_part (has_player s i) (f i) (low i h))
+          | inr ne ↦ rw (has_player-singleton_other p i ne) (grind (arith, linear, low i h))
         ]
 
 -- ---- excesses, where the shares add to the estate
@@ -138,8 +135,8 @@ loss-sum estate claims x (suc n) s =
     let step : (b : Bool)
     → sum_over n (loss estate claims x) s +ℤ cond b (x.den *ℤ c -ℤ share x n) (pos 0)
     ≡ x.den *ℤ (u +ℤ cond b c (pos 0)) -ℤ (sum_over n (share x) s +ℤ cond b (share x n) (pos 0)) = elim [
-      | true ↦ omega (arith, linear, ih, mul-addℤ x.den u c)
-      | false ↦ omega (arith, linear, ih, mul-addℤ x.den u (pos 0), mul-zeroℤ x.den)
+      | true ↦ omega (arith, linear, mul-addℤ x.den u c)
+      | false ↦ omega (arith, linear, mul-addℤ x.den u (pos 0), mul-zeroℤ x.den)
     ] in
     step (has_player s n)
 
@@ -158,19 +155,8 @@ excess-at_most estate claims x s z d small gain lose =
     let at = amount-at estate claims x d s in
     let scaled = ap (λ (v : ℤ). x.den *ℤ v) w in
     elim (int_max-cases (pos 0) (pos estate -ℤ c)) [
-      | inl a ↦ omega (arith, linear, scaled, ap (λ (v : ℤ). x.den *ℤ v) a.0, mul-zeroℤ x.den, at, gain)
-      | inr a ↦ omega (
-        arith,
-        linear,
-        scaled,
-        ap (λ (v : ℤ). x.den *ℤ v) a.0,
-        mul-subℤ x.den (pos estate) c,
-        parts,
-        losses,
-        at,
-        lose,
-        d.all,
-      )
+      | inl a ↦ omega (arith, linear, ap (λ (v : ℤ). x.den *ℤ v) a.0, mul-zeroℤ x.den)
+      | inr a ↦ omega (arith, linear, ap (λ (v : ℤ). x.den *ℤ v) a.0, mul-subℤ x.den (pos estate) c)
     ]
 
 pub excess-singleton : (estate : ℕ) (claims : List ℕ) (x : Allocation) (i : ℕ) → Divides estate claims x
@@ -188,10 +174,10 @@ excess-singleton estate claims x i d lt enough =
     let scaled = ap (λ (v : ℤ). x.den *ℤ v) w in
     let at = amount-at estate claims x d (singleton i) in
     elim (int_max-cases (pos 0) (pos estate -ℤ c)) [
-      | inl a ↦ omega (arith, linear, scaled, ap (λ (v : ℤ). x.den *ℤ v) a.0, mul-zeroℤ x.den, at, got)
+      | inl a ↦ omega (arith, linear, ap (λ (v : ℤ). x.den *ℤ v) a.0, mul-zeroℤ x.den)
       | inr a ↦
-          let none : pos estate -ℤ c ≡ pos 0 = omega (arith, linear, a.1, parts, mine, enough) in
-          omega (arith, linear, scaled, ap (λ (v : ℤ). x.den *ℤ v) (a.0 ∙ none), mul-zeroℤ x.den, at, got)
+          let none : pos estate -ℤ c ≡ pos 0 = omega (arith, linear) in
+          omega (arith, linear, ap (λ (v : ℤ). x.den *ℤ v) (a.0 ∙ none), mul-zeroℤ x.den)
     ]
 
 pub excess-others : (estate : ℕ) (claims : List ℕ) (x : Allocation) (i : ℕ) → Divides estate claims x
@@ -202,7 +188,7 @@ excess-others estate claims x i d lt =
     let n = length claims in
     let small : singleton i < 2 ^ n = pow-lt lt in
     let s = grand_coalition n - singleton i in
-    let back : grand_coalition n - s ≡ singleton i = omega (arith, small) in
+    let back : grand_coalition n - s ≡ singleton i = omega arith in
     let w = worth-cut estate claims s in
     let mine : sum_over n (cut_claim estate claims) (grand_coalition n - s) ≡ cut_claim estate claims i =
     ap (sum_over n (cut_claim estate claims)) back ∙ sum_over-singleton n i (cut_claim estate claims) lt in
@@ -213,32 +199,18 @@ excess-others estate claims x i d lt =
     let le = cut-low estate claims i in
     elim (int_max-cases (pos 0) (pos estate -ℤ sum_over n (cut_claim estate claims) (grand_coalition n - s))) [
       | inl a ↦
-          let none : pos estate -ℤ cut_claim estate claims i ≡ pos 0 = omega (arith, linear, a.1, mine, le) in
+          let none : pos estate -ℤ cut_claim estate claims i ≡ pos 0 = omega (arith, linear) in
           omega (
             arith,
             linear,
-            scaled,
             ap (λ (v : ℤ). x.den *ℤ v) (a.0 ∙ sym none),
             mul-subℤ x.den (pos estate) (cut_claim estate claims i),
-            at,
-            parts,
-            got,
-            d.all,
           )
       | inr a ↦
           let same : int_max (pos 0) (pos estate -ℤ sum_over n (cut_claim estate claims) (grand_coalition n - s))
           ≡ pos estate -ℤ cut_claim estate claims i = a.0 ∙ ap (λ (v : ℤ). pos estate -ℤ v) mine in
-          omega (
-            arith,
-            linear,
-            scaled,
-            ap (λ (v : ℤ). x.den *ℤ v) same,
-            mul-subℤ x.den (pos estate) (cut_claim estate claims i),
-            at,
-            parts,
-            got,
-            d.all,
-          )
+          omega
+          (arith, linear, ap (λ (v : ℤ). x.den *ℤ v) same, mul-subℤ x.den (pos estate) (cut_claim estate claims i))
     ]
 
 -- all together are worth the estate
@@ -251,6 +223,6 @@ worth-grand_coalition estate claims =
     ap (sum_over n (number_of claims)) nobody ∙ sum_over-empty n (number_of claims) in
     elim
     (int_max-cases (pos 0) (pos estate -ℤ sum_over n (number_of claims) (grand_coalition n - grand_coalition n))) [
-      | inl a ↦ omega (arith, ints, none, a.0, a.1)
-      | inr a ↦ omega (arith, ints, none, a.0)
+      | inl a ↦ omega (arith, ints)
+      | inr a ↦ omega (arith, ints)
     ]

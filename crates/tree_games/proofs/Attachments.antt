@@ -1,6 +1,6 @@
 -- Sets of points as tests, and attachment plans over them.
-use Rattle.std.proofs.Common.{◌≡◌, ℕ, ◌+◌, Bool, true, false, not, ◌&&◌, ◌||◌, nat_eq}
-use Rattle.std.proofs.Common.{List, [], ◌∷◌, ◌++◌, refl, sym, ap, ◌∙◌, arith}
+use Rattle.std.proofs.Common.{◌≡◌, ℕ, ◌+◌, Bool, true, not, ◌&&◌, nat_eq}
+use Rattle.std.proofs.Common.{List, [], ◌∷◌, ◌++◌, sym, ap, ◌∙◌, arith}
 use Rattle.definitions.specs.Classes.{Matrix, joined, removed, IsAttachment, plan_cost}
 
 -- each point of the first set is in the second
@@ -11,11 +11,7 @@ abbrev pub Same : (ℕ → Bool) → (ℕ → Bool) → Type 0
 Same a b = (j : ℕ) → a j ≡ b j
 
 pub joined-within : (a b : ℕ → Bool) (p : ℕ) → Within a b → Within (joined a p) (joined b p)
-joined-within a b p h j = or_within (nat_eq j p) (a j) (b j) (h j)
-  where
-    or_within : (t x y : Bool) → (x ≡ true → y ≡ true) → (t || x) ≡ true → (t || y) ≡ true
-    or_within true x y k e = refl
-    or_within false x y k e = k e
+joined-within a b p h j = λ e. grind (arith, h j)
 
 pub removed-same : (a b : ℕ → Bool) (p : ℕ) → Same a b → Same (removed a p) (removed b p)
 removed-same a b p h j = ap (λ x. not (nat_eq j p) && x) (h j)

@@ -3,7 +3,7 @@ use Rattle.std.proofs.Common.{◌≡◌, ◌≢◌, ◌⊎◌, ℕ, zero, suc, �
 use Rattle.std.proofs.Common.{◌<◌, ◌≤◌, Bool, true, false}
 use Rattle.std.proofs.Common.{not, cond, ◌&&◌, ◌||◌, nat_eq, List, [], ◌∷◌, ◌++◌, length}
 use Rattle.std.proofs.Common.{ℤ, pos, neg_ℤ}
-use Rattle.std.proofs.Common.{unsigned_abs, get_or, set, refl, sym, ap, subst, ◌∙◌, inl, inr}
+use Rattle.std.proofs.Common.{unsigned_abs, get_or, set, refl, sym, ap, ◌∙◌, inl, inr}
 use Rattle.std.proofs.Common.{arith}
 use Rattle.std.proofs.Common.{append_assoc, append-nil, length-set, replicate, length-append}
 use Rattle.std.proofs.Math.Path.{fun_ext}
@@ -62,7 +62,7 @@ next_is matrix m c w b0 t0 cm wm cb wt = (
     later b t cb wt =
         let low = (closest-least far c m b (cm b cb) cb).1 in
         let near = (closest-least (entry matrix b) w m t (wm t wt) wt).1 in
-        elim (less_or_same (far end) (entry matrix b t) (omega (arith, low, near))) [
+        elim (less_or_same (far end) (entry matrix b t) (omega arith)) [
           | inl less ↦ inl less
           | inr tie ↦ inr (
             tie,
@@ -120,9 +120,7 @@ pub bird_start : (t : List (List ℤ)) (num : List ℤ) (waiting : ℕ) → IsTr
 bird_start t num waiting h len made e = record {
   len = len;
   each = (refl, omega arith);
-  grows = λ rest b. subst
-      (λ (c : ℕ → Bool). IsBirdFrom (entries_of t) c (is_point_of (grand_coalition (length t - 1))) rest) source_alone
-      (subst (λ (w : ℕ → Bool). IsBirdFrom (entries_of t) (has_player 1) w rest) points b);
+  grows = λ rest b. rw (points, source_alone) at b;
   left =
       ap (λ (w : ℕ → Bool). count w (length t)) points
       ∙ ap (λ (k : ℕ). count (is_point_of (grand_coalition (length t - 1))) k) whole
@@ -143,16 +141,16 @@ bird_start t num waiting h len made e = record {
     points = ap has_player e ∙ points_of (grand_coalition (length t - 1))
 
     whole : length t ≡ suc (length t - 1)
-    whole = let some = h.points.0 in omega (arith, some)
+    whole = omega arith
 
     less_nothing : length t - 1 ≡ length t - 1 - 0
     less_nothing = omega arith
 
     alone : (b : ℕ) → is_source b ≡ true → b < length t
-    alone b e = let z = from_nat_eq b 0 e in let some = h.points.0 in omega (arith, z, some)
+    alone b e = omega (arith, from_nat_eq b 0 e)
 
     within : (j : ℕ) → (1 ≤ j) × (j ≤ length t - 1) → (1 ≤ j) × (j < length t)
-    within j r = let low = r.0 in let high = r.1 in let some = h.points.0 in (low, omega (arith, low, high, some))
+    within j r = let low = r.0 in (low, omega arith)
 
 some_counted : (w : ℕ → Bool) (m : ℕ) → 1 ≤ count w m → (j : ℕ) × (w j ≡ true)
 some_counted w zero h = absurd (omega arith)
@@ -160,8 +158,7 @@ some_counted w (suc m) h = cases (w m) refl h (some_counted w m)
   where
     cases : (q : Bool) → w m ≡ q → 1 ≤ cond q (suc (count w m)) (count w m)
         → (1 ≤ count w m → (j : ℕ) × (w j ≡ true)) → (j : ℕ) × (w j ≡ true)
-    cases true e h ih = (m, e)
-    cases false e h ih = ih h
+    cases q e h ih = grind arith
 
 -- the pair that the code takes
 pub pair_taken : (t : List (List ℤ)) (k : ℕ) (num : List ℤ) (edges : List (ℕ × ℕ × ℤ)) (connected waiting end p : ℕ)
@@ -170,15 +167,11 @@ pub pair_taken : (t : List (List ℤ)) (k : ℕ) (num : List ℤ) (edges : List 
     → p ≡ nearest (entries_of t) (length t) (has_player waiting) end
     → IsNext (entries_of t) (has_player connected) (has_player waiting) end p
 pair_taken t k num edges connected waiting end p h lt e f =
-    let left = h.left in
-    let some = some_counted (has_player waiting) (length t) (omega (arith, left, lt)) in
+    let some = some_counted (has_player waiting) (length t) (omega arith) in
     let is =
     next_is (entries_of t) (length t) (has_player connected) (has_player waiting) 0 some.0 h.near
     (λ j w. (h.far j w).1) h.source some.1 in
-    subst (λ (j : ℕ). IsNext (entries_of t) (has_player connected) (has_player waiting) end j) (sym f)
-    (subst
-    (λ (b : ℕ). IsNext (entries_of t) (has_player connected) (has_player waiting) b
-    (nearest (entries_of t) (length t) (has_player waiting) b)) (sym e) is)
+    rw f (rw e is)
 
 pub bird_takes : (t : List (List ℤ)) (k : ℕ) (num next : List ℤ) (edges after : List (ℕ × ℕ × ℤ))
     (connected joint waiting less end p : ℕ) (v cost : ℤ) → IsTree t → BirdState t k num edges connected waiting
@@ -192,29 +185,25 @@ bird_takes t k num next edges after connected joint waiting less end p v cost tr
       len = ap length write ∙ length-set num (p - 1) v ∙ h.len;
       each = (
         ap length pushed ∙ length-append edges ((end, p, cost) ∷ []) ∙ ap (λ (n : ℕ). n + 1) h.each.0,
-        omega (arith, lt),
+        omega arith,
       );
-      grows = λ rest b. subst (λ (l : List (ℕ × ℕ)). IsBirdPlan (entries_of t) (grand_coalition (length t - 1)) l)
-          (sym (ap (λ l. l ++ rest) plan ∙ append_assoc (plan_of edges) ((end, p) ∷ []) rest))
+      grows = λ rest b. rw (ap (λ l. l ++ rest) plan ∙ append_assoc (plan_of edges) ((end, p) ∷ []) rest)
           (h.grows ((end, p) ∷ rest) (
             taken.0,
             taken.1,
             taken.2,
-            subst (λ (c : ℕ → Bool). IsBirdFrom (entries_of t) c (removed (has_player waiting) p) rest) joint_is
-                (subst (λ (w : ℕ → Bool). IsBirdFrom (entries_of t) (has_player joint) w rest) fewer b),
+            rw (fewer, joint_is) at b,
           ));
       left =
           (let a = count-removed (has_player waiting) (length t) p point_range.1 taken.1 in
-          let b = ap (λ (w : ℕ → Bool). count w (length t)) fewer in let c = h.left in omega (arith, a, b, c));
+          let b = ap (λ (w : ℕ → Bool). count w (length t)) fewer in omega arith);
       source = joins 0 ∙ or_right (nat_eq 0 p) (has_player connected 0) h.source;
-      near = λ b cb. in_joint b (nat_eq b p) (has_player connected b) (from_nat_eq b p) (h.near b) (sym (joins b) ∙ cb);
+      near = λ b cb. grind (arith, from_nat_eq b p, h.near b, sym (joins b) ∙ cb);
       far = λ j wj. h.far j (and_right (not (nat_eq j p)) (has_player waiting j) (sym (leaves j) ∙ wj));
       links =
-          subst (AllByRecursion (IsEdge t)) (sym pushed)
-          (all_join (IsEdge t) edges ((end, p, cost) ∷ []) h.links (edge, tt));
+          rw pushed (all_join (IsEdge t) edges ((end, p, cost) ∷ []) h.links (edge, tt));
       done =
-          subst (AllByRecursion (Paid t next less)) (sym plan)
-          (all_join (Paid t next less) (plan_of edges) ((end, p) ∷ [])
+          rw plan (all_join (Paid t next less) (plan_of edges) ((end, p) ∷ [])
           (all_weaken (Paid t num waiting) (Paid t next less) (plan_of edges) still h.done) (paid, tt));
       small = λ i lt. small_at i (same_or_other i (p - 1)) (h.small i lt);
     }
@@ -232,13 +221,13 @@ bird_takes t k num next edges after connected joint waiting less end p v cost tr
     point_range = h.far p taken.1
 
     cheap : (z : ℤ) → z ≡ pos (entries_of t end p) → IsNumber z
-    cheap z e = let k = entries-small t end p tree.entries in rw e (omega (arith, ints, k), omega (arith, ints, k))
+    cheap z e = let k = entries-small t end p tree.entries in rw e (omega (arith, ints), omega (arith, ints))
 
     edge : IsEdge t (end, p, cost)
     edge = record { end = h.near end taken.0; player = point_range; cost = price; small = cheap cost price }
 
     in_num : p - 1 < length num
-    in_num = let a = point_range.0 in let b = point_range.1 in let c = h.len in omega (arith, a, b, c)
+    in_num = omega (arith, point_range)
 
     paid : Paid t next less (end, p)
     paid = (
@@ -247,11 +236,6 @@ bird_takes t k num next edges after connected joint waiting less end p v cost tr
       ap (λ (l : List ℤ). get_or l (p - 1) (pos 0)) write ∙ get_or-set_same num (p - 1) v (pos 0) in_num
           ∙ value,
     )
-
-    in_joint : (b : ℕ) (x y : Bool) → (x ≡ true → b ≡ p) → (y ≡ true → b < length t) → (x || y) ≡ true
-        → b < length t
-    in_joint b true y f g e = let z = f refl in let u = point_range.1 in omega (arith, z, u)
-    in_joint b false y f g e = g e
 
     still : (x : ℕ × ℕ) → Paid t num waiting x → Paid t next less x
     still x paid = (
@@ -264,7 +248,7 @@ bird_takes t k num next edges after connected joint waiting less end p v cost tr
     )
       where
         apart : (j : ℕ) → 1 ≤ j → (j ≡ p → ⊥) → j - 1 ≢ p - 1
-        apart j some ne e = ne (let a = point_range.0 in omega (arith, a, e))
+        apart j some ne e = ne (omega (arith, point_range))
 
     small_at : (i : ℕ) → (i ≡ p - 1) ⊎ (i ≢ p - 1) → IsNumber (neg_ℤ (get_or num i (pos 0)))
         → IsNumber (neg_ℤ (get_or next i (pos 0)))
@@ -287,7 +271,6 @@ pub bird_shares : (t : List (List ℤ)) (k : ℕ) (num : List ℤ) (edges : List
 bird_shares t k num edges connected waiting tree h =
     let some = tree.points.0 in
     let few = tree.points.1 in
-    let len = h.len in
     record {
       some = omega arith;
       few = omega arith;
@@ -297,20 +280,20 @@ bird_shares t k num edges connected waiting tree h =
     }
   where
     fits : (z : ℤ) → IsNumber (neg_ℤ z) → unsigned_abs z < 2 ^ 110
-    fits z h = let a = h.0 in let b = h.1 in omega (arith, ints, a, b)
+    fits z h = omega (arith, ints)
 
 pub bird_end : (t : List (List ℤ)) (k : ℕ) (num : List ℤ) (edges : List (ℕ × ℕ × ℤ)) (connected waiting : ℕ)
     → IsTree t → BirdState t k num edges connected waiting → length t - 1 ≤ k
     → IsBird t (allocation num (pos 1)) edges
 bird_end t k num edges connected waiting tree h end = record {
   bird = bird;
-  each = (let a = h.each.0 in let b = h.each.1 in omega (arith, a, b, end));
+  each = omega (arith, end);
   links = h.links;
   least =
       prim_least (entries_of t) (grand_coalition (length t - 1)) (plan_of edges) tree.links.symmetric
       (bird-prim (entries_of t) is_source (is_point_of (grand_coalition (length t - 1))) (plan_of edges) bird);
   shares = shares;
-  payments = λ i lt. h.small i (let len = h.len in omega (arith, lt, len));
+  payments = λ i lt. h.small i (omega arith);
   core =
       bird_in_core (entries_of t) (tree_game t) (plan_of edges) (allocation num (pos 1)) tree.links.symmetric
       (tree_is_game t tree) bird h.len shares;
@@ -320,13 +303,11 @@ bird_end t k num edges connected waiting tree h end = record {
     nobody j = not_true (has_player waiting j) (λ e. false≢true (sym (none_waits j e) ∙ e))
       where
         none_waits : (j : ℕ) → has_player waiting j ≡ true → has_player waiting j ≡ false
-        none_waits j e =
-            let left = h.left in count-none (has_player waiting) (length t) j (omega (arith, left, end)) (h.far j e).1
+        none_waits j e = count-none (has_player waiting) (length t) j (omega (arith, end)) (h.far j e).1
 
     bird : IsBirdPlan (entries_of t) (grand_coalition (length t - 1)) (plan_of edges)
     bird =
-        subst (λ (l : List (ℕ × ℕ)). IsBirdPlan (entries_of t) (grand_coalition (length t - 1)) l)
-        (append-nil (plan_of edges)) (h.grows [] nobody)
+        rw (append-nil (plan_of edges)) at (h.grows [] nobody)
 
     shares : IsBirdShares (entries_of t) (plan_of edges) (allocation num (pos 1))
     shares = (

@@ -12,7 +12,7 @@ use Rattle.std.proofs.lemmas.Int.{ints}
 use Rattle.std.proofs.lemmas.Nat.Bits.{bit_at_above}
 use Rattle.std.specs.Int.{bit_at}
 use Rattle.definitions.proofs.Cases.{same_or_other, nat_eq-same, nat_eq-other, from_nat_eq, suc-less_one}
-use Rattle.definitions.proofs.Cases.{and_right, or_right, or_left, below_or_above, and_false}
+use Rattle.definitions.proofs.Cases.{and_right, or_right, or_left, below_or_above}
 use Rattle.definitions.proofs.Masks.{grand_coalition-within}
 use Rattle.definitions.proofs.Ring.{linear, one-mulℤ}
 use Rattle.definitions.proofs.Members.{has_player-grand_coalition, sum_below-same, sum_below-zero}
@@ -30,7 +30,7 @@ use Rattle.tree_games.proofs.Exchange.{prim-attaches, prim-least, prim_least}
 
 later_costs : (matrix : Matrix) (p r : ℕ × ℕ) → IsNoLater matrix p r → entry matrix p.0 p.1 ≤ entry matrix r.0 r.1
 later_costs matrix p r (inl lt) = omega arith
-later_costs matrix p r (inr same) = let e = same.0 in omega (arith, e)
+later_costs matrix p r (inr same) = omega arith
 
 pub bird-prim : (matrix : Matrix) (c w : ℕ → Bool) (plan : List (ℕ × ℕ)) → IsBirdFrom matrix c w plan
     → IsPrimFrom matrix c w plan
@@ -56,14 +56,7 @@ paid matrix s (p ∷ plan) = (if s p.1 then entry matrix p.0 p.1 else 0) + paid 
 paid-outside : (matrix : Matrix) (s : ℕ → Bool) (plan : List (ℕ × ℕ))
     → paid matrix s plan + plan_cost matrix (outside s plan) ≡ plan_cost matrix plan
 paid-outside matrix s [] = refl
-paid-outside matrix s (p ∷ plan) = paid_or_outside (s p.1) (paid-outside matrix s plan)
-  where
-    paid_or_outside : (b : Bool) → paid matrix s plan + plan_cost matrix (outside s plan) ≡ plan_cost matrix plan
-        → cond b (entry matrix p.0 p.1) 0 + paid matrix s plan
-        + plan_cost matrix (cond b (outside s plan) (p ∷ outside s plan))
-        ≡ entry matrix p.0 p.1 + plan_cost matrix plan
-    paid_or_outside true ih = omega (arith, ih)
-    paid_or_outside false ih = omega (arith, ih)
+paid-outside matrix s (p ∷ plan) = grind (arith, paid-outside matrix s plan)
 
 outside-attaches : (s c w d u : ℕ → Bool) (plan : List (ℕ × ℕ)) → Within c d → Within (λ j. w j && s j) d
     → Same u (λ j. w j && not (s j)) → IsAttachment c w plan → IsAttachment d u (outside s plan)
@@ -77,43 +70,24 @@ outside-attaches s c w d u (p ∷ plan) h k e a =
   where
     from_joined : s p.1 ≡ true → Within (joined c p.1) d
     from_joined inside j t =
-        either_within (nat_eq j p.1) (c j) (λ f. ap d (from_nat_eq j p.1 f) ∙ k p.1 (rw (a.1, inside) refl)) (h j) t
-      where
-        either_within : (b x : Bool) → (b ≡ true → d j ≡ true) → (x ≡ true → d j ≡ true) → (b || x) ≡ true
-            → d j ≡ true
-        either_within true x f g e = f refl
-        either_within false x f g e = g e
+        let there : d p.1 ≡ true = k p.1 (rw (a.1, inside) refl) in grind (arith, from_nat_eq j p.1, h j, there)
 
     fewer_within : Within (λ j. removed w p.1 j && s j) d
-    fewer_within j t = k j (last_two (not (nat_eq j p.1)) (w j) (s j) t)
-      where
-        last_two : (x y z : Bool) → ((x && y) && z) ≡ true → (y && z) ≡ true
-        last_two true y z e = e
-        last_two false y z e = absurd (false≢true e)
+    fewer_within j t = k j (grind arith)
 
     to_joined : (j : ℕ) → d j ≡ true → joined d p.1 j ≡ true
     to_joined j e = or_right (nat_eq j p.1) (d j) e
 
     same_inside : s p.1 ≡ true → Same u (λ j. removed w p.1 j && not (s j))
-    same_inside inside j =
-        e j ∙ outside_is_removed (nat_eq j p.1) (w j) (s j) (λ t. ap s (from_nat_eq j p.1 t) ∙ inside)
-      where
-        outside_is_removed : (b y z : Bool) → (b ≡ true → z ≡ true) → (y && not z) ≡ ((not b && y) && not z)
-        outside_is_removed true y z f = rw (f refl) (and_false y)
-        outside_is_removed false y z f = refl
+    same_inside inside j = grind (arith, e j, from_nat_eq j p.1)
 
     same_outside : Same (removed u p.1) (λ j. removed w p.1 j && not (s j))
-    same_outside j = ap (λ b. not (nat_eq j p.1) && b) (e j) ∙ and_grouped (not (nat_eq j p.1)) (w j) (not (s j))
-      where
-        and_grouped : (x y z : Bool) → (x && (y && z)) ≡ ((x && y) && z)
-        and_grouped true y z = refl
-        and_grouped false y z = refl
+    same_outside j = grind (arith, e j)
 
     cases : (b : Bool) → s p.1 ≡ b → (s p.1 ≡ true → IsAttachment d u (outside s plan))
         → (s p.1 ≡ false → IsAttachment (joined d p.1) (removed u p.1) (outside s plan))
         → IsAttachment d u (cond b (outside s plan) (p ∷ outside s plan))
-    cases true f inside out = inside f
-    cases false f inside out = (h p.0 a.0, e p.1 ∙ rw (a.1, f) refl, out f)
+    cases b f inside out = grind arith
 
 -- ---- one plan after another
 
@@ -121,33 +95,19 @@ attachment-append : (c w u v : ℕ → Bool) (plan rest : List (ℕ × ℕ)) →
     → ((j : ℕ) → w j ≡ true → u j ≡ false) → IsAttachment c w plan → IsAttachment (λ j. c j || w j) u rest
     → IsAttachment c v (plan ++ rest)
 attachment-append c w u v [] rest same apart a b =
-    attachment-more (λ j. c j || w j) c u v rest (λ j t. first_of_or (c j) (w j) (a j) t)
+    attachment-more (λ j. c j || w j) c u v rest (λ j t. grind (arith, a j))
     (λ j. sym (same j ∙ ap (λ x. x || u j) (a j))) b
-  where
-    first_of_or : (x y : Bool) → y ≡ false → (x || y) ≡ true → x ≡ true
-    first_of_or true y e t = refl
-    first_of_or false y e t = absurd (false≢true (sym e ∙ t))
 attachment-append c w u v (p ∷ plan) rest same apart a b = (
   a.0,
   same p.1 ∙ rw a.1 refl,
   attachment-append (joined c p.1) (removed w p.1) u (removed v p.1) plan rest onward
       (λ j t. apart j (and_right (not (nat_eq j p.1)) (w j) t)) a.2
       (attachment-more (λ j. c j || w j) (λ j. joined c p.1 j || removed w p.1 j) u u rest
-      (λ j. or_joined (nat_eq j p.1) (c j) (w j)) (λ j. refl) b),
+      (λ j e. grind arith) (λ j. refl) b),
 )
   where
-    or_joined : (b x y : Bool) → (x || y) ≡ true → ((b || x) || (not b && y)) ≡ true
-    or_joined true x y e = refl
-    or_joined false x y e = e
-
     onward : Same (removed v p.1) (λ j. removed w p.1 j || u j)
-    onward j =
-        ap (λ x. not (nat_eq j p.1) && x) (same j)
-        ∙ apart_or (nat_eq j p.1) (w j) (u j) (λ t. ap u (from_nat_eq j p.1 t) ∙ apart p.1 a.1)
-      where
-        apart_or : (b x y : Bool) → (b ≡ true → y ≡ false) → (not b && (x || y)) ≡ ((not b && x) || y)
-        apart_or true x y f = sym (f refl)
-        apart_or false x y f = refl
+    onward j = grind (arith, same j, from_nat_eq j p.1, apart p.1 a.1)
 
 -- ---- what a coalition pays is at most the cost of its own plans
 
@@ -156,28 +116,12 @@ pub paid-least : (matrix : Matrix) → IsSymmetric matrix → (c w s : ℕ → B
 paid-least matrix symmetric c w s plan own within prim a =
     let rest =
     outside-attaches s c w (λ j. c j || s j) (λ j. w j && not (s j)) plan (λ j. or_left (c j) (s j))
-    (λ j. second (c j) (w j) (s j)) (λ j. refl) (prim-attaches matrix c w plan prim) in
+    (λ j e. grind arith) (λ j. refl) (prim-attaches matrix c w plan prim) in
     let whole =
-    attachment-append c s (λ j. w j && not (s j)) w own (outside s plan) (λ j. own_or_rest (w j) (s j) (within j))
-    (λ j. apart (w j) (s j)) a rest in
+    attachment-append c s (λ j. w j && not (s j)) w own (outside s plan) (λ j. grind (arith, within j))
+    (λ j e. grind arith) a rest in
     let least = prim-least matrix symmetric c w plan (own ++ outside s plan) prim whole in
-    omega (arith, least, plan_cost-append matrix own (outside s plan), paid-outside matrix s plan)
-  where
-    second : (x y z : Bool) → (y && z) ≡ true → (x || z) ≡ true
-    second true y z e = refl
-    second false true z e = e
-    second false false z e = absurd (false≢true e)
-
-    own_or_rest : (x y : Bool) → (y ≡ true → x ≡ true) → x ≡ (y || (x && not y))
-    own_or_rest true true f = refl
-    own_or_rest true false f = refl
-    own_or_rest false true f = absurd (false≢true (f refl))
-    own_or_rest false false f = refl
-
-    apart : (x y : Bool) → y ≡ true → (x && not y) ≡ false
-    apart true true e = refl
-    apart false y e = refl
-    apart true false e = absurd (false≢true e)
+    omega (arith, plan_cost-append matrix own (outside s plan), paid-outside matrix s plan)
 
 -- ---- shares
 
@@ -194,10 +138,9 @@ sum_points-take (suc n) w f p low high e = elim (same_or_other (suc n) p) [
       sum_below-same n (λ i. if w (suc i) then f (suc i) else pos 0)
       (λ i. if removed w p (suc i) then f (suc i) else pos 0)
       (λ i lt. rw (nat_eq-other (suc i) p (λ k. omega arith)) refl) in
-      rw (here, nat_eq-same p, e) (omega (arith, linear, rest))
+      rw (here, nat_eq-same p, e) (omega (arith, linear))
   | inr there ↦
-      let ih = sum_points-take n w f p low (omega arith) e in
-      rw (nat_eq-other (suc n) p there) (omega (arith, linear, ih))
+      rw (nat_eq-other (suc n) p there) (omega (arith, linear, sum_points-take n w f p low (omega arith) e))
 ]
 
 share-paid : (matrix : Matrix) (n : ℕ) (a : ℕ → ℤ) (s c w : ℕ → Bool) (plan : List (ℕ × ℕ))
@@ -215,11 +158,10 @@ share-paid matrix n a s c w (p ∷ plan) range att shares =
     sum_points-take n w (λ j. if s j then a (j - 1) else pos 0) p.1 (range p.1 att.1).0 (range p.1 att.1).1
     att.1 in
     let one = minus_of_cond (s p.1) (a (p.1 - 1)) (entry matrix p.0 p.1) shares.0 in
-    omega (arith, linear, ih, take, one)
+    omega (arith, linear)
   where
     minus_of_cond : (b : Bool) (x : ℤ) (k : ℕ) → x ≡ neg_ℤ (pos k) → cond b x (pos 0) ≡ neg_ℤ (pos (cond b k 0))
-    minus_of_cond true x k e = e
-    minus_of_cond false x k e = refl
+    minus_of_cond b x k e = grind arith
 
 -- ---- the core
 
@@ -268,15 +210,13 @@ paid-all matrix c w s (p ∷ plan) within a =
     let ih =
     paid-all matrix (joined c p.1) (removed w p.1) s plan
     (λ j t. within j (and_right (not (nat_eq j p.1)) (w j) t)) a.2 in
-    rw (within p.1 a.1) (omega (arith, ih))
+    rw (within p.1 a.1) (omega arith)
 
 at_one : (d a b : ℤ) → d ≡ pos 1 → b ≡ a → b ≡ d *ℤ a
 at_one d a b e f = f ∙ sym (one-mulℤ a) ∙ ap (λ z. z *ℤ a) (sym e)
 
 least_same : (matrix : Matrix) (s a b : ℕ) → IsLeastCost matrix s a → IsLeastCost matrix s b → a ≡ b
 least_same matrix s a b h k =
-    let from = h.reached.2 in
-    let to = k.reached.2 in
     let low = h.least k.reached.0 k.reached.1 in
     let high = k.least h.reached.0 h.reached.1 in
     omega arith
@@ -298,7 +238,7 @@ bird_in_core matrix g plan x symmetric tree bird len shares =
     attaches = prim-attaches matrix is_source (is_point_of (grand_coalition g.players)) plan prim
 
     den_positive : pos 1 ≤ℤ x.den
-    den_positive = let e = shares.0 in omega (arith, ints, e)
+    den_positive = omega (arith, ints)
 
     paid_by : (s : ℕ) → amount x s ≡ neg_ℤ (pos (paid matrix (is_point_of s) plan))
     paid_by s = amount-paid matrix g.players s x plan len attaches shares
@@ -322,7 +262,6 @@ bird_in_core matrix g plan x symmetric tree bird len shares =
         let le =
         paid-least matrix symmetric is_source (is_point_of (grand_coalition g.players)) (is_point_of s) plan
         own.0 (point_all g.players s lt) prim own.1 in
-        let cost = own.2 in
         not_blocked (amount x s) (x.den *ℤ g.worth s) (paid matrix (is_point_of s) plan) worth.0 (paid_by s)
-        (sym (at_one x.den (g.worth s) (neg_ℤ (pos worth.0)) shares.0 (sym worth.1))) (omega (arith, le, cost))
+        (sym (at_one x.den (g.worth s) (neg_ℤ (pos worth.0)) shares.0 (sym worth.1))) (omega arith)
         blocks

@@ -52,22 +52,12 @@ abbrev passed : (ℕ → Bool) → (ℕ → Bool) → (ℕ → Bool) → ℕ →
 passed c w l j = c j || (w j && not (l j))
 
 passed-joined : (c w l : ℕ → Bool) (p : ℕ) → Within (passed c w l) (passed (joined c p) (removed w p) l)
-passed-joined c w l p j = passed_later (nat_eq j p) (c j) (w j) (l j)
-  where
-    passed_later : (b x y z : Bool) → (x || (y && not z)) ≡ true → ((b || x) || ((not b && y) && not z)) ≡ true
-    passed_later true x y z e = refl
-    passed_later false x y z e = e
+passed-joined c w l p j = λ e. grind arith
 
 chain-attaches : (f : ℕ) (c w : ℕ → Bool) (path : List (ℕ × ℕ)) (t : ℕ) (l : ℕ → Bool) (rest : List (ℕ × ℕ))
     → c f ≡ true → IsChain f w path t l → IsAttachment (passed c w l) l rest → IsAttachment c w (path ++ rest)
 chain-attaches f c w [] t l rest e h a =
-    attachment-more (passed c w l) c l w rest (λ j. only_connected (c j) (w j) (l j) (h.1 j)) (λ j. sym (h.1 j)) a
-  where
-    only_connected : (x y z : Bool) → y ≡ z → (x || (y && not z)) ≡ true → x ≡ true
-    only_connected true y z e k = refl
-    only_connected false true true e k = k
-    only_connected false true false e k = absurd (false≢true (sym e))
-    only_connected false false z e k = k
+    attachment-more (passed c w l) c l w rest (λ j k. grind (arith, h.1 j)) (λ j. sym (h.1 j)) a
 chain-attaches f c w (q ∷ path) t l rest e h a = (
   ap c h.0 ∙ e,
   h.1,
@@ -102,17 +92,9 @@ turned_here matrix c w p b plan cb wp a = record {
   chain = (refl, λ j. refl);
   attaches =
       attachment-more (joined c p) (passed c w (removed w p)) (removed w p) (removed w p) plan
-      (λ j. joined_or_passed (nat_eq j p) (c j) (w j) (λ t. ap w (from_nat_eq j p t) ∙ wp)) (λ j. refl) a;
+      (λ j e. grind (arith, from_nat_eq j p)) (λ j. refl) a;
   costs = omega arith;
 }
-  where
-    joined_or_passed : (b x y : Bool) → (b ≡ true → y ≡ true) → (b || x) ≡ true
-        → (x || (y && not (not b && y))) ≡ true
-    joined_or_passed true true y k e = refl
-    joined_or_passed true false true k e = refl
-    joined_or_passed true false false k e = k refl
-    joined_or_passed false true y k e = refl
-    joined_or_passed false false y k e = absurd (false≢true e)
 
 -- another point a is attached first, to b
 turned_later : (matrix : Matrix) → IsSymmetric matrix → (c w : ℕ → Bool) (p b a : ℕ) (plan : List (ℕ × ℕ))
@@ -131,12 +113,11 @@ turned_later matrix symmetric c w p b a plan cb wa ne r = elim (same_or_other r.
     attaches =
         attachment-more (passed (joined c a) (removed w a) r.left) (passed c w (removed (joined r.left a) a)) r.left
         (removed (joined r.left a) a) r.rest
-        (λ j. passed_before (nat_eq j a) (c j) (w j) (r.left j) (λ t. ap w (from_nat_eq j a t) ∙ wa)) back r.attaches;
+        (λ j e. grind (arith, from_nat_eq j a)) back r.attaches;
     costs =
-        let known = r.costs in
         let swapped = symmetric r.end a in
         let from = ap (λ (k : ℕ). entry matrix k r.end) here in
-        omega (arith, plan_cost-append matrix r.path ((r.end, a) ∷ []), known, swapped, from);
+        omega (arith, plan_cost-append matrix r.path ((r.end, a) ∷ []));
   }
   | inr there ↦ record {
     begin = r.begin;
@@ -151,25 +132,13 @@ turned_later matrix symmetric c w p b a plan cb wa ne r = elim (same_or_other r.
       or_left (c b) (w b && not (joined r.left a b)) cb,
       rw (nat_eq-same a) refl,
       attachment-more (passed (joined c a) (removed w a) r.left) (joined (passed c w (joined r.left a)) a) r.left
-          (removed (joined r.left a) a) r.rest (λ j. passed_beside (nat_eq j a) (c j) (w j) (r.left j)) back
+          (removed (joined r.left a) a) r.rest (λ j e. grind arith) back
           r.attaches,
     );
-    costs = let known = r.costs in omega (arith, known);
+    costs = omega arith;
   }
 ]
   where
-    passed_before : (b x y z : Bool) → (b ≡ true → y ≡ true) → ((b || x) || ((not b && y) && not z)) ≡ true
-        → (x || (y && not (not b && (b || z)))) ≡ true
-    passed_before true true y z k e = refl
-    passed_before true false true z k e = refl
-    passed_before true false false z k e = k refl
-    passed_before false x y z k e = e
-
-    passed_beside : (b x y z : Bool) → ((b || x) || ((not b && y) && not z)) ≡ true
-        → (b || (x || (y && not (b || z)))) ≡ true
-    passed_beside true x y z e = refl
-    passed_beside false x y z e = e
-
     out : removed (removed w a) p a ≡ false
     out = rw (nat_eq-other a p ne, nat_eq-same a) refl
 
@@ -221,13 +190,12 @@ pub exchange : (matrix : Matrix) → IsSymmetric matrix → (c w : ℕ → Bool)
 exchange matrix symmetric c w p least plan e low a =
     let r = turned_plan matrix symmetric c w p plan e a in
     let joins = plan_cost-append matrix r.path r.rest in
-    let costs = r.costs in
     let le = low r.begin r.end r.begins r.ends in (
       r.path ++ r.rest,
       chain-attaches p (joined c p) (removed w p) r.path r.end r.left r.rest (rw (nat_eq-same p) refl) r.chain
           (attachment-more (passed c w r.left) (passed (joined c p) (removed w p) r.left) r.left r.left r.rest
           (passed-joined c w r.left p) (λ j. refl) r.attaches),
-      omega (arith, joins, costs, le),
+      omega arith,
     )
 
 pub prim-attaches : (matrix : Matrix) (c w : ℕ → Bool) (plan : List (ℕ × ℕ)) → IsPrimFrom matrix c w plan
@@ -241,8 +209,7 @@ prim-least matrix symmetric c w [] other h a = omega arith
 prim-least matrix symmetric c w (p ∷ plan) other h a =
     let better = exchange matrix symmetric c w p.1 (entry matrix p.0 p.1) other h.1 h.2 a in
     let ih = prim-least matrix symmetric (joined c p.1) (removed w p.1) plan better.0 h.3 better.1 in
-    let le = better.2 in
-    omega (arith, ih, le)
+    omega arith
 
 pub prim_least : (matrix : Matrix) (s : ℕ) (plan : List (ℕ × ℕ)) → IsSymmetric matrix
     → IsPrimFrom matrix is_source (is_point_of s) plan → IsLeastCost matrix s (plan_cost matrix plan)

@@ -1,12 +1,13 @@
 -- What the least entries and the closest point are, and that the steps give a least plan.
 use Rattle.std.proofs.Common.{◌≡◌, ◌⊎◌, ℕ, zero, suc, ◌+◌, ◌-◌, ◌<◌, ◌≤◌, Bool}
 use Rattle.std.proofs.Common.{true, false, not, cond}
-use Rattle.std.proofs.Common.{◌&&◌, ◌||◌, nat_eq, nat_lt, List, [], ◌∷◌, length, ℤ, refl}
+use Rattle.std.proofs.Common.{◌&&◌, ◌||◌, nat_eq, List, [], ◌∷◌, length, ℤ, refl}
 use Rattle.std.proofs.Common.{sym, ap, subst}
 use Rattle.std.proofs.Common.{◌∙◌, inl, inr, arith, if◌then◌else◌, min}
 use Rattle.std.proofs.lemmas.Bool.{false≢true}
+use Rattle.std.proofs.lemmas.Bool.Decides.{nat_tests}
 use Rattle.definitions.proofs.Cases.{nat_eq-same, nat_eq-other, from_nat_eq, and_right, or_right}
-use Rattle.definitions.proofs.Cases.{from_nat_lt, from_not_nat_lt, less_or_last, not_true}
+use Rattle.definitions.proofs.Cases.{less_or_last, not_true}
 use Rattle.definitions.specs.Classes.{Matrix, joined, removed, is_source, is_point_of}
 use Rattle.definitions.specs.Classes.{entry, plan_cost, IsLeastCost, IsTreeGame}
 use Rattle.matrices.specs.Rows.{entries_of}
@@ -20,18 +21,13 @@ use Rattle.tree_games.proofs.Core.{point_in}
 near-low : (matrix : Matrix) (c : ℕ → Bool) (m b t : ℕ) → b < m → c b ≡ true → near matrix c m t ≤ entry matrix b t
 near-low matrix c zero b t lt e = absurd (omega arith)
 near-low matrix c (suc m) b t lt e = elim (less_or_last b m lt) [
-  | inl less ↦ no_more_than_entry (c m) (near matrix c m t) (entry matrix m t) (near-low matrix c m b t less e)
+  | inl less ↦ grind (arith, near-low matrix c m b t less e)
   | inr same ↦ last_entry (c m) (near matrix c m t) (ap c (sym same) ∙ e) (ap (λ (k : ℕ). entry matrix k t) same)
 ]
   where
-    no_more_than_entry : (q : Bool) (x y : ℕ) → x ≤ entry matrix b t → cond q (min x y) x ≤ entry matrix b t
-    no_more_than_entry true x y h = omega arith
-    no_more_than_entry false x y h = h
-
     last_entry : (q : Bool) (x : ℕ) → q ≡ true → entry matrix b t ≡ entry matrix m t
         → cond q (min x (entry matrix m t)) x ≤ entry matrix b t
-    last_entry true x f g = omega arith
-    last_entry false x f g = absurd (false≢true f)
+    last_entry q x f g = grind arith
 
 near-reached : (matrix : Matrix) (c : ℕ → Bool) (m t : ℕ) → c 0 ≡ true
     → (b : ℕ) × (c b ≡ true) × (near matrix c m t ≡ entry matrix b t)
@@ -58,8 +54,7 @@ pub near-joined : (matrix : Matrix) (c : ℕ → Bool) (m p t : ℕ) → p < m
 near-joined matrix c zero p t h = absurd (omega arith)
 near-joined matrix c (suc m) p t h = elim (less_or_last p m h) [
   | inl less ↦
-      rw (nat_eq-other m p (λ e. omega arith), near-joined matrix c m p t less)
-      (min_of_all (c m) (near matrix c m t) (entry matrix m t) (entry matrix p t))
+      rw (nat_eq-other m p (λ e. omega arith), near-joined matrix c m p t less) (grind arith)
   | inr same ↦ subst
       (λ (k : ℕ). near matrix (joined c k) (suc m) t ≡ min (near matrix c (suc m) t) (entry matrix k t)) (sym same)
       (min_with_joined (nat_eq m m) (c m) (near matrix (joined c m) m t) (near matrix c m t) (entry matrix m t)
@@ -67,10 +62,6 @@ near-joined matrix c (suc m) p t h = elim (less_or_last p m h) [
       (near-apart matrix c m m t (omega arith)))
 ]
   where
-    min_of_all : (q : Bool) (x y z : ℕ) → cond q (min (min x z) y) (min x z) ≡ min (cond q (min x y) x) z
-    min_of_all true x y z = omega arith
-    min_of_all false x y z = refl
-
     min_with_joined : (b q : Bool) (z x y : ℕ) → b ≡ true → z ≡ x
         → cond (b || q) (min z y) z ≡ min (cond q (min x y) x) y
     min_with_joined true true z x y e f = omega arith
@@ -79,81 +70,33 @@ near-joined matrix c (suc m) p t h = elim (less_or_last p m h) [
 
 pub near-source : (matrix : Matrix) (m t : ℕ) → near matrix is_source m t ≡ entry matrix 0 t
 near-source matrix zero t = refl
-near-source matrix (suc m) t = rw (near-source matrix m t) (cases m)
-  where
-    cases : (m : ℕ)
-        → cond (nat_eq m 0) (min (entry matrix 0 t) (entry matrix m t)) (entry matrix 0 t) ≡ entry matrix 0 t
-    cases zero = omega arith
-    cases (suc m) = rw (nat_eq-other (suc m) 0 (λ e. omega arith)) refl
+near-source matrix (suc m) t = grind (arith, nat_tests, near-source matrix m t)
 
 pub near-small : (matrix : Matrix) (c : ℕ → Bool) (m t bound : ℕ) → entry matrix 0 t < bound
     → near matrix c m t < bound
 near-small matrix c zero t bound h = h
 near-small matrix c (suc m) t bound h =
-    less_than_bound (c m) (near matrix c m t) (entry matrix m t) (near-small matrix c m t bound h)
-  where
-    less_than_bound : (q : Bool) (x y : ℕ) → x < bound → cond q (min x y) x < bound
-    less_than_bound true x y h = omega arith
-    less_than_bound false x y h = h
+    grind (arith, near-small matrix c m t bound h)
 
 -- ---- the closest point
 
 pub closest-below : (best : ℕ → ℕ) (w : ℕ → Bool) (m : ℕ) → 1 ≤ m → closest best w m < m
 closest-below best w zero h = absurd (omega arith)
-closest-below best w (suc zero) h = zero_below_one (w 0 && (not (w 0) || nat_lt (best 0) (best 0)))
-  where
-    zero_below_one : (q : Bool) → cond q 0 0 < 1
-    zero_below_one true = omega arith
-    zero_below_one false = omega arith
+closest-below best w (suc zero) h = grind arith
 closest-below best w (suc (suc m)) h =
-    last_or_before
-    (w (suc m) && (not (w (closest best w (suc m))) || nat_lt (best (suc m)) (best (closest best w (suc m)))))
-    (closest best w (suc m)) (closest-below best w (suc m) (omega arith))
-  where
-    last_or_before : (q : Bool) (k : ℕ) → k < suc m → cond q (suc m) k < suc (suc m)
-    last_or_before true k h = omega arith
-    last_or_before false k h = omega arith
+    grind (arith, closest-below best w (suc m) (omega arith))
 
 -- where some point waits, the closest waits, and no other is nearer
 pub closest-least : (best : ℕ → ℕ) (w : ℕ → Bool) (m t : ℕ) → t < m → w t ≡ true
     → (w (closest best w m) ≡ true) × (best (closest best w m) ≤ best t)
 closest-least best w zero t lt e = absurd (omega arith)
 closest-least best w (suc m) t lt e = elim (less_or_last t m lt) [
-  | inl less ↦ earlier (w m) (closest-least best w m t less e) refl
-  | inr same ↦ last_is_least (w m) (w (closest best w m)) (ap w (sym same) ∙ e) refl (ap best same)
+  | inl less ↦
+      let h = closest-least best w m t less e in (grind (arith, nat_tests, h.0), grind (arith, nat_tests, h.0, h.1))
+  | inr same ↦
+      let waits = ap w (sym same) ∙ e in
+      let near = ap best same in (grind (arith, nat_tests, waits), grind (arith, nat_tests, waits, near))
 ]
-  where
-    chosen : (q : Bool) (k : ℕ) → k ≡ closest best w m → nat_lt (best m) (best k) ≡ q → w m ≡ true → w k ≡ true
-        → best k ≤ best t → (w (cond q m k) ≡ true) × (best (cond q m k) ≤ best t)
-    chosen true k s f wm wk le = let lt = from_nat_lt (best m) (best k) f in (wm, omega arith)
-    chosen false k s f wm wk le = (wk, le)
-
-    earlier : (q : Bool) → (w (closest best w m) ≡ true) × (best (closest best w m) ≤ best t) → w m ≡ q
-        → (w
-        (cond (q && (not (w (closest best w m)) || nat_lt (best m) (best (closest best w m)))) m
-        (closest best w m)) ≡ true)
-        × (best
-        (cond (q && (not (w (closest best w m)) || nat_lt (best m) (best (closest best w m)))) m
-        (closest best w m)) ≤ best t)
-    earlier true h wm =
-        rw h.0 (chosen (nat_lt (best m) (best (closest best w m))) (closest best w m) refl refl wm h.0 h.1)
-    earlier false h wm = h
-
-    at_last : (q : Bool) (k : ℕ) → nat_lt (best m) (best k) ≡ q → w m ≡ true → w k ≡ true → best t ≡ best m
-        → (w (cond q m k) ≡ true) × (best (cond q m k) ≤ best t)
-    at_last true k f wm wk g = (wm, omega arith)
-    at_last false k f wm wk g = let le = from_not_nat_lt (best m) (best k) f in (wk, omega arith)
-
-    last_is_least : (q r : Bool) → w m ≡ true → w (closest best w m) ≡ r → best t ≡ best m
-        → (w
-        (cond (w m && (not (w (closest best w m)) || nat_lt (best m) (best (closest best w m)))) m
-        (closest best w m)) ≡ true)
-        × (best
-        (cond (w m && (not (w (closest best w m)) || nat_lt (best m) (best (closest best w m)))) m
-        (closest best w m)) ≤ best t)
-    last_is_least q true wm wk g =
-        rw (wm, wk) (at_last (nat_lt (best m) (best (closest best w m))) (closest best w m) refl wm wk g)
-    last_is_least q false wm wk g = rw (wm, wk) (wm, omega arith)
 
 -- of those that are as near, the first is taken
 pub closest-first : (best : ℕ → ℕ) (w : ℕ → Bool) (m t : ℕ) → t < m → w t ≡ true → best (closest best w m) ≡ best t
@@ -161,33 +104,14 @@ pub closest-first : (best : ℕ → ℕ) (w : ℕ → Bool) (m t : ℕ) → t < 
 closest-first best w zero t lt e same = absurd (omega arith)
 closest-first best w (suc m) t lt e tie = elim (less_or_last t m lt) [
   | inl less ↦
-      let known = closest-least best w m t less e in
-      earlier (w m) (nat_lt (best m) (best (closest best w m))) known.0 known.1 refl
-      (closest-first best w m t less e) tie
-  | inr same ↦ no_later_than_last (w m && (not (w (closest best w m)) || nat_lt (best m) (best (closest best w m))))
-      (closest-at_most m) same
+      let h = closest-least best w m t less e in
+      let first = closest-first best w m t less e in grind (arith, nat_tests, h.0, h.1, first)
+  | inr same ↦ let low = closest-at_most m in grind (arith, low)
 ]
   where
     closest-at_most : (m : ℕ) → closest best w m ≤ m
     closest-at_most zero = omega arith
     closest-at_most (suc m) = let b = closest-below best w (suc m) (omega arith) in omega arith
-
-    no_later_than_last : (q : Bool) → closest best w m ≤ m → t ≡ m → cond q m (closest best w m) ≤ t
-    no_later_than_last true h k = omega arith
-    no_later_than_last false h k = omega arith
-
-    chosen : (q s : Bool) → nat_lt (best m) (best (closest best w m)) ≡ s → best (closest best w m) ≤ best t
-        → (best (closest best w m) ≡ best t → closest best w m ≤ t)
-        → best (cond (q && s) m (closest best w m)) ≡ best t → cond (q && s) m (closest best w m) ≤ t
-    chosen true true f le h k = let l = from_nat_lt (best m) (best (closest best w m)) f in absurd (omega arith)
-    chosen true false f le h k = h k
-    chosen false s f le h k = h k
-
-    earlier : (q s : Bool) → w (closest best w m) ≡ true → best (closest best w m) ≤ best t
-        → nat_lt (best m) (best (closest best w m)) ≡ s → (best (closest best w m) ≡ best t → closest best w m ≤ t)
-        → best (cond (q && (not (w (closest best w m)) || s)) m (closest best w m)) ≡ best t
-        → cond (q && (not (w (closest best w m)) || s)) m (closest best w m) ≤ t
-    earlier q s wc le f h = rw wc (chosen q s f le h)
 
 pub closest-same : (f g : ℕ → ℕ) (w : ℕ → Bool) (m k : ℕ) → k ≤ m → ((j : ℕ) → j < m → f j ≡ g j)
     → closest f w k ≡ closest g w k
@@ -216,12 +140,10 @@ count-none w (suc m) j e lt = elim (less_or_last j m lt) [
 ]
   where
     rest : (q : Bool) (k : ℕ) → cond q (suc k) k ≡ 0 → k ≡ 0
-    rest true k e = absurd (omega arith)
-    rest false k e = e
+    rest q k e = grind arith
 
     last_is_out : (q : Bool) (k : ℕ) → cond q (suc k) k ≡ 0 → q ≡ false
-    last_is_out true k e = absurd (omega arith)
-    last_is_out false k e = refl
+    last_is_out q k e = grind arith
 
 count-apart : (w : ℕ → Bool) (m p : ℕ) → m ≤ p → count (removed w p) m ≡ count w m
 count-apart w zero p h = refl
@@ -231,8 +153,7 @@ pub count-removed : (w : ℕ → Bool) (m p : ℕ) → p < m → w p ≡ true �
 count-removed w zero p h e = absurd (omega arith)
 count-removed w (suc m) p h e = elim (less_or_last p m h) [
   | inl less ↦
-      rw (nat_eq-other m p (λ k. omega arith), count-removed w m p less e)
-      (suc_of_count (w m) (count (removed w p) m))
+      rw (nat_eq-other m p (λ k. omega arith), count-removed w m p less e) (grind arith)
   | inr same ↦ subst (λ (k : ℕ). count w (suc m) ≡ suc (count (removed w k) (suc m))) (sym same)
       (count_of_last (w m) (nat_eq m m) (count w m) (count (removed w m) m) (ap w (sym same) ∙ e) (nat_eq-same m)
       (count-apart w m m (omega arith)))
@@ -244,17 +165,9 @@ count-removed w (suc m) p h e = elim (less_or_last p m h) [
     count_of_last true false x y e f g = absurd (false≢true f)
     count_of_last false b x y e f g = absurd (false≢true e)
 
-    suc_of_count : (q : Bool) (k : ℕ) → cond q (suc (suc k)) (suc k) ≡ suc (cond q (suc k) k)
-    suc_of_count true k = refl
-    suc_of_count false k = refl
-
 count-few : (w : ℕ → Bool) (m : ℕ) → w 0 ≡ false → count w (suc m) ≤ m
 count-few w zero e = rw e (omega arith)
-count-few w (suc m) e = count_at_most (w (suc m)) (count w (suc m)) (count-few w m e)
-  where
-    count_at_most : (q : Bool) (k : ℕ) → k ≤ m → cond q (suc k) k ≤ suc m
-    count_at_most true k h = omega arith
-    count_at_most false k h = omega arith
+count-few w (suc m) e = grind (arith, count-few w m e)
 
 -- ---- the steps
 
@@ -270,7 +183,7 @@ found_step matrix m c w p rest is source cm wm true e ih =
     let end = near-reached matrix c m p source in (
       (end.0, p) ∷ r.0,
       (end.1, e, λ b t cb wt. least b t cb wt (near-low matrix c m b t (cm b cb) cb) (sym end.2), r.1),
-      (let f = end.2 in let g = r.2 in omega (arith, f, g)),
+      (omega arith),
     )
   where
     least : (b t : ℕ) → c b ≡ true → w t ≡ true → near matrix c m t ≤ entry matrix b t → {x : ℕ}
@@ -278,7 +191,7 @@ found_step matrix m c w p rest is source cm wm true e ih =
     least b t cb wt low f =
         let k = (closest-least (near matrix c m) w m t (wm t wt) wt).1 in
         let g = ap (near matrix c m) is in
-        omega (arith, k, low, f, g)
+        omega arith
 found_step matrix m c w p rest is source cm wm false e ih = (
   [],
   λ j. not_true (w j)
@@ -304,15 +217,10 @@ prim-found matrix m (suc k) c w source cm wm few =
     joins p = or_right (nat_eq 0 p) (c 0) source
 
     below_joined : (p b : ℕ) → w p ≡ true → joined c p b ≡ true → b < m
-    below_joined p b e =
-        either_below (nat_eq b p) (c b) (λ t. subst (λ (k : ℕ). k < m) (sym (from_nat_eq b p t)) (wm p e)) (cm b)
-      where
-        either_below : (x y : Bool) → (x ≡ true → b < m) → (y ≡ true → b < m) → (x || y) ≡ true → b < m
-        either_below true y f g e = f refl
-        either_below false y f g e = g e
+    below_joined p b e = λ f. grind (arith, from_nat_eq b p, wm p e, cm b)
 
     fewer : (p : ℕ) → w p ≡ true → count (removed w p) m ≤ k
-    fewer p e = let r = count-removed w m p (wm p e) e in omega (arith, r)
+    fewer p e = omega (arith, count-removed w m p (wm p e) e)
 
 -- ---- a tree game is the game of its matrix
 

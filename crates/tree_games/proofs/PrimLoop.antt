@@ -1,7 +1,7 @@
 -- What the loop of Prim's steps keeps.
 use Rattle.std.proofs.Common.{◌≡◌, ℕ, zero, suc, ◌+◌, ◌-◌, ◌*◌, ◌/◌, ◌^◌, ◌<◌}
 use Rattle.std.proofs.Common.{◌≤◌, Bool, true, false}
-use Rattle.std.proofs.Common.{not, cond, ◌&&◌, ◌||◌, nat_eq, List, length, ◌%◌, refl, sym}
+use Rattle.std.proofs.Common.{not, ◌&&◌, ◌||◌, nat_eq, List, length, ◌%◌, refl, sym}
 use Rattle.std.proofs.Common.{ap, ◌∙◌}
 use Rattle.std.proofs.Common.{arith, slice_index, min, ℤ, neg_ℤ, pos, unsigned_abs}
 use Rattle.std.proofs.Math.Path.{fun_ext}
@@ -102,11 +102,13 @@ prim_stays t s k best connected waiting total p h e out =
     let idle : (r : ℕ) → prim_cost (entries_of t) (length t) r (has_player connected) (has_player waiting) ≡ 0 = λ r.
     prim-idle (entries_of t) (length t) r (has_player connected) (has_player waiting)
     (ap (has_player waiting) (sym is) ∙ out) in
-    let before = idle ((length t) - 1 - k) in
-    let after = idle ((length t) - 1 - (k + 1)) in
     let rest = h.rest in
-    let few = h.small in
-    record { len = h.len; nears = h.nears; rest = omega (arith, before, after, rest); small = omega (arith, few) }
+    record {
+      len = h.len;
+      nears = h.nears;
+      rest = omega (arith, idle ((length t) - 1 - k), idle ((length t) - 1 - (k + 1)));
+      small = omega arith;
+    }
 
 pub prim_takes : (t : List (List ℤ)) (s k : ℕ) (best next : List ℕ) (connected joint waiting less total p : ℕ)
     → PrimState t s k best connected waiting total → k < (length t) - 1
@@ -163,15 +165,12 @@ prim_cost-small : (matrix : Matrix) → ((i j : ℕ) → entry matrix i j < 2 ^ 
     → prim_cost matrix m k c w ≤ k * 2 ^ 40
 prim_cost-small matrix h m zero c w = omega arith
 prim_cost-small matrix h m (suc k) c w =
-    one_more_small (w (closest (near matrix c m) w m)) (near matrix c m (closest (near matrix c m) w m))
-    (prim_cost matrix m k (joined c (closest (near matrix c m) w m)) (removed w (closest (near matrix c m) w m)))
-    (near-small matrix c m (closest (near matrix c m) w m) (2 ^ 40) (h 0 (closest (near matrix c m) w m)))
-    (prim_cost-small matrix h m k (joined c (closest (near matrix c m) w m))
-    (removed w (closest (near matrix c m) w m)))
-  where
-    one_more_small : (q : Bool) (x y : ℕ) → x < 2 ^ 40 → y ≤ k * 2 ^ 40 → cond q (x + y) 0 ≤ suc k * 2 ^ 40
-    one_more_small true x y e f = omega arith
-    one_more_small false x y e f = omega arith
+    grind (
+      arith,
+      near-small matrix c m (closest (near matrix c m) w m) (2 ^ 40) (h 0 (closest (near matrix c m) w m)),
+      prim_cost-small matrix h m k (joined c (closest (near matrix c m) w m))
+          (removed w (closest (near matrix c m) w m)),
+    )
 
 pub tree_laws : (t : List (List ℤ)) → IsTree t → IsGame (tree_game t)
 tree_laws t h =
@@ -197,7 +196,7 @@ tree_laws t h =
     nobody (suc i) = has_player-empty i
 
     worth_small : (k : ℕ) → k ≤ ((length t) - 1) * 2 ^ 40 → (length t) ≤ 17 → unsigned_abs (neg_ℤ (pos k)) < 2 ^ 46
-    worth_small k le few = let m : k < 2 ^ 46 = omega arith in omega (arith, ints, m)
+    worth_small k le few = let m : k < 2 ^ 46 = omega arith in omega (arith, ints)
 
 pub doubled : (points s k : ℕ) → points ≤ 17 → s < 2 ^ (points - 1) → k ≡ s → k * 2 % 2 ^ 64 ≡ 2 * s
 doubled points s k few lt e =

@@ -49,7 +49,7 @@ pub tree_made : {X : Type 0} (f : X → List ℤ) (xs ys zs : List X) (b d : Boo
 tree_made {X = X} f xs ys zs b d some few e yes_b entries g yes_d links =
     let same = length-map xs f in
     record {
-      points = (omega (arith, same, some), omega (arith, same, few));
-      entries = subst (λ (l : List X). HaveEntries (map f l)) e (entries yes_b);
-      links = subst (λ (l : List X). AreLinks (map f l)) g (links yes_d);
+      points = (omega arith, omega arith);
+      entries = rw e at (entries yes_b);
+      links = rw g at (links yes_d);
     }

@@ -3,7 +3,7 @@ use Rattle.std.proofs.Common.{◌≡◌, ◌⊎◌, ℕ, ◌+◌, ◌^◌, ◌<�
 use Rattle.std.proofs.Common.{◌&&◌, ◌||◌, nat_lt, ℤ, ◌+ℤ◌, ◌≤ℤ◌}
 use Rattle.std.proofs.Common.{◌<ℤ◌, int_lt, Option, None, Some, refl, sym, ap, ◌∙◌, inl}
 use Rattle.std.proofs.Common.{inr, arith}
-use Rattle.std.proofs.lemmas.Bool.Decides.{nat_tests, Decides-int_eq}
+use Rattle.std.proofs.lemmas.Bool.Decides.{nat_tests}
 use Rattle.std.proofs.lemmas.Int.{ints}
 use Rattle.std.specs.Ordering.{int_eq}
 use Rattle.definitions.proofs.Cases.{from_not_nat_lt}
@@ -35,13 +35,11 @@ behind_cases m k a b = by_sums (int_lt m k) refl
 
     level : (c : Bool) → int_lt m k ≡ false → int_eq m k ≡ c → (t : Bool) → (c && nat_lt b a) ≡ t
         → ((t ≡ true) × ((m <ℤ k) ⊎ ((m ≡ k) × (b ≤ a)))) ⊎ ((t ≡ false) × ((k <ℤ m) ⊎ ((k ≡ m) × (a ≤ b))))
-    level true h e t f = lesser (grind (arith, ints, Decides-int_eq m k)) (nat_lt b a) refl t f
-    level false h e t f = inr (sym f, inl (grind (arith, ints, Decides-int_eq m k)))
+    level c h e t f = grind (arith, ints)
 
     by_sums : (c : Bool) → int_lt m k ≡ c → (t : Bool) → (c || (int_eq m k && nat_lt b a)) ≡ t
         → ((t ≡ true) × ((m <ℤ k) ⊎ ((m ≡ k) × (b ≤ a)))) ⊎ ((t ≡ false) × ((k <ℤ m) ⊎ ((k ≡ m) × (a ≤ b))))
-    by_sums true h t f = inl (sym f, inl (omega (arith, ints)))
-    by_sums false h t f = level (int_eq m k) h refl t f
+    by_sums c h t f = grind (arith, ints)
 
 -- ---- the better of two
 
@@ -58,12 +56,12 @@ precedes P Q R v c d hc hd cases left p = record {
   where
     at_most : (t : ℕ) → v t ≤ℤ d.sum → Precedes c d → v t ≤ℤ c.sum
     at_most t le (inl less) = omega (arith, linear)
-    at_most t le (inr same) = omega (arith, linear, same.0)
+    at_most t le (inr same) = omega (arith, linear)
 
     less_than_sum : (t : ℕ) → t < c.coalition → v t ≤ℤ d.sum → (t < d.coalition → v t <ℤ d.sum) → Precedes c d
         → v t <ℤ c.sum
     less_than_sum t lt le less (inl far) = omega (arith, linear)
-    less_than_sum t lt le less (inr same) = let l = less (omega (arith, same.1)) in omega (arith, linear, same.0, l)
+    less_than_sum t lt le less (inr same) = omega (arith, linear, less (omega arith))
 
 pub IsBest-better : (P Q R : ℕ → Type 0) (v : ℕ → ℤ) (x y : Option Candidate) → IsBest P v x → IsBest Q v y
     → IsUnion P Q R → IsBest R v (better x y)
@@ -116,8 +114,8 @@ IsBest-raised P v u k None hx more = hx
 IsBest-raised P v u k (Some c) hx more = record {
   of_kind = hx.of_kind;
   value = sym (more c.coalition hx.of_kind ∙ ap (λ (z : ℤ). z +ℤ k) (sym hx.value));
-  greatest = λ t p. let le = hx.greatest t p in let e = more t p in omega (arith, linear, le, e);
-  least = λ t p lt. let le = hx.least t p lt in let e = more t p in omega (arith, linear, le, e);
+  greatest = λ t p. omega (arith, linear, hx.greatest t p, more t p);
+  least = λ t p lt. omega (arith, linear, hx.least t p lt, more t p);
 }
 
 -- the same kind in other words

@@ -2,8 +2,8 @@
 use Rattle.std.proofs.Common.{◌≡◌, ℕ, zero, suc, ◌^◌, ◌<◌, ◌≤◌, Bool, true, false}
 use Rattle.std.proofs.Common.{cond, IsTrue, nat_le, List}
 use Rattle.std.proofs.Common.{length, get_or, ℤ, pos, ◌+ℤ◌, ◌-ℤ◌, ◌*ℤ◌, neg_ℤ, ◌<ℤ◌, ◌≤ℤ◌}
-use Rattle.std.proofs.Common.{int_le, int_lt, Option}
-use Rattle.std.proofs.Common.{None, Some, IsSome, IfSome, MatchOption, refl, sym, ap, subst, ◌∙◌}
+use Rattle.std.proofs.Common.{int_le, Option}
+use Rattle.std.proofs.Common.{None, Some, IsSome, IfSome, MatchOption, refl, sym, ap, ◌∙◌}
 use Rattle.std.proofs.Common.{arith}
 use Rattle.std.proofs.lemmas.Bool.Decides.{nat_tests}
 use Rattle.std.proofs.lemmas.Int.{ints}
@@ -40,23 +40,17 @@ sum_over-neg (suc n) s a =
     let with_last : (b : Bool)
     → sum_over n (λ i. neg_ℤ (a i)) s +ℤ cond b (neg_ℤ (a n)) (pos 0)
     ≡ neg_ℤ (sum_over n a s +ℤ cond b (a n) (pos 0)) =
-    elim [ true ↦ omega (arith, linear, ih) | false ↦ omega (arith, linear, ih) ] in
+    elim [ true ↦ omega (arith, linear) | false ↦ omega (arith, linear) ] in
     with_last (has_player s n)
 
 pub same_test : (q w : ℕ) → int_le (pos q) (pos w) ≡ nat_le q w
-same_test q w = same_answer (int_le (pos q) (pos w)) (nat_le q w) refl refl
+same_test q w = grind (arith, ints)
   where
     at_most : nat_le q w ≡ true → q ≤ w
     at_most e = grind (arith, nat_tests)
 
     above : nat_le q w ≡ false → w < q
     above e = grind (arith, nat_tests)
-
-    same_answer : (b c : Bool) → int_le (pos q) (pos w) ≡ b → nat_le q w ≡ c → b ≡ c
-    same_answer true true e f = refl
-    same_answer false false e f = refl
-    same_answer true false e f = let gt = above f in absurd (omega (arith, ints))
-    same_answer false true e f = let le = at_most f in absurd (omega (arith, ints))
 
 scaled : (d : ℤ) (b : Bool) → d *ℤ cond b (pos 1) (pos 0) ≡ cond b d (pos 0)
 scaled d true = mul-oneℤ d
@@ -93,10 +87,10 @@ chosen : (g : Game) (x : Allocation) (c : Candidate) → IsBest (λ s. s < 2 ^ g
     → pos 0 <ℤ c.sum → IsChosenBlocker g x c.coalition
 chosen g x c h up = record {
   within = h.of_kind;
-  blocks = let v = h.value in omega (arith, linear);
-  greatest = λ t lt. let le = h.greatest t lt in let v = h.value in omega (arith, linear);
+  blocks = omega (arith, linear);
+  greatest = λ t lt. let le = h.greatest t lt in omega (arith, linear);
   least = λ t lt.
-      let within = h.of_kind in let less = h.least t (omega arith) lt in let v = h.value in omega (arith, linear);
+      let less = h.least t (omega arith) lt in omega (arith, linear);
 }
 
 none_blocks : (g : Game) (x : Allocation) (c : Candidate) → IsBest (λ s. s < 2 ^ g.players) (excess g x) (Some c)
@@ -107,12 +101,7 @@ pub blocker-best : (g : Game) (x : Allocation) (c : Option Candidate) (r : Optio
     → IsBest (λ s. s < 2 ^ g.players) (excess g x) c → r ≡ chosen_of c
     → MatchOption r ((t : ℕ) → t < 2 ^ g.players → ¬ Blocks g x t) (IsChosenBlocker g x)
 blocker-best g x None r h e = absurd (h 0 (pow_pos g.players))
-blocker-best g x (Some c) r h e = by_sign (int_lt (pos 0) c.sum) refl
-  where
-    by_sign : (b : Bool) → int_lt (pos 0) c.sum ≡ b
-        → MatchOption r ((t : ℕ) → t < 2 ^ g.players → ¬ Blocks g x t) (IsChosenBlocker g x)
-    by_sign true f = rw (e, f) (chosen g x c h (omega (arith, ints)))
-    by_sign false f = rw (e, f) (none_blocks g x c h (omega (arith, ints)))
+blocker-best g x (Some c) r h e = grind (arith, ints)
 
 -- ---- the split bound
 
@@ -144,7 +133,7 @@ pub split-best : (g : Game) (x : Allocation) (f : ℕ) (b : Option Candidate) (m
     → IsSplitMaximum g x f m
 split-best g x f None m some e h = absurd (cc)
 split-best g x f (Some c) m some e h =
-    ((c.coalition, h.of_kind, e ∙ h.value), λ s p. subst (λ (z : ℤ). excess g x s ≤ℤ z) (sym e) (h.greatest s p))
+    ((c.coalition, h.of_kind, e ∙ h.value), λ s p. rw e (h.greatest s p))
 
 -- ---- where the parts are known by equations
 

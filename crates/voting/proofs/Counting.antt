@@ -4,7 +4,7 @@ use Rattle.std.proofs.Common.{Bool, true, false, cond, ◌&&◌}
 use Rattle.std.proofs.Common.{nat_eq, nat_le, nat_lt, ℤ, pos, ◌+ℤ◌, ◌*ℤ◌, refl, sym, ap}
 use Rattle.std.proofs.Common.{ap₂, ◌∙◌, arith}
 use Rattle.std.proofs.lemmas.Bool.Decides.{nat_tests}
-use Rattle.definitions.proofs.Ring.{linear, mul-zeroℤ}
+use Rattle.definitions.proofs.Ring.{linear}
 use Rattle.definitions.proofs.Members.{has_player-empty, sum_below-same, sum_below-add, sum_below-times}
 use Rattle.definitions.proofs.Parts.{has_player-more_other}
 use Rattle.definitions.specs.Sums.{sum_below}
@@ -36,7 +36,7 @@ pos-weigh weight (suc n) s =
     let with_last : (b : Bool)
     → pos (weigh weight n s + cond b (weight n) 0)
     ≡ sum_over n (λ i. pos (weight i)) s +ℤ cond b (pos (weight n)) (pos 0) =
-    elim [ true ↦ omega (arith, linear, ih) | false ↦ omega (arith, linear, ih) ] in
+    elim [ true ↦ omega (arith, linear) | false ↦ omega (arith, linear) ] in
     with_last (has_player s n)
 
 weigh-upper : (weight : ℕ → ℕ) (n s m : ℕ) → m ≤ n → weigh weight m (2 ^ n + s) ≡ weigh weight m s
@@ -87,17 +87,10 @@ counted-with weight i j k w s lt ne =
     let same : has_player (2 ^ j + s) i ≡ has_player s i =
     ap (λ (m : ℕ). has_player m i) (swap (2 ^ j) s) ∙ has_player-more_other s j i (has_player-last j s lt) ne in
     rw (same, size_below-with j s lt, weigh-with weight j s lt)
-    (cond_swapped (has_player s i) (nat_le 1 k && nat_le (weight j) w) _ _
-    (mark-with_player k w (size_below j s) (weigh weight j s) (weight j)))
+    (grind (arith, mark-with_player k w (size_below j s) (weigh weight j s) (weight j)))
   where
     swap : (a b : ℕ) → a + b ≡ b + a
     swap a b = omega arith
-
-    cond_swapped : (b t : Bool) (x y : ℤ) → x ≡ cond t y (pos 0)
-        → cond b (pos 0) x ≡ cond t (cond b (pos 0) y) (pos 0)
-    cond_swapped true true x y e = refl
-    cond_swapped true false x y e = refl
-    cond_swapped false t x y e = e
 
 counted-self : (weight : ℕ → ℕ) (i j k w s : ℕ) → j ≡ i → s < 2 ^ j
     → counted weight i (suc j) k w (2 ^ j + s) ≡ pos 0
@@ -146,7 +139,7 @@ ways-count weight i (suc j) k w =
     self s e lt =
         let a = counted-without weight i j k w s lt in
         let b = counted-self weight i j k w s e lt in
-        omega (arith, linear, a, b)
+        omega (arith, linear)
 
     one_player_more : (b : Bool) → nat_eq j i ≡ b
         → pos (ways weight i j k w) ≡ sum_below (2 ^ j) (counted weight i j k w)
@@ -190,35 +183,9 @@ in_row weight i n k low high s =
 range_more : (low h b : ℕ) (e : Bool)
     → mark (e && in_range low (suc h) b)
     ≡ mark (e && in_range low h b) +ℤ cond (nat_le low h) (mark (e && nat_eq h b)) (pos 0)
-range_more low h b false = none_and_nothing (nat_le low h)
-  where
-    none_and_nothing : (t : Bool) → pos 0 ≡ pos 0 +ℤ cond t (pos 0) (pos 0)
-    none_and_nothing true = refl
-    none_and_nothing false = refl
+range_more low h b false = grind arith
 range_more low h b true =
-    one_weight_more (nat_le low b) (nat_lt b (suc h)) (nat_lt b h) (nat_le low h) (nat_eq h b) refl refl refl refl
-    refl
-  where
-    one_weight_more : (p q r t u : Bool) → nat_le low b ≡ p → nat_lt b (suc h) ≡ q → nat_lt b h ≡ r → nat_le low h ≡ t
-        → nat_eq h b ≡ u → mark (p && q) ≡ mark (p && r) +ℤ cond t (mark u) (pos 0)
-    one_weight_more true true true t false e f g i j = one_and_nothing t
-      where
-        one_and_nothing : (t : Bool) → pos 1 ≡ pos 1 +ℤ cond t (pos 0) (pos 0)
-        one_and_nothing true = refl
-        one_and_nothing false = refl
-    one_weight_more true true false true true e f g i j = refl
-    one_weight_more true false false t false e f g i j = none_and_nothing t
-      where
-        none_and_nothing : (t : Bool) → pos 0 ≡ pos 0 +ℤ cond t (pos 0) (pos 0)
-        none_and_nothing true = refl
-        none_and_nothing false = refl
-    one_weight_more false q r t false e f g i j = none_and_nothing t
-      where
-        none_and_nothing : (t : Bool) → pos 0 ≡ pos 0 +ℤ cond t (pos 0) (pos 0)
-        none_and_nothing true = refl
-        none_and_nothing false = refl
-    one_weight_more false q r false true e f g i j = refl
-    one_weight_more p q r t u e f g i j = absurd (grind (arith, nat_tests))
+    grind (arith, nat_tests)
 
 -- the counts of a row are those of the coalitions
 pub row-count : (weight : ℕ → ℕ) (i n k low high : ℕ)
@@ -260,9 +227,7 @@ row-count weight i n k low (suc high) =
   where
     cond_of_sum : (b t : Bool) (x y z : ℤ) → z ≡ x +ℤ cond t y (pos 0)
         → cond b (pos 0) x +ℤ cond t (cond b (pos 0) y) (pos 0) ≡ cond b (pos 0) z
-    cond_of_sum true true x y z e = refl
-    cond_of_sum true false x y z e = refl
-    cond_of_sum false t x y z e = sym e
+    cond_of_sum b t x y z e = grind arith
 
     in_row-more : (s : ℕ)
         → in_row weight i n k low high s +ℤ cond (nat_le low high) (counted weight i n k high s) (pos 0)
@@ -282,16 +247,7 @@ at_size c weight i n low high m s =
 size_more : (c : ℕ → ℤ) (m a : ℕ) (r : Bool)
     → cond (nat_lt a (suc m)) (c a *ℤ mark r) (pos 0)
     ≡ cond (nat_lt a m) (c a *ℤ mark r) (pos 0) +ℤ c m *ℤ mark (nat_eq m a && r)
-size_more c m a r = size_cases (nat_lt a (suc m)) (nat_lt a m) (nat_eq m a) refl refl refl
-  where
-    size_cases : (p q u : Bool) → nat_lt a (suc m) ≡ p → nat_lt a m ≡ q → nat_eq m a ≡ u
-        → cond p (c a *ℤ mark r) (pos 0) ≡ cond q (c a *ℤ mark r) (pos 0) +ℤ c m *ℤ mark (u && r)
-    size_cases true true false e f g = omega (arith, linear, mul-zeroℤ (c m))
-    size_cases true false true e f g =
-        let same : m ≡ a = grind (arith, nat_tests) in
-        rw (ap c same) (omega (arith, linear))
-    size_cases false false false e f g = omega (arith, linear, mul-zeroℤ (c m))
-    size_cases p q u e f g = absurd (grind (arith, nat_tests))
+size_more c m a r = grind (arith, nat_tests, linear)
 
 pub sizes-count : (c : ℕ → ℤ) (weight : ℕ → ℕ) (i n low high m : ℕ)
     → sum_below m (λ k. c k *ℤ row_total weight i n k low high)
@@ -327,8 +283,7 @@ sizes-count c weight i n low high (suc m) =
   where
     cond_of_product : (b : Bool) (x y z w : ℤ) → z ≡ x +ℤ w *ℤ y
         → cond b (pos 0) x +ℤ w *ℤ cond b (pos 0) y ≡ cond b (pos 0) z
-    cond_of_product true x y z w e = omega (arith, linear, mul-zeroℤ w)
-    cond_of_product false x y z w e = sym e
+    cond_of_product b x y z w e = grind (arith, linear)
 
     at_size-more : (s : ℕ)
         → at_size c weight i n low high m s +ℤ c m *ℤ in_row weight i n m low high s

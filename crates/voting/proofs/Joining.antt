@@ -1,16 +1,18 @@
 -- A candidate with one player more, in 128 bits, and layers that are written weight by weight.
-use Rattle.std.proofs.Common.{◌≡◌, ℕ, ◌+◌, ◌-◌, ◌*◌, ◌^◌, ◌<◌, ◌≤◌, Bool, true}
-use Rattle.std.proofs.Common.{false, cond, nat_le, List}
+use Rattle.std.proofs.Common.{◌≡◌, ℕ, ◌+◌, ◌-◌, ◌*◌, ◌^◌, ◌<◌, ◌≤◌}
+use Rattle.std.proofs.Common.{cond, nat_le, List}
 use Rattle.std.proofs.Common.{length, get_or, ℤ, pos, ◌+ℤ◌, Option, None, Some, IfSome, unsigned_abs}
 use Rattle.std.proofs.Common.{to_z, of_z, refl, sym, ◌∙◌, inl, inr, arith, add-one}
 use Rattle.std.proofs.lemmas.Int.{ints}
 use Rattle.std.proofs.Math.ListN.{set}
 use Rattle.std.proofs.lemmas.List.{get_or-set_same, get_or-set_other}
-use Rattle.definitions.proofs.Cases.{same_or_other, less_or_last_of}
+use Rattle.definitions.proofs.Cases.{same_or_other}
 use Rattle.definitions.proofs.Casts.{cast_kept}
 use Rattle.voting.specs.declared.candidate.Candidate.{Candidate}
 use Rattle.voting.specs.declared.layer.Layer.{Layer}
-use Rattle.voting.specs.Candidates.{is_behind, better, joined, raised, at_weight, best_below, IsSmallCandidate}
+use Rattle.voting.specs.Candidates.{better, joined, raised, at_weight, given_or, best_below}
+use Rattle.voting.specs.Candidates.{IsSmallCandidate}
+use Rattle.std.specs.Borrow.{Bor}
 use Rattle.definitions.proofs.Masks.{masks-double}
 use mir.Syntax.{w128}
 
@@ -40,17 +42,19 @@ joined_small i a r z m k e f low small number =
 pub small_more : (i : ℕ) (x : Option Candidate) → IfSome x (IsSmallCandidate i)
     → IfSome x (IsSmallCandidate (i + 1))
 small_more i None h = tt
-small_more i (Some c) h = let p = masks-double i in (omega (arith, h.0), omega (arith, h.1))
+small_more i (Some c) h = let p = masks-double i in (omega arith, omega arith)
 
 pub small_better : (i : ℕ) (x y : Option Candidate) → IfSome x (IsSmallCandidate i) → IfSome y (IsSmallCandidate i)
     → IfSome (better x y) (IsSmallCandidate i)
 small_better i None y hx hy = hy
 small_better i (Some c) None hx hy = hx
-small_better i (Some c) (Some d) hx hy = either_small (is_behind c d)
-  where
-    either_small : (b : Bool) → IfSome (Some (cond b d c)) (IsSmallCandidate i)
-    either_small true = hy
-    either_small false = hx
+small_better i (Some c) (Some d) hx hy = grind arith
+
+-- where two layers agree, so do those that are given in their place
+pub given_or-same : (given : Option (Bor Layer)) (l k : Layer) (w : ℕ) → at_weight l w ≡ at_weight k w
+    → at_weight (given_or given l) w ≡ at_weight (given_or given k) w
+given_or-same None l k w e = e
+given_or-same (Some x) l k w e = refl
 
 pub best_below-none : (more : ℤ) (quota : ℕ) (l : Layer) → best_below more quota l 0 ≡ None
 unfolding best_below
@@ -66,16 +70,6 @@ pub best_step : (more : ℤ) (quota w : ℕ) (l : Layer) (b p r : Option Candida
     → p ≡ raised (at_weight l w) (cond (nat_le quota w) more (pos 0)) → r ≡ better b p
     → r ≡ best_below more quota l (w + 1)
 best_step more quota w l b p r e f g = g ∙ rw (f, e) (sym (best_below-more more quota l w))
-
--- ---- a list written at w
-
-pub written : (es : List (Option Candidate)) (f : ℕ → Option Candidate) (w : ℕ) (x : Option Candidate)
-    → length es ≡ 1001 → w < 1001 → x ≡ f w → ((v : ℕ) → v < w → get_or es v None ≡ f v) → (v : ℕ) → v < w + 1
-    → get_or (set es w x) v None ≡ f v
-written es f w x full lt e old v less = elim (less_or_last_of v w less) [
-  | inl before ↦ get_or-set_other es w v x None (λ same. omega arith) ∙ old v before
-  | inr same ↦ rw same (get_or-set_same es w x None (omega arith) ∙ e)
-]
 
 -- ---- a layer written from the heaviest down
 

@@ -1,7 +1,7 @@
 -- A voting game is a game of the toolbox.
-use Rattle.std.proofs.Common.{◌≡◌, ℕ, zero, suc, ◌^◌, ◌<◌, ◌≤◌, Bool, true, false}
+use Rattle.std.proofs.Common.{◌≡◌, ℕ, zero, suc, ◌≤◌, Bool, true, false}
 use Rattle.std.proofs.Common.{cond, length, get_or, sum}
-use Rattle.std.proofs.Common.{ℤ, pos, ◌+ℤ◌, ◌≤ℤ◌, ◌<ℤ◌, int_le, unsigned_abs, refl, arith}
+use Rattle.std.proofs.Common.{ℤ, pos, ◌+ℤ◌, ◌≤ℤ◌, ◌<ℤ◌, int_le, arith}
 use Rattle.std.proofs.lemmas.Int.{ints}
 use Rattle.definitions.proofs.Ring.{linear}
 use Rattle.definitions.specs.Sums.{sum_below}
@@ -36,20 +36,12 @@ weight_few g s h =
 pub IsGame-voting : (g : Voting) → IsVoting g → IsGame (voting_game g)
 IsGame-voting g h = record {
   some = h.some;
-  few = let few = h.few in omega arith;
+  few = omega arith;
   nobody = rw (sum_over-empty (length g.weights) (number_of g.weights)) (nobody g.quota h.positive);
-  small = λ s lt. worth_small (int_le (pos g.quota) (sum_over (length g.weights) (number_of g.weights) s));
+  small = λ s lt. grind arith;
 }
   where
-    by_test : (q : ℕ) → 1 ≤ q → (b : Bool) → int_le (pos q) (pos 0) ≡ b → cond b (pos 1) (pos 0) ≡ pos 0
-    by_test q le true e = absurd (omega (arith, ints))
-    by_test q le false e = refl
-
     nobody : (q : ℕ) → 1 ≤ q → cond (int_le (pos q) (pos 0)) (pos 1) (pos 0) ≡ pos 0
-    nobody q le = by_test q le (int_le (pos q) (pos 0)) refl
-
-    worth_small : (b : Bool) → unsigned_abs (cond b (pos 1) (pos 0)) < 2 ^ 46
-    worth_small true = omega arith
-    worth_small false = omega arith
+    nobody q le = grind (arith, ints)
 
 pub ruleset game_laws = (IsGame-voting)

@@ -3,7 +3,7 @@ use Rattle.std.proofs.Common.{◌≡◌, ◌⊎◌, ℕ, zero, suc, ◌+◌, ◌
 use Rattle.std.proofs.Common.{Bool, true, false}
 use Rattle.std.proofs.Common.{cond, not, ◌&&◌, nat_le, ℤ, pos, ◌+ℤ◌, ◌<ℤ◌, ◌≤ℤ◌, None}
 use Rattle.std.proofs.Common.{Some}
-use Rattle.std.proofs.Common.{refl, sym, ap, subst, ◌∙◌, inl, inr, arith}
+use Rattle.std.proofs.Common.{refl, sym, ap, ◌∙◌, inl, inr, arith}
 use Rattle.std.proofs.lemmas.Bool.{false≢true}
 use Rattle.std.proofs.lemmas.Bool.Decides.{nat_tests}
 use Rattle.definitions.proofs.Ring.{linear}
@@ -47,8 +47,7 @@ union-some m h l f i w lt le = record {
   cases = λ s k. elim (IsOfKind-cases h l f i s k.0)
       [ inl old ↦ inl (old, k.1) | inr (t, old, e) ↦ inr (t, (old, (weight_before s t k.1 old.0 e).1), e) ];
   left = λ s k. (IsOfKind-without h l f i s k.0, k.1);
-  right = λ s (t, k, e). subst (λ (u : ℕ). Old m h l f (i + 1) w u) (sym e)
-      (IsOfKind-with h l f i t k.0, weight_after t k.0.0 k.1);
+  right = λ s (t, k, e). rw e (IsOfKind-with h l f i t k.0, weight_after t k.0.0 k.1);
 }
   where
     weight_before : (s t : ℕ) → sum_over m.players (weights m) s ≡ pos w → t < 2 ^ i → s ≡ t + 2 ^ i
@@ -80,7 +79,7 @@ union-none m h l f i w lt less = record {
         weight-less w (m.weight i) (sum_over m.players (weights m) t) (sum_over m.players (weights m) s) e
         (ap (sum_over m.players (weights m)) same ∙ sum_over-last m.players i t (weights m) lt low)
         (weight_low m t) in
-        omega (arith, k.0)
+        omega arith
 
 nobody : (v : ℕ → ℤ) → IsBest (λ s. ⊥) v None
 nobody v = λ s none. none
@@ -187,7 +186,7 @@ IsLayer-nobody m f l first others = record { each = λ w few. best_of_empty w }
     heavy w s lt e =
         let none = sum_over-empty m.players (weights m) in
         let same = ap (sum_over m.players (weights m)) (only s lt) in
-        omega (arith, linear, none, same, e)
+        omega (arith, linear)
 
     at_most : (t : ℕ) → t < 2 ^ 0 → sum_over m.players m.number t ≤ℤ pos 0
     at_most t lt =

@@ -1,6 +1,6 @@
 -- The Shapley total of a voting game by the coalitions that its player makes winning.
 use Rattle.std.proofs.Common.{◌≡◌, ℕ, ◌+◌, ◌-◌, ◌*◌, ◌^◌, ◌<◌, ◌≤◌, Bool, true}
-use Rattle.std.proofs.Common.{false, cond, ◌&&◌, nat_le, nat_lt}
+use Rattle.std.proofs.Common.{false, cond, nat_le}
 use Rattle.std.proofs.Common.{List, length, get_or, ℤ, pos, ◌-ℤ◌, ◌*ℤ◌, int_le, refl, sym}
 use Rattle.std.proofs.Common.{ap, ◌∙◌, arith}
 use Rattle.std.proofs.lemmas.Bool.Decides.{nat_tests}
@@ -28,14 +28,7 @@ weight_of weights i = get_or weights i 0
 -- what a player of weight c adds to a coalition of weight b
 marginal_mark : (q b c : ℕ) → mark (nat_le q (b + c)) -ℤ mark (nat_le q b) ≡ mark (in_range (q - c) q b)
 marginal_mark q b c =
-    mark_difference (nat_le q (b + c)) (nat_le q b) (nat_le (q - c) b) (nat_lt b q) refl refl refl refl
-  where
-    mark_difference : (p r s t : Bool) → nat_le q (b + c) ≡ p → nat_le q b ≡ r → nat_le (q - c) b ≡ s → nat_lt b q ≡ t
-        → mark p -ℤ mark r ≡ mark (s && t)
-    mark_difference true true true false e f g h = refl
-    mark_difference true false true true e f g h = refl
-    mark_difference false false false true e f g h = refl
-    mark_difference p r s t e f g h = absurd (grind (arith, nat_tests))
+    grind (arith, nat_tests)
 
 worth-weigh : (g : Voting) (s : ℕ)
     → voting_worth g.quota g.weights s ≡ mark (nat_le g.quota (weigh (weight_of g.weights) (length g.weights) s))
@@ -50,7 +43,7 @@ weigh-more weight n s i lt out =
     let a = pos-weigh weight n (s + 2 ^ i) in
     let b = pos-weigh weight n s in
     let c = sum_over-more n s i (λ j. pos (weight j)) lt out in
-    omega (arith, linear, a, b, c)
+    omega (arith, linear)
 
 adds : (g : Voting) (i s : ℕ) → i < length g.weights → has_player s i ≡ false
     → voting_worth g.quota g.weights (s + 2 ^ i) -ℤ voting_worth g.quota g.weights s

@@ -11,31 +11,29 @@ use Rattle.voting.specs.Voting.{HavePlayers, IsQuota, IsVoting, voting}
 
 pub have_players : (weights : List ℤ) (l k : ℕ) (b : Bool) → l ≡ length weights → b ≡ eqb l 0 → b ≡ false → k ≡ l
     → k ≤ 32 → HavePlayers weights
-have_players weights l k b all e f same few =
-    let some = not_zero l b e f in
-    (omega (arith, all, some), omega (arith, all, same, few))
+have_players weights l k b all e f same few = (omega (arith, not_zero l b e f), omega arith)
 
 -- a quota z
 module _ (quota z : ℤ) (weights : List ℤ) (total : ℕ) (kept : z ≡ quota)
     (sums : total ≡ sum_by unsigned_abs weights) where
   pub is_quota : total ≤ 1000 → lt_z z (pos 1) ≡ false → nat_abs z ≤ total → IsQuota quota weights
   is_quota light low reached = record {
-    light = omega (arith, sums, light);
-    positive = omega (arith, ints, kept, low);
-    reached = omega (arith, ints, kept, low, reached, sums);
+    light = omega arith;
+    positive = omega (arith, ints);
+    reached = omega (arith, ints);
   }
 
   pub same_quota : lt_z z (pos 1) ≡ false → pos (nat_abs z) ≡ quota
-  same_quota low = omega (arith, ints, kept, low)
+  same_quota low = omega (arith, ints)
 
   pub too_heavy : 1000 < total → ¬ IsQuota quota weights
-  too_heavy heavy = λ q. omega (arith, sums, heavy, q.light)
+  too_heavy heavy = λ q. omega arith
 
   pub too_low : lt_z z (pos 1) ≡ true → ¬ IsQuota quota weights
-  too_low low = λ q. omega (arith, ints, kept, low, q.positive)
+  too_low low = λ q. omega (arith, ints)
 
   pub too_high : total < nat_abs z → ¬ IsQuota quota weights
-  too_high high = λ q. omega (arith, ints, kept, high, sums, q.positive, q.reached)
+  too_high high = λ q. omega (arith, ints)
 
 -- the numbers that are kept
 pub is_voting : (quota z : ℤ) (weights : List ℤ) (ws : List ℕ) → z ≡ quota → map pos ws ≡ weights
@@ -45,10 +43,10 @@ is_voting quota z weights ws kept same small players q =
     let long = length-map ws pos in
     let sums : sum_by unsigned_abs weights ≡ sum ws = ap (sum_by unsigned_abs) (sym same) ∙ same_sum 0 ws in
     record {
-      some = omega (arith, players.0, count, long);
-      few = omega (arith, players.1, count, long);
+      some = omega arith;
+      few = omega arith;
       small = small;
-      light = omega (arith, q.light, sums);
-      positive = omega (arith, ints, kept, q.positive);
-      reached = omega (arith, ints, kept, q.positive, q.reached, sums);
+      light = omega arith;
+      positive = omega (arith, ints);
+      reached = omega (arith, ints);
     }

@@ -1,7 +1,7 @@
 -- The sets of a kind with one player more.
 use Rattle.std.proofs.Common.{◌≡◌, ◌≢◌, ◌⊎◌, ℕ, ◌+◌, ◌^◌, ◌<◌, Bool, true, false}
 use Rattle.std.proofs.Common.{not, ◌&&◌, ◌||◌}
-use Rattle.std.proofs.Common.{ℤ, pos, ◌+ℤ◌, ◌≤ℤ◌, refl, sym, ap, subst, ◌∙◌, inl}
+use Rattle.std.proofs.Common.{ℤ, pos, ◌+ℤ◌, ◌≤ℤ◌, refl, sym, ap, ◌∙◌, inl}
 use Rattle.std.proofs.Common.{inr, arith, add-one}
 use Rattle.definitions.proofs.Ring.{linear}
 use Rattle.definitions.proofs.Splits.{some_below-same}
@@ -72,7 +72,7 @@ pub IsOfKind-without : (h l : Bool) (f i s : ℕ) → IsOfKind h (l && not (has_
     → IsOfKind h l f (i + 1) s
 IsOfKind-without h l f i s k =
     let p = masks-double i in (
-      omega (arith, k.0),
+      omega arith,
       ap (passes h) (holds-without f i s k.0) ∙ k.1,
       ap (passes l) (lacks-without f i s k.0) ∙ needed-less l (has_player f i) (lacks_one_of f i s) ∙ k.2,
     )
@@ -81,7 +81,7 @@ pub IsOfKind-with : (h l : Bool) (f i s : ℕ) → IsOfKind (h && not (has_playe
     → IsOfKind h l f (i + 1) (s + 2 ^ i)
 IsOfKind-with h l f i s k =
     let p = masks-double i in (
-      omega (arith, k.0),
+      omega arith,
       ap (passes h) (holds-with f i s k.0) ∙ needed-less h (has_player f i) (holds_one_of f i s) ∙ k.1,
       ap (passes l) (lacks-with f i s k.0) ∙ k.2,
     )
@@ -96,7 +96,7 @@ IsOfKind-cases h l f i s k = elim (low_or_high i s k.0) [
     sym (ap (passes l) (lacks-without f i s low) ∙ needed-less l (has_player f i) (lacks_one_of f i s)) ∙ k.2,
   )
   | inr (t, low, e) ↦
-      let here : IsOfKind h l f (i + 1) (t + 2 ^ i) = subst (λ (m : ℕ). IsOfKind h l f (i + 1) m) e k in
+      let here : IsOfKind h l f (i + 1) (t + 2 ^ i) = rw e at k in
       inr (
         t,
         (

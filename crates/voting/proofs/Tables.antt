@@ -1,7 +1,7 @@
 -- Tables of counts with one player more, and what is read off them.
 use Rattle.std.proofs.Common.{◌≡◌, ◌≢◌, ℕ, zero, suc, ◌+◌, ◌-◌, ◌*◌, ◌^◌, ◌<◌}
-use Rattle.std.proofs.Common.{◌≤◌, Bool, true}
-use Rattle.std.proofs.Common.{false, cond, ◌&&◌, nat_eq, nat_le, List, length, get_or, ℤ, pos}
+use Rattle.std.proofs.Common.{◌≤◌}
+use Rattle.std.proofs.Common.{cond, ◌&&◌, nat_eq, nat_le, List, length, get_or, ℤ, pos}
 use Rattle.std.proofs.Common.{◌+ℤ◌, ◌*ℤ◌, refl, sym, ap, ◌∙◌, arith, add-one}
 use Rattle.std.proofs.Math.Nat.{pow-suc, pow-le-pow_right}
 use Rattle.definitions.proofs.Ring.{linear}
@@ -23,26 +23,16 @@ use Rattle.voting.proofs.Pivots.{weight_of, pivots-total}
 
 ways-small : (weight : ℕ → ℕ) (i j k w : ℕ) → ways weight i j k w ≤ 2 ^ j
 unfolding ways
-ways-small weight i zero k w = one_or_none (nat_eq k 0 && nat_eq w 0)
-  where
-    one_or_none : (b : Bool) → cond b 1 0 ≤ 2 ^ 0
-    one_or_none true = omega arith
-    one_or_none false = omega arith
+ways-small weight i zero k w = grind arith
 ways-small weight i (suc j) k w =
     let p = pow-suc 2 j in
-    both_halves (2 ^ suc j) (2 ^ j) (omega arith) (nat_eq j i) (nat_le 1 k && nat_le (weight j) w) _ _
-    (ways-small weight i j k w) (ways-small weight i j (k - 1) (w - weight j))
-  where
-    both_halves : (q p : ℕ) → p + p ≤ q → (b t : Bool) (m n : ℕ) → m ≤ p → n ≤ p → cond b m (m + cond t n 0) ≤ q
-    both_halves q p le true t m n e f = omega arith
-    both_halves q p le false true m n e f = omega arith
-    both_halves q p le false false m n e f = omega arith
+    grind (arith, ways-small weight i j k w, ways-small weight i j (k - 1) (w - weight j))
 
 pub table_small : (weight : ℕ → ℕ) (i j : ℕ) (t : Table) → j ≤ 32 → IsTable weight i j t → IsSmallTable t
 table_small weight i j t few h = λ k lt w less.
     let most = ways-small weight i j k w in
     let top : 2 ^ j ≤ 2 ^ 32 = pow-le-pow_right (omega arith) few in
-    rw (h.each k w lt less) (omega (arith, most, top))
+    rw (h.each k w lt less) (omega arith)
 
 -- ---- one player more
 
@@ -66,18 +56,11 @@ table_more weight i j heavy t r ne same h more = record {
       more k w lt less
       ∙ sym
       (rw (add-one j, nat_eq-other j i ne, same)
-      (sums_turned (h.each k w lt less) (smaller_is k w lt less (nat_le 1 k) (nat_le heavy w))));
+      (sums_turned (h.each k w lt less) (grind arith)));
 }
   where
     sums_turned : {a b c d : ℕ} → a ≡ b → c ≡ d → b + d ≡ a + c
     sums_turned e f = cc
-
-    smaller_is : (k w : ℕ) → k < 32 → w < 1001 → (a b : Bool)
-        → cond a (cond b (way_at (row_at t (k - 1)) (w - heavy)) 0) 0
-        ≡ cond (a && b) (ways weight i j (k - 1) (w - heavy)) 0
-    smaller_is k w lt less true true = h.each (k - 1) (w - heavy) (omega arith) (omega arith)
-    smaller_is k w lt less true false = refl
-    smaller_is k w lt less false b = refl
 
 -- ---- a row's counts in a range
 
@@ -104,9 +87,6 @@ pub numerator_more : (g : Voting) (i k unit count low quota prod total : ℕ) (t
     (λ k. pos (share_unit (length g.weights) k)
     *ℤ row_total (weight_of g.weights) i (length g.weights) k (g.quota - weight_of g.weights i) g.quota)
 numerator_more g i k unit count low quota prod total t r laws lt table row counts same lowest units product before =
-    let few = laws.few in
-    let light = laws.light in
-    let reached = laws.reached in
     let read : pos count
     ≡ row_total (weight_of g.weights) i (length g.weights) k (g.quota - weight_of g.weights i) g.quota = rw
     (row, same, lowest) at counts

@@ -6,6 +6,7 @@
 --   joined c i number   the candidate with player i, whose number that is
 --   raised c number     the candidate with a number added to its sum
 --   at_weight l w       the candidate of weight w
+--   given_or given own  the layer that is given, or else one's own
 --   with_at             what a player makes of a lighter candidate
 --   joined_at           the better one of a set without the player, and of one with it
 --   best_below          the best one of the lesser weights
@@ -18,8 +19,9 @@
 use Rattle.std.specs.Prelude.{◌≡◌, ℕ, zero, suc, ◌+◌, ◌-◌, ◌*◌, ◌^◌, ◌<◌, ◌≤◌}
 use Rattle.std.specs.Prelude.{Bool, ◌&&◌, ◌||◌}
 use Rattle.std.specs.Prelude.{nat_lt, nat_le, ℤ, pos, ◌+ℤ◌, ◌≤ℤ◌, ◌<ℤ◌, int_lt, Option, None}
-use Rattle.std.specs.Prelude.{Some}
+use Rattle.std.specs.Prelude.{Some, unwrap_or, option_copied}
 use Rattle.std.specs.Prelude.{IfSome, unsigned_abs, slice_index_or, if◌then◌else◌}
+use Rattle.std.specs.Borrow.{Bor}
 use Rattle.std.specs.Ordering.{int_eq}
 use Rattle.voting.specs.declared.candidate.Candidate.{Candidate}
 use Rattle.voting.specs.declared.layer.Layer.{Layer}
@@ -42,6 +44,9 @@ raised (Some c) number = Some (record { sum = c.sum +ℤ number; coalition = c.c
 
 abbrev pub at_weight : Layer → ℕ → Option Candidate
 at_weight l w = slice_index_or l.entries w None
+
+abbrev pub given_or : Option (Bor Layer) → Layer → Layer
+given_or given own = unwrap_or (option_copied given) own
 
 -- the candidate of weight w that player i of a weight and a number makes of a lighter one
 abbrev pub with_at : Layer → ℕ → ℕ → ℤ → ℕ → Option Candidate

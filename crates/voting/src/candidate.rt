@@ -30,13 +30,11 @@ pub(crate) fn with_player(c: Option<Candidate>, i: u32, number: i128) -> Option<
     ensures value { result ≡ joined c i number }
     ensures small { IfSome result (IsSmallCandidate (i + 1)) }
 {
-    match c {
-        None => None,
-        Some(c) => Some(Candidate {
-            sum: c.sum + number,
-            coalition: c.coalition.with(i),
-        }),
-    }
+    let c = c?;
+    Some(Candidate {
+        sum: c.sum + number,
+        coalition: c.coalition.with(i),
+    })
 }
 
 /// The candidate with a number added to its sum.
@@ -45,13 +43,11 @@ pub(crate) fn plus(c: Option<Candidate>, number: i128) -> Option<Candidate>
     requires small { IfSome c (IsSmallCandidate 32) }
     ensures value { result ≡ raised c number }
 {
-    match c {
-        None => None,
-        Some(c) => Some(Candidate {
-            sum: c.sum + number,
-            coalition: c.coalition,
-        }),
-    }
+    let c = c?;
+    Some(Candidate {
+        sum: c.sum + number,
+        coalition: c.coalition,
+    })
 }
 
 /// The coalition of a candidate whose sum is positive.

@@ -1,7 +1,8 @@
 //! The best sets of each weight.
 ghost use Rattle.std.specs.Prelude.{◌≡◌, None, Some, IfSome, if◌then◌else◌, slice_index_or};
 ghost use Rattle.std.specs.Prelude.{ℕ, ◌^◌, ◌<◌, ◌≤◌, ◌+◌, ◌-◌, pos, unsigned_abs, nat_le};
-ghost use Rattle.voting.specs.Candidates.{at_weight, joined, joined_at, raised, AreSmall, IsSmallCandidate, best_below};
+ghost use Rattle.voting.specs.Candidates.{at_weight, given_or, with_at, joined_at, raised, best_below};
+ghost use Rattle.voting.specs.Candidates.{AreSmall, IsSmallCandidate};
 
 use crate::candidate::{Candidate, better_of, plus, with_player};
 use coalitions::Coalition;
@@ -51,66 +52,63 @@ impl Layer {
         ensures entries { (w : ℕ) → w < 1001 → at_weight self.new w ≡ joined_at self.old self.old i weight number w }
         ensures small { AreSmall (i + 1) self.new }
     {
-        for fewer in 0..WEIGHTS {
-            let w = HEAVIEST - fewer;
-            let with = with_lighter(&self.entries, i, weight, number, w);
-            self.entries[w] = better_of(self.entries[w], with);
-        }
+        self.join(None, None, i, weight, number);
     }
 
-    /// Of each of these sets without player `i`, and of the other ones with player `i`, the better one.
-    pub(crate) fn or_with(&mut self, others: &Layer, i: u32, weight: usize, number: i128)
-        requires player { i < 32 }
-        requires number { unsigned_abs number < 2 ^ 110 }
-        requires small { AreSmall i self.old }
-        requires others { AreSmall i others.now }
-        ensures entries { (w : ℕ) → w < 1001 → at_weight self.new w ≡ joined_at self.old others.now i weight number w }
-        ensures small { AreSmall (i + 1) self.new }
-    {
-        for fewer in 0..WEIGHTS {
-            let w = HEAVIEST - fewer;
-            let with = with_lighter(&others.entries, i, weight, number, w);
-            self.entries[w] = better_of(self.entries[w], with);
-        }
-    }
-
-    /// Of each of the other sets without player `i`, and of these with player `i`, the better one.
-    pub(crate) fn with_or(&mut self, others: &Layer, i: u32, weight: usize, number: i128)
-        requires player { i < 32 }
-        requires number { unsigned_abs number < 2 ^ 110 }
-        requires small { AreSmall i self.old }
-        requires others { AreSmall i others.now }
-        ensures entries { (w : ℕ) → w < 1001 → at_weight self.new w ≡ joined_at others.now self.old i weight number w }
-        ensures small { AreSmall (i + 1) self.new }
-    {
-        for fewer in 0..WEIGHTS {
-            let w = HEAVIEST - fewer;
-            let with = with_lighter(&self.entries, i, weight, number, w);
-            self.entries[w] = better_of(others.entries[w], with);
-        }
-    }
-
-    /// Whatever was here, of each set of the first layer without player `i`, and of the second with player `i`, the
-    /// better one.
-    pub(crate) fn take(
+    /// Of each set of `without` as it is, and of each set of `with` joined by player `i`, the better one. In the place
+    /// of a layer that isn't given stands this one.
+    pub(crate) fn join(
         &mut self,
-        without: &Layer,
-        with: &Layer,
+        without: Option<&Layer>,
+        with: Option<&Layer>,
         i: u32,
         weight: usize,
         number: i128,
     )
         requires player { i < 32 }
         requires number { unsigned_abs number < 2 ^ 110 }
-        requires without { AreSmall i without.now }
-        requires with { AreSmall i with.now }
-        ensures entries { (w : ℕ) → w < 1001 → at_weight self.new w ≡ joined_at without.now with.now i weight number w }
+        requires without { AreSmall i (given_or without self.old) }
+        requires with { AreSmall i (given_or with self.old) }
+        ensures entries { (w : ℕ) → w < 1001
+            → at_weight self.new w
+            ≡ joined_at (given_or without.entry self.old) (given_or with.entry self.old) i weight number w }
         ensures small { AreSmall (i + 1) self.new }
     {
         for fewer in 0..WEIGHTS {
             let w = HEAVIEST - fewer;
-            let with = with_lighter(&with.entries, i, weight, number, w);
-            self.entries[w] = better_of(without.entries[w], with);
+            let with = self.given_or_own(with).with_at(i, weight, number, w);
+            self.entries[w] = better_of(self.given_or_own(without).at(w), with);
+        }
+    }
+
+    /// The layer that is given, or this one.
+    fn given_or_own<'a>(&'a self, given: Option<&'a Layer>) -> &'a Layer
+        ensures { result.now ≡ given_or given.entry self.now }
+    {
+        given.unwrap_or(self)
+    }
+
+    /// The candidate of weight `w`.
+    fn at(&self, w: usize) -> Option<Candidate>
+        requires { w < 1001 }
+        ensures { result ≡ at_weight self.now w }
+    {
+        self.entries[w]
+    }
+
+    /// The candidate of weight `w` that player `i` of this weight and number makes of a lighter one.
+    fn with_at(&self, i: u32, weight: usize, number: i128, w: usize) -> Option<Candidate>
+        requires player { i < 32 }
+        requires number { unsigned_abs number < 2 ^ 110 }
+        requires few { w < 1001 }
+        requires small { weight ≤ w → IfSome (at_weight self.now (w - weight)) (IsSmallCandidate i) }
+        ensures value { result ≡ with_at self.now i weight number w }
+        ensures small { IfSome result (IsSmallCandidate (i + 1)) }
+    {
+        if weight <= w {
+            with_player(self.at(w - weight), i, number)
+        } else {
+            None
         }
     }
 
@@ -134,7 +132,7 @@ impl Layer {
         requires small { AreSmall 32 self.now }
         ensures { result ≡ raised (at_weight self.now w) (if nat_le quota w then more else pos 0) }
     {
-        plus(self.entries[w], from_quota(quota, w, more))
+        plus(self.at(w), from_quota(quota, w, more))
     }
 }
 
@@ -143,27 +141,4 @@ fn from_quota(quota: usize, weight: usize, number: i128) -> i128
     ensures { result ≡ (if nat_le quota weight then number else pos 0) }
 {
     if quota <= weight { number } else { 0 }
-}
-
-/// The candidate of weight `w` that player `i` of this weight and number makes of a lighter one.
-fn with_lighter(
-    entries: &[Option<Candidate>; WEIGHTS],
-    i: u32,
-    weight: usize,
-    number: i128,
-    w: usize,
-) -> Option<Candidate>
-    requires player { i < 32 }
-    requires number { unsigned_abs number < 2 ^ 110 }
-    requires few { w < 1001 }
-    requires small { weight ≤ w → IfSome (slice_index_or entries.now (w - weight) None) (IsSmallCandidate i) }
-    ensures value { result
-        ≡ (if nat_le weight w then joined (slice_index_or entries.now (w - weight) None) i number else None) }
-    ensures small { IfSome result (IsSmallCandidate (i + 1)) }
-{
-    if weight <= w {
-        with_player(entries[w - weight], i, number)
-    } else {
-        None
-    }
 }

@@ -51,10 +51,9 @@ impl SplitLayers {
         ensures layers { AddsPlayer self.old true i weight number self.new }
         ensures small { AreSmallLayers (i + 1) self.new }
     {
-        self.both
-            .take(&self.holding, &self.lacking, i, weight, number);
-        self.lacking.with_or(&self.any, i, weight, number);
-        self.holding.or_with(&self.any, i, weight, number);
+        self.both.join(Some(&self.holding), Some(&self.lacking), i, weight, number);
+        self.lacking.join(Some(&self.any), None, i, weight, number);
+        self.holding.join(None, Some(&self.any), i, weight, number);
         self.any.add_player(i, weight, number);
     }
 

@@ -14,8 +14,6 @@ use Rattle.definitions.proofs.Given.{is_some, is_ok}
 pub unwrap-shares-requires : goal.unwrap-shares-requires
 unwrap-shares-requires c =
     let payment = c.in_ok-paid.ensures.payment in
-    let positive = payment.scheme.positive in
-    let common = payment.common in
     let den : to_z w128 (of_z w128 c.in_ok-paid.paid.den) ≡ c.in_ok-paid.paid.den =
     cast_kept w128 c.in_ok-paid.paid.den (omega (arith, ints)) in
     let num = rw c.deref.ensures.value at (c.in_ok-num.ensures {u = tt}) in
@@ -39,8 +37,6 @@ unwrap-certificate-requires c =
 pub returns : goal.returns
 returns c =
     let payment = c.in_ok-paid.ensures.payment in
-    let positive = payment.scheme.positive in
-    let common = payment.common in
     let den : to_z w128 (of_z w128 c.in_ok-paid.paid.den) ≡ c.in_ok-paid.paid.den =
     cast_kept w128 c.in_ok-paid.paid.den (omega (arith, ints)) in
     let num = rw c.deref.ensures.value at (c.in_ok-num.ensures {u = tt}) in

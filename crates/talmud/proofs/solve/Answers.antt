@@ -17,7 +17,7 @@ use Rattle.definitions.proofs.Casts.{cast_kept}
 use Rattle.definitions.proofs.Given.{is_some, is_ok}
 
 cast_back : (z : ℤ) (e : ℕ) → z ≡ pos e → e < 2 ^ 40 → unsigned_abs (to_z w64 (of_z w64 z)) ≡ e
-cast_back z e same h = rw same (ap unsigned_abs (cast_kept w64 (pos e) (omega (arith, h))))
+cast_back z e same h = rw same (ap unsigned_abs (cast_kept w64 (pos e) (omega arith)))
 
 pub new-division-requires-clause-cut : goal.new-division-requires-clause-cut
 new-division-requires-clause-cut c =

@@ -11,14 +11,14 @@ complement-requires-clause-within c =
     rw (c.single.ensures, c.len-n.ensures.count, c.place.ensures.value)
     (pow-lt
     (place-below c.args.game.now c.len-n.ensures.laws c.loop-j.j
-    (let w = c.requires.within in omega (arith, c.loop-j-test.true))))
+    (omega arith)))
 
 pub loop-j-preserved : goal.loop-j-preserved
 loop-j-preserved c =
     let more =
     with_others_more (length c.args.game.now.costs) (place c.args.game.now)
     (front_pair (place c.args.game.now) c.args.k (pos 1) (nat_lt c.args.k (length c.args.game.now.costs)))
-    c.args.i c.loop-j.j (omega (arith, c.loop-j.auto.j)) in
+    c.args.i c.loop-j.j (omega arith) in
     let put = c.in_ok-put_pair.ensures in
     rw more
     (rw (c.complement.ensures, c.single.ensures, c.len-n.ensures.count, c.place.ensures.value, c.loop-j.invariant)

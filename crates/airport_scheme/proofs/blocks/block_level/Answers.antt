@@ -1,7 +1,7 @@
 use Rattle.std.proofs.Common.{◌≡◌, ◌-◌, ◌^◌, ◌<◌, ◌≤◌, length, get_or, unsigned_abs, ℤ, pos}
 use Rattle.std.proofs.Common.{neg_ℤ, ◌-ℤ◌, ◌*ℤ◌}
 use Rattle.std.proofs.Common.{to_z, of_z, nat_lt, arith, ℕ, List, [], ◌∷◌, negsuc, sym}
-use Rattle.std.proofs.Common.{ap, subst, ◌∙◌, cond}
+use Rattle.std.proofs.Common.{ap, ◌∙◌, cond}
 use Rattle.std.proofs.lemmas.Int.{ints, fits_signed_from_abs, to_z_pos}
 use mir.Syntax.{w128}
 use Rattle.airport_scheme.specs.Scheme.{pay_at}
@@ -18,36 +18,34 @@ read xs i r lt e = e ∙ get_or_default xs i r (pos 0) lt
 
 small_at : (xs : List ℤ) (i : ℕ) (r : ℤ) → i < length xs → All (λ z. unsigned_abs z < 2 ^ 104) xs
     → r ≡ get_or xs i r → unsigned_abs r < 2 ^ 104
-small_at xs i r lt all e = let s = all i r lt in subst (λ (z : ℤ). unsigned_abs z < 2 ^ 104) (sym e) s
+small_at xs i r lt all e = let s = all i r lt in rw e s
 
 pub overflow_sub-index : goal.overflow_sub-index
 overflow_sub-index c =
     let small =
     small_at c.args.paid.now.pay.items c.args.i c.index.result.now
-    (omega (arith, c.requires.two, c.requires.payment.long)) c.requires.payment.small c.index.ensures in
-    rw (cast_kept w128 c.index.result.now (omega (arith, small)))
+    (omega arith) c.requires.payment.small c.index.ensures in
+    rw (cast_kept w128 c.index.result.now (omega arith))
     (fits_signed_from_abs w128 _ (negated_small c.index.result.now small))
 
 less_one : (n : ℕ) → n ≤ 64 → to_z w128 (of_z w128 (to_z w128 n -ℤ pos 1)) ≡ pos n -ℤ pos 1
-less_one n h = rw (to_z_pos w128 n (omega (arith, h))) (cast_kept w128 (pos n -ℤ pos 1) (omega (arith, ints)))
+less_one n h = rw (to_z_pos w128 n (omega arith)) (cast_kept w128 (pos n -ℤ pos 1) (omega (arith, ints)))
 
 excess_is : (r p d num den : ℤ) → r ≡ p → num *ℤ den ≡ neg_ℤ r *ℤ d → neg_ℤ p *ℤ d ≡ num *ℤ den
 excess_is r p d num den e h = rw (← e) (sym h)
 
 pub returns-clause-block : goal.returns-clause-block
 returns-clause-block c =
-    let lt : c.args.i < length c.args.paid.now.pay.items = omega (arith, c.requires.two, c.requires.payment.long) in
+    let lt : c.args.i < length c.args.paid.now.pay.items = omega arith in
     let small =
     small_at c.args.paid.now.pay.items c.args.i c.index.result.now lt c.requires.payment.small
     c.index.ensures in
     let same = read c.args.paid.now.pay.items c.args.i c.index.result.now lt c.index.ensures in
-    let positive = c.requires.payment.scheme.positive in
-    let common = c.requires.payment.common in
     let den = cast_kept w128 c.args.paid.now.den (omega (arith, ints)) in
     let ratio = rw (negated_value c.index.result.now small, den) at c.ratio-excess.ensures in
     let few : c.args.k - c.args.i ≤ 64 =
-    (let within = c.requires.end.within in let few = c.len.ensures.laws.few in omega arith) in
-    let count = to_z_pos w128 (c.args.k - c.args.i) (omega (arith, few)) in
+    omega arith in
+    let count = to_z_pos w128 (c.args.k - c.args.i) (omega arith) in
     let fewer : to_z w128 (of_z w128 (to_z w128 (c.args.k - c.args.i) -ℤ pos 1))
     ≡ pos (c.args.k - c.args.i) -ℤ pos 1 = less_one (c.args.k - c.args.i) few in
     record {
@@ -67,8 +65,8 @@ returns-clause-block c =
       bounds = c.new.ensures.items;
       total = elim c.if-k-len.branch [
         | then-k-len w ↦ total_is (length c.args.game.now.costs) c.args.i c.args.k _ (λ lt. w.total-is ∙ count)
-            (λ ge. absurd (omega (arith, w.if-k-len.true, c.len.ensures.count)))
+            (λ ge. absurd (omega arith))
         | else-k-len w ↦ total_is (length c.args.game.now.costs) c.args.i c.args.k _
-            (λ lt. absurd (omega (arith, w.if-k-len.false, c.len.ensures.count))) (λ ge. w.total-is ∙ fewer)
+            (λ lt. absurd (omega arith)) (λ ge. w.total-is ∙ fewer)
       ];
     }

@@ -23,7 +23,7 @@ next-block-requires-clause-paid c =
     let run = c.loop-done.invariant in
     small_from _ (paid_low _ _ _ _ _ _ run)
     (paid_small _ _ _ _ _ _ (cost_at-small c.args.game.now c.len-n.ensures.laws)
-    (omega (arith, c.loop-done-test.true, c.len-n.ensures.count)) run)
+    (omega arith) run)
 
 pub grow-requires-clause-small : goal.grow-requires-clause-small
 grow-requires-clause-small c = run_small _ _ _ _ _ _ c.loop-done.invariant
@@ -34,13 +34,13 @@ times-requires-clause-left c =
     let small =
     small_from _ (paid_low _ _ _ _ _ _ run)
     (paid_small _ _ _ _ _ _ (cost_at-small c.args.game.now c.len-n.ensures.laws)
-    (omega (arith, c.loop-done-test.true, c.len-n.ensures.count)) run) in
-    omega (arith, small)
+    (omega arith) run) in
+    omega arith
 
 pub overflow_add-paid : goal.overflow_add-paid
 overflow_add-paid c =
-    let first = cast_kept w128 c.times.result (omega (arith, c.times.ensures.small)) in
-    let second = cast_kept w128 c.times-in-loop-done.result (omega (arith, c.times-in-loop-done.ensures.small)) in
+    let first = cast_kept w128 c.times.result (omega arith) in
+    let second = cast_kept w128 c.times-in-loop-done.result (omega arith) in
     rw (first, second)
     (fits_signed_from_abs w128 _
     (sum_small c.times.result c.times-in-loop-done.result c.times.ensures.small
@@ -51,14 +51,13 @@ loop-done-preserved c =
     let run = c.loop-done.invariant in
     let block = c.next-block.result in
     let least = c.next-block.ensures.least in
-    let within = least.term.within in
-    let size = cast_kept w128 block.size (omega (arith, c.next-block.ensures.size)) in
-    let value = cast_kept w128 block.value (omega (arith, c.next-block.ensures.rate)) in
+    let size = cast_kept w128 block.size (omega arith) in
+    let value = cast_kept w128 block.value (omega arith) in
     let count =
-    to_z_pos w128 (block.last + 1 - c.loop-done.done) (omega (arith, within, c.len-n.ensures.laws.few)) in
-    let first = cast_kept w128 c.times.result (omega (arith, c.times.ensures.small)) in
-    let second = cast_kept w128 c.times-in-loop-done.result (omega (arith, c.times-in-loop-done.ensures.small)) in
-    let third = cast_kept w128 c.times-den.result (omega (arith, c.times-den.ensures.small)) in
+    to_z_pos w128 (block.last + 1 - c.loop-done.done) (omega arith) in
+    let first = cast_kept w128 c.times.result (omega arith) in
+    let second = cast_kept w128 c.times-in-loop-done.result (omega arith) in
+    let third = cast_kept w128 c.times-den.result (omega arith) in
     let sum =
     cast_kept w128 (c.times.result +ℤ c.times-in-loop-done.result)
     (sum_small c.times.result c.times-in-loop-done.result c.times.ensures.small
@@ -70,9 +69,9 @@ loop-done-preserved c =
     rw (first, second, third, sum, e, f, g)
     (IsRun-next _ _ _ _ _ _ c.loop-done.done block.last block.size block.value c.len-n.ensures.laws.few
     (cost_at-small c.args.game.now c.len-n.ensures.laws)
-    (omega (arith, c.loop-done-test.true, c.len-n.ensures.count)) run least grown)
+    (omega arith) run least grown)
 
 pub returns-clause-payment : goal.returns-clause-payment
 returns-clause-payment c =
-    IsPayment-whole _ _ _ _ _ c.loop-done.done (omega (arith, c.loop-done-test.false, c.len-n.ensures.count))
+    IsPayment-whole _ _ _ _ _ c.loop-done.done (omega arith)
     c.loop-done.invariant

@@ -29,21 +29,22 @@ times-requires c =
     let i = c.loop-k.k in
     let same = c.loop-k.invariant.1 i (omega arith) in
     let small = c.requires.small i (pos 0) c.loop-k-test.true in
-    let left = cast_kept w128 (get_or c.loop-k.pay i (pos 0)) (rw same (omega (arith, small))) in
-    let right = cast_kept w128 c.args.size (omega (arith, c.requires.size)) in
-    rw (left, right, same) (record { left = omega (arith, small); right = c.requires.size })
+    let left = cast_kept w128 (get_or c.loop-k.pay i (pos 0)) (rw same (omega arith)) in
+    let right = cast_kept w128 c.args.size (omega arith) in
+    rw (left, right, same) (record { left = omega arith; right = c.requires.size })
 
 pub loop-k-preserved : goal.loop-k-preserved
 loop-k-preserved c =
     let i = c.loop-k.k in
     let same = c.loop-k.invariant.1 i (omega arith) in
-    let small = c.requires.small i (pos 0) c.loop-k-test.true in
-    let left = cast_kept w128 (get_or c.loop-k.pay i (pos 0)) (rw same (omega (arith, small))) in
+    let left =
+    cast_kept w128 (get_or c.loop-k.pay i (pos 0))
+    (rw same (omega (arith, c.requires.small i (pos 0) c.loop-k-test.true))) in
     scaled_next c.loop-k.pay c.args.pay.now i (to_z w128 (of_z w128 c.args.size)) c.times.result
-    (omega (arith, c.loop-k-test.true, c.loop-k.auto.pay)) c.times.ensures.small c.loop-k.invariant
+    (omega arith) c.times.ensures.small c.loop-k.invariant
     (rw left at c.times.ensures.value)
 
 pub returns : goal.returns
 returns c = λ k lt.
-    let size = cast_kept w128 c.args.size (omega (arith, c.requires.size)) in
-    rw size at (c.loop-k.invariant.0 k (omega (arith, lt, c.loop-k-test.false)))
+    let size = cast_kept w128 c.args.size (omega arith) in
+    rw size at (c.loop-k.invariant.0 k (omega arith))

@@ -10,12 +10,12 @@ pub loop-l-init : goal.loop-l-init
 loop-l-init c =
     let den : to_z w128 (of_z w128 c.args.den) ≡ c.args.den = cast_kept w128 c.args.den (omega (arith, ints)) in
     let paid : to_z w128 (of_z w128 c.args.paid) ≡ c.args.paid =
-    cast_kept w128 c.args.paid (omega (arith, c.requires.paid)) in
+    cast_kept w128 c.args.paid (omega arith) in
     let first = rw (den, paid) at c.term-best.ensures.term in
     let last = c.term-best.ensures.last in
     rw (den, paid, last) (
       IsBest-start _ _ c.args.den c.args.paid c.args.done _ c.term-best.result.size c.term-best.result.value
-          (omega (arith, c.len-n.ensures.count, c.len-n.ensures.laws.some)) first,
+          (omega arith) first,
       c.term-best.ensures.size,
       c.term-best.ensures.rate,
     )
@@ -28,18 +28,18 @@ loop-l-preserved c =
       | then-less w ↦
           let less = sym c.less.ensures ∙ w.if-less.true in
           rw (w.best-is, here.last)
-          (IsBest-better _ _ _ _ _ _ _ _ _ _ _ inv.0 here.term (omega (arith, ints, less)), here.size, here.rate)
+          (IsBest-better _ _ _ _ _ _ _ _ _ _ _ inv.0 here.term (omega (arith, ints)), here.size, here.rate)
       | else-less w ↦
           let most = sym c.less.ensures ∙ w.if-less.false in
           rw w.best-is
-          (IsBest-kept _ _ _ _ _ _ _ _ _ _ _ inv.0 here.term (omega (arith, ints, most)), inv.1, inv.2)
+          (IsBest-kept _ _ _ _ _ _ _ _ _ _ _ inv.0 here.term (omega (arith, ints)), inv.1, inv.2)
     ]
 
 pub returns-clause-least : goal.returns-clause-least
 returns-clause-least c =
     let den : to_z w128 (of_z w128 c.args.den) ≡ c.args.den = cast_kept w128 c.args.den (omega (arith, ints)) in
     let paid : to_z w128 (of_z w128 c.args.paid) ≡ c.args.paid =
-    cast_kept w128 c.args.paid (omega (arith, c.requires.paid)) in
+    cast_kept w128 c.args.paid (omega arith) in
     let best = rw (den, paid) at c.loop-l.invariant.0 in
     IsLeastTerm-whole _ _ c.args.den c.args.paid c.args.done c.loop-l.l c.loop-l.best.last c.loop-l.best.size
-    c.loop-l.best.value (omega (arith, c.loop-l-test.false, c.len-n.ensures.count)) best
+    c.loop-l.best.value (omega arith) best

@@ -10,7 +10,8 @@ use Rattle.big_assignment.proofs.least.after_turn.Goals.{then-gain-prices, else-
 pub overflow_add-other : goal.overflow_add-other
 overflow_add-other c =
     let d = c.args.deal.now in
-    let within = subst (λ (k : ℕ). k ≤ 32) (sym c.mate-own.ensures) (c.requires.fair.within c.args.i c.requires.row) in
+    let within =
+    subst (λ (k : ℕ). k ≤ 32) (sym c.mate-own.ensures) (c.requires.fair.within c.args.i c.requires.row) in
     let own =
     below_small d c.args.n (slice_index c.args.prices.now) c.requires.offers c.requires.rows c.requires.fair
     c.requires.below c.mate-own.result within in
@@ -20,7 +21,8 @@ overflow_add-other c =
 pub overflow_add-gain : goal.overflow_add-gain
 overflow_add-gain c =
     let d = c.args.deal.now in
-    let within = subst (λ (k : ℕ). k ≤ 32) (sym c.mate-own.ensures) (c.requires.fair.within c.args.i c.requires.row) in
+    let within =
+    subst (λ (k : ℕ). k ≤ 32) (sym c.mate-own.ensures) (c.requires.fair.within c.args.i c.requires.row) in
     let price =
     below_small d c.args.n (slice_index c.args.prices.now) c.requires.offers c.requires.rows c.requires.fair
     c.requires.below c.loop-k.k (omega arith) in
@@ -35,29 +37,26 @@ loop-k-preserved c =
     let p = slice_index c.args.prices.now in
     let inv = c.loop-k.invariant in
     let size = inv.size in
-    let kl : k ≤ 32 = omega (arith, c.loop-k-test.true) in
+    let kl : k ≤ 32 = omega arith in
     let gain : c.offer-gain.result ≡ offer_of d i (mate_of d i) =
     c.offer-gain.ensures ∙ ap (offer_of d i) c.mate-own.ensures in
     let own : p c.mate-own.result ≡ p (mate_of d i) = ap p c.mate-own.ensures in
-    let other = c.offer.ensures in
     elim c.if-gain-prices.branch [
       | then-gain-prices w ↦
           let x = c.offer.result + p c.mate-own.result - c.offer-gain.result in
-          let up = w.if-gain-prices.true in
           rw w.raised-is (record {
             size = length-set c.loop-k.raised k x ∙ size;
             turn =
                 turn_raised d c.args.n i k p (slice_index c.loop-k.raised) kl inv.turn x
                 (slice_index (slice_set c.loop-k.raised k x)) c.requires.fair c.requires.below c.requires.row
-                (omega (arith, gain, own, other, up)) (omega (arith, gain, own, other, up))
-                (put_set c.loop-k.raised k x (omega (arith, size, kl)));
+                (omega arith) (omega arith)
+                (put_set c.loop-k.raised k x (omega arith));
           })
       | else-gain-prices w ↦
-          let down = w.if-gain-prices.false in
           rw w.raised-is (record {
             size = size;
             turn =
                 turn_passed d c.args.n i k p (slice_index c.loop-k.raised) kl inv.turn
-                (omega (arith, gain, own, other, down));
+                (omega arith);
           })
     ]

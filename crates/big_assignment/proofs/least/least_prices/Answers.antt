@@ -9,7 +9,7 @@ loop-round-init c =
     let none = slice_index (replicate 33 0) in
     record {
       below = below_none c.args.deal.now c.args.n none (λ k le. zeros 33 k);
-      left = λ q least. (let few = unsettled_few none q in omega (arith, few));
+      left = λ q least. omega (arith, unsettled_few none q);
     }
 
 pub loop-round-preserved : goal.loop-round-preserved
@@ -22,11 +22,10 @@ loop-round-preserved c =
     record {
       below = round.below;
       left = λ q least.
-          let before = inv.left q least in
           elim (settles d c.args.n p p' q least.0 least.1 round.more
           (below_least d c.args.n p' q round.below least.1) round.content c.requires.fair.within) [
-            | inl none ↦ omega (arith, none, c.loop-round-test.true)
-            | inr fewer ↦ omega (arith, before, fewer)
+            | inl none ↦ omega arith
+            | inr fewer ↦ omega (arith, inv.left q least)
           ];
     }
 
@@ -34,5 +33,5 @@ pub returns-clause-content : goal.returns-clause-content
 returns-clause-content c = λ i il.
     let inv = c.loop-round.invariant in
     content_at_last c.args.deal.now c.args.n (slice_index c.loop-round.prices) c.requires.fair inv.below
-    (λ q least. let left = inv.left q least in omega (arith, left, c.loop-round-test.false)) i il
+    (λ q least. omega (arith, inv.left q least)) i il
     (c.requires.fair.within i il)

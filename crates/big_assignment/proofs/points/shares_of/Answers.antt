@@ -1,9 +1,9 @@
 use Rattle.std.proofs.Common.{◌≡◌, ℕ, ◌^◌, ◌<◌, ◌≤◌, List, length, ℤ, pos, slice_index}
 use Rattle.std.proofs.Common.{slice_index_or}
-use Rattle.std.proofs.Common.{unsigned_abs, to_z, of_z, refl, sym, ap, subst, ◌∙◌, arith, rules}
+use Rattle.std.proofs.Common.{to_z, of_z, refl, ap, ◌∙◌, arith, rules}
 use mir.Syntax.{w128}
 use Rattle.std.proofs.lemmas.Result.{IfOk-from_err}
-use Rattle.definitions.specs.Games.{Allocation, IsShares}
+use Rattle.definitions.specs.Games.{IsShares}
 use Rattle.definitions.proofs.Given.{is_some}
 use Rattle.worth_core.specs.Allocations.{allocation}
 use Rattle.big_assignment.specs.Mates.{payoff}
@@ -16,15 +16,13 @@ whole_shares : (n : ℕ) (num : List ℤ) (f : ℕ → ℕ) → 1 ≤ n → n �
     → ((j : ℕ) → j < n → slice_index_or num j (pos 0) ≡ pos (f j)) → ((j : ℕ) → j < n → f j ≤ 2 ^ 40)
     → IsShares (allocation num (pos 1))
 whole_shares n num f some few count at small = record {
-  some = omega (arith, some, count);
-  few = omega (arith, few, count);
+  some = omega arith;
+  few = omega arith;
   positive = omega arith;
   common = omega arith;
   small = λ j lt.
-      let below : j < n = omega (arith, lt, count) in
-      let bound = small j below in
-      subst (λ (z : ℤ). unsigned_abs z < 2 ^ 110) (sym (at j below))
-      (let fits : f j < 2 ^ 110 = omega (arith, bound) in fits);
+      let below : j < n = omega arith in
+      rw (at j below) (let fits : f j < 2 ^ 110 = omega (arith, small j below) in fits);
 }
 
 pub loop-k-preserved : goal.loop-k-preserved
@@ -47,17 +45,17 @@ unwrap-requires c =
     let f = payoff c.args.rows (slice_index c.args.gains.now) (slice_index c.args.prices.now) in
     is_some (IsShares (allocation c.loop-k.num.items (pos 1))) _ c.new.result c.new.ensures
     (whole_shares c.args.players c.loop-k.num.items f c.requires.some
-    (omega (arith, c.requires.players, c.requires.rows))
-    (omega (arith, c.loop-k.invariant.0, c.loop-k.auto.k-end, c.loop-k-test.false))
-    (λ j lt. c.loop-k.invariant.1 j (omega (arith, lt, c.loop-k-test.false))) c.requires.small)
+    (omega arith)
+    (omega arith)
+    (λ j lt. c.loop-k.invariant.1 j (omega arith)) c.requires.small)
 
 pub returns : goal.returns
 returns c =
     let f = payoff c.args.rows (slice_index c.args.gains.now) (slice_index c.args.prices.now) in
     let new = rw c.unwrap.ensures at c.new.ensures in
     let whole : IsWhole c.args.players (allocation c.loop-k.num.items (pos 1)) 1 f = record {
-      length_is = omega (arith, c.loop-k.invariant.0, c.loop-k.auto.k-end, c.loop-k-test.false);
+      length_is = omega arith;
       den = refl;
-      shares = λ j lt. c.loop-k.invariant.1 j (omega (arith, lt, c.loop-k-test.false));
+      shares = λ j lt. c.loop-k.invariant.1 j (omega arith);
     } in
-    subst (λ (x : Allocation). IsWhole c.args.players x 1 f) (sym new.0) whole
+    rw new.0 whole

@@ -30,7 +30,7 @@ returns-clause-tight c =
     let near = c.nearest-i.ensures in
     let row = c.lowered-gains.ensures.reached c.nearest-i.result.0 near.row near.reached in
     let column = c.raised-deal.ensures.rest c.nearest-i.result.1 near.column near.unreached in
-    omega (arith, row, column, c.slack-by.ensures)
+    omega arith
 
 pub nearest-i-requires-clause-covered : goal.nearest-i-requires-clause-covered
 nearest-i-requires-clause-covered c =
@@ -46,4 +46,4 @@ raised-deal-requires c =
     search_covered c.args.deal.now c.args.search.now c.args.n c.requires.offers c.requires.rows c.requires.search in
     let gain = covered.gains c.nearest-i.result.0 c.nearest-i.ensures.row in
     let price = covered.prices c.nearest-i.result.1 c.nearest-i.ensures.column in
-    record { small = λ k le. omega (arith, gain, price, c.slack-by.ensures, covered.prices k le) }
+    record { small = λ k le. omega (arith, covered.prices k le) }

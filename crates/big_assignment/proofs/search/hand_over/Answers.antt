@@ -1,7 +1,7 @@
-use Rattle.std.proofs.Common.{ℕ, ◌<◌, slice_set, arith, inl, inr, ◌∙◌, subst, sym}
+use Rattle.std.proofs.Common.{◌<◌, slice_set, arith, inl, inr, ◌∙◌}
 use Rattle.std.proofs.lemmas.List.{length-set}
 use Rattle.big_assignment.specs.Deals.{with_columns}
-use Rattle.big_assignment.specs.Searches.{IsOpen, parent_of}
+use Rattle.big_assignment.specs.Searches.{parent_of}
 use Rattle.big_assignment.proofs.Arrays.{taken_set}
 use Rattle.big_assignment.proofs.Walks.{walk_on, walk_end}
 use Rattle.big_assignment.proofs.search.hand_over.Goals as goal
@@ -13,7 +13,7 @@ returns-then-i-n c =
     walk_end (with_columns c.args.deal.now l.columns) c.args.search.now n l.k
     (slice_set l.columns n c.column_at.result) l.invariant.1 c.if-i-n.true
     (taken_set l.columns n l.k c.column_at.result
-    (let few = c.requires.rows in let size = l.invariant.0 in omega (arith, few, size)) c.column_at.ensures)
+    (omega arith) c.column_at.ensures)
 
 pub loop-columns-preserved : goal.loop-columns-preserved
 loop-columns-preserved c =
@@ -22,16 +22,15 @@ loop-columns-preserved c =
     let n = c.args.n in
     let i = parent_of s l.k in
     let joined = (l.invariant.1.joined l.k l.invariant.1.column l.invariant.1.ranked (omega arith)).earlier in
-    let few = c.requires.rows in
     let size = l.invariant.0 in
     let lt : i < n = (elim joined [ inl e ↦ absurd (c.if-i-n.false e) | inr e ↦ e.0 ]) in
     let on =
     walk_on (with_columns c.args.deal.now l.columns) s n l.k
     (slice_set l.columns i c.column_at-in-loop-columns.result)
     l.invariant.1 c.if-i-n.false
-    (taken_set l.columns i l.k c.column_at-in-loop-columns.result (omega (arith, lt, few, size))
+    (taken_set l.columns i l.k c.column_at-in-loop-columns.result (omega arith)
     c.column_at-in-loop-columns.ensures) in
     let columns = slice_set l.columns i c.column_at-in-loop-columns.result in (
       length-set l.columns i c.column_at-in-loop-columns.result ∙ size,
-      subst (λ (k : ℕ). IsOpen (with_columns c.args.deal.now columns) s n k) (sym c.place_of-freed.ensures) on.0,
+      rw c.place_of-freed.ensures on.0,
     )

@@ -20,13 +20,13 @@ loop-i-preserved c =
     let small : mate i ≤ 32 = c.requires.columns i c.loop-i-test.true in
     elim c.if-column-columns.branch [
       | then-column-columns+in_ok-push w ↦
-          let lt : mate i < c.args.columns = omega (arith, small, at, w.if-column-columns.true) in
+          let lt : mate i < c.args.columns = omega arith in
           let pushed = w.in_ok-push.ensures {u = tt} in
           ap (λ v. v.items) w.pairs-is ∙ pushed.items
           ∙ ap (λ (ps : List (ℕ × ℕ)). ps ++ (i, rows + c.mate-column.result) ∷ []) c.loop-i.invariant
           ∙ ap (λ (k : ℕ). player_pairs rows (pairs_from mate c.args.columns 0 i) ++ (i, rows + k) ∷ []) at
           ∙ sym (player_pairs_more rows mate c.args.columns i lt)
       | else-column-columns w ↦
-          let ge : c.args.columns ≤ mate i = omega (arith, small, at, w.if-column-columns.false) in
+          let ge : c.args.columns ≤ mate i = omega arith in
           ap (λ v. v.items) w.pairs-is ∙ c.loop-i.invariant ∙ sym (player_pairs_same rows mate c.args.columns i ge)
     ]

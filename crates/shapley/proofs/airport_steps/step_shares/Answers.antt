@@ -17,10 +17,6 @@ pub returns-clause-value : goal.returns-clause-value
 returns-clause-value c =
     let costs = c.args.game.now.costs in
     let made = rw c.unwrap.ensures at c.new.ensures in
-    let len = c.loop-i.invariant.0 in
-    let end = c.loop-i-test.false in
-    let upto = c.loop-i.auto.i-end in
-    let count = c.len-i-end.ensures.count in
     let same = ap (λ (x : Allocation). length x.shares) made.0 in
     let den = ap (λ (x : Allocation). x.den) made.0 in (
       (omega arith, rw den (search rules)),
@@ -28,7 +24,7 @@ returns-clause-value c =
           let value = (c.loop-i.invariant.1 i (omega arith)).0 in
           let at = ap (λ (x : Allocation). share x i) made.0 ∙ value in
           ap (λ z. z *ℤ pos (factorial (length costs))) at
-          ∙ common_shares costs i (omega (arith, count, c.requires)) lt
+          ∙ common_shares costs i (omega arith) lt
           ∙ ap (λ z. z *ℤ shapley_total (airport_game c.args.game.now) i) (sym den),
     )
 

@@ -17,11 +17,10 @@ loop-mask-init g c =
 pub add_worth-requires-clause-room : goal.add_worth-requires-clause-room
 add_worth-requires-clause-room g c =
     let n = c.players-n.result in
-    let small : n ≤ 16 = omega (arith, c.requires, c.players-n.ensures.count) in
-    let few = masks_below n c.loop-mask.mask small c.loop-mask-test.true in
+    let small : n ≤ 16 = omega arith in
     rw c.deref_mut.ensures.value
     (totals_small (g.W.Worth.game c.args.game.now) n c.loop-mask.mask c.loop-mask.totals.items
-    (omega (arith, few)) c.loop-mask.invariant)
+    (omega (arith, masks_below n c.loop-mask.mask small c.loop-mask-test.true)) c.loop-mask.invariant)
 
 pub loop-mask-preserved : goal.loop-mask-preserved
 loop-mask-preserved g c =
@@ -30,19 +29,17 @@ loop-mask-preserved g c =
     let n = c.players-n.result in
     let count = c.players-n.ensures.count in
     let laws = c.players-n.ensures.laws in
-    let few : n ≤ 16 = omega (arith, c.requires, count) in
+    let few : n ≤ 16 = omega arith in
     let below = masks_below n mask few c.loop-mask-test.true in
-    let top = masks-few n few in
     let ys = c.add_worth.new.totals in
     let long : length ys ≡ length c.loop-mask.totals.items =
     c.add_worth.auto.totals ∙ ap length c.deref_mut.ensures.value in
-    let all : c.loop-mask.totals.len ≡ length ys = omega (arith, long, c.loop-mask.totals.ok) in
+    let all : c.loop-mask.totals.len ≡ length ys = omega arith in
     let back =
     ap (λ (k : ℕ). take k (ys ++ drop (length ys) c.loop-mask.totals.items)) all
     ∙ take-append_seam ys (drop (length ys) c.loop-mask.totals.items) in
-    let lt : mask < 2 ^ n = omega (arith, c.loop-mask-test.true, top) in
-    let small = laws.small mask (rw count at lt) in
-    let worth = cast_kept w64 c.worth.result (rw c.worth.ensures (omega (arith, small))) in
+    let lt : mask < 2 ^ n = omega (arith, masks-few n few) in
+    let worth = cast_kept w64 c.worth.result (rw c.worth.ensures (omega (arith, laws.small mask (rw count at lt)))) in
     rw back
     (totals_next game n mask c.loop-mask.totals.items ys laws count few lt (size_below-most n mask)
     c.loop-mask.invariant (long ∙ c.loop-mask.invariant.long)
@@ -54,9 +51,9 @@ returns-clause-value g c = λ k lt.
     let n = c.players-n.result in
     let count = c.players-n.ensures.count in
     let end =
-    masks_end n c.loop-mask.mask (omega (arith, c.requires, count)) c.loop-mask.auto.mask-end
+    masks_end n c.loop-mask.mask (omega arith) c.loop-mask.auto.mask-end
     c.loop-mask-test.false in
-    c.loop-mask.invariant.value k (omega (arith, count, lt))
+    c.loop-mask.invariant.value k (omega arith)
     ∙ ap (λ (m : ℕ). credits game.worth n k m) end
     ∙ ap (λ (m : ℕ). credits game.worth m k (2 ^ m)) count
     ∙ credits-total game k lt
@@ -64,8 +61,8 @@ returns-clause-value g c = λ k lt.
 pub returns-clause-small : goal.returns-clause-small
 returns-clause-small g c =
     let n = c.players-n.result in
-    let few : n ≤ 16 = omega (arith, c.requires, c.players-n.ensures.count) in
+    let few : n ≤ 16 = omega arith in
     let end = masks_end n c.loop-mask.mask few c.loop-mask.auto.mask-end c.loop-mask-test.false in
     let top = masks-few n few in
     totals_small (g.W.Worth.game c.args.game.now) n c.loop-mask.mask c.loop-mask.totals.items
-    (omega (arith, end, top)) c.loop-mask.invariant
+    (omega arith) c.loop-mask.invariant

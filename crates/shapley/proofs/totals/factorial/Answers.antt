@@ -7,4 +7,4 @@ overflow_mul-product c =
     omega (arith, factorial_step c.args.n c.loop-i.i c.loop-i.product (omega arith) c.requires c.loop-i.invariant)
 
 pub returns-clause-small : goal.returns-clause-small
-returns-clause-small c = let e = c.loop-i.invariant in omega (arith, e, factorial-sixteen c.loop-i.i (omega arith))
+returns-clause-small c = omega (arith, factorial-sixteen c.loop-i.i (omega arith))

@@ -32,7 +32,7 @@ loop-i-init c = c.new-cuts.ensures.items
 pub loop-i-preserved : goal.loop-i-preserved
 loop-i-preserved c =
     let claims = c.args.game.now.claims in
-    let lt : c.loop-i.i < length claims = omega (arith, c.loop-i-test.true, c.players-i-end.ensures.count) in
+    let lt : c.loop-i.i < length claims = omega arith in
     let pushed = (c.in_ok-push.ensures {u = tt}).items in
     let more =
     one_more claims c.loop-i.cuts.items c.args.game.now.estate c.loop-i.i c.min.result c.claim-claim.result
@@ -43,5 +43,5 @@ loop-i-preserved c =
 pub returns-clause-cuts : goal.returns-clause-cuts
 returns-clause-cuts c =
     let claims = c.args.game.now.claims in
-    let end : length claims ≤ c.loop-i.i = omega (arith, c.loop-i-test.false, c.players-i-end.ensures.count) in
+    let end : length claims ≤ c.loop-i.i = omega arith in
     c.loop-i.invariant ∙ ap (map (λ c'. min c' c.args.game.now.estate)) (take_all c.loop-i.i claims end)

@@ -9,5 +9,5 @@ loop-half-preserved c =
     let le = rw (c.cut.ensures.value, c.place.ensures.value, c.len-n.ensures.count) at c.if-cut-n.true in
     rw (c.cut-left.ensures.value, c.place-in-loop-half.ensures.value)
     (IsSplit-more (length c.args.claims.now.numbers) (number_at c.args.claims.now) c.args.double c.loop-half.half
-    c.loop-half.left laws.sorted.lists.rising (omega (arith, c.loop-half-test.true, c.len-n.ensures.count)) le
+    c.loop-half.left laws.sorted.lists.rising (omega arith) le
     c.loop-half.invariant)

@@ -14,7 +14,7 @@ returns-clause-levels c =
           (AreLevels-rest _ _ _ _ _ _ _ c.in_ok-levels.levels.items _ halves w.in_ok-rest_level.ensures.level)
       | else-division-n w ↦ rw w.levels-is
           (AreLevels-halves _ _ _ _ _ _ _ c.in_ok-levels.levels.items halves
-          (omega (arith, w.if-division-n.false, c.len-n.ensures.count)))
+          (omega arith))
     ]
 
 pub returns-clause-lowest : goal.returns-clause-lowest

@@ -18,10 +18,9 @@ negated t h =
 pub returns-clause-level : goal.returns-clause-level
 returns-clause-level c =
     let d = c.args.division in
-    let few = d.few in
     let small = d.small in
     let den : to_z w128 (of_z w128 (pos (2 * d.half_den))) ≡ pos (2 * d.half_den) =
-    cast_kept w128 (pos (2 * d.half_den)) (omega (arith, ints, few)) in
+    cast_kept w128 (pos (2 * d.half_den)) (omega (arith, ints)) in
     let ratio = rw (c.den.ensures, den, negated d.bound small) at c.ratio.ensures in
     record {
       two = c.requires;

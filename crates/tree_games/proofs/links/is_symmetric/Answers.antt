@@ -3,9 +3,8 @@ use Rattle.tree_games.proofs.Squares.{turned-symmetric}
 use Rattle.tree_games.proofs.links.is_symmetric.Goals as goal
 
 pub returns : goal.returns
-returns c =
-    let end = c.loop-i-test.false in (
-      λ _. turned-symmetric (λ row. row.items) c.args.matrix.now c.loop-i.i c.requires.square (omega (arith, end))
-          c.loop-i.invariant,
-      λ _. refl,
-    )
+returns c = (
+  λ _. turned-symmetric (λ row. row.items) c.args.matrix.now c.loop-i.i c.requires.square (omega arith)
+      c.loop-i.invariant,
+  λ _. refl,
+)

@@ -4,20 +4,20 @@ use Rattle.definitions.proofs.Halves.{has_player-last}
 use Rattle.voting.proofs.Joining.{sum_kept, joined_value, joined_small}
 use Rattle.voting.proofs.candidate.with_player.Goals as goal
 
-pub returns-in-Some-clause-value : goal.returns-in-Some-clause-value
-returns-in-Some-clause-value c =
-    let d = c.in-Some.c in
+pub returns-clause-value : goal.returns-clause-value
+returns-clause-value c =
+    let d = c.in_ok-c.c in
     let i = c.args.i in
-    let small : IsSmallCandidate i d = rw c.in-Some.is at c.requires.small in
+    let small : IsSmallCandidate i d = rw c.in_ok-c.was at c.requires.small in
     let mask = more-is d.coalition i c.with.result (has_player-last i d.coalition small.0) c.with.ensures in
     let sum = sum_kept d.sum c.args.number i c.requires.player small.1 c.requires.number in
-    rw c.in-Some.is (joined_value d i c.args.number _ c.with.result sum mask)
+    rw c.in_ok-c.was (joined_value d i c.args.number _ c.with.result sum mask)
 
-pub returns-in-Some-clause-small : goal.returns-in-Some-clause-small
-returns-in-Some-clause-small c =
-    let d = c.in-Some.c in
+pub returns-clause-small : goal.returns-clause-small
+returns-clause-small c =
+    let d = c.in_ok-c.c in
     let i = c.args.i in
-    let small : IsSmallCandidate i d = rw c.in-Some.is at c.requires.small in
+    let small : IsSmallCandidate i d = rw c.in_ok-c.was at c.requires.small in
     let mask = more-is d.coalition i c.with.result (has_player-last i d.coalition small.0) c.with.ensures in
     let sum = sum_kept d.sum c.args.number i c.requires.player small.1 c.requires.number in
     joined_small i d.coalition c.with.result _ d.sum c.args.number mask sum small.0 small.1 c.requires.number

@@ -18,7 +18,7 @@ returns-clause-value c =
     let g = c.args.game.now in
     let laws = c.len-i-end.ensures.laws in
     let end : c.loop-i.i ≡ length g.weights =
-    omega (arith, c.len-i-end.ensures.value, c.loop-i-test.false, c.loop-i.auto.i-end) in
+    omega arith in
     let made = rw c.unwrap.ensures at c.new.ensures in
     shapley-shares g c.loop-i.num.items _ c.unwrap.result laws (c.loop-i.invariant.count ∙ end)
     (λ k lt. (c.loop-i.invariant.each k (omega arith)).0) made.0 refl

@@ -11,7 +11,7 @@ pub overflow_mul-unit : goal.overflow_mul-unit
 overflow_mul-unit c =
     let small : share_unit c.args.n c.loop-j.j ≤ common =
     unit-small c.args.n c.loop-j.j c.requires.few (omega arith) in
-    let unit : c.loop-j.unit ≤ common = omega (arith, c.loop-j.invariant) in
+    let unit : c.loop-j.unit ≤ common = omega arith in
     let count : c.loop-j.j + 1 ≤ 32 = omega arith in
     omega (arith, mul-le-mul unit count)
 
@@ -24,4 +24,4 @@ pub returns-clause-small : goal.returns-clause-small
 returns-clause-small c =
     let small : share_unit c.args.n c.loop-j.j ≤ common =
     unit-small c.args.n c.loop-j.j c.requires.few (omega arith) in
-    omega (arith, c.loop-j.invariant, small)
+    omega arith

@@ -12,12 +12,9 @@ use Rattle.big_assignment.proofs.market_game.MarketGame.buyers_end.Goals as goal
 pub shares_of-requires-clause-small : goal.shares_of-requires-clause-small
 shares_of-requires-clause-small c =
     let l = c.cheapest-low.result in
-    let n = c.players.ensures.count in
-    let e = c.buyers-rows.ensures.count in
-    let p = c.buyers-rows.ensures.laws.players in
     λ k lt. payoff_small (at_prices c.args.deal.now l.gains l.prices) c.buyers-rows.result k c.requires.offers_small
-    (omega (arith, e, p.1)) c.cheapest-low.ensures.fair
-    (omega (arith, lt, n, e, p.3))
+    (omega arith) c.cheapest-low.ensures.fair
+    (omega arith)
 
 pub returns-clause-best : goal.returns-clause-best
 returns-clause-best c =

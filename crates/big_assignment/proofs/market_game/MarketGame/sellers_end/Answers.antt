@@ -19,15 +19,11 @@ pub shares_of-requires-clause-small : goal.shares_of-requires-clause-small
 shares_of-requires-clause-small c =
     let t = c.exchanged-turned.result in
     let h = c.cheapest-high.result in
-    let n = c.players.ensures.count in
-    let e = c.buyers-rows.ensures.count in
-    let s = c.sellers-columns.ensures.count in
-    let p = c.buyers-rows.ensures.laws.players in
     λ k lt. turned_small (at_prices t h.gains h.prices) c.buyers-rows.result c.sellers-columns.result c.players.result
     k
     (turned_offers c.args.deal.now c.buyers-rows.result c.sellers-columns.result t c.exchanged-turned.ensures
     c.requires.offers_small)
-    (omega (arith, e, p.1)) (omega (arith, s, p.3)) (omega (arith, n, e, s)) c.cheapest-high.ensures.fair lt
+    (omega arith) (omega arith) (omega arith) c.cheapest-high.ensures.fair lt
 
 pub returns-clause-best : goal.returns-clause-best
 returns-clause-best c =

@@ -12,7 +12,7 @@ loop-place-preserved c =
     let k = c.loop-place.place in
     let v = c.offer_within.result in
     let inv = c.loop-place.invariant in
-    let put = put_set xs k v (omega (arith, inv.0, c.loop-place-test.true)) in (
+    let put = put_set xs k v (omega arith) in (
       length-set xs k v ∙ inv.0,
       put_below
           (λ m w. w ≡ offered (entries_of c.args.self.now) (length c.args.self.now) c.args.s (m / 33) (m % 33))
@@ -28,10 +28,9 @@ place_column i j h = omega arith
 
 pub returns-clause-offers : goal.returns-clause-offers
 returns-clause-offers c = λ i j row column.
-    c.loop-place.invariant.1 (33 * i + j) (omega (arith, row, column, c.loop-place-test.false))
+    c.loop-place.invariant.1 (33 * i + j) (omega arith)
     ∙ ap₂ (offered (entries_of c.args.self.now) (length c.args.self.now) c.args.s) (place_row i j column)
     (place_column i j column)
 
 pub returns-clause-small : goal.returns-clause-small
-returns-clause-small c =
-    λ i j row column. c.loop-place.invariant.2 (33 * i + j) (omega (arith, row, column, c.loop-place-test.false))
+returns-clause-small c = λ i j row column. c.loop-place.invariant.2 (33 * i + j) (omega arith)

@@ -1,4 +1,4 @@
-use Rattle.std.proofs.Common.{ℕ, ◌^◌, ◌≤◌, length, pos, w64, slice_index, subst, sym, ap}
+use Rattle.std.proofs.Common.{ℕ, length, pos, w64, slice_index, ap}
 use Rattle.std.proofs.Common.{◌∙◌, arith}
 use Rattle.std.proofs.lemmas.Int.{to_z_pos}
 use Rattle.big_assignment.specs.Mates.{payoff, total_below}
@@ -9,20 +9,17 @@ pub total-requires-clause-small : goal.total-requires-clause-small
 total-requires-clause-small c =
     let d = c.deal-deal.result in
     let b = c.buyers.ensures in
-    let n = c.players.ensures.count in
     let p = b.laws.players in
-    λ k lt. subst (λ (r : ℕ). payoff r (slice_index d.gains) (slice_index d.prices) k ≤ 2 ^ 40) (sym b.count)
+    λ k lt. rw b.count
     (payoff_small d (length c.args.self.now) k c.deal-deal.ensures.offers p.1 c.deal-deal.ensures.fair
-    (omega (arith, lt, n, p.3)))
+    (omega arith))
 
 pub returns : goal.returns
 returns c =
     let d = c.deal-deal.result in
     let b = c.buyers.ensures in
     let n = c.players.ensures.count in
-    let p = b.laws.players in
-    let size = c.total.ensures.size in
-    to_z_pos w64 c.total.result (omega (arith, size, n, p.1, p.3))
+    to_z_pos w64 c.total.result (omega arith)
     ∙ ap pos (c.total.ensures.value
     ∙ ap (λ (r : ℕ). total_below c.players.result (payoff r (slice_index d.gains) (slice_index d.prices))) b.count
     ∙ ap (λ (k : ℕ). total_below k (payoff (length c.args.self.now) (slice_index d.gains) (slice_index d.prices))) n

@@ -7,17 +7,15 @@ use Rattle.talmud.proofs.division.Division.of_side.Goals.{then-split-n, else-spl
 pub invariant_of-result : goal.invariant_of-result
 invariant_of-result c =
     let few = c.len-n.ensures.laws.few in
-    let count = c.len-n.ensures.count in
-    let most = c.half_players-split.ensures.split.most in
     elim c.if-split-n.branch [
       | then-split-n w ↦ rw w.result-is
           (record {
-            some = omega (arith, w.if-split-n.true);
-            few = omega (arith, few, count);
-            small = omega (arith, most, c.requires.amount);
+            some = omega arith;
+            few = omega arith;
+            small = omega arith;
           })
       | else-split-n w ↦ rw w.result-is
-          (record { some = omega arith; few = omega arith; small = omega (arith, c.requires.small) })
+          (record { some = omega arith; few = omega arith; small = omega arith })
     ]
 
 pub returns : goal.returns
@@ -29,7 +27,8 @@ returns c =
       | then-split-n w ↦
           let lt = rw count at w.if-split-n.true in
           rw (w.result-is, count)
-          (IsDivision-rest c.args.estate c.args.claims.now (is_gain c.args.side) c.args.amount _ _ laws c.requires.side
+          (IsDivision-rest c.args.estate c.args.claims.now (is_gain c.args.side) c.args.amount _ _ laws
+          c.requires.side
           c.requires.divided split lt (c.half_players-split.ensures.stop lt))
       | else-split-n w ↦
           let le = rw count at w.if-split-n.false in

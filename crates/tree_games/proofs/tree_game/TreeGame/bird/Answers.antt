@@ -1,34 +1,30 @@
-use Rattle.std.proofs.Common.{arith, ap, sym, ◌∙◌, ℕ, ◌≡◌, ◌-◌, ◌*◌, ◌%◌, ◌^◌}
-use Rattle.std.proofs.Common.{◌<◌, List, [], ◌∷◌, ◌++◌}
-use Rattle.std.proofs.Common.{replicate, refl, subst, set, pos, ℤ, to_z, of_z, length}
+use Rattle.std.proofs.Common.{arith, ap, ◌∙◌, ℕ, ◌≡◌, ◌-◌, ◌*◌, ◌%◌, ◌^◌}
+use Rattle.std.proofs.Common.{◌<◌, [], ◌∷◌, ◌++◌}
+use Rattle.std.proofs.Common.{replicate, refl, set, pos, ℤ, to_z, of_z, length}
 use Rattle.std.proofs.lemmas.List.{length-replicate}
 use mir.Syntax.{w128}
 use Rattle.definitions.proofs.Casts.{cast_kept}
 use Rattle.definitions.proofs.Given.{is_some}
 use Rattle.definitions.proofs.Masks.{grand_coalition-within}
 use Rattle.definitions.specs.Coalitions.{grand_coalition}
-use Rattle.definitions.specs.Games.{Allocation, IsShares}
+use Rattle.definitions.specs.Games.{IsShares}
 use Rattle.worth_core.specs.Allocations.{allocation}
 use Rattle.matrices.specs.Rows.{entries_of}
-use Rattle.tree_games.specs.Trees.{IsBird}
 use Rattle.tree_games.proofs.PrimLoop.{doubled}
-use Rattle.tree_games.proofs.BirdLoop.{BirdState, bird_start, pair_taken, bird_takes, bird_end, bird_shares}
+use Rattle.tree_games.proofs.BirdLoop.{bird_start, pair_taken, bird_takes, bird_end, bird_shares}
 use Rattle.tree_games.proofs.tree_game.TreeGame.bird.Goals as goal
 
 pub loop-k-init : goal.loop-k-init
 loop-k-init c =
     let t = c.args.self.now in
-    let same = c.points-points.ensures.count in
-    let few = c.points-points.ensures.few in
     let num = c.in_ok-num.num.items in
     let len : c.points-points.result - 1 ≡ length t - 1 = omega arith in
     let made = c.in_ok-num.ensures.items_if_clones_equal (λ y e. e) in
     let all = c.waiting.view_is ∙ c.all.ensures ∙ ap grand_coalition len in
     let twice =
-    doubled (length t) (grand_coalition (length t - 1)) c.waiting.inside.0 (omega (arith, same, few))
+    doubled (length t) (grand_coalition (length t - 1)) c.waiting.inside.0 (omega arith)
     (grand_coalition-within (length t - 1)) all in
-    subst (λ (l : List (ℕ × ℕ × ℤ)). BirdState t 0 num l 1 (c.waiting.inside.0 * 2 % 2 ^ 64))
-    (sym c.new-edges.ensures.items)
+    rw c.new-edges.ensures.items
     (bird_start t num (c.waiting.inside.0 * 2 % 2 ^ 64) c.points-points.ensures.laws
     (ap length made ∙ length-replicate (c.points-points.result - 1) (pos 0) ∙ len)
     (made ∙ ap (λ (n : ℕ). replicate n (pos 0)) len) twice)
@@ -39,7 +35,7 @@ overflow_sub-player c =
     let taken =
     pair_taken t c.loop-k._k c.loop-k.num.items c.loop-k.edges.items c.loop-k.connected c.loop-k.waiting
     c.next_end-end.result c.nearest-player.result c.loop-k.invariant
-    (let lt = c.loop-k-test.true in let same = c.points-points.ensures.count in omega (arith, lt, same))
+    (omega arith)
     c.next_end-end.ensures.value c.nearest-player.ensures.value in
     (c.loop-k.invariant.far c.nearest-player.result taken.1).0
 
@@ -53,11 +49,11 @@ loop-k-preserved c =
     let v = c.owed.result in
     let cost = pos (entries_of t end player) in
     let lt : c.loop-k._k < length t - 1 =
-    (let test = c.loop-k-test.true in let same = c.points-points.ensures.count in omega (arith, test, same)) in
+    omega arith in
     let taken =
     pair_taken t c.loop-k._k num edges c.loop-k.connected c.loop-k.waiting end player c.loop-k.invariant lt
     c.next_end-end.ensures.value c.nearest-player.ensures.value in
-    let kept : to_z w128 (of_z w128 v) ≡ v = cast_kept w128 v (omega (arith, c.owed.ensures.small)) in
+    let kept : to_z w128 (of_z w128 v) ≡ v = cast_kept w128 v (omega arith) in
     let pushed : c.push.new.self.items ≡ edges ++ (end, player, cost) ∷ [] =
     c.in_ok-push.ensures.items ∙ ap (λ (e : ℕ × ℕ × ℤ). edges ++ e ∷ []) c.edge.ensures in
     bird_takes t c.loop-k._k num (set num (player - 1) (to_z w128 (of_z w128 v))) edges c.push.new.self.items
@@ -75,9 +71,6 @@ unwrap-shares-requires c =
 pub returns : goal.returns
 returns c =
     let t = c.args.self.now in
-    let same = c.points-points.ensures.count in
-    let end = c.loop-k-test.false in
     let new = rw c.unwrap-shares.ensures at c.new.ensures in
-    subst (λ (x : Allocation). IsBird t x c.loop-k.edges.items) (sym new.0)
-    (bird_end t c.loop-k._k c.loop-k.num.items c.loop-k.edges.items c.loop-k.connected c.loop-k.waiting
-    c.points-points.ensures.laws c.loop-k.invariant (omega (arith, end, same)))
+    rw new.0 (bird_end t c.loop-k._k c.loop-k.num.items c.loop-k.edges.items c.loop-k.connected c.loop-k.waiting
+    c.points-points.ensures.laws c.loop-k.invariant (omega arith))

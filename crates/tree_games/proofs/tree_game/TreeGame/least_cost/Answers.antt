@@ -7,29 +7,22 @@ use Rattle.tree_games.proofs.tree_game.TreeGame.least_cost.Goals.{then-contains,
 
 pub loop-k-init : goal.loop-k-init
 loop-k-init c =
-    let few = c.points-points.ensures.few in
-    let same = c.points-points.ensures.count in
     prim_start c.args.self.now c.args.s _ c.links_of-best.result c.links_of-best.ensures.len
     c.links_of-best.ensures.value
-    (doubled (length c.args.self.now) c.args.s c.s.inside.0 (omega (arith, few, same)) c.requires c.s.view_is)
+    (doubled (length c.args.self.now) c.args.s c.s.inside.0 (omega arith) c.requires c.s.view_is)
 
 pub overflow_add-total : goal.overflow_add-total
 overflow_add-total c =
-    let h = c.loop-k.invariant.small in
-    let few = c.points-points.ensures.few in
-    let lt = c.loop-k-test.true in
-    let same = c.points-points.ensures.count in
     let cheap =
     best-small c.args.self.now c.args.s c.loop-k._k c.loop-k.best c.loop-k.connected c.loop-k.waiting
     c.loop-k.total c.closest-p.result c.points-points.ensures.laws c.loop-k.invariant
-    (omega (arith, same, c.closest-p.ensures.below)) in
-    omega (arith, h, few, lt, cheap)
+    (omega arith) in
+    omega arith
 
 pub loop-k-preserved : goal.loop-k-preserved
 loop-k-preserved c =
     let same = c.points-points.ensures.count in
-    let lt = c.loop-k-test.true in
-    let below : c.closest-p.result < (length c.args.self.now) = omega (arith, same, c.closest-p.ensures.below) in
+    let below : c.closest-p.result < (length c.args.self.now) = omega arith in
     let is =
     c.closest-p.ensures.value
     ∙ ap (λ (m : ℕ). closest (slice_index c.loop-k.best) (has_player c.loop-k.waiting) m) same in
@@ -41,7 +34,7 @@ loop-k-preserved c =
           let done =
           prim_takes c.args.self.now c.args.s c.loop-k._k c.loop-k.best w.relax.new.best c.loop-k.connected
           w.with-connected.result c.loop-k.waiting w.without-waiting.result c.loop-k.total c.closest-p.result
-          c.loop-k.invariant (omega (arith, same, lt)) is below (sym c.contains.ensures ∙ w.if-contains.true)
+          c.loop-k.invariant (omega arith) is below (sym c.contains.ensures ∙ w.if-contains.true)
           w.with-connected.ensures w.without-waiting.ensures w.relax.ensures.len w.relax.ensures.value
           cheap in
           rw (w.best-is, w.connected-is, w.waiting-is, w.total-is) done

@@ -1,7 +1,5 @@
-use Rattle.std.proofs.Common.{subst}
-use Rattle.tree_games.specs.Trees.{IsTree}
 use Rattle.tree_games.proofs.Nearest.{tree_is_game}
 use Rattle.tree_games.proofs.tree_game.TreeGame.points.Goals as goal
 
 pub returns-clause-class : goal.returns-clause-class
-returns-clause-class c = tree_is_game c.args.self.now (subst IsTree c.self.view_is c.self.invariant)
+returns-clause-class c = tree_is_game c.args.self.now (rw c.self.view_is at c.self.invariant)

@@ -1,6 +1,4 @@
-use Rattle.std.proofs.Common.{◌≡◌, ◌<◌, ℕ, length, slice_index, subst, arith}
-use Rattle.voting.specs.Voting.{IsVoting}
-use Rattle.voting.specs.Counts.{IsTable}
+use Rattle.std.proofs.Common.{◌≡◌, ◌<◌, length, slice_index, arith}
 use Rattle.voting.proofs.Blocking.{weight-read}
 use Rattle.voting.proofs.Tables.{table_start, table_stays, table_more, table_small}
 use Rattle.voting.proofs.game.VotingGame.counts_without.Goals as goal
@@ -17,17 +15,16 @@ add_player-requires-clause-full c = c.loop-j.invariant.full
 
 pub add_player-requires-clause-small : goal.add_player-requires-clause-small
 add_player-requires-clause-small c =
-    let laws = subst IsVoting c.self.view_is c.self.invariant in
-    let few = laws.few in
+    let laws = rw c.self.view_is at c.self.invariant in
     table_small (slice_index c.args.self.now.weights) c.args.i c.loop-j.j c.loop-j.table
-    (omega (arith, few, c.players-j-end.ensures.count, c.loop-j-test.true)) c.loop-j.invariant.counts
+    (omega arith) c.loop-j.invariant.counts
 
 pub loop-j-preserved : goal.loop-j-preserved
 loop-j-preserved c =
     let g = c.args.self.now in
     let i = c.args.i in
     let j = c.loop-j.j in
-    let lt : j < length g.weights = omega (arith, c.players-j-end.ensures.count, c.loop-j-test.true) in
+    let lt : j < length g.weights = omega arith in
     elim c.if-j-i.branch [
       | then-j-i w ↦
           let weight =
@@ -49,7 +46,7 @@ pub returns : goal.returns
 returns c =
     let g = c.args.self.now in
     let end : c.loop-j.j ≡ length g.weights =
-    omega (arith, c.players-j-end.ensures.count, c.loop-j-test.false, c.loop-j.auto.j-end) in (
+    omega arith in (
       c.loop-j.invariant.full,
-      subst (λ (j : ℕ). IsTable (slice_index g.weights) c.args.i j c.loop-j.table) end c.loop-j.invariant.counts,
+      rw end at c.loop-j.invariant.counts,
     )

@@ -1,8 +1,7 @@
-use Rattle.std.proofs.Common.{◌≡◌, to_z, of_z, unsigned_abs, All, sym, ap, subst, ◌∙◌, rules}
+use Rattle.std.proofs.Common.{◌≡◌, to_z, of_z, unsigned_abs, sym, ap, ◌∙◌, rules}
 use Rattle.std.specs.List.{sum_by}
 use Rattle.std.proofs.lemmas.Bool.{false≢true}
 use mir.Syntax.{w64}
-use Rattle.orders.specs.Numbers.{IsNumber}
 use Rattle.voting.specs.Voting.{AreNumbers, IsQuota}
 use Rattle.voting.proofs.Quotas.{have_players, same_quota, is_quota, is_voting, too_heavy, too_low, too_high}
 use Rattle.voting.proofs.game.VotingGame.new.Goals as goal
@@ -87,7 +86,7 @@ total-total-requires-clause-small c =
     let kept : to_z w64 (of_z w64 quota) ≡ quota = search rules in
     let numbers : AreNumbers quota ws.items =
     rw (kept, c.deref.ensures.value) at (c.are_numbers.ensures.0 c.if-not-are_numbers.false) in
-    subst (All IsNumber) (sym c.deref-2.ensures.value) numbers.1
+    rw c.deref-2.ensures.value numbers.1
 
 pub naturals-requires : goal.naturals-requires
 naturals-requires c =
@@ -96,7 +95,7 @@ naturals-requires c =
     let kept : to_z w64 (of_z w64 quota) ≡ quota = search rules in
     let numbers : AreNumbers quota ws.items =
     rw (kept, c.deref.ensures.value) at (c.are_numbers.ensures.0 c.if-not-are_numbers.false) in
-    subst (All IsNumber) (sym c.deref-3.ensures.value) numbers.1
+    rw c.deref-3.ensures.value numbers.1
 
 pub returns : goal.returns
 returns c =

@@ -1,8 +1,8 @@
-use Rattle.std.proofs.Common.{◌≡◌, ◌<◌, false, length, ap, sym, subst, ◌∙◌, arith}
+use Rattle.std.proofs.Common.{◌≡◌, ◌<◌, false, length, ap, sym, ◌∙◌, arith}
 use Rattle.std.proofs.lemmas.Int.{ints}
 use Rattle.definitions.proofs.Members.{has_player-empty}
 use Rattle.definitions.proofs.Casts.{cast_kept}
-use Rattle.voting.specs.Voting.{Voting, IsVoting, voting_game}
+use Rattle.voting.specs.Voting.{Voting, voting_game}
 use Rattle.voting.proofs.Layers.{IsLayer-nobody, IsLayer-step}
 use Rattle.voting.proofs.Blocking.{numbers, blocker-best, read-all, weight-read}
 use mir.Syntax.{w128}
@@ -22,11 +22,11 @@ loop-i-preserved c =
     let x = c.args.x.now in
     let i = c.loop-i.i in
     let z = c.owed.result in
-    let lt : i < length g.weights = omega (arith, c.players-i-end.ensures.count, c.loop-i-test.true) in
+    let lt : i < length g.weights = omega arith in
     let weight =
     weight-read g c.self.inside.quota c.self.inside.weights.items i c.index.result.now c.self.view_is lt
     c.index.ensures in
-    let kept = cast_kept w128 z (omega (arith, c.owed.ensures.small)) in
+    let kept = cast_kept w128 z (omega arith) in
     let best = c.loop-i.invariant.best in
     record {
       best =
@@ -41,11 +41,11 @@ returns c =
     let g = c.args.self.now in
     let x = c.args.x.now in
     let end : c.loop-i.i ≡ length g.weights =
-    omega (arith, c.players-i-end.ensures.count, c.loop-i-test.false, c.loop-i.auto.i-end) in
-    let laws = subst IsVoting c.self.view_is c.self.invariant in
+    omega arith in
+    let laws = rw c.self.view_is at c.self.invariant in
     let quota = ap (λ (v : Voting). v.quota) c.self.view_is in
     let den =
-    cast_kept w128 c.den.result (omega (arith, ints, c.den.ensures.positive, c.den.ensures.common))
+    cast_kept w128 c.den.result (omega (arith, ints))
     ∙ c.den.ensures.value in
     blocker-best (voting_game g) x c.best.result c.chosen.result
     (read-all g x c.loop-i.layer c.self.inside.quota c.loop-i.i _ c.best.result laws c.requires quota den end

@@ -1,9 +1,9 @@
-use Rattle.std.proofs.Common.{◌≡◌, ◌<◌, ℤ, length, ap, sym, subst, ◌∙◌, arith}
+use Rattle.std.proofs.Common.{◌≡◌, ◌<◌, length, ap, sym, ◌∙◌, arith}
 use Rattle.std.proofs.lemmas.Int.{ints, to_z-of_z}
 use Rattle.definitions.proofs.Casts.{cast_kept}
-use Rattle.voting.specs.Voting.{Voting, IsVoting, voting_game}
+use Rattle.voting.specs.Voting.{Voting, voting_game}
 use Rattle.voting.proofs.Blocking.{numbers, some_splits, split-best, read-split, weight-read}
-use Rattle.definitions.specs.Games.{excess, IsSplitMaximum}
+use Rattle.definitions.specs.Games.{excess}
 use mir.Syntax.{w128}
 use Rattle.voting.proofs.game.VotingGameWorth.split_bound.Goals as goal
 
@@ -18,11 +18,11 @@ loop-i-preserved c =
     let g = c.args.self.now in
     let x = c.args.x.now in
     let i = c.loop-i.i in
-    let lt : i < length g.weights = omega (arith, c.players-i-end.ensures.count, c.loop-i-test.true) in
+    let lt : i < length g.weights = omega arith in
     let weight =
     weight-read g c.self.inside.quota c.self.inside.weights.items i c.index.result.now c.self.view_is lt
     c.index.ensures in
-    let kept = cast_kept w128 c.owed.result (omega (arith, c.owed.ensures.small)) in
+    let kept = cast_kept w128 c.owed.result (omega arith) in
     record {
       best =
           c.add_player.ensures.layers (numbers g x) c.args.free lt (sym c.contains.ensures) weight
@@ -35,11 +35,11 @@ sum_of-requires c =
     let g = c.args.self.now in
     let x = c.args.x.now in
     let end : c.loop-i.i ≡ length g.weights =
-    omega (arith, c.players-i-end.ensures.count, c.loop-i-test.false, c.loop-i.auto.i-end) in
-    let laws = subst IsVoting c.self.view_is c.self.invariant in
+    omega arith in
+    let laws = rw c.self.view_is at c.self.invariant in
     let quota = ap (λ (v : Voting). v.quota) c.self.view_is in
     let den =
-    cast_kept w128 c.den.result (omega (arith, ints, c.den.ensures.positive, c.den.ensures.common))
+    cast_kept w128 c.den.result (omega (arith, ints))
     ∙ c.den.ensures.value in
     some_splits (length g.weights) c.args.free (excess (voting_game g) x) c.best.result c.requires.two
     (read-split g x c.args.free c.loop-i.layers.both c.self.inside.quota c.loop-i.i _ c.best.result laws
@@ -50,17 +50,16 @@ returns c =
     let g = c.args.self.now in
     let x = c.args.x.now in
     let end : c.loop-i.i ≡ length g.weights =
-    omega (arith, c.players-i-end.ensures.count, c.loop-i-test.false, c.loop-i.auto.i-end) in
-    let laws = subst IsVoting c.self.view_is c.self.invariant in
+    omega arith in
+    let laws = rw c.self.view_is at c.self.invariant in
     let quota = ap (λ (v : Voting). v.quota) c.self.view_is in
     let den =
-    cast_kept w128 c.den.result (omega (arith, ints, c.den.ensures.positive, c.den.ensures.common))
+    cast_kept w128 c.den.result (omega (arith, ints))
     ∙ c.den.ensures.value in
     let best =
     read-split g x c.args.free c.loop-i.layers.both c.self.inside.quota c.loop-i.i _ c.best.result laws
     c.requires.shares quota den end c.loop-i.invariant.best.both c.best.ensures in
     let kept = to_z-of_z w128 c.sum_of.result (record { sfits = c.sum_of.type_inv }) in
-    subst (λ (z : ℤ). IsSplitMaximum (voting_game g) x c.args.free z) (sym kept)
-    (split-best (voting_game g) x c.args.free c.best.result c.sum_of.result
+    rw kept (split-best (voting_game g) x c.args.free c.best.result c.sum_of.result
     (some_splits (length g.weights) c.args.free (excess (voting_game g) x) c.best.result c.requires.two best)
     c.sum_of.ensures best)

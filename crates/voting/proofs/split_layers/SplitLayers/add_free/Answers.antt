@@ -10,18 +10,18 @@ returns-clause-layers c = λ m f lt is heavy worth h.
     let i = c.args.i in
     let w = c.args.weight in
     let z = c.args.number in
-    let kept = cast_kept w128 z (omega (arith, c.requires.number)) in
+    let kept = cast_kept w128 z (omega arith) in
     record {
       any =
           IsLayer-step m false false true f i w z _ ls.any ls.any c.add_player.new.self lt is heavy worth kept h.any
           h.any c.add_player.ensures.entries;
       holding =
-          IsLayer-step m true false true f i w z _ ls.holding ls.any c.or_with.new.self lt is heavy worth kept
-          h.holding h.any c.or_with.ensures.entries;
+          IsLayer-step m true false true f i w z _ ls.holding ls.any c.join-3.new.self lt is heavy worth kept
+          h.holding h.any c.join-3.ensures.entries;
       lacking =
-          IsLayer-step m false true true f i w z _ ls.any ls.lacking c.with_or.new.self lt is heavy worth kept h.any
-          h.lacking c.with_or.ensures.entries;
+          IsLayer-step m false true true f i w z _ ls.any ls.lacking c.join-2.new.self lt is heavy worth kept h.any
+          h.lacking c.join-2.ensures.entries;
       both =
-          IsLayer-step m true true true f i w z _ ls.holding ls.lacking c.take.new.self lt is heavy worth kept
-          h.holding h.lacking c.take.ensures.entries;
+          IsLayer-step m true true true f i w z _ ls.holding ls.lacking c.join.new.self lt is heavy worth kept
+          h.holding h.lacking c.join.ensures.entries;
     }

@@ -10,7 +10,7 @@ returns-clause-layers c = λ m f lt is heavy worth h.
     let i = c.args.i in
     let w = c.args.weight in
     let z = c.args.number in
-    let kept = cast_kept w128 z (omega (arith, c.requires.number)) in
+    let kept = cast_kept w128 z (omega arith) in
     record {
       any =
           IsLayer-step m false false false f i w z _ ls.any ls.any c.add_player.new.self lt is heavy worth kept h.any
