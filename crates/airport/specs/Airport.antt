@@ -4,7 +4,7 @@
 --   airport        these parts together
 --   IsAirport      1 to 64 costs below 2 ^ 40, and the players in order
 --   airport_game   a coalition is worth minus the greatest cost among its members
---   place          the player at a place of the order
+--   place          the player at place k of the order
 --   IsRefused      why costs make no game
 use Rattle.std.specs.Prelude.{ℕ, ◌≤◌, List, length, ℤ, slice_index, All}
 use Rattle.definitions.specs.Games.{Game}
@@ -26,11 +26,9 @@ airport costs order = record { costs = costs; order = order }
 abbrev pub IsAirport : Airport → Type 0
 IsAirport a = IsOrdered (ordered_numbers a.costs a.order)
 
--- minus the greatest cost among the members
 abbrev pub airport_game : Airport → Game
 airport_game a = record { players = length a.costs; worth = airport_worth a.costs }
 
--- the player at place k of the order
 abbrev pub place : Airport → ℕ → ℕ
 place a k = slice_index a.order k
 

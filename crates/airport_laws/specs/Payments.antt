@@ -7,7 +7,7 @@
 --                                           prenucleolus
 --   PaymentsAreOne                          any two payments of the same costs are the same shares
 --   EveryNucleolusIsPaid                    every nucleolus is payments, in each order
---   NobodyPaysMoreThanAloneByNucleolus      nobody pays more than alone, nor less than nothing
+--   NobodyPaysMoreThanAloneByNucleolus      nobody pays more than the cost alone, nor less than nothing
 --   NoGroupPaysMoreThanItsCostByNucleolus   no group pays more together than its greatest cost
 --   AllPayTheGreatestCostByNucleolus        all together pay just the greatest cost
 use Rattle.std.specs.Prelude.{◌≡◌, ℕ, ◌^◌, ◌<◌, List, length, ℤ, pos}
@@ -25,7 +25,6 @@ use Rattle.laws.specs.Airports.{pays}
 
 -- ---- that there are such payments
 
--- any players have an order by their costs
 abbrev pub OrdersExist : Type 0
 OrdersExist = (costs : List ℕ) → (at : ℕ → ℕ) × IsOrder (length costs) (slice_index costs) at
 
@@ -59,21 +58,18 @@ EveryNucleolusIsPaid =
 
 -- ---- what every nucleolus promises
 
--- nobody pays more than the cost alone, nor less than nothing
 abbrev pub NobodyPaysMoreThanAloneByNucleolus : Type 0
 NobodyPaysMoreThanAloneByNucleolus =
     (family : Family) (costs : List ℕ) (x : Allocation) (i : ℕ) →
     IsNucleolus family Plain (airport_game costs) x → i < length costs →
     (pos 0 ≤ℤ pays x i) × (pays x i ≤ℤ (x.den *ℤ pos (slice_index costs i)))
 
--- no group pays more together than its greatest cost
 abbrev pub NoGroupPaysMoreThanItsCostByNucleolus : Type 0
 NoGroupPaysMoreThanItsCostByNucleolus =
     (family : Family) (costs : List ℕ) (x : Allocation) (s : ℕ) →
     IsNucleolus family Plain (airport_game costs) x → s < 2 ^ length costs →
     sum_over (length costs) (pays x) s ≤ℤ (x.den *ℤ pos (greatest_cost (length costs) (slice_index costs) s))
 
--- all together pay just the greatest cost
 abbrev pub AllPayTheGreatestCostByNucleolus : Type 0
 AllPayTheGreatestCostByNucleolus =
     (family : Family) (costs : List ℕ) (x : Allocation) →

@@ -58,7 +58,6 @@ pub record HasSides (rows : List (List ℤ)) (p q : ℕ) : Type 0 where
   pub buyers : p ≡ length rows
   pub sellers : q ≡ seller_count rows
 
--- the value of an optimal matching for each mask below the bound
 abbrev pub IsFilled : Matrix → ℕ → List ℕ → ℕ → Type 0
 IsFilled matrix rows values bound =
     (length values ≡ bound)

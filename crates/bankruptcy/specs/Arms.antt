@@ -1,7 +1,7 @@
 -- For the private functions of this crate.
 -- The arms of a bankruptcy game: two linear functions of the coalition, of which the excess is the greater one.
 --
---   arm_number factor b x i   what player i adds to an arm as a member
+--   arm_number factor b x i   what player i adds to the arm of a factor as a member
 --   estate_less_claims b      the estate less all claims
 --   arm_base factor b         what an arm has without members
 --   arm_at factor b x s       an arm at the coalition s
@@ -14,7 +14,6 @@ use Rattle.definitions.specs.Coalitions.{has_player, sum_over, splits}
 use Rattle.definitions.specs.Games.{Allocation, share}
 use Rattle.bankruptcy.specs.Bankruptcy.{Bankruptcy}
 
--- what player i adds to the arm of a factor as a member
 abbrev pub arm_number : ℤ → Bankruptcy → Allocation → ℕ → ℤ
 arm_number factor b x i = factor *ℤ pos (slice_index b.claims i) -ℤ share x i
 
@@ -22,11 +21,9 @@ abbrev pub estate_less_claims : Bankruptcy → ℤ
 estate_less_claims b =
     pos b.estate -ℤ sum_below (length b.claims) (λ i. pos (slice_index b.claims i))
 
--- what the arm has without members
 abbrev pub arm_base : ℤ → Bankruptcy → ℤ
 arm_base factor b = factor *ℤ estate_less_claims b
 
--- the arm at the coalition s
 abbrev pub arm_at : ℤ → Bankruptcy → Allocation → ℕ → ℤ
 arm_at factor b x s = arm_base factor b +ℤ sum_over (length b.claims) (arm_number factor b x) s
 

@@ -4,7 +4,7 @@
 --
 --   place          the place of a column, or of none
 --   mates          the place of the column that each row has
---   Offers         what a row offers for a place
+--   Offers         what row i offers for place k
 --   offers         the same, from a table of 33 numbers a row
 --   offer_of       what a row of a deal offers for a place
 --   gain_of        what a row gains
@@ -14,7 +14,7 @@
 --   with_columns   the deal with other columns
 --   AreOffers      offers are below 2 ^ 40, and nothing is offered for no column
 --   AreDealOffers  the offers of a deal are such
---   AreColumns     each row has a column, or none
+--   AreColumns     each row below n has a column, or none
 --   IsTight        an offer is the gain of its row and the price of its place
 --   IsFair         rows below n have their columns at prices at which no row would rather have another
 --   IsCovered      gains and prices cover the offers, and are small
@@ -23,8 +23,8 @@
 --   IsBelow        no such prices are lower anywhere
 --   IsGain         what each row gains at its column's price
 --   IsContentAt    a row would rather have no other column at some prices than its own at others
---   NoneWanted     it would rather have no other column than its own
---   Holds          the row that has a column, or 32 where none has
+--   NoneWanted     row i would rather have no other column than its own
+--   Holds          i is the row that has column k, or 32 where none has
 --   IsOutside      nothing is offered outside of so many rows and columns
 --   IsTurned       rows and columns exchanged
 use Rattle.std.specs.Prelude.{◌≡◌, ◌≢◌, ◌⊎◌, ℕ, ◌+◌, ◌*◌, ◌^◌, ◌<◌, ◌≤◌, List}
@@ -41,7 +41,6 @@ place column = unwrap_or column 32
 abbrev pub mates : List (Option ℕ) → ℕ → ℕ
 mates columns i = place (slice_index_or columns i None)
 
--- what row i offers for place k
 abbrev pub Offers : Type 0
 Offers = ℕ → ℕ → ℕ
 
@@ -74,7 +73,6 @@ pub record AreOffers (m : Offers) : Type 0 where
 abbrev pub AreDealOffers : Deal → Type 0
 AreDealOffers deal = AreOffers (offers deal.table)
 
--- each row below n has a column, or none
 abbrev pub AreColumns : Deal → ℕ → Type 0
 AreColumns deal n = (i : ℕ) → i < n → mate_of deal i ≤ 32
 
@@ -82,7 +80,6 @@ AreColumns deal n = (i : ℕ) → i < n → mate_of deal i ≤ 32
 abbrev pub IsTight : Deal → ℕ → ℕ → Type 0
 IsTight deal i k = offer_of deal i k ≡ gain_of deal i + price_of deal k
 
--- rows below n have their columns
 pub record IsFair (deal : Deal) (n : ℕ) : Type 0 where
   pub covers : (i k : ℕ) → i < n → k ≤ 32 → offer_of deal i k ≤ gain_of deal i + price_of deal k
   pub tight : (i : ℕ) → i < n → IsTight deal i (mate_of deal i)
@@ -123,13 +120,11 @@ abbrev pub IsContentAt : Deal → (ℕ → ℕ) → (ℕ → ℕ) → ℕ → Ty
 IsContentAt deal p q i =
     (k : ℕ) → k ≤ 32 → offer_of deal i k + p (mate_of deal i) ≤ offer_of deal i (mate_of deal i) + q k
 
--- row i would rather have no other column than its own
 abbrev pub NoneWanted : Deal → (ℕ → ℕ) → ℕ → Type 0
 NoneWanted deal p i = IsContentAt deal p p i
 
 -- ---- rows and columns exchanged
 
--- i is the row that has column k, or 32 where none has
 abbrev pub Holds : Deal → ℕ → ℕ → ℕ → Type 0
 Holds deal rows k i =
     ((i < rows) × (mate_of deal i ≡ k)) ⊎ ((i ≡ 32) × ((l : ℕ) → l < rows → mate_of deal l ≢ k))

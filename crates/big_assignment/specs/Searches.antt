@@ -5,14 +5,14 @@
 --
 --   rank_of, parent_of   of a search: the rank of a place, 0 where it isn't reached, and the place's parent
 --   unreached    how many places are not reached
---   IsReached    a row is reached: it is row n, or its column is
---   IsEarlier    a row was reached before a place
---   IsJoined     a place is tight with a row that was reached before
+--   IsReached    row i is reached: it is row n, or its column is
+--   IsEarlier    row i was reached before place k
+--   IsJoined     place k is tight with its parent, a row that was reached before
 --   IsSearch     the places that were reached from row n, in their order
 --   IsOpen       a column is to be handed to its parent, and rows give way from parent to parent
 --   IsNearest    a reached row and a place that is not reached, of least slack
 --   IsImproved   of a pair and the pairs of one more row, the one of least slack
---   IsShifted    what the reached rows gain falls, and what the reached places cost rises
+--   IsShifted    what the reached rows gain falls by d, and what the reached places cost rises by d
 --   IsPut        one function is the other, but for one place
 use Rattle.std.specs.Prelude.{◌≡◌, ◌≢◌, ◌⊎◌, ℕ, ◌+◌, ◌^◌, ◌<◌, ◌≤◌, List}
 use Rattle.std.specs.Prelude.{slice_index, sum_by, nat_eq, if◌then◌else◌}
@@ -29,17 +29,14 @@ parent_of search k = slice_index search.parents k
 abbrev pub unreached : List ℕ → ℕ
 unreached ranks = sum_by (λ r. if nat_eq r 0 then 1 else 0) ranks
 
--- row i is reached: it is row n, or its column is
 abbrev pub IsReached : Deal → Search → ℕ → ℕ → Type 0
 IsReached deal search n i = (i ≡ n) ⊎ ((i < n) × (1 ≤ rank_of search (mate_of deal i)))
 
--- row i was reached before place k
 abbrev pub IsEarlier : Deal → Search → ℕ → ℕ → ℕ → Type 0
 IsEarlier deal search n i k =
     (i ≡ n)
     ⊎ ((i < n) × (1 ≤ rank_of search (mate_of deal i)) × (rank_of search (mate_of deal i) < rank_of search k))
 
--- place k is tight with its parent, a row that was reached before
 pub record IsJoined (deal : Deal) (search : Search) (n k : ℕ) : Type 0 where
   pub tight : IsTight deal (parent_of search k) k
   pub earlier : IsEarlier deal search n (parent_of search k) k
@@ -87,7 +84,6 @@ pub record IsImproved (deal : Deal) (search : Search) (i : ℕ) (best found : �
       → gain_of deal found.0 + price_of deal found.1 + offer_of deal i k
       ≤ gain_of deal i + price_of deal k + offer_of deal found.0 found.1
 
--- what the reached rows gain falls by d, and what the reached places cost rises by d
 pub record IsShifted (deal : Deal) (search : Search) (n d : ℕ) (gains prices : List ℕ) : Type 0 where
   pub in_row : (i : ℕ) → i ≤ n → IsReached deal search n i → slice_index gains i + d ≡ gain_of deal i
   pub out_row : (i : ℕ) → i < n → rank_of search (mate_of deal i) ≡ 0 → slice_index gains i ≡ gain_of deal i

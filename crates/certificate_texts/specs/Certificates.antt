@@ -1,7 +1,7 @@
 -- The certificate that a document gives, and its form.
 --
 --   level_trees       the trees of the levels
---   levels_of         the levels, their excesses times a scale
+--   levels_of         the levels, their excesses times the scale k
 --   certificate_of    what the tree of a certificate describes, where no test refuses it
 --   allows_mode       the mode is players, or there are at most 16 players
 --   has_few_levels    there are fewer levels than players
@@ -30,7 +30,6 @@ use Rattle.certificate_texts.specs.Levels.{coalition_of, first_player, level_of}
 abbrev pub level_trees : Data → List Data
 level_trees certificate = parts_at (codes "levels") certificate
 
--- the levels, their excesses times the scale k
 abbrev pub levels_of : ℕ → ℕ → Data → List Level
 levels_of k n certificate = map (level_of k n) (level_trees certificate)
 

@@ -49,7 +49,6 @@ is_weighted_coalition d = is_pair_of (is_array_of is_number) is_number d
 abbrev pub is_weighted_player : Data → Bool
 is_weighted_player d = is_pair_of is_number is_number d
 
--- the keys and kinds of a level
 abbrev pub is_level : Data → Bool
 is_level d =
     has_only_keys level_keys d && passes (is_array_of is_weighted_player) (get (codes "bounds") d)
@@ -57,7 +56,6 @@ is_level d =
     && passes (is_array_of is_weighted_coalition) (get (codes "earlier") d)
     && passes is_text (get (codes "excess") d) && passes is_number (get (codes "total") d)
 
--- the keys, kinds and words of a certificate
 abbrev pub is_certificate : Data → Bool
 is_certificate d =
     has_only_keys certificate_keys d && passes (is_array_of is_level) (get (codes "levels") d) && is_some (mode_of d)

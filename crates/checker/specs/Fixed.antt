@@ -34,7 +34,6 @@ abbrev pub IsOver : ℕ → Fixed → Type 0
 IsOver n (FreePlayers f) = f < 2 ^ n
 IsOver n (Vectors span outside) = (span.players ≡ n) × (n ≤ 16) × AreOfPlayers n outside
 
--- what is carried is what levels fix
 abbrev pub Fixes : ℕ → List Level → Fixed → Type 0
 Fixes n levels (FreePlayers f) = IsFreeSet n levels f
 Fixes n levels (Vectors span outside) =

@@ -4,7 +4,7 @@
 --   IsComplete        a document gives them for its players
 --   IsCheckedAs       the verdict is the right one
 --   Checks            the answer is the right verdict, or that there are too many players
---   HasLowestExcess   the excess that a verdict carries is in lowest terms
+--   HasLowestExcess   the excess that a verdict carries, where it carries one, is in lowest terms
 use Rattle.std.specs.Prelude.{◌≡◌, ◌<◌, ◌≤◌, ⊤, length, Some}
 use Rattle.definitions.specs.Games.{Allocation}
 use Rattle.definitions.specs.declared.Family.{Family}
@@ -52,7 +52,6 @@ Checks d (Verdict v) = ((game_of d.game).players ≤ check_limit d.measure) × I
 Checks d (Usage Players) = check_limit d.measure < (game_of d.game).players
 Checks d _ = ⊥
 
--- the excess that a verdict carries, where it carries one, is in lowest terms
 abbrev pub HasLowestExcess : CheckVerdict → Type 0
 HasLowestExcess (No (OutsideAbove j e)) = IsReduced e
 HasLowestExcess _ = ⊤

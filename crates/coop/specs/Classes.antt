@@ -83,7 +83,6 @@ shapley_limit (assignment rows) = 16
 shapley_limit (market rows) = 16
 shapley_limit (voting quota weights) = 32
 
--- a game without a scheme of its own has at most 16 players, and is no market
 abbrev pub HasFewPlayers : Description → Type 0
 HasFewPlayers (table n worths) = n ≤ 16
 HasFewPlayers (cost n costs) = n ≤ 16

@@ -24,7 +24,6 @@ pub record IsSaidOfConvex (d : Contents) (are_costs : Bool) (answer : ConvexAnsw
   pub says : IsAnswer (game_of d.game) answer
   pub signs : are_costs ≡ is_cost d.game
 
--- the answer is right for the game of a document
 abbrev pub SaysOfConvex : Contents → Answer → Type 0
 SaysOfConvex d (Convex are_costs answer) = IsSaidOfConvex d are_costs answer
 SaysOfConvex d (Usage Players) = convex_limit < (game_of d.game).players

@@ -8,7 +8,7 @@
 --   IsEmptyCore     a collection of few coalitions that shows that the core is empty, with both numbers as they
 --                   are printed
 --   IsShown         the answer is such a collection
---   FindsCore       the answer is right for a game that has no more players than are answered
+--   FindsCore       the answer is right for the game of a document that has no more players than are answered
 --   SaysOfCore      the answer is right for the game of a document
 use Rattle.std.specs.Prelude.{◌≡◌, ◌<◌, ◌≤◌, Bool, ℤ, length, ◌*ℤ◌}
 use Rattle.definitions.specs.Sums.{weighted_sum}
@@ -54,7 +54,6 @@ abbrev pub IsShown : Bool → Game → Answer → Type 0
 IsShown are_costs g (EmptyCore c value against) = IsEmptyCore are_costs g c value against
 IsShown are_costs g _ = ⊥
 
--- the answer is right for the game of a document that has no more players than are answered
 abbrev pub FindsCore : Contents → Answer → Type 0
 FindsCore d (CorePoint are_costs x) = IsCorePoint d are_costs x
 FindsCore d (EmptyCore c value against) = IsEmptyCore (is_cost d.game) (game_of d.game) c value against

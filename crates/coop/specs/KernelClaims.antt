@@ -45,7 +45,6 @@ pub record IsBalanceOf (d : Contents) (answer : Answer) : Type 0 where
   pub says : Balances (is_cost d.game) (game_of d.game) shares answer
   pub prenucleolus : IsNucleolus Preimputations Plain (game_of d.game) shares → answer ≡ Prekernel
 
--- the answer is right for a document
 abbrev pub SaysOfKernel : Contents → Answer → Type 0
 SaysOfKernel d (Usage Players) = kernel_limit < (game_of d.game).players
 SaysOfKernel d answer = IsBalanceOf d answer

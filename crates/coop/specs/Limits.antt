@@ -5,7 +5,6 @@ use Rattle.std.specs.Prelude.{ℕ}
 use Rattle.definitions.specs.declared.Measure.{Measure}
 use Rattle.definitions.specs.declared.Measure.TheVariants.{Plain, PerHead}
 
--- the most players of a game whose certificates are checked
 abbrev pub check_limit : Measure → ℕ
 check_limit Plain = 64
 check_limit PerHead = 16

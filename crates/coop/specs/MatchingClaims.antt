@@ -20,7 +20,6 @@ pub record IsMarketSolution (rows : List (List ℤ)) (solution : Solution) : Typ
   pub buyers : IsBestFor (assignment_game rows) (IsBuyer (length rows)) solution.buyers_best
   pub sellers : IsBestFor (assignment_game rows) (IsSeller (length rows)) solution.sellers_best
 
--- it is that of the market
 abbrev pub IsSolutionOf : Description → Solution → Type 0
 IsSolutionOf (market rows) solution = IsMarketSolution rows solution
 IsSolutionOf _ solution = ⊥

@@ -19,7 +19,6 @@ pub record IsShapleyAnswer (d : Contents) (are_costs : Bool) (x : Allocation) : 
   pub means : IsShapley (game_of d.game) x
   pub signs : are_costs ≡ is_cost d.game
 
--- the answer is right for the game of a document
 abbrev pub SaysOfShapley : Contents → Answer → Type 0
 SaysOfShapley d (Shapley are_costs x) = IsShapleyAnswer d are_costs x
 SaysOfShapley d (Usage Players) = shapley_limit d.game < (game_of d.game).players

@@ -21,7 +21,6 @@ use Rattle.report.specs.Words.{kind_word}
 use Rattle.coop.specs.declared.words.Request.{Request}
 use Rattle.coop.specs.declared.words.Request.TheVariants.{Read, Generate}
 
--- the word of a command
 abbrev pub word_of : Command → List ℕ
 word_of Nucleolus = codes "nucleolus"
 word_of Prenucleolus = codes "prenucleolus"
@@ -42,7 +41,6 @@ number_text n = fraction_text (record { num = pos n; den = pos 1 })
 abbrev pub generation_words : Kind → ℕ → ℕ → List (List ℕ)
 generation_words kind n seed = codes "gen" ∷ kind_word kind ∷ number_text n ∷ number_text seed ∷ []
 
--- the words are the one word of the command
 abbrev pub IsCommand : List (List ℕ) → Command → Type 0
 IsCommand words command = words ≡ word_of command ∷ []
 

@@ -15,7 +15,6 @@ abbrev pub AscendsFrom : ℕ → List (ℕ × ℤ) → Type 0
 AscendsFrom low [] = Unit {0}
 AscendsFrom low (p ∷ ps) = (low < p.0) × AscendsFrom p.0 ps
 
--- d divides z
 abbrev pub Divides : ℕ → ℤ → Type 0
 Divides d z = (c : ℤ) × (z ≡ pos d *ℤ c)
 

@@ -12,7 +12,7 @@
 --   Ascends, IsSmall             keys ascend strictly; a weight or total of a certificate
 --   LevelForm, LevelsForm        the form of a level, and of each of some levels, behind the levels in front
 --   HasForm                      the form of a certificate
---   number_at                    the weights of the pairs of a player, added
+--   number_at                    the weights of the pairs of player i, added
 --   HasExcess, HasAtMostExcess   a coalition has the excess of a level, or at most that
 --   Excesses                     each coalition of the level has its excess
 --   Weights                      each weight on a coalition is at least 1
@@ -128,7 +128,6 @@ pub record HasForm (mode : Mode) (n : ℕ) (levels : List Level) : Type 0 where
 
 -- ---- the conditions
 
--- the weights of the pairs of player i, added
 abbrev pub number_at : List (ℕ × ℤ) → ℕ → ℤ
 number_at [] i = pos 0
 number_at (p ∷ ps) i = (if nat_eq p.0 i then p.1 else pos 0) +ℤ number_at ps i

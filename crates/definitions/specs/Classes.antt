@@ -6,7 +6,7 @@
 --   negated_worth v s                  minus the worth in another game: a game of costs
 --   greatest_cost                      the greatest cost among the members
 --   airport_worth costs s              minus the greatest cost among the members
---   bankruptcy_worth estate claims s   what the claims of the others leave of the estate
+--   bankruptcy_worth estate claims s   O'Neill 1982: what the claims of the others leave of the estate
 --   voting_worth quota weights s       1 where the members' weights sum to at least the quota, and 0 otherwise
 --   Matrix, entry                      an entry for each row and column
 --   joined, removed                    what passes a test, with one more point; without one
@@ -37,7 +37,6 @@ use Rattle.definitions.specs.Games.{Game, Allocation, share}
 abbrev pub table_worth : List ℤ → ℕ → ℤ
 table_worth worths s = if nat_eq s 0 then pos 0 else slice_index_or worths (s - 1) (pos 0)
 
--- minus the worth in another game
 abbrev pub negated_worth : (ℕ → ℤ) → ℕ → ℤ
 negated_worth v s = neg_ℤ (v s)
 
@@ -50,7 +49,6 @@ greatest_cost (suc n) cost s = max (greatest_cost n cost s) (if has_player s n t
 abbrev pub airport_worth : List ℕ → ℕ → ℤ
 airport_worth costs s = neg_ℤ (pos (greatest_cost (length costs) (slice_index costs) s))
 
--- O'Neill 1982: what the claims of the others leave of the estate
 abbrev pub bankruptcy_worth : ℕ → List ℕ → ℕ → ℤ
 bankruptcy_worth estate claims s =
     int_max (pos 0)
@@ -112,7 +110,6 @@ pub record IsLeastCost (matrix : Matrix) (s : ℕ) (cost : ℕ) : Type 0 where
   pub reached : (plan : List (ℕ × ℕ)) × IsPlan s plan × (cost ≡ plan_cost matrix plan)
   pub least : (plan : List (ℕ × ℕ)) → IsPlan s plan → cost ≤ plan_cost matrix plan
 
--- the triples compare by entry, then end, then player
 abbrev pub IsNoLater : Matrix → ℕ × ℕ → ℕ × ℕ → Type 0
 IsNoLater matrix p r =
     (entry matrix p.0 p.1 < entry matrix r.0 r.1)

@@ -2,7 +2,7 @@
 -- n players are the numbers below 2 ^ n.
 -- Source: Peleg and Sudhölter, Introduction to the Theory of Cooperative Games.
 --
---   has_player s i        player i is a member of s
+--   has_player s i        player i is a member of the coalition s
 --   singleton i           the coalition of player i alone
 --   grand_coalition n     the coalition of all n players
 --   proper_coalitions n   every coalition but the empty one and the grand coalition, in mask order
@@ -19,15 +19,12 @@ use Rattle.std.specs.Int.{bit_at}
 use Rattle.std.specs.List.{range_with_len}
 use Rattle.definitions.specs.Sums.{sum_below}
 
--- player i is a member of the coalition s
 abbrev pub has_player : ℕ → ℕ → Bool
 has_player s i = nat_eq (bit_at s i) 1
 
--- player i alone
 abbrev pub singleton : ℕ → ℕ
 singleton i = 2 ^ i
 
--- all of n players
 abbrev pub grand_coalition : ℕ → ℕ
 grand_coalition n = 2 ^ n - 1
 

@@ -28,7 +28,6 @@ together g s i j = g.worth (s + singleton i + singleton j) +ℤ g.worth s
 abbrev pub IsConvex : Game → Type 0
 IsConvex g = (s i j : ℕ) → AreOutside g.players s i j → apart g s i j ≤ℤ together g s i j
 
--- the triples compare by mask, then by the first player, then by the second
 abbrev pub ComesEarlier : ℕ → ℕ → ℕ → ℕ → ℕ → ℕ → Type 0
 ComesEarlier t k l s i j = (t < s) ⊎ ((t ≡ s) × ((k < i) ⊎ ((k ≡ i) × (l < j))))
 

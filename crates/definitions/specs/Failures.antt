@@ -5,7 +5,7 @@
 --   IsLeastFailing   the least player that a fact fails of
 --   IsFirstFailing   the key of the first pair that a fact fails of
 --   LevelFails       a level fails for a reason, and for no reason before it
---   IsLeastUnfixed   the least player that isn't fixed
+--   IsLeastUnfixed   i is the least player that isn't fixed
 --   NotAllFixed      after the last level something is left, and the reason names the least player of it
 --   LevelsFail       the first failure among the levels, and of what they fix
 --   IsFirstFailure   the reason is the first failed condition of the certificate
@@ -71,7 +71,6 @@ LevelFails mode family measure g x k front l (outside_above j e) =
     × IsGreatest (λ s. (s < 2 ^ g.players) × IsOutside mode g.players front s) (measured_excess measure g x) e
 LevelFails mode family measure g x k front l (not_all i) = ⊥
 
--- i is the least player that isn't fixed
 abbrev pub IsLeastUnfixed : Mode → ℕ → List Level → ℕ → Type 0
 IsLeastUnfixed Players n levels i =
     (i < n) × IsTrue (is_free n levels i) × ((j : ℕ) → j < i → ¬ IsTrue (is_free n levels j))

@@ -8,7 +8,7 @@
 --   excess g x s             the worth of s less what its members get, over the denominator
 --   IsAllocation             a share for each player, over a positive denominator
 --   IsEfficient              the shares add to the worth of the grand coalition
---   IsIndividuallyRational   each player gets at least its worth alone
+--   IsIndividuallyRational   each player gets at least what it is worth alone
 --   InFamily                 an imputation, or a preimputation
 --   measured_excess          the excess of s by a measure
 --   excess_list              the measured excesses of all proper coalitions, in mask order
@@ -61,7 +61,6 @@ IsAllocation g x = (length x.shares ≡ g.players) × (pos 1 ≤ℤ x.den)
 abbrev pub IsEfficient : Game → Allocation → Type 0
 IsEfficient g x = amount x (grand_coalition g.players) ≡ x.den *ℤ g.worth (grand_coalition g.players)
 
--- each player gets at least what it is worth alone
 abbrev pub IsIndividuallyRational : Game → Allocation → Type 0
 IsIndividuallyRational g x = (i : ℕ) → i < g.players → (x.den *ℤ g.worth (singleton i)) ≤ℤ share x i
 
@@ -72,7 +71,6 @@ InFamily Preimputations g x = IsAllocation g x × IsEfficient g x
 
 -- ---- the nucleolus (Schmeidler 1969; per head Grotte 1970)
 
--- the excess of s by the measure
 abbrev pub measured_excess : Measure → Game → Allocation → ℕ → ℤ
 measured_excess measure g x s = measured measure s (excess g x s)
 
@@ -86,7 +84,6 @@ abbrev pub Beats : Measure → Game → Allocation → Allocation → Type 0
 Beats measure g x y =
     ComesBefore (sorted (excess_list measure g x y.den)) (sorted (excess_list measure g y x.den))
 
--- the same shares
 abbrev pub IsSame : Game → Allocation → Allocation → Type 0
 IsSame g x y = (i : ℕ) → i < g.players → share x i *ℤ y.den ≡ share y i *ℤ x.den
 

@@ -2,10 +2,10 @@
 -- Source: Davis and Maschler 1965; Maschler, Peleg and Shapley 1972; Peleg and Sudhölter, Introduction to the
 -- Theory of Cooperative Games.
 --
---   holds_without i j s     s holds i and lacks j
+--   holds_without i j s     the coalition s holds i and lacks j
 --   IsSurplus g x i j m     m is the greatest excess over the coalitions that hold i and lack j, over the denominator
 --   AreBalanced g x i j     the surplus of i against j is that of j against i
---   InPrekernel g x         efficient, and every two players are balanced
+--   InPrekernel g x         an efficient allocation at which every two players are balanced
 --   IsEarlierPair a b i j   pairs compare by the first player and then by the second
 --   IsFirstUnbalanced       the first pair of players that aren't balanced
 use Rattle.std.specs.Prelude.{◌≡◌, ◌≢◌, ◌⊎◌, ℕ, ◌^◌, ◌<◌, Bool, ◌&&◌, not, IsTrue}
@@ -14,7 +14,6 @@ use Rattle.definitions.specs.Sums.{IsGreatest}
 use Rattle.definitions.specs.Coalitions.{has_player}
 use Rattle.definitions.specs.Games.{Game, Allocation, excess, IsAllocation, IsEfficient}
 
--- the coalition s holds i and lacks j
 abbrev pub holds_without : ℕ → ℕ → ℕ → Bool
 holds_without i j s = has_player s i && not (has_player s j)
 
@@ -26,7 +25,6 @@ IsSurplus g x i j m = IsGreatest (λ s. (s < 2 ^ g.players) × IsTrue (holds_wit
 abbrev pub AreBalanced : Game → Allocation → ℕ → ℕ → Type 0
 AreBalanced g x i j = (m : ℤ) × IsSurplus g x i j m × IsSurplus g x j i m
 
--- an efficient allocation at which every two players are balanced
 abbrev pub InPrekernel : Game → Allocation → Type 0
 InPrekernel g x =
     IsAllocation g x × IsEfficient g x × ((i j : ℕ) → i < g.players → j < g.players → i ≢ j → AreBalanced g x i j)

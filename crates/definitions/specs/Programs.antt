@@ -36,7 +36,6 @@ abbrev pub Solves : Program → List (ℕ × ℤ) → ℤ → Type 0
 Solves p weights den =
     AreWeights p weights × (pos 1 ≤ℤ den) × ((r : ℕ) → r < p.rows → row_value p weights r ≡ den *ℤ p.right r)
 
--- what the multipliers make of a number per row
 abbrev pub value_of : Program → List ℤ → (ℕ → ℤ) → ℤ
 value_of p multipliers f = sum_below p.rows (λ r. slice_index_or multipliers r (pos 0) *ℤ f r)
 

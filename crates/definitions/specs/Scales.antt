@@ -6,13 +6,13 @@
 --   times k x                                     shares times the scale
 --   excess_over k g x s                           the excess of s, over k times the denominator of the shares
 --   IsEfficientOver                               the shares add to the worth of all
---   IsIndividuallyRationalOver                    each player gets at least its worth alone
+--   IsIndividuallyRationalOver                    each player gets at least what it is worth alone
 --   InFamilyOver                                  an imputation, or a preimputation
 --   measured_excess_over                          the excess of s by a measure
 --   excess_list_over                              the measured excesses of all proper coalitions
 --   BeatsOver                                     the excesses from the greatest come before those of another
 --                                                 allocation
---   IsNucleolusOver                               a member of the family that beats every other member
+--   IsNucleolusOver                               a member of the family that beats every member with other shares
 --   BlocksOver, InCoreOver, IsChosenBlockerOver   the core, and the chosen blocker
 --   IsLevelOver                                   a level with the same lists, and k times the excess
 --   AreLevelsOver                                 levels whose excesses are k times those of others
@@ -51,7 +51,6 @@ excess_over k g x s = x.den *ℤ g.worth s -ℤ k *ℤ amount x s
 abbrev pub IsEfficientOver : ℤ → Game → Allocation → Type 0
 IsEfficientOver k g x = k *ℤ amount x (grand_coalition g.players) ≡ x.den *ℤ g.worth (grand_coalition g.players)
 
--- each player gets at least what it is worth alone
 abbrev pub IsIndividuallyRationalOver : ℤ → Game → Allocation → Type 0
 IsIndividuallyRationalOver k g x = (i : ℕ) → i < g.players → (x.den *ℤ g.worth (singleton i)) ≤ℤ (k *ℤ share x i)
 
@@ -62,7 +61,6 @@ InFamilyOver k Preimputations g x = IsAllocation g x × IsEfficientOver k g x
 
 -- ---- the nucleolus (Schmeidler 1969; per head Grotte 1970)
 
--- the excess of s by the measure
 abbrev pub measured_excess_over : ℤ → Measure → Game → Allocation → ℕ → ℤ
 measured_excess_over k measure g x s = measured measure s (excess_over k g x s)
 
@@ -76,7 +74,6 @@ abbrev pub BeatsOver : ℤ → Measure → Game → Allocation → Allocation �
 BeatsOver k measure g x y =
     ComesBefore (sorted (excess_list_over k measure g x y.den)) (sorted (excess_list_over k measure g y x.den))
 
--- a member of the family that beats every member with other shares
 abbrev pub IsNucleolusOver : ℤ → Family → Measure → Game → Allocation → Type 0
 IsNucleolusOver k family measure g x =
     InFamilyOver k family g x
@@ -128,7 +125,6 @@ abbrev pub HasAtMostExcessOver : ℤ → Measure → Game → Allocation → Lev
 HasAtMostExcessOver k measure g x l s =
     (measured_excess_over k measure g x s *ℤ l.excess_den) ≤ℤ ((k *ℤ l.excess_num) *ℤ measured_den measure x.den)
 
--- a bound stands only on a player at its worth alone, and only for imputations
 abbrev pub IsTightOver : ℤ → Family → Game → Allocation → ℕ × ℤ → Type 0
 IsTightOver k family g x b = (k *ℤ share x b.0 ≡ x.den *ℤ g.worth (singleton b.0)) × (family ≡ Imputations)
 

@@ -5,7 +5,7 @@
 --   insertions          each way to put a number into a list
 --   orders n            the lists that hold each player below n once
 --   marginal_worth      what a player adds to the worth of those in front of it in an order
---   total_over          what a player adds, over the orders in a list
+--   total_over          the sum of what player i adds, over the orders in a list
 --   shapley_total g i   the sum of what player i adds, over all orders
 --   factorial n         1 * 2 * .. * n
 --   IsShapley g x       each share is the player's total over n!
@@ -41,7 +41,6 @@ marginal_worth v i front [] = pos 0
 marginal_worth v i front (p ∷ ps) =
     if nat_eq p i then v (front + 2 ^ i) -ℤ v front else marginal_worth v i (front + 2 ^ p) ps
 
--- the sum of what player i adds, over the orders in a list
 abbrev pub total_over : (ℕ → ℤ) → ℕ → List (List ℕ) → ℤ
 total_over v i [] = pos 0
 total_over v i (order ∷ orders) = marginal_worth v i 0 order +ℤ total_over v i orders
@@ -54,7 +53,6 @@ abbrev pub factorial : ℕ → ℕ
 factorial zero = 1
 factorial (suc n) = suc n * factorial n
 
--- each player's share is its total over n!
 abbrev pub IsShapley : Game → Allocation → Type 0
 IsShapley g x =
     IsAllocation g x × ((i : ℕ) → i < g.players → share x i *ℤ pos (factorial g.players) ≡ x.den *ℤ shapley_total g i)

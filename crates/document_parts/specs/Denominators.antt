@@ -9,7 +9,6 @@ use Rattle.worth_core.specs.LeastDenominators.{over}
 use Rattle.document_parts.specs.CommonMultiples.{least_denominator}
 use Rattle.document_parts.specs.Shares.{has_small_terms}
 
--- the fractions over their least common denominator
 abbrev pub over_least : List Fraction → Allocation
 over_least fs = over (pos (least_denominator fs)) fs
 

@@ -6,7 +6,7 @@
 --   joined           a coalition with some more members
 --   mask_of          the mask of the coalition that members name
 --   is_mask          there is a mask, and it is s
---   are_coalitions   each is a coalition, and no two are the same
+--   are_coalitions   each is a coalition, and no two are the same set
 use Rattle.std.specs.Prelude.{◌+◌, ◌^◌, ℕ, List, [], ◌∷◌, Bool, true, false, not}
 use Rattle.std.specs.Prelude.{◌&&◌, Option, Some}
 use Rattle.std.specs.Prelude.{None, option_and_then, position, nat_eq, if◌then◌else◌}
@@ -41,12 +41,10 @@ abbrev pub mask_of : ℕ → List (List ℕ) → List Data → Option ℕ
 mask_of n names [] = None
 mask_of n names (d ∷ ds) = joined n names 0 (d ∷ ds)
 
--- it is the mask s
 abbrev pub is_mask : ℕ → Option ℕ → Bool
 is_mask s None = false
 is_mask s (Some t) = nat_eq s t
 
--- each is a coalition, and no two are the same set
 abbrev pub are_coalitions : List (Option ℕ) → Bool
 are_coalitions [] = true
 are_coalitions (None ∷ os) = false

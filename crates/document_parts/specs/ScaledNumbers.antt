@@ -2,7 +2,7 @@
 --
 --   is_small         below 2^40 in size
 --   if_small         a number, where it is below 2^40 in size
---   small_number     a number times the scale, where it is below 2^40 in size
+--   small_number     the number times the scale k, where it is below 2^40 in size
 --   number_or_zero   the same, and 0 where there is none
 --   number_at        the number at a key
 --   numbers_at       the numbers of the array at a key
@@ -26,7 +26,6 @@ abbrev pub if_small : Option ℤ → Option ℤ
 if_small None = None
 if_small (Some z) = if is_small z then Some z else None
 
--- the number times the scale k, where it is below 2^40 in size
 abbrev pub small_number : ℕ → Data → Option ℤ
 small_number k d = if_small (option_map (numerator_over (pos k)) (fraction_of d))
 

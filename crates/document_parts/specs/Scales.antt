@@ -7,9 +7,9 @@
 --   all_parts           what each of some trees has, one after another
 --   table_numbers_in    the numbers of a table
 --   player_numbers_in   costs, an estate and claims
---   matrix_numbers_in   the entries of a matrix
+--   matrix_numbers_in   the entries of a matrix, row by row
 --   game_numbers        the numbers of a game, where they stand in its tree
---   game_fractions      these numbers as fractions
+--   game_fractions      the numbers of a game as fractions
 --   scale_of            their least common denominator
 --   IsScaleOf           the same, said of a number
 --   if_scale            a scale, where it is at most 65,536
@@ -51,7 +51,6 @@ abbrev pub player_numbers_in : Data → List Data
 player_numbers_in game =
     parts_at (codes "costs") game ++ (if_there (get (codes "estate") game) ++ parts_at (codes "claims") game)
 
--- the entries of a matrix, row by row
 abbrev pub matrix_numbers_in : Data → List Data
 matrix_numbers_in game = all_parts parts (parts_at (codes "matrix") game)
 
@@ -61,7 +60,6 @@ game_numbers game = table_numbers_in game ++ (player_numbers_in game ++ matrix_n
 
 -- ---- the scale
 
--- the numbers of a game as fractions
 abbrev pub game_fractions : Data → List Fraction
 game_fractions game = map fraction_or_zero (game_numbers game)
 

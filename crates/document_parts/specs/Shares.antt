@@ -3,9 +3,9 @@
 --   has_share_numbers     each share is an integer or a fraction text
 --   written_shares        the fractions that are written
 --   has_shares_for        there are so many shares
---   scaled_fractions      fractions times a scale
---   scaled_share          the fraction that is written, times a scale
---   scaled_shares         the fractions that are written, times a scale
+--   scaled_fractions      the fractions times the scale k
+--   scaled_share          the fraction that is written, times the scale k
+--   scaled_shares         the fractions that are written, times the scale k
 --   negated               shares with their signs turned
 --   as_worth              shares as worth: payments are negated
 --   IsDenominatorOf       the least common denominator of the fractions that are written, times a scale
@@ -25,7 +25,6 @@ use Rattle.json_trees.specs.Trees.{parts_at}
 abbrev pub has_share_numbers : Data → Bool
 has_share_numbers tree = list_all is_fraction (parts_at (codes "shares") tree)
 
--- the fractions that are written
 abbrev pub written_shares : Data → List Fraction
 written_shares tree = map fraction_or_zero (parts_at (codes "shares") tree)
 
@@ -33,19 +32,15 @@ written_shares tree = map fraction_or_zero (parts_at (codes "shares") tree)
 abbrev pub has_shares_for : ℕ → Data → Bool
 has_shares_for n tree = length (parts_at (codes "shares") tree) == n
 
--- the fractions times the scale k
 abbrev pub scaled_fractions : ℕ → List Fraction → List Fraction
 scaled_fractions k fs = map (times_scale k) fs
 
--- the fraction that is written, times the scale k
 abbrev pub scaled_share : ℕ → Data → Fraction
 scaled_share k d = times_scale k (fraction_or_zero d)
 
--- the fractions that are written, times the scale k
 abbrev pub scaled_shares : ℕ → Data → List Fraction
 scaled_shares k tree = map (scaled_share k) (parts_at (codes "shares") tree)
 
--- the shares with their signs turned
 abbrev pub negated : Allocation → Allocation
 negated x = record { shares = map neg_ℤ x.shares; den = x.den }
 

@@ -17,7 +17,6 @@ use Rattle.drawn_games.specs.Draws.{long_draw}
 
 -- ---- tables
 
--- the coalition has one member
 abbrev pub is_single : ℕ → Bool
 is_single s = nat_eq (size s) 1
 
@@ -36,7 +35,6 @@ table_numbers seed n = map (table_number seed) (range_with_len 1 (2 ^ n - 1))
 
 -- ---- costs and claims
 
--- n long draws
 abbrev pub long_draws : ℕ → ℕ → List ℕ
 long_draws seed n = map (long_draw seed) (range_with_len 0 n)
 

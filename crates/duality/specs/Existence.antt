@@ -28,7 +28,6 @@ PrenucleoliExist =
 abbrev pub CoversSingles : Game → Type 0
 CoversSingles g = sum_below g.players (λ i. g.worth (singleton i)) ≤ℤ g.worth (grand_coalition g.players)
 
--- there is an imputation exactly there
 abbrev pub ImputationsExist : Type 0
 ImputationsExist =
     (g : Game) → 1 ≤ g.players → ((y : Allocation) × InFamily Imputations g y) ↔ CoversSingles g

@@ -20,7 +20,6 @@ NucleoliAreReal =
     (family : Family) (measure : Measure) (g : Game) (x : Allocation) → IsMeasurable measure g.players
     → IsNucleolus family measure g x → IsNucleolusForReals family measure g x
 
--- and that over every linearly ordered abelian group with a unit above zero
 abbrev pub NucleoliOverGroups : Type 0
 NucleoliOverGroups =
     (family : Family) (measure : Measure) (g : Game) (x : Allocation) → IsMeasurable measure g.players

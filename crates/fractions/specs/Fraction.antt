@@ -20,12 +20,10 @@ pub record Fraction : Type 0 where
   pub num : ℤ
   pub den : ℤ
 
--- a positive denominator, and no common divisor above 1
 pub record IsReduced (f : Fraction) : Type 0 where
   pub positive : pos 1 ≤ℤ f.den
   pub lowest : gcd (unsigned_abs f.num) (unsigned_abs f.den) ≡ 1
 
--- f is n/d in lowest terms
 pub record IsRatio (f : Fraction) (n d : ℤ) : Type 0 where
   pub divisor : d ≢ pos 0
   pub reduced : IsReduced f

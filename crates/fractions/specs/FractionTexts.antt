@@ -69,7 +69,6 @@ is_signed_fraction minus s = is_unsigned_fraction s && not (minus && (numerator 
 abbrev pub is_fraction_text : List ℕ → Bool
 is_fraction_text s = is_signed_fraction (has_minus s) (without_minus s)
 
--- the fraction that the text writes
 abbrev pub signed_fraction : Bool → List ℕ → Fraction
 signed_fraction minus s = record {
   num = (if minus then neg_ℤ (pos (numerator s)) else pos (numerator s));

@@ -91,7 +91,6 @@ class_named s =
 abbrev pub class_of : Data → Option Class
 class_of game = option_and_then class_named (option_and_then as_str (get (codes "class") game))
 
--- the keys and kinds that the class asks for
 abbrev pub is_shaped_as : Option Class → Data → Bool
 is_shaped_as None game = false
 is_shaped_as (Some Table) game = is_table_shaped game
@@ -105,7 +104,6 @@ is_shaped_as (Some Voting) game = is_voting_shaped game
 
 -- ---- players
 
--- as many players, and numbers for them, as the class allows
 abbrev pub has_players_as : Option Class → Data → Bool
 has_players_as None game = false
 has_players_as (Some Table) game = has_table_players game
@@ -121,7 +119,6 @@ has_players_as (Some Voting) game = is_short_list_size (voting_players game)
 abbrev pub has_players : Data → Bool
 has_players game = has_players_as (class_of game) game
 
--- the number of players of a game of the class
 abbrev pub players_as : Option Class → Data → ℕ
 players_as None game = 0
 players_as (Some Table) game = unwrap_or (players_at game) 0
@@ -155,7 +152,6 @@ has_numbers_as k (Some Voting) game = has_voting_numbers game
 abbrev pub has_numbers : Data → Bool
 has_numbers game = nat_le (scale_of game) 65536 && has_numbers_as (scale_of game) (class_of game) game
 
--- the values that are the numbers of a game of the class, in the order in which they are read
 abbrev pub own_values_as : Option Class → Data → List Data
 own_values_as None game = []
 own_values_as (Some Table) game = table_numbers_in game
@@ -167,7 +163,6 @@ own_values_as (Some Assignment) game = matrix_numbers_in game
 own_values_as (Some Market) game = matrix_numbers_in game
 own_values_as (Some Voting) game = voting_values game
 
--- numbers are within the limits of the class, times their scale
 abbrev pub are_numbers_as : Option Class → List Data → Bool
 are_numbers_as None ds = false
 are_numbers_as (Some Table) ds = are_worths ds
@@ -182,7 +177,6 @@ are_numbers_as (Some Voting) ds = are_costs ds
 abbrev pub own_values : Data → List Data
 own_values game = own_values_as (class_of game) game
 
--- the numbers of a game, times its scale
 abbrev pub own_numbers : Data → List ℤ
 own_numbers game = map (number_or_zero (scale_of game)) (own_values game)
 
@@ -276,11 +270,9 @@ description_as k (Some Market) game = market (rows_of k game)
 description_as k (Some Voting) game =
     voting (unsigned_abs (number_at 1 (codes "quota") game)) (costs_at 1 (codes "weights") game)
 
--- what the tree of a game describes, its numbers times its scale
 abbrev pub description_of : Data → Description
 description_of game = description_as (scale_of game) (class_of game) game
 
--- the description that a game keeps
 abbrev pub description_in : ClassGame → Description
 description_in (Table t) = table t.players t.worths
 description_in (Cost t) = cost t.players t.worths

@@ -6,7 +6,7 @@
 --   needed_keep_limits   over it, the shares that a command needs keep within the limits of shares
 --   shares_of            the proposed shares as worth
 --   shares_for           the shares that a command needs
---   contents_of          what a tree says
+--   contents_of          what the tree of a document says to a command
 --   tree_refusal         the first test that a tree doesn't pass
 use Rattle.std.specs.Prelude.{ℕ, Bool, Option}
 use Rattle.serde_json.specs.Data.{Data}
@@ -31,7 +31,6 @@ shares_of game tree = shares_over (share_denominator game tree) game tree
 abbrev pub shares_for : Command → Data → Data → Option Allocation
 shares_for command game tree = proposed_over (share_denominator game tree) command game tree
 
--- what the tree of a document says to a command
 abbrev pub contents_of : Command → Data → Contents
 contents_of command tree = contents_over (share_denominator (game_tree tree) tree) command tree
 

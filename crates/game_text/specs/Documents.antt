@@ -6,9 +6,9 @@
 --   family_for         the family that a command needs
 --   fractions_for      the fractions of the shares that a command needs
 --   shares_over        the shares as worth, over a denominator
---   proposed_over      the shares that a command needs, over a denominator
+--   proposed_over      the shares that a command needs, over the denominator d
 --   certificate_for    the certificate that a command needs
---   contents_over      what a tree says to a command, with the shares over a denominator
+--   contents_over      what the tree of a document says to a command, with the shares over the denominator d
 use Rattle.std.specs.Prelude.{ℕ, ℤ, pos, codes, List, Option, unwrap_or}
 use Rattle.serde_json.specs.Data.{Data, null}
 use Rattle.serde_json.specs.Find.{get}
@@ -57,7 +57,6 @@ abbrev pub shares_over : ℕ → Data → Data → Allocation
 shares_over d game tree =
     as_worth (is_cost (description_of game)) (over (pos d) (scaled_shares (scale_of game) tree))
 
--- the shares that a command needs, over the denominator d
 abbrev pub proposed_over : ℕ → Command → Data → Data → Option Allocation
 proposed_over d command game tree = given (needs command).shares (shares_over d game tree)
 
@@ -65,7 +64,6 @@ abbrev pub certificate_for : Command → Data → Data → Option CertificateDat
 certificate_for command game tree =
     given (needs command).certificate (certificate_of (scale_of game) (players game) (certificate_tree tree))
 
--- what the tree of a document says to a command, with the shares over the denominator d
 abbrev pub contents_over : ℕ → Command → Data → Contents
 contents_over d command tree = record {
   game = description_of (game_tree tree);

@@ -8,7 +8,7 @@
 --   has_needed_form      the certificate that a command needs has its form
 --   tree_tests           the tests of a JSON tree, in their order
 --   refusal_over         the first test that a JSON tree doesn't pass, in their order
---   IsTreeRefused        the bytes are the text of a tree that is refused so
+--   IsTreeRefused        bytes within the limit are the text of a tree that is refused so
 --   IsRefused            the first refusal that applies to the bytes
 --   IsDocument           no refusal applies to the bytes, and this is what they say
 use Rattle.std.specs.Prelude.{◌≡◌, ◌<◌, ◌≤◌, ◌&&◌, ℕ, codes, List, [], ◌∷◌, length}
@@ -36,7 +36,6 @@ abbrev pub unless : Bool → Refusal → Option Refusal → Option Refusal
 unless true r rest = rest
 unless false r rest = Some r
 
--- the first of these tests that isn't passed
 abbrev pub first_failed : List (Refusal × Bool) → Option Refusal
 first_failed [] = None
 first_failed (t ∷ tests) = unless t.1 t.0 (first_failed tests)
@@ -77,20 +76,17 @@ tree_tests d command game tree =
 abbrev pub refusal_over : ℕ → Command → Data → Option Refusal
 refusal_over d command tree = first_failed (tree_tests d command (game_tree tree) tree)
 
--- bytes within the limit are the text of a tree that is refused so
 abbrev pub IsTreeRefused : Command → List ℕ → Refusal → Type 0
 IsTreeRefused command bytes r =
     (length bytes ≤ document_limit command)
     × ((tree : Data) × IsTextOf bytes tree
     × ((d : ℕ) × IsDenominatorOf (scale_of (game_tree tree)) tree d × (refusal_over d command tree ≡ Some r)))
 
--- the first refusal that applies
 abbrev pub IsRefused : Command → List ℕ → Refusal → Type 0
 IsRefused command bytes TooLong = document_limit command < length bytes
 IsRefused command bytes NotJson = (length bytes ≤ document_limit command) × IsNotJson bytes
 IsRefused command bytes r = IsTreeRefused command bytes r
 
--- no refusal applies, and this is what the bytes say
 abbrev pub IsDocument : Command → List ℕ → Contents → Type 0
 IsDocument command bytes p =
     (length bytes ≤ document_limit command)

@@ -13,7 +13,6 @@ use Rattle.game_text.specs.Needs.{needs}
 abbrev pub document_limit : Command → ℕ
 document_limit command = (needs command).limit
 
--- the bytes are the text of this JSON tree
 abbrev pub IsTextOf : List ℕ → Data → Type 0
 IsTextOf bytes tree = IsUtf8 (without_newline bytes) × (read (without_newline bytes) ≡ Some tree)
 

@@ -29,6 +29,5 @@ fraction_of d = written_fraction d (as_str d)
 abbrev pub is_fraction : Data → Bool
 is_fraction d = is_some (fraction_of d)
 
--- the fraction that is written, and 0 where it is none
 abbrev pub fraction_or_zero : Data → Fraction
 fraction_or_zero d = unwrap_or (fraction_of d) (record { num = pos 0; den = pos 1 })

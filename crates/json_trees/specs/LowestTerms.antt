@@ -1,7 +1,7 @@
 -- Fractions in lowest terms, times a scale and over it.
 --
 --   in_lowest_terms   n/d in lowest terms
---   times_scale       a fraction times a scale
+--   times_scale       the fraction times the scale k
 --   over_scale        a fraction over a scale
 --   if_scaled         a fraction times a scale, where it has a form of 128 bits
 use Rattle.std.specs.Prelude.{ℕ, ℤ, pos, ◌*ℤ◌, int_div, unsigned_abs, Option, Some, None, if◌then◌else◌}
@@ -16,7 +16,6 @@ in_lowest_terms n d = record {
   den = int_div d (pos (gcd (unsigned_abs n) (unsigned_abs d)));
 }
 
--- the fraction times the scale k
 abbrev pub times_scale : ℕ → Fraction → Fraction
 times_scale k f = in_lowest_terms (f.num *ℤ pos k) f.den
 

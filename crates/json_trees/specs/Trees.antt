@@ -15,7 +15,7 @@
 --   text_of           the text
 --   parts_at          the items of the array at a key
 --   first_parts       the items of the first item
---   pair_members      the members of the coalition of a pair
+--   pair_members      the members of the coalition of a pair of a coalition and a number
 --   second_passes     the second of two items passes a test
 --   is_member         a number or a text
 --   is_numeric        a number, or a text where texts are allowed
@@ -40,12 +40,10 @@ keys_of (member k d ms) = k ∷ keys_of ms
 abbrev pub keys : Data → List (List ℕ)
 keys d = unwrap_or (option_map keys_of (as_object d)) []
 
--- the part is there and passes
 abbrev pub passes : (Data → Bool) → Option Data → Bool
 passes test None = false
 passes test (Some d) = test d
 
--- the part passes, where it is there
 abbrev pub passes_if_there : (Data → Bool) → Option Data → Bool
 passes_if_there test None = true
 passes_if_there test (Some d) = test d
@@ -56,7 +54,6 @@ is_number d = is_some (as_number d)
 abbrev pub is_text : Data → Bool
 is_text d = is_some (as_str d)
 
--- an array whose items all pass
 abbrev pub is_array_of : (Data → Bool) → Data → Bool
 is_array_of test d = is_some (as_array d) && list_all test (parts d)
 
@@ -85,11 +82,9 @@ abbrev pub first_parts : List Data → List Data
 first_parts [] = []
 first_parts (x ∷ xs) = parts x
 
--- the members of the coalition of a pair of a coalition and a number
 abbrev pub pair_members : Data → List Data
 pair_members pair = first_parts (parts pair)
 
--- the second of two items passes
 abbrev pub second_passes : (Data → Bool) → List Data → Bool
 second_passes test (x ∷ y ∷ []) = test y
 second_passes test _ = false

@@ -3,7 +3,7 @@
 -- columns.
 --
 --   number_at table i j      the number in row i and column j
---   raised_where             the greater of a number and the greatest so far, where a test passes
+--   raised_where             the greater of a number and the greatest so far, if any, where a test passes
 --   floor_of least i         the floor of row i
 --   is_less_so_far           the least so far is below a number, or isn't known
 --   lesser                   the lesser of two numbers that are there
@@ -11,7 +11,7 @@
 --   IsFrom                   a number that is there, and at least so great
 --   IsFloor                  what the floor of a row is, up to a column
 --   AreFloors table least    no number of a row is below the row's floor, where that is there
---   AreThere n table         there is a number for each two of n players
+--   AreThere n table         there is a number for each two of the first n players
 --   AreSurpluses g x table   each number is the surplus of the row's player against the column's
 use Rattle.std.specs.Prelude.{◌≡◌, ◌≢◌, ℕ, ◌+◌, ◌*◌, ◌<◌, Bool, true, List, ℤ}
 use Rattle.std.specs.Prelude.{◌≤ℤ◌, int_lt}
@@ -23,7 +23,6 @@ use Rattle.worth_core.specs.Greatest.{max_so_far}
 abbrev pub number_at : List (Option ℤ) → ℕ → ℕ → Option ℤ
 number_at table i j = slice_index_or table (16 * i + j) None
 
--- the greater of a number and the greatest so far, if any, where a test passes
 abbrev pub raised_where : Bool → Option ℤ → ℤ → Option ℤ
 raised_where test most e = if test then Some (max_so_far most e) else most
 
@@ -57,7 +56,6 @@ IsFloor table i k (Some m) = (j : ℕ) → j < k → j ≢ i → IsFrom m (numbe
 abbrev pub AreFloors : List (Option ℤ) → List (Option ℤ) → Type 0
 AreFloors table least = (i : ℕ) → i < 16 → IsFloor table i 16 (floor_of least i)
 
--- there is a number for each two of the first n players
 abbrev pub AreThere : ℕ → List (Option ℤ) → Type 0
 AreThere n table = (i j : ℕ) → i < n → j < n → i ≢ j → IsSome (number_at table i j)
 

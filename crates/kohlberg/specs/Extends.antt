@@ -1,11 +1,11 @@
 -- A span that was extended, and spans of what levels fix.
 --
 --   Extends         a span that was extended by what was added
---   IsPaired        a coalition of the pairs
+--   IsPaired        t is a coalition of the pairs
 --   IsBoundVector   a player alone whose bound has a weight of at least 1 among the pairs
 --   IsLevelVector   a coalition of levels, or a player alone whose bound has such a weight there
 --   SpansFixed      coalitions span exactly what levels fix
---   IsOf            a level is of n players
+--   IsOf            the coalitions and players of a level are of n players
 use Rattle.std.specs.Prelude.{◌≡◌, ◌⊎◌, ℕ, ◌^◌, ◌<◌, ◌&&◌, IsTrue, nat_eq, List, ◌++◌}
 use Rattle.std.specs.Prelude.{ℤ, pos, int_le}
 use Rattle.std.specs.List.{list_any, AllByRecursion}
@@ -21,7 +21,6 @@ pub record Extends (n : ℕ) (old new : List ℕ) (Added : ℕ → Type 0) : Typ
   pub added : (t : ℕ) → Added t → InSpan n (IsKept new) t
   pub only : (t : ℕ) → IsKept new t → IsKept old t ⊎ Added t
 
--- t is a coalition of the pairs
 abbrev pub IsPaired : List (ℕ × ℤ) → ℕ → Type 0
 IsPaired ps t = IsTrue (list_any (λ c. nat_eq c.0 t) ps)
 
@@ -39,7 +38,6 @@ pub record SpansFixed (n : ℕ) (kept : List ℕ) (levels : List Level) : Type 0
   pub inside : (s : ℕ) → InSpan n (IsKept kept) s → InSpan n (IsFixedVector n levels) s
   pub outside : (s : ℕ) → InSpan n (IsFixedVector n levels) s → InSpan n (IsKept kept) s
 
--- the coalitions and players of a level are of n players
 pub record IsOf (n : ℕ) (l : Level) : Type 0 where
   pub coalitions : AllByRecursion (λ c. c.0 < 2 ^ n) l.coalitions
   pub bounds : AllByRecursion (λ b. b.0 < n) l.bounds

@@ -23,11 +23,9 @@ has_keys n front l =
     list_all (λ c. nat_lt 0 c.0 && nat_lt c.0 (grand_coalition n)) l.coalitions
     && list_all (λ c. is_listed front c.0) l.earlier && list_all (λ b. nat_lt b.0 n) l.bounds
 
--- coalitions and players ascend
 abbrev pub has_order : Level → Bool
 has_order l = ascends 0 l.coalitions && ascends 0 l.earlier && ascends 0 l.bounds
 
--- weights and the total are small
 abbrev pub has_weights : Level → Bool
 has_weights l =
     list_all (λ p. is_small p.1) l.coalitions && list_all (λ p. is_small p.1) l.earlier

@@ -49,7 +49,6 @@ WhoNeedsMorePaysNoLessByShapley =
 abbrev pub pays : Allocation → ℕ → ℤ
 pays x i = neg_ℤ (share x i)
 
--- who needs no less pays no less
 abbrev pub PaymentsRiseWithNeeds : Type 0
 PaymentsRiseWithNeeds =
     (costs : List ℕ) (at : ℕ → ℕ) (pay : ℕ → ℤ) (x : Allocation) (i j : ℕ) → IsPaid costs at pay x →
@@ -61,14 +60,12 @@ NobodyPaysMoreThanAlone =
     (costs : List ℕ) (at : ℕ → ℕ) (pay : ℕ → ℤ) (x : Allocation) (i : ℕ) → IsPaid costs at pay x →
     i < length costs → (pos 0 ≤ℤ pays x i) × (pays x i ≤ℤ (x.den *ℤ pos (slice_index costs i)))
 
--- no group pays more together than its greatest cost
 abbrev pub NoGroupPaysMoreThanItsCost : Type 0
 NoGroupPaysMoreThanItsCost =
     (costs : List ℕ) (at : ℕ → ℕ) (pay : ℕ → ℤ) (x : Allocation) (s : ℕ) → IsPaid costs at pay x →
     s < 2 ^ length costs →
     sum_over (length costs) (pays x) s ≤ℤ (x.den *ℤ pos (greatest_cost (length costs) (slice_index costs) s))
 
--- all together pay just the greatest cost
 abbrev pub AllPayTheGreatestCost : Type 0
 AllPayTheGreatestCost =
     (costs : List ℕ) (at : ℕ → ℕ) (pay : ℕ → ℤ) (x : Allocation) → IsPaid costs at pay x →

@@ -6,7 +6,7 @@
 --   AreAnsweredAlike       what shares are in the one, over its scale, they are in the other, over its own
 --   ScaleDoesNotMatter     games of the same fractions are answered alike
 --   TableTimes             a table of k times the worths
---   CostTableTimes         a game of k times the costs
+--   CostTableTimes         of k times the costs that a game of costs negates
 --   AirportTimes           an airport of k times the costs (Littlechild 1974)
 --   EstateTimes            an estate and claims times k (O'Neill 1982)
 --   matrix_times k m       each entry times k
@@ -25,7 +25,6 @@ use Rattle.laws.specs.StrategicEquivalence.{scaled_game}
 
 -- ---- two scales
 
--- the same players, and these worths
 abbrev pub with_worths : Game → (ℕ → ℤ) → Game
 with_worths g w = record { players = g.players; worth = w }
 
@@ -53,16 +52,13 @@ abbrev pub TableTimes : Type 0
 TableTimes =
     (k : ℤ) (worths : List ℤ) (s : ℕ) → table_worth (map (λ z. k *ℤ z) worths) s ≡ k *ℤ table_worth worths s
 
--- of k times the costs that a game of costs negates
 abbrev pub CostTableTimes : Type 0
 CostTableTimes = (k : ℤ) (v : ℕ → ℤ) (s : ℕ) → negated_worth (λ t. k *ℤ v t) s ≡ k *ℤ negated_worth v s
 
--- of k times the costs
 abbrev pub AirportTimes : Type 0
 AirportTimes =
     (k : ℕ) (costs : List ℕ) (s : ℕ) → airport_worth (map (λ c. k * c) costs) s ≡ pos k *ℤ airport_worth costs s
 
--- of k times the estate and the claims
 abbrev pub EstateTimes : Type 0
 EstateTimes =
     (k estate : ℕ) (claims : List ℕ) (s : ℕ) →
@@ -71,13 +67,11 @@ EstateTimes =
 abbrev pub matrix_times : ℕ → Matrix → Matrix
 matrix_times k matrix i j = k * matrix i j
 
--- of k times the lengths
 abbrev pub TreeTimes : Type 0
 TreeTimes =
     (k : ℕ) (matrix : Matrix) (g : Game) → IsTreeGame matrix g
     → IsTreeGame (matrix_times k matrix) (scaled_game (pos k) g)
 
--- of k times the gains
 abbrev pub AssignmentTimes : Type 0
 AssignmentTimes =
     (k : ℕ) (matrix : Matrix) (rows : ℕ) (g : Game) → IsAssignmentGame matrix rows g →

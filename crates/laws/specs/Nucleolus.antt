@@ -23,13 +23,11 @@ NucleolusIsUnique =
     (family : Family) (measure : Measure) (g : Game) (x y : Allocation) →
     IsNucleolus family measure g x → IsNucleolus family measure g y → IsSame g x y
 
--- where some allocation is in the core, the nucleolus is in the core
 abbrev pub NucleolusIsInCore : Type 0
 NucleolusIsInCore =
     (family : Family) (measure : Measure) (g : Game) (x z : Allocation) → IsMeasurable measure g.players →
     IsNucleolus family measure g x → InCore g z → InCore g x
 
--- where some allocation is in the core, the prenucleolus is the nucleolus, and the nucleolus is the prenucleolus
 abbrev pub WithACoreBothAreOne : Type 0
 WithACoreBothAreOne =
     (measure : Measure) (g : Game) (x z : Allocation) → IsMeasurable measure g.players → InCore g z →

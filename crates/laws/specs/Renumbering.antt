@@ -1,7 +1,7 @@
 -- A game with its players renumbered. Anonymity is among the axioms of the prenucleolus (Sobolev 1975).
 --
 --   IsRenumbering               two maps of the players' numbers are inverse to each other
---   coalition_where             the coalition of the players that pass a test
+--   coalition_where             the coalition of the players below n that pass a test
 --   renumbered_coalition        what the members of a coalition were
 --   renumbered_game             player i is now who was player number i of the map
 --   renumbered_shares           and so are the shares
@@ -24,7 +24,6 @@ pub record IsRenumbering (n : ℕ) (to back : ℕ → ℕ) : Type 0 where
   pub back_to : (i : ℕ) → i < n → back (to i) ≡ i
   pub to_back : (i : ℕ) → i < n → to (back i) ≡ i
 
--- the coalition of the players below n that pass a test
 abbrev pub coalition_where : ℕ → (ℕ → Bool) → ℕ
 coalition_where zero test = 0
 coalition_where (suc n) test = if test n then coalition_where n test + 2 ^ n else coalition_where n test

@@ -5,7 +5,7 @@
 --   SharesAddToAll            the shares add to the worth of all
 --   sum_game g h              the game in which each coalition is worth what it is in both together
 --   TotalsAdd                 the total in the sum of two games is the sum of the totals
---   SharesScale               of k times the worths, the shares are times k
+--   SharesScale               the shares in a game times k are those of the game of k times the worths
 --   WhoAddsNoLessGetsNoLess   a player that adds no less than another everywhere gets no less
 --   AlikePlayersGetAlike      players that the game doesn't tell apart get the same
 --   NullPlayersGetNothing     a player that adds nothing gets nothing
@@ -33,7 +33,6 @@ TotalsAdd =
     (g h : Game) (i : ℕ) → g.players ≡ h.players →
     shapley_total (sum_game g h) i ≡ shapley_total g i +ℤ shapley_total h i
 
--- the shares in a game times k are those of the game of k times the worths
 abbrev pub SharesScale : Type 0
 SharesScale = (k : ℤ) (g : Game) (x : Allocation) → IsShapley g x → IsShapley (scaled_game k g) (times k x)
 

@@ -2,7 +2,7 @@
 --
 --   thirds               shares of a third each
 --   MajorityGetsThirds   three who vote by majority get a third each
---   payments             of 1, 3/2 and 7/2
+--   payments             payments of 1, 3/2 and 7/2
 --   ThreeAirlinesPay     who need 2, 4 and 6 of a runway pay so (Littlechild 1974)
 use Rattle.std.specs.Prelude.{[], ◌∷◌, pos, neg_ℤ}
 use Rattle.definitions.specs.Games.{Allocation, IsNucleolus}
@@ -21,7 +21,6 @@ abbrev pub MajorityGetsThirds : Type 0
 MajorityGetsThirds =
     (family : Family) (measure : Measure) → IsNucleolus family measure (voting_game 2 (1 ∷ (1 ∷ (1 ∷ [])))) thirds
 
--- payments of 1, 3/2 and 7/2
 abbrev pub payments : Allocation
 payments = record { shares = neg_ℤ (pos 2) ∷ (neg_ℤ (pos 3) ∷ (neg_ℤ (pos 7) ∷ [])); den = pos 2 }
 

@@ -20,7 +20,6 @@ use Rattle.definitions.specs.Scales.{times}
 use Rattle.definitions.specs.declared.Family.{Family}
 use Rattle.definitions.specs.declared.Measure.{Measure}
 
--- each coalition is worth more by the numbers of its members
 abbrev pub shifted_game : (ℕ → ℤ) → Game → Game
 shifted_game b g = record { players = g.players; worth = λ s. g.worth s +ℤ sum_over g.players b s }
 
@@ -47,7 +46,6 @@ ShiftsChangeNothing = (b : ℕ → ℤ) (g : Game) (x : Allocation) → IsAlloca
 
 -- ---- and a change of the unit
 
--- each coalition is worth k times as much
 abbrev pub scaled_game : ℤ → Game → Game
 scaled_game k g = record { players = g.players; worth = λ s. k *ℤ g.worth s }
 

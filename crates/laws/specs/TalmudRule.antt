@@ -3,14 +3,14 @@
 --
 --   unclaimed             what of an amount a claim leaves
 --   IsGarment             two shares divide what they are together as the contested garment
---   claimed               a claim, over the denominator of the shares
---   EachTwoAreAGarment    each two claimants divide what they get together as the garment
+--   claimed               the claim of player i, over the denominator of the shares
+--   EachTwoAreAGarment    each two claimants divide what they get together as the contested garment
 --   IsConsistent          shares of the estate in which each two claimants do
 --   NoOtherIsConsistent   the rule's shares are the only ones of this kind
 --   TalmudSharesExist     each estate of at most the claims has shares of the rule
 --   BalanceIsTheGarment   in the core, to balance every two players is to be consistent
 --   EveryNucleolus        every nucleolus of the game has the rule's shares
---   LossesAreAlike        what is missing is divided as the estate is
+--   LossesAreAlike        what is missing is divided as an estate is (self-duality)
 --   MoreEstate            of a greater estate nobody gets less
 --   NobodyGetsMore        nobody gets more than the claim, nor less than nothing
 --   WhoClaimsMore         who claims no less gets no less, and loses no less
@@ -37,11 +37,9 @@ abbrev pub IsGarment : ℤ → ℤ → ℤ → ℤ → Type 0
 IsGarment claim other_claim got other_got =
     got -ℤ unclaimed (got +ℤ other_got) other_claim ≡ other_got -ℤ unclaimed (got +ℤ other_got) claim
 
--- the claim of player i, over the denominator of the shares
 abbrev pub claimed : List ℕ → Allocation → ℕ → ℤ
 claimed claims x i = x.den *ℤ pos (slice_index claims i)
 
--- each two claimants divide what they get together as the contested garment
 abbrev pub EachTwoAreAGarment : Type 0
 EachTwoAreAGarment =
     (estate : ℕ) (claims : List ℕ) (x : Allocation) (i j : ℕ) → IsTalmud estate claims x →
@@ -86,7 +84,6 @@ EveryNucleolus =
 
 -- ---- gains and losses
 
--- what is missing is divided as an estate is (self-duality)
 abbrev pub LossesAreAlike : Type 0
 LossesAreAlike =
     (estate missing : ℕ) (claims : List ℕ) (x y : Allocation) (i : ℕ) →

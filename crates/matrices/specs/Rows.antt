@@ -2,7 +2,7 @@
 --
 --   number_at rows i j     the number of row i and column j, 0 outside
 --   entries_of rows        the same as a matrix of natural numbers
---   HaveEntries rows       each number is from 0 to below 2 ^ 40
+--   HaveEntries rows       each number of each row is from 0 to below 2 ^ 40
 --   HaveLength n rows      each row has n numbers
 use Rattle.std.specs.Prelude.{◌≡◌, ℕ, List, [], length, All, ℤ, pos, unsigned_abs, slice_index_or}
 use Rattle.definitions.specs.Classes.{Matrix}
@@ -15,7 +15,6 @@ number_at rows i j = slice_index_or (slice_index_or rows i []) j (pos 0)
 abbrev pub entries_of : List (List ℤ) → Matrix
 entries_of rows i j = unsigned_abs (number_at rows i j)
 
--- each number of each row is from 0 to below 2 ^ 40
 abbrev pub HaveEntries : List (List ℤ) → Type 0
 HaveEntries rows = All (All IsNumber) rows
 

@@ -32,7 +32,6 @@ LosesInTheCore g h i =
     × ((z : Allocation) × InCore h z)
     × ((x y : Allocation) → InCore g x → InCore h y → (share y i *ℤ x.den) <ℤ (share x i *ℤ y.den))
 
--- there are such games of any number of players from five on
 abbrev pub SomebodyLosesInTheCore : Type 0
 SomebodyLosesInTheCore =
     (n : ℕ) → 5 ≤ n → (g : Game) × (h : Game) × (i : ℕ) × IsGameOf n g × IsGameOf n h × LosesInTheCore g h i

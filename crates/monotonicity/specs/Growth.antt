@@ -5,8 +5,8 @@
 --   WholeGrows d g h             all together are so
 --   GetsEqualPart d n x y i      of n players, player i gets at y just d/n more than at x
 --   PerHeadEachGetsAnEqualPart   so does each player of the prenucleolus per head, where the whole grows by d
---   WithCoresTheNucleolusDoes    and of the nucleolus per head, where both games have core points
---   ShapleyEachGetsAnEqualPart   and of the Shapley value
+--   WithCoresTheNucleolusDoes    and so does the nucleolus per head, where both games have core points
+--   ShapleyEachGetsAnEqualPart   and so does the Shapley value
 --   two_contracts all            1 and 2 earn 1 together, 1, 3 and 4 earn 2, and all four are worth all
 --   before, after                the nucleolus where that is 3, and where it is 4
 --   WhoGetsLessOfMore            there player 1 gets less of more
@@ -31,7 +31,6 @@ pub record GroupGrows (d : ℤ) (t : ℕ) (g h : Game) : Type 0 where
   pub more : h.worth t ≡ g.worth t +ℤ d
   pub others : (s : ℕ) → s < 2 ^ g.players → s ≢ t → h.worth s ≡ g.worth s
 
--- so are all together
 abbrev pub WholeGrows : ℤ → Game → Game → Type 0
 WholeGrows d g h = GroupGrows d (grand_coalition g.players) g h
 
@@ -46,14 +45,12 @@ PerHeadEachGetsAnEqualPart =
     IsNucleolus Preimputations PerHead g x → IsNucleolus Preimputations PerHead h y → i < g.players →
     GetsEqualPart d g.players x y i
 
--- and so does the nucleolus per head, where both games have core points
 abbrev pub WithCoresTheNucleolusDoes : Type 0
 WithCoresTheNucleolusDoes =
     (d : ℤ) (g h : Game) (x y a b : Allocation) (i : ℕ) → g.players ≤ 16 → WholeGrows d g h → InCore g a → InCore h b →
     IsNucleolus Imputations PerHead g x → IsNucleolus Imputations PerHead h y → i < g.players →
     GetsEqualPart d g.players x y i
 
--- and so does the Shapley value
 abbrev pub ShapleyEachGetsAnEqualPart : Type 0
 ShapleyEachGetsAnEqualPart =
     (d : ℤ) (g h : Game) (x y : Allocation) (i : ℕ) → WholeGrows d g h → IsShapley g x → IsShapley h y →

@@ -2,8 +2,8 @@
 -- What multipliers of a stage program say of shares and excesses.
 --
 --   reached               what a coalition gets, and the excess of a level times what the coalition's is divided by
---   IsReading             shares and measured excesses of levels, over a denominator, that meet every column
---   RowMultipliers        multipliers of the rows, over a denominator
+--   IsReading             shares x and measured excesses e of the levels, over a denominator, that meet every column
+--   RowMultipliers        multipliers of the rows of a stage program, over a denominator
 --   share_of, excess_of   the multipliers of a player's row and of a level's row
 --   nowhere               no coalition is outside
 use Rattle.std.specs.Prelude.{◌≡◌, ℕ, ◌+◌, ◌<◌, Bool, false, IsTrue, List, length, ℤ}
@@ -22,7 +22,6 @@ use Rattle.nested_programs.specs.Stage.{Stage}
 abbrev pub reached : Measure → ℕ → (ℕ → ℤ) → (ℕ → ℤ) → ℕ → ℕ → ℤ
 reached measure n x e s k = sum_over n x s +ℤ e k *ℤ pos (divisor measure s)
 
--- shares x and measured excesses e of the levels, over a denominator, that meet every column
 pub record IsReading (q : Stage) (outside : ℕ → Bool) (x e : ℕ → ℤ) (den : ℤ) : Type 0 where
   pub positive : pos 1 ≤ℤ den
   pub whole : sum_below q.game.players x ≡ den *ℤ q.game.worth (grand_coalition q.game.players)
@@ -34,7 +33,6 @@ pub record IsReading (q : Stage) (outside : ℕ → Bool) (x e : ℕ → ℤ) (d
   pub outer : (s : ℕ) → IsTrue (outside s)
       → (den *ℤ q.game.worth s) ≤ℤ reached q.measure q.game.players x e s (length q.front)
 
--- multipliers of the rows of a stage program, over a denominator
 pub record RowMultipliers : Type 0 where
   pub num : List ℤ
   pub den : ℤ

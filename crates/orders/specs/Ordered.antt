@@ -3,7 +3,7 @@
 --   OrderedNumbers    the number of each player, and the players in their order
 --   ordered_numbers   these parts together
 --   IsOrdered         what holds of these
---   place o k         the player at place k
+--   place o k         the player at place k, and its number
 --   number_at o k     its number
 use Rattle.std.specs.Prelude.{ℕ, ◌^◌, ◌<◌, ◌≤◌, List, length, slice_index, All}
 use Rattle.orders.specs.Orders.{IsSortedOrder}
@@ -23,7 +23,6 @@ pub record IsOrdered (o : OrderedNumbers) : Type 0 where
   pub small : All (λ c. c < 2 ^ 40) o.numbers
   pub sorted : IsSortedOrder o.numbers o.order
 
--- the player at place k, and its number
 abbrev pub place : OrderedNumbers → ℕ → ℕ
 place o k = slice_index o.order k
 

@@ -3,7 +3,7 @@
 --   WorthTable       worths in mask order
 --   game_of          the game of the listed worths
 --   IsSmallTable     1 to 16 players, and each worth below 2 ^ 46 in size
---   IsSmallPoint     at most 16 shares below 2 ^ 84 in size, over a denominator from 1 to 2 ^ 38
+--   IsSmallPoint     at most 16 shares, each below 2 ^ 84 in size, over a denominator from 1 to 2 ^ 38
 --   IsSmallerPoint   shares below 2 ^ 74 in size, over a denominator of at most 2 ^ 28
 --   Fits             excesses of the point have the measure
 --   scale_limit      the greatest size of a scale
@@ -32,7 +32,6 @@ pub record IsSmallTable (t : WorthTable) : Type 0 where
   pub each_once : length t.worths + 1 ≡ 2 ^ t.players
   pub small : All (λ w. unsigned_abs w < 2 ^ 46) t.worths
 
--- at most 16 shares, each below 2 ^ 84 in size, over a denominator from 1 to 2 ^ 38
 pub record IsSmallPoint (x : Allocation) : Type 0 where
   pub few : length x.shares ≤ 16
   pub positive : pos 1 ≤ℤ x.den
@@ -53,7 +52,6 @@ abbrev pub scale_limit : Measure → ℕ
 scale_limit Plain = 2 ^ 38
 scale_limit PerHead = 2 ^ 28
 
--- measured excesses are below this in size
 abbrev pub excess_limit : Measure → ℕ
 excess_limit Plain = 2 ^ 89
 excess_limit PerHead = 2 ^ 99

@@ -4,8 +4,8 @@
 --
 --   IsNucleolusOverGroups   the nucleolus over every linearly ordered abelian group with a unit above zero
 --   IsNucleolusForReals     written as real numbers, the nucleolus among real shares
---   InCoreForReals          written as real numbers, a core point
---   InPrekernelForReals     written as real numbers, in the prekernel
+--   InCoreForReals          written as real numbers, the shares are a core point
+--   InPrekernelForReals     written as real numbers, the shares lie in the prekernel
 --   HasNoCoreForReals       no real shares lie in the core
 use Rattle.std.specs.Prelude.{ℕ, ℤ, List}
 use Rattle.definitions.specs.Games.{Game, Allocation}
@@ -20,16 +20,13 @@ abbrev pub IsNucleolusOverGroups : Family → Measure → Game → Allocation �
 IsNucleolusOverGroups family measure g x =
     (N : Numbers (ℕ → ℤ)) → IsOrderedGroup N → IsNucleolusOver N family measure g x
 
--- written as real numbers, the shares are the nucleolus among real shares
 abbrev pub IsNucleolusForReals : Family → Measure → Game → Allocation → Type 0
 IsNucleolusForReals family measure g x =
     (N : Numbers Real) → AreReals N → (y : List Real) × IsWrittenAs N g x y × IsNucleolusAmong N family measure g y
 
--- written as real numbers, the shares are a core point
 abbrev pub InCoreForReals : Game → Allocation → Type 0
 InCoreForReals g x = (N : Numbers Real) → AreReals N → (y : List Real) × IsWrittenAs N g x y × InCoreOver N g y
 
--- written as real numbers, the shares lie in the prekernel
 abbrev pub InPrekernelForReals : Game → Allocation → Type 0
 InPrekernelForReals g x =
     (N : Numbers Real) → AreReals N → (y : List Real) × IsWrittenAs N g x y × InPrekernelOver N g y

@@ -8,7 +8,7 @@
 --   total_below            f 0 + .. + f (n - 1)
 --   total_over             the sum of the members' numbers
 --   placed, sorted_by      a list of numbers from the greatest
---   IsLesserBy             the first list has the lesser number where the two first differ
+--   IsLesserBy             at the first place where the two lists differ, the first list has the lesser number
 --   ComesBeforeBy          the two have one length, and the first is lesser
 use Rattle.std.specs.Prelude.{◌≡◌, ◌⊎◌, ℕ, zero, suc, Bool, IsTrue, List, [], ◌∷◌}
 use Rattle.std.specs.Prelude.{length, ℤ, pos, negsuc}
@@ -35,7 +35,6 @@ Less N a b = ¬ AtMost N b a
 abbrev pub Equal : {C : Type 0} → Numbers C → C → C → Type 0
 Equal N a b = AtMost N a b × AtMost N b a
 
--- a linearly ordered abelian group with a unit above zero
 pub record IsOrderedGroup {C : Type 0} (N : Numbers C) : Type 0 where
   pub linear : (a b : C) → AtMost N a b ⊎ AtMost N b a
   pub transitive : (a b c : C) → AtMost N a b → AtMost N b c → AtMost N a c
@@ -75,7 +74,6 @@ abbrev pub sorted_by : {C : Type 0} → Numbers C → List C → List C
 sorted_by N [] = []
 sorted_by N (a ∷ l) = placed N a (sorted_by N l)
 
--- at the first place where the two lists differ, the first list has the lesser number
 abbrev pub IsLesserBy : {C : Type 0} → Numbers C → List C → List C → Type 0
 IsLesserBy N [] k = ⊥
 IsLesserBy N (a ∷ l) [] = ⊥

@@ -101,7 +101,6 @@ abbrev pub BeatsOver : {C : Type 0} → Numbers C → Measure → Game → Alloc
 BeatsOver N measure g x y =
     ComesBeforeBy N (sorted_by N (fraction_list N measure g x)) (sorted_by N (number_list N measure g y x.den))
 
--- the same shares
 abbrev pub IsSameOver : {C : Type 0} → Numbers C → Game → Allocation → List C → Type 0
 IsSameOver N g x y =
     (i : ℕ) → i < g.players → Equal N (times N (share x i) N.unit) (times N x.den (number_of N y i))

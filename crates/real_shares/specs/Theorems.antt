@@ -40,7 +40,6 @@ SoundOverGroups =
     → IsMeasurable measure g.players → HasForm mode g.players levels → Certifies mode family measure g x levels
     → IsNucleolusOverGroups family measure g x
 
--- and among real shares
 abbrev pub SoundForReals : Type 0
 SoundForReals =
     (mode : Mode) (family : Family) (measure : Measure) (g : Game) (x : Allocation) (levels : List Level)

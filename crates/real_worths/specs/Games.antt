@@ -28,7 +28,6 @@ pub record NumberGame (C : Type 0) : Type 0 where
   pub players : ℕ
   pub worth : ℕ → C
 
--- the game of whole numbers, times the unit
 abbrev pub whole_worths : {C : Type 0} → Numbers C → Game → NumberGame C
 whole_worths N g = record { players = g.players; worth = λ s. times N (g.worth s) N.unit }
 
@@ -68,7 +67,6 @@ InCoreIn N g y =
 
 -- ---- players
 
--- each number is twice a number
 abbrev pub CanHalve : {C : Type 0} → Numbers C → Type 0
 CanHalve {C} N = (c : C) → (h : C) × Equal N (N.plus h h) c
 
@@ -78,7 +76,6 @@ AddsNoLessIn N g i j =
     (s : ℕ) → s < 2 ^ g.players → has_player s i ≡ false → has_player s j ≡ false →
     AtMost N (g.worth (s + singleton j)) (g.worth (s + singleton i))
 
--- and just that
 abbrev pub AreInterchangeableIn : {C : Type 0} → Numbers C → NumberGame C → ℕ → ℕ → Type 0
 AreInterchangeableIn N g i j =
     (s : ℕ) → s < 2 ^ g.players → has_player s i ≡ false → has_player s j ≡ false →

@@ -37,7 +37,6 @@ NucleolusIsUnique =
     (N : Numbers Real) (family : Family) (g : NumberGame Real) (y z : List Real) → AreReals N →
     IsNucleolusIn N family g y → IsNucleolusIn N family g z → HaveSameIn N g y z
 
--- where some shares are in the core, the nucleolus is in the core
 abbrev pub NucleolusIsInCore : Type 0
 NucleolusIsInCore =
     (N : Numbers Real) (family : Family) (g : NumberGame Real) (y z : List Real) → AreReals N →
@@ -58,7 +57,6 @@ WhoAddsNoLessGetsNoLess =
     IsNucleolusIn N family g y → i < g.players → j < g.players → AddsNoLessIn N g i j →
     AtMost N (number_of N y j) (number_of N y i)
 
--- players that the game doesn't tell apart get the same
 abbrev pub AlikePlayersGetAlike : Type 0
 AlikePlayersGetAlike =
     (N : Numbers Real) (family : Family) (g : NumberGame Real) (y : List Real) (i j : ℕ) → AreReals N →
@@ -72,7 +70,6 @@ DummiesGetTheirWorth =
     IsNucleolusIn N family g y → i < g.players → IsDummyIn N g i →
     Equal N (number_of N y i) (g.worth (singleton i))
 
--- each real number is twice a real number
 abbrev pub RealsCanHalve : Type 0
 RealsCanHalve = (N : Numbers Real) → AreReals N → CanHalve N
 

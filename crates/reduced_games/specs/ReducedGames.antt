@@ -43,7 +43,6 @@ pub record AreSome (n m : ℕ) (who : ℕ → ℕ) : Type 0 where
   pub players : (k : ℕ) → k < m → who k < n
   pub once : (k l : ℕ) → k < m → l < m → who k ≡ who l → k ≡ l
 
--- the members of s who stay, by their new numbers
 abbrev pub staying : ℕ → (ℕ → ℕ) → ℕ → ℕ
 staying m who s = coalition_where m (λ k. has_player s (who k))
 
@@ -129,7 +128,6 @@ PrekernelByPairs =
     ↔ ((i j : ℕ) (h : Game) → i < g.players → j < g.players → i ≢ j → IsReducedGame 2 (the_two i j) g x h →
     IsStandard h (staying_shares 2 (the_two i j) x))
 
--- so at the prenucleolus each two have it
 abbrev pub EachTwoAreStandard : Type 0
 EachTwoAreStandard =
     (g h : Game) (x : Allocation) (i j : ℕ) → i < g.players → j < g.players → i ≢ j →

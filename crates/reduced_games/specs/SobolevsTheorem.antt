@@ -24,7 +24,6 @@ use Rattle.reduced_games.specs.ReducedGames.{AreSome, staying_shares, IsReducedG
 abbrev pub IsPlayable : Game → Type 0
 IsPlayable g = (1 ≤ g.players) × (g.worth 0 ≡ pos 0)
 
--- those who stay are numbered in their order
 abbrev pub KeepTheirOrder : ℕ → (ℕ → ℕ) → Type 0
 KeepTheirOrder m who = (k l : ℕ) → k < l → l < m → who k < who l
 
@@ -51,7 +50,6 @@ SobolevsTheorem =
 abbrev pub SomeRuleMeetsThem : Type 0
 SomeRuleMeetsThem = (rule : Game → Allocation) × MeetsSobolevsAxioms rule
 
--- but the Shapley value doesn't meet them
 abbrev pub ShapleyIsntSuchARule : Type 0
 ShapleyIsntSuchARule =
     (rule : Game → Allocation) → ((g : Game) → IsPlayable g → IsShapley g (rule g)) → ¬ MeetsSobolevsAxioms rule

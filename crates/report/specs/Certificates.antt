@@ -8,7 +8,7 @@
 --   bound_pairs        players and the weights of their bounds
 --   excess_of          the excess of a level, as a fraction
 --   level_tree         a level
---   certificate_tree   the levels and the mode
+--   certificate_tree   the levels, from the first, and the mode
 use Rattle.std.specs.Prelude.{ℕ, ℤ, List, map, codes}
 use Rattle.serde_json.specs.Data.{Data, number, string, array, object, item, no_items, member, no_members}
 use Rattle.serde_json.specs.Find.{of_integer}
@@ -50,7 +50,6 @@ level_tree k l =
     (member (codes "excess") (scaled_data k (excess_of l))
     (member (codes "total") (weight_data l.total) no_members)))))
 
--- the levels, from the first, and the mode
 abbrev pub certificate_tree : ℕ → CertificateData → Data
 certificate_tree k c =
     object

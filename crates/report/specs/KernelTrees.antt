@@ -1,13 +1,12 @@
 -- What is said of shares and the prekernel as JSON, each object's keys ascending.
 --
---   prekernel_tree       the shares are in it
+--   prekernel_tree       the shares are in the prekernel
 --   not_prekernel_tree   two players whose surpluses against each other differ, and both surpluses
 use Rattle.std.specs.Prelude.{ℕ, codes}
 use Rattle.serde_json.specs.Data.{Data, string, object, member, no_members}
 use Rattle.fractions.specs.Fraction.{Fraction}
 use Rattle.report.specs.Values.{scaled_data, player_data}
 
--- the shares are in the prekernel
 abbrev pub prekernel_tree : Data
 prekernel_tree = object (member (codes "answer") (string (codes "prekernel")) no_members)
 

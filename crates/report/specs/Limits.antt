@@ -3,7 +3,7 @@
 --   IsScale            a scale, from 1 to 65,536
 --   IsFine             a denominator that can be printed over a scale
 --   IsFineVerdict      the excess of a verdict has such a denominator
---   IsFineIfThere      so has the fraction, where there is one
+--   IsFineIfThere      the fraction has such a denominator, where there is one
 --   HasFineNumbers     each fraction in an answer has one
 --   IsGameTree         the tree of a game that can be printed
 --   HasSmallNumbers    the weights and the k of a collection are below 2^63 in size
@@ -28,7 +28,6 @@ use Rattle.kohlberg.specs.declared.verdicts.Verdict.TheVariants.{No}
 use Rattle.kohlberg.specs.declared.verdicts.Reason.TheVariants.{OutsideAbove}
 use Rattle.fractions.specs.Fraction.{Fraction}
 
--- a scale
 abbrev pub IsScale : ℤ → Type 0
 IsScale k = (pos 1 ≤ℤ k) × (k ≤ℤ pos 65536)
 
@@ -41,7 +40,6 @@ abbrev pub IsFineVerdict : CheckVerdict → Type 0
 IsFineVerdict (No (OutsideAbove j e)) = IsFine e.den
 IsFineVerdict _ = ⊤
 
--- the fraction has such a denominator, where there is one
 abbrev pub IsFineIfThere : Option Fraction → Type 0
 IsFineIfThere None = ⊤
 IsFineIfThere (Some f) = IsFine f.den
@@ -95,7 +93,6 @@ HasPrintableForm (Usage kind) = ⊤
 HasPrintableForm (Refused refusal) = ⊤
 HasPrintableForm (Summary s) = ⊤
 
--- the answer can be printed over a scale
 pub record IsPrintable (answer : Answer) : Type 0 where
   pub fine : HasFineNumbers answer
   pub form : HasPrintableForm answer

@@ -29,7 +29,6 @@ use Rattle.report.specs.ShareLists.{printed_share, share_list}
 use Rattle.report.specs.Words.{family_word}
 use Rattle.report.specs.Lines.{nucleolus_tree}
 
--- the fraction is read from its text
 abbrev pub IsReadBack : Fraction → Type 0
 IsReadBack f = parsed (fraction_text f) ≡ Some f
 

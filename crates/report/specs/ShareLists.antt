@@ -14,7 +14,6 @@ use Rattle.fractions.specs.Fraction.{Fraction}
 use Rattle.json_trees.specs.LowestTerms.{in_lowest_terms}
 use Rattle.report.specs.Values.{fraction_data}
 
--- a numerator of a share
 abbrev pub IsNumerator : ℤ → Type 0
 IsNumerator z = unsigned_abs z < 2 ^ 110
 

@@ -1,8 +1,8 @@
 -- Fractions over a scale, players and coalitions as JSON.
 --
 --   fraction_data    the text of a fraction
---   scaled_data      the text of a fraction over the scale
---   integer_data     the text of an integer over the scale
+--   scaled_data      the text of a fraction over the scale k
+--   integer_data     the text of an integer over the scale k
 --   count_data       a level, or the number of a refusal or a reason
 --   player_data      a player, from 1
 --   player_numbers   the members of a coalition
@@ -17,11 +17,9 @@ use Rattle.json_trees.specs.LowestTerms.{over_scale}
 abbrev pub fraction_data : Fraction → Data
 fraction_data f = string (fraction_text f)
 
--- the text of a fraction over the scale k
 abbrev pub scaled_data : ℕ → Fraction → Data
 scaled_data k f = fraction_data (over_scale (pos k) f)
 
--- the text of an integer over the scale k
 abbrev pub integer_data : ℕ → ℤ → Data
 integer_data k z = scaled_data k (record { num = z; den = pos 1 })
 

@@ -1,9 +1,9 @@
 -- The words that stand in a line.
 --
 --   refusal_name   the name of a refusal
---   usage_word     what is wrong with the words of a command line
+--   usage_word     the word for what is wrong with the words of a command line
 --   family_word    the nucleolus, or the prenucleolus
---   mode_word      what the levels of a certificate fix
+--   mode_word      the word for what the levels of a certificate fix
 --   kind_word      the kind of a generated game
 use Rattle.std.specs.Prelude.{ℕ, List, codes}
 use Rattle.definitions.specs.declared.Family.{Family}
@@ -34,7 +34,6 @@ refusal_name TooFine = codes "TooFine"
 refusal_name Certificate = codes "Certificate"
 refusal_name Quota = codes "Quota"
 
--- the word for what is wrong with the words of a command line
 abbrev pub usage_word : UsageKind → List ℕ
 usage_word usage.Words = codes "words"
 usage_word usage.Class = codes "class"
@@ -45,7 +44,6 @@ abbrev pub family_word : Family → List ℕ
 family_word Imputations = codes "nucleolus"
 family_word Preimputations = codes "prenucleolus"
 
--- the word for what the levels of a certificate fix
 abbrev pub mode_word : Mode → List ℕ
 mode_word mode.Players = codes "players"
 mode_word mode.Span = codes "span"

@@ -3,12 +3,12 @@
 -- coalitions that have one.
 --
 --   front_columns   the columns in front
---   front_level     the level of the coalitions' columns
+--   front_level     the level row of the coalitions' columns
 --   front_rows      the number of level rows
 --   has_mark        whether a coalition has a column
---   marked_column   the column of a coalition, if it has one
+--   marked_column   the column of coalition s, if it has one
 --   lazy_columns    all columns in their order
---   IsSmallLevel    a level of at most 65536 coalitions
+--   IsSmallLevel    a level of at most 65536 coalitions of n players
 use Rattle.std.specs.Prelude.{ℕ, ◌+◌, ◌^◌, ◌<◌, ◌≤◌, Bool, nat_lt, List, [], ◌++◌}
 use Rattle.std.specs.Prelude.{length, if◌then◌else◌, Option, Some, None}
 use Rattle.std.specs.List.{AllByRecursion}
@@ -24,7 +24,6 @@ abbrev pub front_columns : Game → Option Front → List (Option Column)
 front_columns g None = []
 front_columns g (Some f) = inner_columns f.family g f.levels.now
 
--- the level row of the coalitions' columns
 abbrev pub front_level : Option Front → Option ℕ
 front_level None = None
 front_level (Some f) = Some (length f.levels.now)
@@ -38,7 +37,6 @@ abbrev pub has_mark : Option (List ℕ) → ℕ → Bool
 has_mark None s = nat_lt 0 s
 has_mark (Some words) s = is_marked words s
 
--- the column of coalition s, if it has one
 abbrev pub marked_column : Game → Option ℕ → Option (List ℕ) → ℕ → Option Column
 marked_column g level marks s = if has_mark marks s then Some (plain g s level) else None
 
@@ -47,6 +45,5 @@ abbrev pub lazy_columns : Game → Option Front → Option (List ℕ) → List (
 lazy_columns g front marks =
     front_columns g front ++ listed (2 ^ g.players) (marked_column g (front_level front) marks)
 
--- a level of at most 65536 coalitions of n players
 abbrev pub IsSmallLevel : ℕ → Level → Type 0
 IsSmallLevel n l = (length l.coalitions ≤ 65536) × AllByRecursion (λ c. c.0 < 2 ^ n) l.coalitions

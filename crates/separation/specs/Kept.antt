@@ -1,6 +1,6 @@
 -- Columns kept under their numbers, as a program.
 --
---   is_level            the level of a column is a level row
+--   is_level            the level of a column is level row k
 --   plain_entry         the entry in a row, unless the column is negated
 --   column_entry        the entry of a column in a row
 --   column_at           the column under a number
@@ -22,7 +22,6 @@ use Rattle.simplex.specs.Laws.{IsInBandB}
 use Rattle.separation.specs.Stage.{signed}
 use Rattle.separation.specs.declared.column.Column.{Column}
 
--- the level of a column is level row k
 abbrev pub is_level : Option ℕ → ℕ → Bool
 is_level None k = false
 is_level (Some l) k = nat_eq l k

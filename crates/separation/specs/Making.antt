@@ -9,7 +9,7 @@
 --   single, bound     the column of a player alone, and this negated
 --   alone_columns     those of all players alone
 --   AddsSome          columns, and behind them the first few of some more
---   IsOuter           the column of a coalition, where it is outside
+--   IsOuter           the column of coalition s, where it is outside
 --   AreOuter          the columns of the coalitions outside
 --   EndsOuter         columns, and behind them those of the coalitions outside
 --   inner_columns     the columns in front of these
@@ -28,7 +28,6 @@ use Rattle.separation.specs.Stage.{is_imputations, earlier_of}
 use Rattle.separation.specs.Kept.{column_at}
 use Rattle.separation.specs.declared.column.Column.{Column}
 
--- the first n of a sequence
 abbrev pub listed : ℕ → (ℕ → Option Column) → List (Option Column)
 listed zero f = []
 listed (suc n) f = listed n f ++ f n ∷ []
@@ -65,11 +64,9 @@ bound family g front i =
 abbrev pub alone_columns : Family → Game → List Level → List (Option Column)
 alone_columns family g front = listed g.players (single family g) ++ listed g.players (bound family g front)
 
--- columns, and behind them the first few of some more
 abbrev pub AddsSome : List (Option Column) → List (Option Column) → List (Option Column) → Type 0
 AddsSome columns more longer = (k : ℕ) × (longer ≡ columns ++ take k more)
 
--- the column of coalition s, where it is outside
 abbrev pub IsOuter : Game → List Level → ℕ → Option Column → Type 0
 IsOuter g front s None = ¬ IsOutside Span g.players front s
 IsOuter g front s (Some c) = IsOutside Span g.players front s × (c ≡ plain g s (Some (length front)))

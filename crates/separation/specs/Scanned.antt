@@ -40,7 +40,6 @@ use Rattle.separation.specs.declared.lazy.Lazy.{Lazy}
 use Rattle.separation.specs.declared.narrow.Highest.{Highest}
 use Rattle.separation.specs.declared.scan.Scan.{Scan}
 
--- the cost of the column under a number is above its value
 abbrev pub RisesAt : {X : Type 0} {W : Ghosts X} → Lazy X W → Multipliers → Bool → ℕ → Type 0
 RisesAt {W = W} p m with_costs id =
     Rises p.measure m.num.items m.den p.players with_costs

@@ -2,7 +2,7 @@
 -- What multipliers make of columns.
 --
 --   multiplier_at       the multiplier of a row
---   player_multiplier   the multiplier of a player, or 0 past the players
+--   player_multiplier   the multiplier of player i, or 0 past n players
 --   member_multiplier   the multiplier of one of eight players, if the coalition has it
 --   eight               the multipliers of the members of a coalition of eight players
 --   IsEight, IsTable    a number is such a sum, and small; a table of such sums
@@ -34,7 +34,6 @@ use Rattle.separation.specs.declared.tables.Sums.TheVariants.{Narrow, Wide}
 abbrev pub multiplier_at : List ℤ → ℕ → ℤ
 multiplier_at num r = slice_index_or num r (pos 0)
 
--- the multiplier of player i, or 0 past n players
 abbrev pub player_multiplier : List ℤ → ℕ → ℕ → ℤ
 player_multiplier num n i = if nat_lt i n then multiplier_at num i else pos 0
 

@@ -2,11 +2,11 @@
 --
 --   IsSparse         entries of one sign and of size at most 1, and at most one of them in the level rows
 --   IsInBandA        entries of one sign and of size at most 1, and few of them in the level rows
---   sizes            the sum of the sizes of the first entries
+--   sizes            the sum of the sizes of the first n entries
 --   IsInBandB        few rows, and columns with a small sum of sizes
 --   IsLawful         one of both, few player rows, right sides 0 or 1, and small costs
---   first_columns    the first columns of a sequence
---   put              the columns with another one at a place
+--   first_columns    the first n columns of a sequence
+--   put              the columns with another one at place k
 --   AreMinorsSmall   each determinant of columns, units and at most one right side is below 2^58
 use Rattle.std.specs.Prelude.{ℕ, zero, suc, ◌+◌, ◌^◌, ◌≤◌, ◌<◌, ◌≡◌, ◌⊎◌, IsTrue}
 use Rattle.std.specs.Prelude.{cond}
@@ -28,7 +28,6 @@ pub record IsInBandA (players : ℕ) (p : Program) : Type 0 where
   pub columns : (id : ℕ) → IsTrue (p.is_column id) → IsSparse players p.rows (p.entry id)
   pub right : IsSparse players p.rows p.right
 
--- the sum of the sizes of the first n entries
 abbrev pub sizes : ℕ → (ℕ → ℤ) → ℕ
 sizes zero a = 0
 sizes (suc n) a = sizes n a + unsigned_abs (a n)
@@ -47,12 +46,10 @@ pub record IsLawful (players : ℕ) (p : Program) : Type 0 where
   pub rights : (i : ℕ) → i < p.rows → (p.right i ≡ pos 0) ⊎ (p.right i ≡ pos 1)
   pub costs : (id : ℕ) → IsTrue (p.is_column id) → unsigned_abs (p.cost id) < 2 ^ 46
 
--- the first n columns of a sequence
 abbrev pub first_columns : ℕ → (ℕ → Column) → List Column
 first_columns zero f = []
 first_columns (suc n) f = f 0 ∷ first_columns n (λ k. f (suc k))
 
--- the columns with another one at place k
 abbrev pub put : (ℕ → Column) → ℕ → Column → ℕ → Column
 put f k s i = cond (nat_eq i k) s (f i)
 

@@ -1,11 +1,11 @@
 -- For the private functions of this crate.
 -- The weights of a basis as the list of an answer, in lowest terms.
 --
---   is_positive   a number is positive
+--   is_positive   whether a number is positive
 --   with_weight   one more column, if its weight is positive
 --   listed        the columns that have a positive weight, by their positions
 --   IsMultiple    a number divides another
---   IsCommon      the greatest common divisor of the denominator and the weights
+--   IsCommon      the greatest common divisor of the denominator and the weights of the right sides
 --   AreReduced    the listed weights and the denominator over their greatest common divisor
 use Rattle.std.specs.Prelude.{ℕ, zero, suc, ◌<◌, ◌≡◌, Bool, true, false, cond, ℤ}
 use Rattle.std.specs.Prelude.{pos, negsuc, ◌*ℤ◌}
@@ -15,7 +15,6 @@ use Rattle.determinants.specs.Matrix.{entry_at}
 use Rattle.simplex.specs.Tableau.{id_at}
 use Rattle.simplex.specs.declared.state.State.{State}
 
--- whether a number is positive
 abbrev pub is_positive : ℤ → Bool
 is_positive (pos zero) = false
 is_positive (pos (suc n)) = true
@@ -35,7 +34,6 @@ listed ids w (suc k) = with_weight (id_at ids k) (w k) (listed ids w k)
 pub record IsMultiple (c z : ℤ) : Type 0 where
   pub divides : unsigned_abs c ∣ unsigned_abs z
 
--- the greatest common divisor of the denominator and the weights of the right sides
 pub record IsCommon (ts : List ℤ) (n : ℕ) (d c : ℤ) : Type 0 where
   pub positive : pos 0 <ℤ c
   pub den : unsigned_abs c ∣ unsigned_abs d

@@ -10,7 +10,6 @@ use Rattle.determinants.specs.Basis.{dot}
 use Rattle.determinants.specs.Matrix.{entry_at}
 use Rattle.spans.specs.Span.{vector, flag}
 
--- the bit of s is set
 abbrev pub is_marked : List ℕ → ℕ → Bool
 is_marked words s = has_player (slice_index_or words (s / 64) 0) (s % 64)
 

@@ -21,7 +21,6 @@ pub record IsLastPlace (numbers : List ℤ) (slot m p : ℕ) : Type 0 where
   pub has_slot : 0 < p → slot_of (number_at numbers (p - 1)) ≡ slot
   pub none_behind : (a : ℕ) → p ≤ a → a < m → slot_of (number_at numbers a) ≢ slot
 
--- the last place of each slot, and before each place the last one of its slot
 pub record ArePlaces (numbers : List ℤ) (last before : List ℕ) : Type 0 where
   pub lasts : (slot : ℕ) → slot < 1024 → IsLastPlace numbers slot 256 (slice_index_or last slot 0)
   pub befores : (a : ℕ) → a < 256

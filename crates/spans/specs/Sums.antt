@@ -1,6 +1,6 @@
 -- Sums over coalitions of a number for each player, by two tables.
 --
---   number_at              the number of a player
+--   number_at              the number of player i
 --   eight_sum              the sum over a coalition of the eight players from `first` on
 --   IsEightSum             a number is such a sum; with numbers of size b it is at most 8 b in size
 --   AreEightSums           the tables of the first eight players and of the next eight
@@ -11,7 +11,6 @@ use Rattle.std.specs.Prelude.{pos, ◌+ℤ◌, slice_index_or}
 use Rattle.std.specs.Prelude.{unsigned_abs}
 use Rattle.definitions.specs.Coalitions.{sum_over}
 
--- the number of player i
 abbrev pub number_at : List ℤ → ℕ → ℤ
 number_at numbers i = slice_index_or numbers i (pos 0)
 

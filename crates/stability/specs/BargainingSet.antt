@@ -9,7 +9,7 @@
 --   InBargainingSet g x          an imputation at which each objection can be countered
 --   KernelIsInBargainingSet      the kernel lies in the bargaining set
 --   NucleolusIsInBargainingSet   so the nucleolus does
---   BargainingSetIsntEmpty       where there is an imputation, some shares lie in it
+--   BargainingSetIsntEmpty       where there is an imputation, some shares lie in the bargaining set
 --   CoreIsInBargainingSet        the core lies in it: at a core point nobody has an objection
 use Rattle.std.specs.Prelude.{◌≡◌, ◌≢◌, ℕ, ◌^◌, ◌<◌, true}
 use Rattle.std.specs.Prelude.{false, IsTrue, ◌*ℤ◌, ◌<ℤ◌, ◌≤ℤ◌}
@@ -20,11 +20,9 @@ use Rattle.definitions.specs.declared.Family.TheVariants.{Imputations}
 use Rattle.definitions.specs.declared.Measure.TheVariants.{Plain}
 use Rattle.stability.specs.Kernel.{InKernel}
 
--- player i gets at y at least what it gets at x
 abbrev pub GetsNoLess : Allocation → Allocation → ℕ → Type 0
 GetsNoLess x y i = (share x i *ℤ y.den) ≤ℤ (share y i *ℤ x.den)
 
--- player i gets at y more than at x
 abbrev pub GetsMore : Allocation → Allocation → ℕ → Type 0
 GetsMore x y i = (share x i *ℤ y.den) <ℤ (share y i *ℤ x.den)
 
@@ -55,15 +53,12 @@ InBargainingSet g x =
     × ((k l p : ℕ) (y : Allocation) → k < g.players → l < g.players → k ≢ l → IsObjection g x k l p y
     → (q : ℕ) × (z : Allocation) × IsCounter g x k l p y q z)
 
--- the kernel lies in the bargaining set
 abbrev pub KernelIsInBargainingSet : Type 0
 KernelIsInBargainingSet = (g : Game) (x : Allocation) → InKernel g x → InBargainingSet g x
 
--- so the nucleolus does
 abbrev pub NucleolusIsInBargainingSet : Type 0
 NucleolusIsInBargainingSet = (g : Game) (x : Allocation) → IsNucleolus Imputations Plain g x → InBargainingSet g x
 
--- where there is an imputation, some shares lie in the bargaining set
 abbrev pub BargainingSetIsntEmpty : Type 0
 BargainingSetIsntEmpty =
     (g : Game) (y : Allocation) → InFamily Imputations g y → (x : Allocation) × InBargainingSet g x

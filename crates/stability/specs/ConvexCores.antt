@@ -22,7 +22,6 @@ MarginalsAreInCore =
     (g : Game) (order : List ℕ) (x : Allocation) → g.worth 0 ≡ pos 0 → IsConvex g → IsOrder g.players order →
     IsMarginal g order x → InCore g x
 
--- and so does the Shapley value
 abbrev pub ShapleyIsInCore : Type 0
 ShapleyIsInCore =
     (g : Game) (x : Allocation) → g.worth 0 ≡ pos 0 → IsConvex g → IsShapley g x → InCore g x
@@ -37,7 +36,6 @@ abbrev pub ConvexKernelIsOnePoint : Type 0
 ConvexKernelIsOnePoint =
     (g : Game) (x y : Allocation) → g.worth 0 ≡ pos 0 → IsConvex g → InKernel g x → InKernel g y → IsSame g x y
 
--- the nucleolus
 abbrev pub ConvexKernelIsNucleolus : Type 0
 ConvexKernelIsNucleolus =
     (g : Game) (x : Allocation) → g.worth 0 ≡ pos 0 → IsConvex g → InKernel g x ↔ IsNucleolus Imputations Plain g x

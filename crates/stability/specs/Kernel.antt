@@ -25,11 +25,9 @@ InKernel g x =
     × ((i j : ℕ) → i < g.players → j < g.players → i ≢ j → Outweighs g x i j
     → share x j ≡ x.den *ℤ g.worth (singleton j))
 
--- the nucleolus lies in the kernel
 abbrev pub NucleolusIsInKernel : Type 0
 NucleolusIsInKernel = (g : Game) (x : Allocation) → IsNucleolus Imputations Plain g x → InKernel g x
 
--- where there is an imputation, some shares lie in the kernel
 abbrev pub KernelIsntEmpty : Type 0
 KernelIsntEmpty = (g : Game) (y : Allocation) → InFamily Imputations g y → (x : Allocation) × InKernel g x
 

@@ -5,7 +5,7 @@
 --   IsGreatestExcess measure g x m   m is the greatest excess over the coalitions but the empty one and that of all
 --   InLeastCore measure g x          a preimputation whose greatest excess is least
 --   PrenucleolusIsInLeastCore        the prenucleolus lies in the least core
---   LeastCoreIsntEmpty               every game with a player has shares in it
+--   LeastCoreIsntEmpty               every game with a player has shares in the least core
 --   LeastCoreIsInCore                where the core isn't empty, the least core lies in it
 use Rattle.std.specs.Prelude.{◌<◌, ◌≤◌, ℤ, ◌*ℤ◌, ◌≤ℤ◌}
 use Rattle.definitions.specs.Sums.{IsGreatest}
@@ -27,12 +27,10 @@ InLeastCore measure g x =
     × ((y : Allocation) (m k : ℤ) → InFamily Preimputations g y → IsGreatestExcess measure g x m
     → IsGreatestExcess measure g y k → (m *ℤ y.den) ≤ℤ (k *ℤ x.den))
 
--- the prenucleolus lies in the least core
 abbrev pub PrenucleolusIsInLeastCore : Type 0
 PrenucleolusIsInLeastCore =
     (measure : Measure) (g : Game) (x : Allocation) → IsNucleolus Preimputations measure g x → InLeastCore measure g x
 
--- every game with a player has shares in the least core
 abbrev pub LeastCoreIsntEmpty : Type 0
 LeastCoreIsntEmpty =
     (measure : Measure) (g : Game) → IsMeasurable measure g.players → 1 ≤ g.players →

@@ -19,7 +19,6 @@ IsSubsidyFree g x =
     × ((s : ℕ) → s < 2 ^ g.players
     → amount x s ≤ℤ (x.den *ℤ (g.worth (grand_coalition g.players) -ℤ g.worth (grand_coalition g.players - s))))
 
--- just the core points are so
 abbrev pub CoreIsSubsidyFree : Type 0
 CoreIsSubsidyFree = (g : Game) (x : Allocation) → InCore g x ↔ IsSubsidyFree g x
 

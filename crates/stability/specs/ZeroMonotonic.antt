@@ -29,7 +29,6 @@ ConvexIsZeroMonotonic = (g : Game) → g.worth 0 ≡ pos 0 → IsConvex g → Is
 abbrev pub KernelIsPrekernel : Type 0
 KernelIsPrekernel = (g : Game) (x : Allocation) → IsZeroMonotonic g → InKernel g x ↔ InPrekernel g x
 
--- and the prenucleolus is the nucleolus
 abbrev pub PrenucleolusIsNucleolus : Type 0
 PrenucleolusIsNucleolus =
     (g : Game) (x : Allocation) → IsZeroMonotonic g →

@@ -1,9 +1,9 @@
 -- The Talmud rule for an estate and the claims to it (O'Neill 1982, Aumann and Maschler 1985).
 --
 --   cut_claims estate claims   the claims, each cut to the estate
---   cut estate claims i        that of player i
+--   cut estate claims i        the cut claim of player i
 --   cut_sum estate claims      their sum
---   loss estate claims x i     what player i gets less than its cut claim
+--   loss estate claims x i     what player i gets less than its cut claim, over the denominator
 --   is_little estate claims    the estate is at most half of the cut claims
 --   part estate claims x i     what player i gets, where the estate is at most half of them, and else what it loses
 --   IsTalmud estate claims x   the shares are those of the rule
@@ -17,7 +17,6 @@ use Rattle.definitions.specs.Games.{Allocation, share}
 abbrev pub cut_claims : ℕ → List ℕ → List ℕ
 cut_claims estate claims = map (λ c. min c estate) claims
 
--- the cut claim of player i
 abbrev pub cut : ℕ → List ℕ → ℕ → ℕ
 cut estate claims i = slice_index (cut_claims estate claims) i
 
@@ -25,7 +24,6 @@ cut estate claims i = slice_index (cut_claims estate claims) i
 abbrev pub cut_sum : ℕ → List ℕ → ℤ
 cut_sum estate claims = sum_below (length claims) (λ i. pos (cut estate claims i))
 
--- what player i gets less than its cut claim, over the denominator
 abbrev pub loss : ℕ → List ℕ → Allocation → ℕ → ℤ
 loss estate claims x i = x.den *ℤ pos (cut estate claims i) -ℤ share x i
 

@@ -23,7 +23,6 @@ MeasuresDivide =
     (measure : Measure) (n s : ℕ) (e q : ℤ) → IsMeasurable measure n → 0 < s → s < 2 ^ n
     → measured measure s e *ℤ (q *ℤ pos (divisor measure s)) ≡ e *ℤ measured_den measure q
 
--- a certificate that meets its conditions certifies the nucleolus
 abbrev pub CertificatesAreSound : Type 0
 CertificatesAreSound =
     (mode : Mode) (family : Family) (measure : Measure) (g : Game) (x : Allocation) (levels : List Level)
@@ -35,6 +34,5 @@ abbrev pub CollectionsBlock : Type 0
 CollectionsBlock =
     (g : Game) (ps : List (ℕ × ℤ)) (k : ℤ) (x : Allocation) → IsBalancedOfExcessWorth g ps k → InCore g x → ⊥
 
--- the prenucleolus lies in the prekernel
 abbrev pub PrenucleolusBalances : Type 0
 PrenucleolusBalances = (g : Game) (x : Allocation) → IsNucleolus Preimputations Plain g x → InPrekernel g x

@@ -3,7 +3,7 @@
 --   IsPrimFrom             each pair has a least entry of those that lead from a connected point to a waiting one
 --   near                   the least entry from a connected point to a point
 --   closest                the first point that passes a test and whose number is least
---   prim_cost              the cost of Prim's steps
+--   prim_cost              the cost of at most k of Prim's steps
 --   nearest                the first waiting point whose entry from a point is least
 --   reach                  that entry
 --   next_end               the first connected point of least reach
@@ -12,7 +12,6 @@ use Rattle.std.specs.Prelude.{◌||◌}
 use Rattle.std.specs.Prelude.{IsTrue, List, [], ◌∷◌, nat_lt, min, if◌then◌else◌}
 use Rattle.definitions.specs.Classes.{Matrix, entry, joined, removed}
 
--- each pair has the least entry of those that lead from a connected point to a waiting one
 abbrev pub IsPrimFrom : Matrix → (ℕ → Bool) → (ℕ → Bool) → List (ℕ × ℕ) → Type 0
 IsPrimFrom matrix connected waiting [] = (j : ℕ) → waiting j ≡ false
 IsPrimFrom matrix connected waiting (p ∷ plan) =
@@ -34,7 +33,6 @@ closest number test (suc t) =
     if test t && (not (test (closest number test t)) || nat_lt (number t) (number (closest number test t))) then t
     else closest number test t
 
--- the cost of at most k of Prim's steps
 abbrev pub prim_cost : Matrix → ℕ → ℕ → (ℕ → Bool) → (ℕ → Bool) → ℕ
 prim_cost matrix points zero connected waiting = 0
 prim_cost matrix points (suc k) connected waiting =

@@ -14,7 +14,7 @@
 --   IsBestOf            the best set of the kind P, and the least mask of these
 --   IsBest P v c        the set of the kind P with the greatest number, and of those with the same the one with the
 --                       least mask
---   IsSmallCandidate    a set of the first players, and a sum over at most so many
+--   IsSmallCandidate    a set of the first count players, and a sum over at most so many
 --   AreSmall            each candidate of a layer is such a one
 use Rattle.std.specs.Prelude.{◌≡◌, ℕ, zero, suc, ◌+◌, ◌-◌, ◌*◌, ◌^◌, ◌<◌, ◌≤◌}
 use Rattle.std.specs.Prelude.{Bool, ◌&&◌, ◌||◌}
@@ -81,7 +81,6 @@ IsBest P v (Some c) = IsBestOf P v c
 
 -- ---- limits
 
--- a set of the first count players, and a sum over at most so many
 abbrev pub IsSmallCandidate : ℕ → Candidate → Type 0
 IsSmallCandidate count c = (c.coalition < 2 ^ count) × (unsigned_abs c.sum ≤ count * 2 ^ 110)
 

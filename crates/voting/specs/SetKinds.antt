@@ -11,7 +11,7 @@
 --   IsLayer                  the best set of the kind for each weight
 --   AreSplitLayers           the layers of the four kinds
 --   AddsPlayer               the layers with one more player seen
---   AreSmallLayers           each candidate of the four layers is one of the first players
+--   AreSmallLayers           each candidate of the four layers is one of the first count players
 use Rattle.std.specs.Prelude.{◌≡◌, ℕ, ◌+◌, ◌^◌, ◌<◌, Bool, true, false, not, ◌&&◌}
 use Rattle.std.specs.Prelude.{ℤ, pos, if◌then◌else◌}
 use Rattle.definitions.specs.Coalitions.{has_player, some_below, sum_over}
@@ -67,7 +67,6 @@ AddsPlayer before is_free i weight number after =
     (m : Numbers) (f : ℕ) → i < m.players → has_player f i ≡ is_free → m.weight i ≡ weight → m.number i ≡ number
     → AreSplitLayers m f i before → AreSplitLayers m f (i + 1) after
 
--- each candidate of the four layers is one of the first count players
 pub record AreSmallLayers (count : ℕ) (ls : SplitLayers) : Type 0 where
   pub any : AreSmall count ls.any
   pub holding : AreSmall count ls.holding

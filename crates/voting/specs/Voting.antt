@@ -2,7 +2,7 @@
 --
 --   Voting        a quota and weights
 --   voting        these parts together
---   IsVoting      1 to 32 weights that sum to at most 1,000, and a quota of at most their sum
+--   IsVoting      1 to 32 weights that sum to at most 1,000, and a quota from 1 to their sum
 --   voting_game   the game of a quota and weights
 --   HavePlayers   there are 1 to 32 weights
 --   AreNumbers    the quota and each weight are in range
@@ -25,7 +25,6 @@ pub record Voting : Type 0 where
 abbrev pub voting : ℕ → List ℕ → Voting
 voting quota weights = record { quota = quota; weights = weights }
 
--- 1 to 32 weights that sum to at most 1,000, and a quota from 1 to their sum
 pub record IsVoting (g : Voting) : Type 0 where
   pub some : 1 ≤ length g.weights
   pub few : length g.weights ≤ 32

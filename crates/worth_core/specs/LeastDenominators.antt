@@ -3,7 +3,7 @@
 --   IsWholeTimes         a multiple of a fraction is a whole number
 --   IsLeastDenominator   the least common denominator of fractions
 --   as_fractions         the shares of an allocation as fractions
---   numerator_over       a fraction's numerator over a multiple of its denominator
+--   numerator_over       the numerator over a denominator that is a multiple of the fraction's own
 --   over                 fractions over a common denominator, as an allocation
 --   AreTooFine           over the least one they are out of the limits of shares
 use Rattle.std.specs.Prelude.{ℕ, ◌*◌, List, map, All, ℤ, pos, ◌*ℤ◌, ◌≤ℤ◌, unsigned_abs}
@@ -25,7 +25,6 @@ pub record IsLeastDenominator (fs : List Fraction) (d : ℤ) : Type 0 where
 abbrev pub as_fractions : Allocation → List Fraction
 as_fractions x = map (λ z. record { num = z; den = x.den }) x.shares
 
--- the numerator over a denominator that is a multiple of the fraction's own
 abbrev pub numerator_over : ℤ → Fraction → ℤ
 numerator_over d f = f.num *ℤ int_div d f.den
 

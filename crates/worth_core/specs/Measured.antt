@@ -2,10 +2,10 @@
 --
 --   Divided             an excess and what it is divided by
 --   IsSmallDivided      an excess below 2 ^ 118 in size, divided by 1 to 64
---   IsDivided           the excess of a coalition, and what its measure divides it by
+--   IsDivided           the excess of the coalition s and what the measure divides it by
 --   IsGreatestDivided   those of a coalition of greatest measured excess
 --   is_below            the first over its divisor is less than the second over its own
---   IsValueOf           a fraction is a measured excess over its denominator
+--   IsValueOf           the fraction is the measured excess m over its denominator
 --   IsMeasuredBound     a fraction is the greatest measured excess over the coalitions that split some players
 use Rattle.std.specs.Prelude.{◌≡◌, ℕ, ◌^◌, ◌<◌, ◌≤◌, Bool, ℤ, pos, ◌*ℤ◌, ◌≤ℤ◌}
 use Rattle.std.specs.Prelude.{int_lt, unsigned_abs}
@@ -24,7 +24,6 @@ pub record IsSmallDivided (d : Divided) : Type 0 where
   pub some : 1 ≤ d.divisor
   pub few : d.divisor ≤ 64
 
--- the excess of the coalition s and what the measure divides it by
 abbrev pub IsDivided : Measure → Game → Allocation → ℕ → Divided → Type 0
 IsDivided measure g x s d = (d.excess ≡ excess g x s) × (d.divisor ≡ divisor measure s)
 
@@ -37,7 +36,6 @@ IsGreatestDivided measure g x P d =
 abbrev pub is_below : Divided → Divided → Bool
 is_below d e = int_lt (d.excess *ℤ pos e.divisor) (e.excess *ℤ pos d.divisor)
 
--- the fraction is the measured excess m over its denominator
 abbrev pub IsValueOf : Measure → Allocation → ℤ → Fraction → Type 0
 IsValueOf measure x m f = f.num *ℤ measured_den measure x.den ≡ m *ℤ f.den
 

@@ -1,12 +1,12 @@
 -- Tables of worths, and the games that are made of them.
 --
---   Table         a number of players, and worths in mask order
+--   Table         a number of players, and worths in mask order from 1
 --   table         these parts together
 --   HasEachOnce   1 to 16 players, and one worth for each coalition but the empty one
 --   AreSmall      each worth is below 2 ^ 40 in size
 --   IsTable       both
 --   IsRefused     why a table makes no game
---   table_game    the game of the listed worths
+--   table_game    the game with the listed worths
 --   cost_game     the game with minus the worths of another
 use Rattle.std.specs.Prelude.{◌≡◌, ℕ, ◌+◌, ◌^◌, ◌<◌, ◌≤◌, List, length, All, ℤ}
 use Rattle.std.specs.Prelude.{unsigned_abs}
@@ -15,7 +15,6 @@ use Rattle.definitions.specs.Classes.{table_worth, negated_worth}
 use Rattle.worth_tables.specs.declared.table_game.TableFault.{TableFault}
 use Rattle.worth_tables.specs.declared.table_game.TableFault.TheVariants.{Players, Number, Memory}
 
--- a number of players, and worths in mask order from 1
 pub record Table : Type 0 where
   pub players : ℕ
   pub worths : List ℤ
@@ -43,7 +42,6 @@ IsRefused t Players = ¬ HasEachOnce t
 IsRefused t Number = HasEachOnce t × (¬ AreSmall t.worths)
 IsRefused t Memory = ⊥
 
--- the game with the listed worths
 abbrev pub table_game : Table → Game
 table_game t = record { players = t.players; worth = table_worth t.worths }
 

@@ -1,6 +1,6 @@
 -- Airport games in a document: a cost for each player.
 --
---   airport_keys          the keys
+--   airport_keys          the keys of an airport game
 --   is_airport_shaped     the keys and kinds
 --   airport_players       the number of players
 --   airport_values        the costs
@@ -14,7 +14,6 @@ use Rattle.json_trees.specs.Trees.{passes, is_numeric, is_array_of, parts_at}
 use Rattle.document_parts.specs.Version.{has_texts}
 use Rattle.document_parts.specs.Sizes.{is_cost}
 
--- the keys of an airport game
 abbrev pub airport_keys : List (List ℕ)
 airport_keys = codes "class" ∷ codes "costs" ∷ codes "excess" ∷ codes "names" ∷ codes "version" ∷ []
 
@@ -27,7 +26,6 @@ is_airport_shaped game =
 abbrev pub airport_players : Data → ℕ
 airport_players game = length (parts_at (codes "costs") game)
 
--- the costs
 abbrev pub airport_values : Data → List Data
 airport_values game = parts_at (codes "costs") game
 

@@ -1,6 +1,6 @@
 -- Bankruptcy games in a document: an estate, and a claim for each player.
 --
---   bankruptcy_keys          the keys
+--   bankruptcy_keys          the keys of a bankruptcy game
 --   is_bankruptcy_shaped     the keys and kinds
 --   bankruptcy_players       the number of players
 --   bankruptcy_values        the estate, and then the claims
@@ -16,7 +16,6 @@ use Rattle.document_parts.specs.Version.{has_texts}
 use Rattle.document_parts.specs.Scales.{if_there}
 use Rattle.document_parts.specs.Sizes.{is_cost}
 
--- the keys of a bankruptcy game
 abbrev pub bankruptcy_keys : List (List ℕ)
 bankruptcy_keys =
     codes "class" ∷ codes "claims" ∷ codes "estate" ∷ codes "excess" ∷ codes "names" ∷ codes "version" ∷ []
@@ -31,7 +30,6 @@ is_bankruptcy_shaped game =
 abbrev pub bankruptcy_players : Data → ℕ
 bankruptcy_players game = length (parts_at (codes "claims") game)
 
--- the estate, and then the claims
 abbrev pub bankruptcy_values : Data → List Data
 bankruptcy_values game = if_there (get (codes "estate") game) ++ parts_at (codes "claims") game
 

@@ -3,7 +3,7 @@
 --   matrix_keys          the keys
 --   is_matrix_shaped     the keys and kinds
 --   has_matrix_numbers   each number is within its limits
---   rows_of              the numbers of the rows, times the scale
+--   rows_of              the numbers of the rows, times the scale k
 --   have_length          each row has so many numbers
 use Rattle.std.specs.Prelude.{◌==◌, ℕ, ℤ, List, [], ◌∷◌, length, codes, Bool, ◌&&◌}
 use Rattle.std.specs.List.{list_all}
@@ -29,7 +29,6 @@ is_matrix_shaped game =
 abbrev pub has_matrix_numbers : ℕ → Data → Bool
 has_matrix_numbers k game = list_all (is_array_of (is_cost k)) (parts_at (codes "matrix") game)
 
--- the numbers of the rows, times the scale k
 abbrev pub rows_of : ℕ → Data → List (List ℤ)
 rows_of k game = rows_at k (codes "matrix") game
 

@@ -2,15 +2,15 @@
 --
 --   table_keys          the keys
 --   is_sparse_pair      a coalition and its number
---   lists_worths        all numbers are listed
+--   lists_worths        all numbers are listed, in mask order
 --   lists_coalitions    some coalitions are listed with their numbers
 --   is_table_shaped     the keys and kinds
---   table_players       a number of players from 1 to 16
+--   table_players       the number of players of a table, from 1 to 16
 --   players_at          the number of players
 --   has_items           an array has one item fewer than n
 --   has_worths_for      a number for each coalition of so many players, where all are listed
---   has_table_players   1 to 16 players, and a number for each coalition where all are listed
---   is_worth            a number that times the scale is below 2^40 in size
+--   has_table_players   1 to 16 players, and one number for each coalition but the empty one, where all are listed
+--   is_worth            a number that times the scale k is below 2^40 in size
 --   has_worth           the number of a pair is such a number
 --   has_table_numbers   each number is within its limits
 use Rattle.std.specs.Prelude.{◌==◌, ◌+◌, ◌^◌, ℕ, ℤ, pos, negsuc, List, [], ◌∷◌}
@@ -38,7 +38,6 @@ table_keys =
 abbrev pub is_sparse_pair : Bool → Data → Bool
 is_sparse_pair texts d = is_pair_of (is_array_of is_member) (is_numeric texts) d
 
--- all numbers are listed, in mask order
 abbrev pub lists_worths : Data → Bool
 lists_worths game =
     passes (is_array_of (is_numeric (has_texts game))) (get (codes "worths") game)
@@ -59,7 +58,6 @@ is_table_shaped game =
 
 -- ---- players
 
--- the number of players of a table, from 1 to 16
 abbrev pub table_players : ℤ → Option ℕ
 table_players (pos n) = if nat_lt 0 n && nat_le n 16 then Some n else None
 table_players (negsuc n) = None
@@ -68,7 +66,6 @@ table_players (negsuc n) = None
 abbrev pub players_at : Data → Option ℕ
 players_at game = option_and_then table_players (option_and_then integer (get (codes "players") game))
 
--- one item fewer than n
 abbrev pub has_items : ℕ → Data → Bool
 has_items n d = length (parts d) + 1 == n
 
@@ -77,13 +74,11 @@ abbrev pub has_worths_for : Data → Option ℕ → Bool
 has_worths_for game None = false
 has_worths_for game (Some n) = passes_if_there (has_items (2 ^ n)) (get (codes "worths") game)
 
--- 1 to 16 players, and one number for each coalition but the empty one, where all are listed
 abbrev pub has_table_players : Data → Bool
 has_table_players game = has_worths_for game (players_at game)
 
 -- ---- numbers
 
--- a number that times the scale k is below 2^40 in size
 abbrev pub is_worth : ℕ → Data → Bool
 is_worth k d = is_some (small_number k d)
 

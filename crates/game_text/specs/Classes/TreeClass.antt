@@ -22,7 +22,6 @@ abbrev pub has_tree_players : Data → Bool
 has_tree_players game =
     nat_le 2 (length (parts_at (codes "matrix") game)) && nat_le (length (parts_at (codes "matrix") game)) 17
 
--- the entry is the same in both directions
 abbrev pub is_turned : List (List ℤ) → ℕ → ℕ → Bool
 is_turned rows i j = entries_of rows i j == entries_of rows j i
 

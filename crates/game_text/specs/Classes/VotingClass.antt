@@ -1,7 +1,7 @@
 -- Weighted voting games in a document: a quota, and a weight for each player. They are integers in both versions, so
 -- the scale is 1.
 --
---   voting_keys          the keys
+--   voting_keys          the keys of a voting game
 --   is_voting_shaped     the keys and kinds
 --   voting_players       the number of players
 --   voting_values        the quota, and then the weights
@@ -17,7 +17,6 @@ use Rattle.json_trees.specs.Trees.{passes, is_number, is_array_of, parts_at}
 use Rattle.document_parts.specs.Scales.{if_there}
 use Rattle.document_parts.specs.Sizes.{is_cost}
 
--- the keys of a voting game
 abbrev pub voting_keys : List (List ℕ)
 voting_keys =
     codes "class" ∷ codes "excess" ∷ codes "names" ∷ codes "quota" ∷ codes "version" ∷ codes "weights" ∷ []
@@ -32,7 +31,6 @@ is_voting_shaped game =
 abbrev pub voting_players : Data → ℕ
 voting_players game = length (parts_at (codes "weights") game)
 
--- the quota, and then the weights
 abbrev pub voting_values : Data → List Data
 voting_values game = if_there (get (codes "quota") game) ++ parts_at (codes "weights") game
 
