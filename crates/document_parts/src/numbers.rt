@@ -72,8 +72,8 @@ fn are_from_zero(numbers: &[i64]) -> bool
     numbers.iter().all(|z| *z >= 0)
 }
 
-/// The numbers that the values write, times their scale, where that is at most 65,536 and each of them is from 0, below
-/// 2^40, then.
+/// The numbers that the values write, times their scale, where that is at most 65,536 and each of them is from 0 to
+/// below 2^40 then.
 ///
 /// # Errors
 ///
