@@ -23,4 +23,4 @@ pub use shares::{shares_as_worth, written_shares};
 pub use sizes::{is_list_size, is_short_list_size};
 pub use table::sparse_numbers;
 pub use values::{add_at, add_rows, add_seconds, add_values};
-pub use version::{VersionNumber, has_texts};
+pub use version::has_texts;

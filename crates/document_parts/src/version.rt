@@ -1,45 +1,34 @@
 //! The version of a game. In version 2 a number may be written as a fraction text.
-ghost use Rattle.std.specs.Prelude.{◌≡◌};
+ghost use Rattle.std.specs.Prelude.{◌≡◌, codes, Some, None, if◌then◌else◌};
 ghost use Rattle.serde_json.specs.View.{view};
-ghost use Rattle.document_parts.specs.Version.{is_second_version, has_texts};
+ghost use Rattle.serde_json.specs.Find.{get};
+ghost use Rattle.json_trees.specs.Trees.{passes_if_there};
+ghost use Rattle.document_parts.specs.Version.{is_version, is_second_version, has_texts};
 
-use json_trees::{Form, has, integer};
+use json_trees::integer;
 use serde_json::Value;
 
-/// The integer 1 or 2.
-#[derive(Clone, Copy, Debug)]
-pub struct VersionNumber;
-
-impl Form for VersionNumber {
-    ghost use Rattle.document_parts.specs.Version.{is_version};
-
-    ghost form = { λ _. is_version };
-
-    fn fits(&self, value: &Value) -> bool {
-        match integer(value) {
-            Some(version) => version == 1 || version == 2,
-            None => false,
-        }
-    }
-}
-
-/// The integer 2.
-#[derive(Clone, Copy, Debug)]
-struct SecondVersion;
-
-impl Form for SecondVersion {
-    ghost use Rattle.document_parts.specs.Version.{is_second_version};
-
-    ghost form = { λ _. is_second_version };
-
-    fn fits(&self, value: &Value) -> bool {
-        integer(value) == Some(2)
-    }
-}
-
-/// Whether the game is of version 2, where a number may be written as a text.
-pub fn has_texts(game: &Value) -> bool
-    ensures { result ≡ has_texts (view game.now) }
+/// Whether numbers may be texts in this version. None where it is neither the integer 1 nor 2.
+fn version_has_texts(version: &Value) -> Option<bool>
+    ensures { result
+        ≡ (if is_version (view version.now) then Some (is_second_version (view version.now)) else None) }
 {
-    has(game, "version", &SecondVersion)
+    let number = integer(version)?;
+    if number == 1 || number == 2 {
+        Some(number == 2)
+    } else {
+        None
+    }
+}
+
+/// Whether a number of the game may be a text, as in version 2; a game that says nothing of it is of version 1. None
+/// where its version is neither the integer 1 nor 2.
+pub fn has_texts(game: &Value) -> Option<bool>
+    ensures { result ≡ (if passes_if_there is_version (get (codes "version") (view game.now))
+        then Some (has_texts (view game.now)) else None) }
+{
+    match game.get("version") {
+        Some(version) => version_has_texts(version),
+        None => Some(false),
+    }
 }

@@ -8,6 +8,7 @@ ghost use Rattle.document_parts.specs.Names.{names_of};
 ghost use Rattle.game_text.specs.Classes.{class_named, class_of, is_shaped_as, players, is_cost, description_in};
 ghost use Rattle.game_text.specs.Classes.{game_of, has_players, are_numbers_as, own_values, own_numbers};
 ghost use Rattle.document_parts.specs.Numbers.{AreWorths};
+ghost use Rattle.document_parts.specs.Version.{has_texts};
 ghost use Rattle.game_text.specs.declared.classes.Class.TheVariants.{Tree, Assignment, Market, Voting};
 ghost use Rattle.game_text.specs.Shape.{is_shaped};
 ghost use Rattle.game_text.specs.Readings.{IsBuilt, IsBuildFault};
@@ -117,10 +118,12 @@ pub(crate) fn class_named(word: &str) -> Option<Class>
     }
 }
 
-pub(crate) fn is_shaped_as(class: Class, game: &Value) -> bool
+/// Whether a game, whose numbers may be texts or not, has the keys and kinds of the class.
+pub(crate) fn is_shaped_as(class: Class, game: &Value, texts: bool) -> bool
+    requires { texts ≡ has_texts (view game.now) }
     ensures { result ≡ is_shaped_as (Some class) (view game.now) }
 {
-    by_class!(class, is_shaped(game))
+    by_class!(class, is_shaped(game, texts))
 }
 
 /// The number of players, where there are as many, and numbers for them, as the class of the game allows.

@@ -10,7 +10,7 @@ use crate::classes::{Class, class_named, is_shaped_as};
 use crate::command::Command;
 use crate::shaped::ShapedGame;
 use certificate_texts::{CertificateShape, family_of};
-use document_parts::{MeasureWord, VersionNumber};
+use document_parts::{MeasureWord, has_texts};
 use json_trees::{ArrayOf, Member, Text, has, has_if_there, has_only_keys};
 use serde_json::Value;
 
@@ -27,10 +27,12 @@ fn is_game_shaped(class: Class, game: &Value) -> bool
     requires { class_of (view game.now) ≡ Some class }
     ensures { result ≡ is_game_shaped (view game.now) }
 {
+    let Some(texts) = has_texts(game) else {
+        return false;
+    };
     has_if_there(game, "names", &ArrayOf(Text))
         && has_if_there(game, "excess", &MeasureWord)
-        && has_if_there(game, "version", &VersionNumber)
-        && is_shaped_as(class, game)
+        && is_shaped_as(class, game, texts)
 }
 
 fn has_shares(tree: &Value) -> bool

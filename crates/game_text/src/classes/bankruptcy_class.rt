@@ -1,6 +1,7 @@
 //! Bankruptcy games: an estate, and a claim for each player.
 ghost use Rattle.std.specs.Prelude.{◌≡◌, true, false, MatchResult, IfOk, IfSome, IfNone, Some, None, if◌then◌else◌};
 ghost use Rattle.serde_json.specs.View.{view};
+ghost use Rattle.document_parts.specs.Version.{has_texts};
 ghost use Rattle.document_parts.specs.Numbers.{are_costs, AreWorths};
 ghost use Rattle.document_parts.specs.Sizes.{is_list_size};
 ghost use Rattle.game_text.specs.Classes.{class_of, own_numbers};
@@ -12,7 +13,7 @@ ghost use Rattle.game_text.specs.declared.classes.Class.TheVariants.{Bankruptcy}
 use crate::classes::Game;
 use crate::fault::TextFault;
 use bankruptcy::{BankruptcyFault, BankruptcyGame};
-use document_parts::{Numbers, add_at, add_values, has_texts, is_list_size, read_costs};
+use document_parts::{Numbers, add_at, add_values, is_list_size, read_costs};
 use fractions::OutOfMemory;
 use json_trees::{ArrayOf, Numeric, has, has_only_keys, parts_at};
 use kinds::Refusal;
@@ -20,10 +21,10 @@ use serde_json::Value;
 use std::alloc::Global;
 
 /// Whether it has the keys and kinds of a bankruptcy game.
-pub(crate) fn is_shaped(game: &Value) -> bool
+pub(crate) fn is_shaped(game: &Value, texts: bool) -> bool
+    requires { texts ≡ has_texts (view game.now) }
     ensures { result ≡ is_bankruptcy_shaped (view game.now) }
 {
-    let texts = has_texts(game);
     has_only_keys(
         &["class", "claims", "estate", "excess", "names", "version"],
         game,

@@ -3,11 +3,12 @@ ghost use Rattle.std.specs.Prelude.{◌≡◌, codes, true, false, IfOk, IfSome,
 ghost use Rattle.serde_json.specs.Find.{get};
 ghost use Rattle.serde_json.specs.View.{view};
 ghost use Rattle.json_trees.specs.Trees.{passes, is_array_of, is_numeric};
+ghost use Rattle.document_parts.specs.Version.{has_texts};
 ghost use Rattle.document_parts.specs.Scales.{matrix_numbers_in};
 ghost use Rattle.document_parts.specs.Numbers.{are_costs, AreWorths};
 ghost use Rattle.game_text.specs.Classes.MatrixClass.{is_matrix_shaped};
 
-use document_parts::{Numbers, add_rows, has_texts, read_costs};
+use document_parts::{Numbers, add_rows, read_costs};
 use fractions::OutOfMemory;
 use json_trees::{ArrayOf, Numeric, has, has_only_keys, parts_at};
 use serde_json::Value;
@@ -21,10 +22,10 @@ fn has_rows(game: &Value, texts: bool) -> bool
 }
 
 /// Whether it has the keys and kinds of a game by its matrix.
-pub(crate) fn is_shaped(game: &Value) -> bool
+pub(crate) fn is_shaped(game: &Value, texts: bool) -> bool
+    requires { texts ≡ has_texts (view game.now) }
     ensures { result ≡ is_matrix_shaped (view game.now) }
 {
-    let texts = has_texts(game);
     has_only_keys(&["class", "excess", "matrix", "names", "version"], game) && has_rows(game, texts)
 }
 

@@ -5,6 +5,7 @@ ghost use Rattle.serde_json.specs.Find.{get};
 ghost use Rattle.serde_json.specs.View.{view};
 ghost use Rattle.json_trees.specs.Trees.{passes, is_array_of};
 ghost use Rattle.worth_tables.specs.Tables.{table};
+ghost use Rattle.document_parts.specs.Version.{has_texts};
 ghost use Rattle.document_parts.specs.Numbers.{are_worths, AreWorths};
 ghost use Rattle.document_parts.specs.Scales.{scale_of, table_numbers_in};
 ghost use Rattle.document_parts.specs.ScaledNumbers.{number_or_zero};
@@ -22,7 +23,7 @@ ghost use Rattle.game_text.specs.declared.fault.TextFault.TheVariants.{Memory};
 use crate::classes::Game;
 use crate::fault::TextFault;
 use document_parts::{
-    Names, Numbers, add_at, add_seconds, add_values, has_texts, read_worths, sparse_numbers,
+    Names, Numbers, add_at, add_seconds, add_values, read_worths, sparse_numbers,
 };
 use fractions::OutOfMemory;
 use json_trees::{
@@ -34,10 +35,10 @@ use serde_json::Value;
 use std::alloc::Global;
 use worth_tables::{CostGame, TableFault, TableGame};
 
-fn lists_worths(game: &Value) -> bool
+fn lists_worths(game: &Value, texts: bool) -> bool
+    requires { texts ≡ has_texts (view game.now) }
     ensures { result ≡ lists_worths (view game.now) }
 {
-    let texts = has_texts(game);
     has(game, "worths", &ArrayOf(Numeric { texts }))
         && game.get("sparse").is_none()
         && game.get("default").is_none()
@@ -54,17 +55,18 @@ fn lists_pairs(game: &Value, texts: bool) -> bool
     )
 }
 
-fn lists_coalitions(game: &Value) -> bool
+fn lists_coalitions(game: &Value, texts: bool) -> bool
+    requires { texts ≡ has_texts (view game.now) }
     ensures { result ≡ lists_coalitions (view game.now) }
 {
-    let texts = has_texts(game);
     lists_pairs(game, texts)
         && game.get("worths").is_none()
         && has_if_there(game, "default", &Numeric { texts })
 }
 
 /// Whether it has the keys and kinds of a table.
-pub(crate) fn is_shaped(game: &Value) -> bool
+pub(crate) fn is_shaped(game: &Value, texts: bool) -> bool
+    requires { texts ≡ has_texts (view game.now) }
     ensures { result ≡ is_table_shaped (view game.now) }
 {
     has_only_keys(
@@ -73,7 +75,7 @@ pub(crate) fn is_shaped(game: &Value) -> bool
         ],
         game,
     ) && has(game, "players", &Number)
-        && (lists_worths(game) || lists_coalitions(game))
+        && (lists_worths(game, texts) || lists_coalitions(game, texts))
 }
 
 /// The number of players of a table, from 1 to 16.

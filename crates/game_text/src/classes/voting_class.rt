@@ -18,8 +18,8 @@ use serde_json::Value;
 use std::alloc::Global;
 use voting::{VotingFault, VotingGame};
 
-/// Whether it has the keys and kinds of a voting game.
-pub(crate) fn is_shaped(game: &Value) -> bool
+/// Whether it has the keys and kinds of a voting game, whose numbers are no texts in any version.
+pub(crate) fn is_shaped(game: &Value, _texts: bool) -> bool
     ensures { result ≡ is_voting_shaped (view game.now) }
 {
     has_only_keys(

@@ -12,8 +12,7 @@ returns-then-has_only_keys c =
     let game = view c.args.game.now in
     let keys : has_only_keys matrix_keys game ≡ true = sym c.has_only_keys.ensures ∙ c.if-has_only_keys.true in
     c.has_rows.ensures
-    ∙ ap (λ (t : Bool). passes (is_array_of (is_array_of (is_numeric t))) (get (codes "matrix") game))
-    c.has_texts-texts.ensures
+    ∙ ap (λ (t : Bool). passes (is_array_of (is_array_of (is_numeric t))) (get (codes "matrix") game)) c.requires
     ∙ ap
     (λ (b : Bool). b
     && passes (is_array_of (is_array_of (is_numeric (has_texts game)))) (get (codes "matrix") game)) (sym keys)
