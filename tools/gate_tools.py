@@ -16,8 +16,10 @@ class Tool(NamedTuple):
     takes_program: bool = True
     # Whether it has to fail where the folders that it looks at are empty.
     has_folder: bool = True
-    # Whether it needs the kit, or what only the kit builds.
+    # Whether it needs the kit, or what only the kit builds; and whether without the kit its program has to be
+    # page/coop.mjs itself, and not what asks a process of Node that stays.
     needs_kit: bool = False
+    needs_ports: bool = False
     # The tool in front, which has to have ended before it starts.
     after: str = ""
     # Whether no other tool runs beside it: it starts when all in front have ended.
@@ -30,6 +32,7 @@ TOOLS = (
     Tool("shown-lines", uses=("cc",), takes_program=False, needs_kit=True, after="try-library"),
     Tool("try-page", needs=("node",)),
     Tool("count-work", uses=("valgrind",), has_folder=False, needs_kit=True),
+    Tool("try-sizes", has_folder=False),
     Tool("try-check-anew"),
     Tool("try-scripts"),
     Tool("try-python", uses=("mypy", "flake8")),
@@ -37,7 +40,7 @@ TOOLS = (
     Tool("try-schema"),
     Tool("read-examples"),
     Tool("refuse-memory", uses=("cc",), has_folder=False, needs_kit=True),
-    Tool("hostile-ports", uses=("cc",)),
+    Tool("hostile-ports", uses=("cc",), needs_ports=True),
     Tool("try-page-face", needs=("node",), uses=("chromium", "firefox-esr"), is_alone=True),
     Tool("try-tools", uses=("cc", "valgrind"), needs_kit=True, is_alone=True),
 )
