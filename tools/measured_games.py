@@ -5,6 +5,7 @@ import math
 import random
 from collections.abc import Callable, Iterator
 from fractions import Fraction
+from functools import partial
 from typing import Any
 
 LIMIT = 1 << 40
@@ -132,7 +133,7 @@ def larger_games() -> Iterator[tuple[str, Making]]:
     yield "airport of 16", lambda: {"class": "airport", "costs": costs[:16]}
     yield "estate of 16", lambda: {"class": "bankruptcy", "claims": costs[:16], "estate": sum(costs[:16]) // 3}
     for players in range(11, 16):
-        yield f"square of the mask, {players} players", lambda players=players: table(players, lambda mask: mask**2)
+        yield f"square of the mask, {players} players", partial(table, players, lambda mask: mask**2)
     yield "a sparse table of all coalitions", sparse_table
     yield "a table of fractions", fractions
 
