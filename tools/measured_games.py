@@ -149,7 +149,7 @@ def sparse_table() -> Game:
     pairs: list[Any] = []
     for mask in range(1, 1 << 16):
         group = members(mask)
-        named = [names[player - 1] for player in group] if mask % 32 < 14 else group
+        named = [names[player - 1] for player in group] if mask % 32 < 15 else group
         pairs.append([named, len(group) ** 2 + mask % 3])
     return {"class": "table", "names": names, "players": 16, "sparse": pairs}
 
@@ -185,8 +185,8 @@ def claim(game: Game, levels: list[dict[str, Any]], mode: str, shares: list[int]
 
 
 def long_claims() -> Iterator[tuple[str, Making]]:
-    """Documents to check with certificates made by hand, by name: long ones, and those of mode players. In each game every
-    excess is 0 at the shares."""
+    """Documents to check with certificates made by hand, by name: long ones, and those of mode players. In each game
+    every excess is 0 at the shares."""
     draw = random.Random(3)
     votes = [200, *(draw.randrange(1, 7) for _ in range(31))]
     nothing, free = [0] * 16, {"class": "airport", "costs": [0] * 16}
