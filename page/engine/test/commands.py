@@ -1,6 +1,7 @@
 """The module as a command: page/coop.mjs in processes of its own, and bin/coop where nothing is built."""
 import base64
 import gzip
+import json
 import os
 import shutil
 import subprocess
@@ -62,6 +63,43 @@ def faults_without_answer(page: str) -> Iterator[str]:
             status, line, errors = called(words, Path(AIRPORT).read_bytes())
             if (status, line) != (NO_ANSWER, b"") or not errors.startswith(b"coop: no answer: "):
                 yield f"coop.mjs with {name}: status {status}, {line!r}, {errors!r}"
+
+
+# Answers 1 if a byte of its memory was written before, and else 0, and writes it; the second traps in the place of 0.
+KEEPING = b"\x41\x08\x2d\0\0\x41\x08\x41\x01\x3a\0\0"
+TRAPPING = b"\x41\x08\x2d\0\0\x04\x40\x41\x01\x0f\x0b\x41\x08\x41\x01\x3a\0\0\0"
+# What engines of these and of the page's module answer, several times each, and whether they keep their instance.
+ENGINES = """
+const [, host, inside, page, keeping, trapping] = process.argv;
+const { Engine } = await import(host), { moduleIn } = await import(inside), { readFileSync } = await import("node:fs");
+const module = (bytes) => new WebAssembly.Module(bytes), none = new Uint8Array(0);
+const own = module(moduleIn(readFileSync(page, "latin1")));
+const status = (engine, words = []) => {
+  const said = (() => { try { return engine.run(words, none).status; } catch (fault) { return fault.name; } })();
+  return [said, engine.memory !== null];
+};
+const large = ["gen", "table", "16", "1"], small = ["gen", "airport", "3", "1"];
+const [kept, trapped] = [keeping, trapping].map((text) => new Engine(module(Buffer.from(text, "base64"))));
+const [narrow, brief] = [new Engine(own, { most: 1 << 21 }), new Engine(own, { kept: 1 << 21 })];
+console.log(JSON.stringify([
+  [status(kept), status(kept)], [status(trapped), status(trapped)],
+  [status(narrow, large), status(narrow, small)], [status(brief, large), status(brief, small)],
+]));
+"""
+ANSWERS = [
+    [[0, True], [0, True]], [["EngineFault", False], ["EngineFault", False]],
+    [[7, False], [0, True]], [[0, False], [0, True]],
+]
+
+
+def faults_of_engine(page: str) -> Iterator[str]:
+    """Where a call finds what an earlier one left, or one that stopped or took too much memory keeps its instance."""
+    modules = [base64.b64encode(small_module(code=code)).decode() for code in (KEEPING, TRAPPING)]
+    places = [Path(page, "engine", name).resolve().as_uri() for name in ("host.js", "inside.js")]
+    words = ["node", "--input-type=module", "-e", ENGINES, *places, os.path.join(page, "coop.html"), *modules]
+    found = called(words)
+    if found[0] or json.loads(found[1]) != ANSWERS:
+        yield f"engines that stay: {found}, and not {ANSWERS}"
 
 
 class Bare:
