@@ -16,8 +16,10 @@ from .game import Game
 from .games import airport, assignment, bankruptcy, cost_table, landings, market, table, table_of, tree, voting
 from .many import many
 from .program import find
+from .version import VERSION as __version__
 
 __all__ = [  # fmt: skip
+    "__version__",
     "Answer",
     "BadInput",
     "Bird",
