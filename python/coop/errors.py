@@ -19,6 +19,11 @@ class NotFound(CoopError):
     """No program was found."""
 
 
+class Lost(CoopError):
+    """An executor gave no answer to some games: it lost them with its processes, again and again, or took longer than
+    was allowed. The text names the games, and the cause is the executor's own exception."""
+
+
 class NoAnswer(CoopError):
     """The program ended with another status than 0 or 1, so there is no answer."""
 
