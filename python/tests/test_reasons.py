@@ -309,7 +309,7 @@ class Reasons(unittest.TestCase):
             ({"answer": "core"}, [1, "3/2", "7/2"]),
             ({"answer": "not efficient", "sum": "7", "total": "6"}, [1, 2, 4]),
             ({"answer": "prekernel"}, [1, "3/2", "7/2"]),
-            ({"answer": "not prekernel", "i": 1, "j": 2, "ij": "1", "ji": "-1"}, [3, 1, 2]),
+            ({"answer": "not prekernel", "i": 1, "j": 2, "ij": "1", "ji": "-3"}, [3, 1, 2]),
         ]
         others = [[4, 1, 1], [1, 2, 5], [3, 1, 1]]  # the first add up, as those of the prekernel do
         for line, shares in good:
