@@ -1,8 +1,8 @@
-// Runs the module of coop: the heap that the module asks its host for, and one call in an instance of its own.
-// For pages, workers and Node:
+// Runs the module of coop: the heap that the module asks its host for, one call in an instance of its own, and many
+// calls in an instance that is wiped between them. For pages, workers and Node:
 //
-//     const module = new WebAssembly.Module(bytes);
-//     const { status, line } = coop(module, ["nucleolus"], new TextEncoder().encode(document));
+//     const engine = new Engine(new WebAssembly.Module(bytes));
+//     const { status, line } = engine.run(["nucleolus"], new TextEncoder().encode(document));
 
 const KiB = 1024;
 const MiB = 1024 * KiB;
@@ -13,6 +13,7 @@ const OUT_OF_MEMORY = 7;
 const STATUSES = [0, 1, 2, 3, NO_ROOM, OUT_OF_MEMORY];
 // Where a pointer leads that no memory stands behind: it is never null.
 const NOWHERE = 16;
+const NO_MEMORY = { status: OUT_OF_MEMORY, line: new Uint8Array(0) };
 
 /** The engine stopped, by a fault of its own or of its host: there is no answer. */
 export class EngineFault extends Error {
@@ -20,7 +21,8 @@ export class EngineFault extends Error {
 }
 
 /**
- * What the program answers to words and the bytes of a document: its status, and the bytes of its line.
+ * What the program answers to words and the bytes of a document, in a new instance: its status, and the bytes of its
+ * line.
  *
  * The status is 7 where more than `most` bytes of memory are asked for, or where the host finds none; it is never 6.
  * For tests, `refused` is the number of a request for memory that is refused, and `room` is how many bytes a line may
@@ -30,9 +32,71 @@ export function coop(module, words, document, { most = 1024 * MiB, refused = 0, 
   const typed = new TextEncoder().encode(words.join("\0"));
   for (; ; room *= 4) {
     const heap = new Heap(most, refused);
-    const answer = called(module, heap, typed, document, room) ?? { status: OUT_OF_MEMORY, line: new Uint8Array(0) };
+    const run = begun(module, heap), answer = run ? called(heap, run, typed, document, room) : NO_MEMORY;
     if (answer.status !== NO_ROOM) return { ...answer, requests: heap.requests, memory: heap.bytes.length };
   }
+}
+
+/**
+ * One instance for many calls, made when it is first needed. Each call finds its memory as a new instance has it,
+ * except for the memory's length, which the module doesn't ask for (sections.py sees to that). So `run` gives what
+ * `coop` gives.
+ *
+ * After a call that stops or runs out of memory, or that took more than `kept` bytes, the next call has a new instance.
+ */
+export class Engine {
+  #module;
+  #most;
+  #kept;
+  #instance = null;
+
+  constructor(module, { most = 1024 * MiB, kept = 32 * MiB } = {}) {
+    [this.#module, this.#most, this.#kept] = [module, most, kept];
+  }
+
+  /** The status, and the bytes of the line. */
+  run(words, document) {
+    const typed = new TextEncoder().encode(words.join("\0"));
+    for (let room = roomFor(document); ; room *= 4) {
+      const answer = this.#call(typed, document, room);
+      if (answer.status !== NO_ROOM) return answer;
+    }
+  }
+
+  /** The memory that the next call will find, for tests; null if it will be that of a new instance. */
+  get memory() {
+    return this.#instance?.heap.bytes ?? null;
+  }
+
+  #call(typed, document, room) {
+    const instance = this.#instance ?? this.#begin();
+    this.#instance = null;
+    if (!instance) return NO_MEMORY;
+    const answer = called(instance.heap, instance.run, typed, document, room);
+    if (answer.status !== OUT_OF_MEMORY && instance.heap.bytes.length <= this.#kept) {
+      wipe(instance);
+      this.#instance = instance;
+    }
+    return answer;
+  }
+
+  #begin() {
+    const heap = new Heap(this.#most, 0), run = begun(this.#module, heap);
+    return run && { heap, run, data: dataOf(heap) };
+  }
+}
+
+// The bytes of a new instance from the first that isn't 0, and where that stands.
+function dataOf(heap) {
+  const own = heap.bytes.subarray(0, heap.next), at = own.findIndex((byte) => byte !== 0);
+  return at < 0 ? { at: 0, bytes: own.slice(0, 0) } : { at, bytes: own.slice(at) };
+}
+
+// No byte behind the heap's end was written.
+function wipe({ heap, data }) {
+  heap.bytes.fill(0, 0, heap.next);
+  heap.bytes.set(data.bytes, data.at);
+  heap.rewind();
 }
 
 // The line of a nucleolus has its game in it. What else stands in a line was never seen to take more than 15 KB.
@@ -40,11 +104,10 @@ function roomFor(document) {
   return document.length + 64 * KiB;
 }
 
-// One call in a new instance, or null where there is no memory to begin with.
-function called(module, heap, typed, document, room) {
-  const run = begun(module, heap);
-  const places = run && [typed.length, document.length, room, 8].map((size) => heap.take(size));
-  if (!places || places.includes(0)) return null;
+// One call in an instance that no call has written to.
+function called(heap, run, typed, document, room) {
+  const places = [typed.length, document.length, room, 8].map((size) => heap.take(size));
+  if (places.includes(0)) return NO_MEMORY;
   const [typedAt, documentAt, lineAt, countAt] = places;
   heap.bytes.set(typed, typedAt);
   heap.bytes.set(document, documentAt);
@@ -95,8 +158,14 @@ class Heap {
   // Takes the memory of an instance, where no byte from the base on is in use.
   begin(memory, base) {
     this.memory = memory;
-    this.next = Math.ceil(base / 16) * 16;
+    this.first = this.next = Math.ceil(base / 16) * 16;
     this.look(new Uint8Array(memory.buffer.byteLength / 16));
+  }
+
+  // No byte from the base on is in use any more.
+  rewind() {
+    this.next = this.first;
+    this.waiting = [];
   }
 
   // A memory that has grown has a new buffer.

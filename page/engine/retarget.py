@@ -9,7 +9,7 @@ where they are used.
 
 What the kit itself writes for wasm64 has two things more. Each function with a frame traps where the stack has run
 over; here the stack lies below all else, so the first access past its end traps. And an export refuses to run after a
-trap; here the host takes a new instance for each call.
+trap; here the host takes a new instance then.
 
 Whatever the LLVM module has that isn't known here stops it.
 """

@@ -1,16 +1,15 @@
 """The parts of a WebAssembly module: what it asks of its host and gives to it, and who made it."""
 from collections.abc import Iterable, Iterator
 
+from instructions import MEMORY_SIZE, Unknown, instructions
+
 # The sections by their numbers.
-OWN, IMPORTS, TABLES, MEMORIES, EXPORTS, ELEMENTS = 0, 2, 4, 5, 7, 9
+OWN, IMPORTS, TABLES, MEMORIES, GLOBALS, EXPORTS, ELEMENTS, CODE = 0, 2, 4, 5, 6, 7, 9, 10
 FUNCTION = 0
+CONSTANTS, END = (0x41, 0x42), 0x0B
 # The host lays its blocks behind the base.
 GIVEN = ("__heap_base", "memory")
 MAKERS = "made-by"
-
-
-class Unknown(Exception):
-    """The module isn't of the form that its host takes."""
 
 
 class Reader:
@@ -77,6 +76,25 @@ def exports_in(section: bytes) -> Iterator[str]:
         reader.number()
 
 
+def globals_in(section: bytes) -> Iterator[bool]:
+    """Whether each global may change, where all begin as a constant."""
+    reader = Reader(section)
+    for _ in range(reader.number()):
+        _, may_change, constant, _, end = (reader.number() for _ in range(5))
+        if constant not in CONSTANTS or end != END:
+            raise Unknown("a global doesn't begin as a constant")
+        yield bool(may_change)
+
+
+def stop_on_kept(of: dict[int, bytes]) -> None:
+    """Stops where a call may find what an earlier one left, though the host has wiped the memory (page/engine/host.js):
+    the memory's length, or a global. One may change, the stack pointer, which a call that returns puts back."""
+    if sum(globals_in(of.get(GLOBALS, b"\0"))) > 1:
+        raise Unknown("more than one global may change")
+    if MEMORY_SIZE in instructions(of.get(CODE, b"\0")):
+        raise Unknown("the module asks for the length of its memory")
+
+
 def stop_on_unknown(module: bytes, functions: Iterable[str], export: str) -> None:
     """Stops where the module has no memory of 32 bits, asks its host for other functions or gives it other things."""
     of = dict(sections(module))
@@ -90,6 +108,7 @@ def stop_on_unknown(module: bytes, functions: Iterable[str], export: str) -> Non
         raise Unknown(f"the module asks its host for {asked}")
     if given != sorted((*GIVEN, export)):
         raise Unknown(f"the module gives {given}")
+    stop_on_kept(of)
 
 
 def with_makers(module: bytes, said: str) -> bytes:

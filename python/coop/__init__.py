@@ -10,14 +10,16 @@ The constructors make games (`games`), the calls ask the program (`calls`) and g
 """
 from .answers import Answer, Bird, Blocked, Convex, CorePoint, EmptyCore, InCore, InPrekernel, Matching, No
 from .answers import NoImputation, NotConvex, NotEfficient, NotInPrekernel, Nucleolus, Shapley, Yes
-from .calls import bird, check, convex, core, kernel, matching, nucleolus, prenucleolus, propose, shapley
-from .errors import BadInput, CoopError, Fault, NoAnswer, NoMemory, NotFound, Refused, Usage
+from .calls import bird, check, convex, core, kernel, least_core, matching, nucleolus, prenucleolus, propose, shapley
+from .errors import BadInput, CoopError, Fault, Lost, NoAnswer, NoMemory, NotFound, Refused, Usage
 from .game import Game
 from .games import airport, assignment, bankruptcy, cost_table, landings, market, table, table_of, tree, voting
 from .many import many
 from .program import find
+from .version import VERSION as __version__
 
 __all__ = [  # fmt: skip
+    "__version__",
     "Answer",
     "BadInput",
     "Bird",
@@ -30,6 +32,7 @@ __all__ = [  # fmt: skip
     "Game",
     "InCore",
     "InPrekernel",
+    "Lost",
     "Matching",
     "No",
     "NoAnswer",
@@ -55,6 +58,7 @@ __all__ = [  # fmt: skip
     "find",
     "kernel",
     "landings",
+    "least_core",
     "many",
     "market",
     "matching",

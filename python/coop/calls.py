@@ -2,10 +2,11 @@
 from __future__ import annotations
 
 import json
+from fractions import Fraction
 from typing import Any, Mapping, Optional, Sequence, Union, cast
 
 from . import answers
-from .amounts import Amount, fraction_of, written
+from .amounts import Amount, fractions_of, written
 from .answers import Answer
 from .errors import BadInput, Fault, NoAnswer, NoMemory, Refused, Usage
 from .game import Game
@@ -15,7 +16,7 @@ Chosen = Union[None, str, Program]
 """A program by its name or itself; None for the one that is found."""
 
 Proposal = Union[Mapping[str, Amount], Sequence[Amount]]
-FAULTS = {5: "reading failed", 6: "writing failed", 70: "bin/coop couldn't build it"}
+FAULTS = {5: "reading failed", 6: "writing failed", 70: "the program couldn't answer", 124: "it took too long"}
 USAGES = {
     "class": "the command doesn't serve the class of the game",
     "players": "the command doesn't serve so many players",
@@ -33,6 +34,15 @@ def prenucleolus(game: Game, program: Chosen = None) -> answers.Nucleolus:
     return cast(answers.Nucleolus, ask("prenucleolus", game, program=program))
 
 
+def least_core(game: Game, program: Chosen = None) -> Fraction:
+    """The value of the least core: the greatest excess of a group by those divisions of the whole by which it is least.
+    The core is empty where it is above 0. For costs an excess is what a group pays above its own cost."""
+    levels = prenucleolus(game, program).certificate["levels"]
+    if not levels:
+        raise BadInput("a game of one player has no group but the whole, and so no least core")
+    return Fraction(levels[0]["excess"]) / game.factor
+
+
 def core(game: Game, program: Chosen = None) -> Union[answers.CorePoint, answers.EmptyCore]:
     """A division by which no group could do better, or why there is none."""
     return cast("Union[answers.CorePoint, answers.EmptyCore]", ask("core", game, program=program))
@@ -44,10 +54,11 @@ def shapley(game: Game, program: Chosen = None) -> answers.Shapley:
 
 
 def propose(
-    game: Game, shares: Proposal, program: Chosen = None
+    game: Game, shares: Proposal, program: Chosen = None, *, digits: Optional[int] = None
 ) -> Union[answers.InCore, answers.Blocked, answers.NotEfficient]:
-    """Whether some group could do better by itself than by these shares."""
-    answer = ask("propose", game, shares, program=program)
+    """Whether some group could do better by itself than by these shares; with a number of digits by the shares rounded
+    so, which may be floats."""
+    answer = ask("propose", game, rounded(game, shares, digits), program=program)
     return cast("Union[answers.InCore, answers.Blocked, answers.NotEfficient]", answer)
 
 
@@ -57,10 +68,11 @@ def convex(game: Game, program: Chosen = None) -> Union[answers.Convex, answers.
 
 
 def kernel(
-    game: Game, shares: Proposal, program: Chosen = None
+    game: Game, shares: Proposal, program: Chosen = None, *, digits: Optional[int] = None
 ) -> Union[answers.InPrekernel, answers.NotInPrekernel, answers.NotEfficient]:
-    """Whether any two players have the same hold on each other by these shares: the prekernel."""
-    answer = ask("kernel", game, shares, program=program)
+    """Whether any two players have the same hold on each other by these shares: the prekernel. Digits are those of
+    `propose`."""
+    answer = ask("kernel", game, rounded(game, shares, digits), program=program)
     return cast("Union[answers.InPrekernel, answers.NotInPrekernel, answers.NotEfficient]", answer)
 
 
@@ -102,18 +114,27 @@ def document_of(game: Game, shares: Optional[Proposal] = None) -> bytes:
     return game.document() if shares is None else game.document(shares=items_of(game, shares))
 
 
-def items_of(game: Game, shares: Proposal) -> list[Any]:
-    """Shares by names, or in the players' order, as a document has them."""
+def rounded(game: Game, shares: Proposal, digits: Optional[int]) -> list[Fraction]:
+    """Shares by names, or in the players' order, as exact numbers in that order."""
     if isinstance(shares, Mapping):
         if set(shares) != set(game.names):
             raise BadInput(f"shares by names are for {', '.join(game.names)}, each once")
         shares = [shares[name] for name in game.names]
-    return [written(fraction_of(share) * game.factor) for share in shares]
+    return fractions_of(shares, digits)
+
+
+def items_of(game: Game, shares: Proposal) -> list[Any]:
+    """Shares by names, or in the players' order, as a document has them."""
+    return [written(share * game.factor) for share in rounded(game, shares, None)]
 
 
 def answered(command: str, document: bytes, game: Game, program: Chosen) -> Answer:
     """One run of the program, and its answer."""
-    status, data = find(program).run([command], document)
+    return answer_from(command, *find(program).run([command], document), document, game)
+
+
+def answer_from(command: str, status: int, data: bytes, document: bytes, game: Game) -> Answer:
+    """The answer of a status and a line."""
     line = data.decode("utf-8", "replace").rstrip("\n")
     if status not in (0, 1):
         raise fault_of(command, status, line, document)

@@ -1,31 +1,20 @@
-"""The second checker: scripts/check-anew where the repository is there, and else the program's `check`."""
+"""The second checker, scripts/check-anew: of the repository, or of an installed package, which has it too."""
 from __future__ import annotations
 
 import json
 import os
 from typing import Any
 
-from . import calls
-from .errors import BadInput, CoopError
+from .errors import BadInput
 from .program import TOP
 
-CHECK_ANEW = os.path.join(TOP, "scripts", "check-anew")
+INSIDE = os.path.join(os.path.dirname(os.path.abspath(__file__)), "scripts", "check-anew")
+CHECK_ANEW = INSIDE if os.path.exists(INSIDE) else os.path.join(TOP, "scripts", "check-anew")
 
 
 def verdict(data: bytes) -> dict[str, Any]:
-    """The line of yes or no to the bytes of a document, as a tree; what is none to check is bad input."""
-    if os.path.exists(CHECK_ANEW):
-        return anew(data)
-    try:
-        answer = calls.check(data)
-    except CoopError as fault:
-        raise BadInput(str(fault)) from None
-    tree: dict[str, Any] = json.loads(answer.line)
-    return tree
-
-
-def anew(data: bytes) -> dict[str, Any]:
-    """What check-anew says, without a process of its own."""
+    """The line of yes or no to the bytes of a document, as a tree, without a process of its own; what is none to check
+    is bad input."""
     from importlib.machinery import SourceFileLoader
     from importlib.util import module_from_spec, spec_from_loader
 

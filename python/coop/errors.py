@@ -1,7 +1,7 @@
 """What can go wrong, as exceptions."""
 from __future__ import annotations
 
-from typing import TYPE_CHECKING, Optional
+from typing import TYPE_CHECKING, Any, Optional
 
 if TYPE_CHECKING:
     from .slips import Slip
@@ -19,6 +19,11 @@ class NotFound(CoopError):
     """No program was found."""
 
 
+class Lost(CoopError):
+    """An executor gave no answer to some games: it lost them with its processes, again and again, or took longer than
+    was allowed. The text names the games, and the cause is the executor's own exception."""
+
+
 class NoAnswer(CoopError):
     """The program ended with another status than 0 or 1, so there is no answer."""
 
@@ -28,6 +33,18 @@ class NoAnswer(CoopError):
         """The status with which the program ended."""
         self.line = line
         """What it wrote."""
+
+    def __reduce__(self) -> tuple[Any, ...]:
+        """Its parts, since Python pickles an exception by its text alone."""
+        return restored, (type(self), self.args, self.__dict__)
+
+
+def restored(kind: type[NoAnswer], args: tuple[Any, ...], parts: dict[str, Any]) -> NoAnswer:
+    """An exception from its parts."""
+    fault = kind.__new__(kind, *args)
+    fault.args = args
+    fault.__dict__.update(parts)
+    return fault
 
 
 class Usage(NoAnswer):

@@ -5,13 +5,16 @@ import os
 import sys
 import time
 from collections import deque
-from typing import Callable, Iterable, Iterator, Optional, Sequence, TypeVar, Union
+from typing import TYPE_CHECKING, Any, Callable, Iterable, Iterator, Optional, Sequence, TypeVar, Union
 
 from .answers import Answer
 from .calls import Chosen, ask
 from .errors import NoAnswer
 from .game import Game
 from .program import Program, find
+
+if TYPE_CHECKING:
+    from .far import Executor
 
 Outcome = Union[Answer, NoAnswer]
 """An answer; or, where there is none, the exception that the call would raise."""
@@ -28,13 +31,24 @@ def many(
     processors: Optional[int] = None,
     progress: Optional[bool] = None,
     program: Chosen = None,
+    executor: Optional[Executor] = None,
+    batch: int = 32,
+    seconds: Optional[float] = None,
 ) -> Iterator[tuple[Outcome, ...]]:
     """For each game, in order, what each command answers: `for plain, shares in many(("nucleolus", "shapley"), games)`.
 
     A game that is refused ends nothing: its outcome is the exception. Progress is told on standard error, where that is
     a terminal unless it is asked for or not.
+
+    With an `executor`, which is whatever has the `submit` of `concurrent.futures`, documents go there, `batch` games at
+    a time, and lines come back. Each of its processes finds the program by itself, unless one is named. Games that it
+    loses are handed over again; after three times, or where they take more than so many seconds, `Lost` is raised.
     """
     words = (commands,) if isinstance(commands, str) else tuple(commands)
+    if executor is not None:
+        from .far import many_by
+
+        return shown(many_by(executor, words, games, program, batch, seconds), games, progress)
     found = find(program)
     return spread(lambda game: tuple(outcome(word, game, found) for word in words), games, processors, progress)
 
@@ -55,22 +69,31 @@ def spread(
 ) -> Iterator[Result]:
     """The results of some work on items, in their order, by as many threads as there are processors: each waits for a
     process, or for the C library, and others go on meanwhile."""
+    return shown(by_threads(work, items, processors or os.cpu_count() or 1), items, progress)
+
+
+def by_threads(work: Callable[[Item], Result], items: Iterable[Item], count: int) -> Iterator[Result]:
+    """The results in order, by so many threads."""
     from concurrent.futures import Future, ThreadPoolExecutor
 
-    count = processors or os.cpu_count() or 1
-    total = len(items) if isinstance(items, Sequence) else None
-    shown = Progress(total, sys.stderr.isatty() if progress is None else progress)
     waiting: deque[Future[Result]] = deque()
     with ThreadPoolExecutor(count) as pool:
         for item in items:
             waiting.append(pool.submit(work, item))
             if len(waiting) >= AHEAD * count:
                 yield waiting.popleft().result()
-                shown.count()
         while waiting:
             yield waiting.popleft().result()
-            shown.count()
-    shown.end()
+
+
+def shown(results: Iterator[Result], items: Iterable[Any], progress: Optional[bool]) -> Iterator[Result]:
+    """The same results, with a bar that counts those that were taken."""
+    total = len(items) if isinstance(items, Sequence) else None
+    bar = Progress(total, sys.stderr.isatty() if progress is None else progress)
+    for result in results:
+        yield result
+        bar.count()
+    bar.end()
 
 
 class Progress:

@@ -1,10 +1,10 @@
 """The program: where it is found, and one run of it.
 
 A program is anything with `run`: words and the bytes of a document to a status and the bytes of the line. Here are
-two, a command of the system and the C library. The first that is found is taken, in this order: what is named as an
-argument; the environment's `COOP`, a command; its `COOP_LIBRARY`, the C library; `coop` on the path; and in the
-repository in which this package stands the built program, then `node page/coop.mjs`, then `bin/coop`, which builds
-it where the kit is.
+two, a command of the system and the C library; `server` has a third. The first that is found is taken, in this order:
+what is named as an argument; the environment's `COOP`, a command; its `COOP_LIBRARY`, the C library; `coop` on the path;
+the built program of the repository in which this package stands; by Node, the module in the page, which an installed
+package has too; and `bin/coop` of the repository, which builds the program where the kit is.
 """
 from __future__ import annotations
 
@@ -14,11 +14,8 @@ from typing import Any, Optional, Protocol, Sequence, Union
 from .errors import BadInput, Fault, NotFound
 
 TOP = os.path.dirname(os.path.dirname(os.path.dirname(os.path.abspath(__file__))))
-BUILT = (
-    os.path.join(TOP, "crates", "coop_program", "out", "coop_program"),
-    os.path.join(TOP, "crates", "coop", "out", "coop"),
-)
-"""Where a repository has the built program, the newest layout first."""
+BUILT = os.path.join(TOP, "crates", "coop_program", "out", "coop_program")
+"""Where a repository has the built program."""
 
 NO_ROOM = 6
 GROWTH, FIRST_ROOM, MOST_ROOM = 8, 1 << 16, 1 << 28
@@ -82,6 +79,7 @@ class Library:
     def __init__(self, path: str):
         import ctypes
 
+        self.path = path
         self.ctypes: Any = ctypes
         try:
             self.call: Any = ctypes.CDLL(path).coop_run
@@ -90,6 +88,9 @@ class Library:
         text, size = ctypes.c_char_p, ctypes.c_size_t
         self.call.restype = ctypes.c_uint32
         self.call.argtypes = [text, size, text, size, text, size, ctypes.POINTER(size)]
+
+    def __reduce__(self) -> tuple[Any, ...]:
+        return Library, (self.path,)
 
     def run(self, words: Sequence[str], document: bytes) -> tuple[int, bytes]:
         """One call. Where the line has no room, another with more."""
@@ -133,7 +134,7 @@ def named(text: str) -> Program:
 
 def built() -> Optional[str]:
     """The built program of the repository, where it is there."""
-    return next((path for path in BUILT if os.access(path, os.X_OK)), None)
+    return BUILT if os.access(BUILT, os.X_OK) else None
 
 
 def found() -> Program:
@@ -148,17 +149,30 @@ def found() -> Program:
     path = built()
     if path:
         return Command([path])
-    page, builder = os.path.join(TOP, "page", "coop.mjs"), os.path.join(TOP, "bin", "coop")
-    node = which("node")
-    if node and os.path.exists(page):
-        return Command([node, page])
+    page, builder = page_folder(), os.path.join(TOP, "bin", "coop")
+    node = which("node") or which("nodejs")
+    if node and page:
+        from .server import Server
+
+        return Server([node, os.path.join(page, "serve.mjs")])
     if which("rt") and os.access(builder, os.X_OK):
         return Command([builder])
-    raise NotFound("there is no program coop: name it, set COOP to it, put it on the path, or build it by bin/coop")
+    others = "or name a program, set COOP to it, or put it on the path"
+    if page:
+        raise NotFound(f"there is no program coop: put Node 18 or later on the path (nodejs.org), {others}")
+    raise NotFound(f"there is no program coop, and no page beside this package: install it anew, {others}")
+
+
+def page_folder() -> Optional[str]:
+    """Where the page and what runs its module stand: in an installed package, or in the repository."""
+    here = os.path.dirname(os.path.abspath(__file__))
+    folders = (os.path.join(here, "page"), os.path.join(TOP, "page"))
+    return next((folder for folder in folders if os.path.exists(os.path.join(folder, "serve.mjs"))), None)
 
 
 def which(name: str) -> Optional[str]:
     """The program of this name on the path."""
+    name += ".exe" if os.name == "nt" else ""
     for folder in os.environ.get("PATH", os.defpath).split(os.pathsep):
         path = os.path.join(folder or ".", name)
         if os.path.isfile(path) and os.access(path, os.X_OK):

@@ -5,9 +5,9 @@ from fractions import Fraction
 from typing import Any, Callable, Optional, Sequence
 
 from .errors import BadInput
-from .excesses import excess
 from .game import KINDS, Game, number, numbers
 from .groups import Namer, times
+from .judged import require_judged, surplus
 from .levels import group_of
 from .prose import filled, with_items
 from .styles import EXACT, Style, each
@@ -99,6 +99,8 @@ class Teller:
         if tell is None:
             raise BadInput(NO_ANSWER if "shares" in tree else "this is no answer of the program")
         try:
+            if self.game is not None and self.shares is not None:
+                require_judged(self.game, self.shares, tree)
             return tell(self, tree)
         except (KeyError, TypeError, ValueError, IndexError) as fault:
             raise BadInput(f"this is no whole answer of the program: {fault!r}") from None
@@ -257,11 +259,7 @@ class Teller:
         """The group of greatest excess with the one and without the other."""
         if self.game is None or self.shares is None or self.namer is None or self.game.n > MOST_PLAYERS:
             return ""
-        game, shares = self.game, self.shares
-        plain = Game({key: value for key, value in game.tree.items() if key != "excess"})
-        groups = [s for s in range(1, game.everyone) if s >> i - 1 & 1 and not s >> j - 1 & 1]
-        best = max(groups, key=lambda s: (excess(plain, shares, s), -s))
-        return f" ({self.namer.group(best)})"
+        return f" ({self.namer.group(surplus(self.game, self.shares, i, j)[1])})"
 
     def matching(self, tree: dict[str, Any]) -> str:
         """Who trades with whom."""

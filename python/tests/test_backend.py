@@ -1,50 +1,100 @@
-"""The wheel that pip is given: whole, typed, and the same at each build."""
+"""What pip is given: whole, typed, the same at each build, and enough to answer by Node alone."""
 import os
 import subprocess
 import sys
+import tarfile
 import tempfile
 import unittest
 import zipfile
 
 import backend
-from coop.program import TOP
+from coop.program import TOP, which
+from coop.version import VERSION
 
 FOLDER = os.path.join(TOP, "python", "coop")
+NODE = which("node") or which("nodejs")
+ASKS = """
+import coop, coop.checking
+print(coop.airport([1, 2]).worth(3), coop.__file__)
+print(coop.checking.verdict(coop.nucleolus(coop.airport([2, 4, 6])).line.encode()))
+"""
 
 
-class Wheels(unittest.TestCase):
+def bytes_of(path: str) -> bytes:
+    """What a file has."""
+    with open(path, "rb") as file:
+        return file.read()
+
+
+class Built(unittest.TestCase):
+    def setUp(self) -> None:
+        holder = tempfile.TemporaryDirectory()
+        self.addCleanup(holder.cleanup)
+        self.folder = holder.name
+
     def test_the_wheel(self) -> None:
-        with tempfile.TemporaryDirectory() as first, tempfile.TemporaryDirectory() as second:
-            name = backend.build_wheel(first)
-            self.assertEqual(name, "coop-0-py3-none-any.whl")
-            paths = [os.path.join(folder, name) for folder in (first, second)]
-            self.assertEqual(backend.build_wheel(second), name)
-            texts = []
-            for path in paths:
-                with open(path, "rb") as file:
-                    texts.append(file.read())
-            self.assertEqual(texts[0], texts[1])
-            with zipfile.ZipFile(paths[0]) as archive:
-                names = archive.namelist()
-                record = archive.read("coop-0.dist-info/RECORD").decode().splitlines()
-                for line in record[:-1]:
-                    entry, found, size = line.split(",")
-                    data = archive.read(entry)
-                    self.assertEqual((found, size), (f"sha256={backend.sum_of(data)}", str(len(data))))
-            modules = [f"coop/{name}" for name in os.listdir(FOLDER) if name.endswith((".py", ".typed"))]
-            self.assertEqual(
-                set(names), {*modules, *(f"coop-0.dist-info/{part}" for part in ("METADATA", "WHEEL", "RECORD"))}
-            )
-            self.assertIn("coop/py.typed", names)
-            self.assertEqual([line.split(",")[0] for line in record], names)
-            self.assertTrue(self.imports(paths[0]))
+        names, info = [], f"coop-{VERSION}.dist-info"
+        for part in ("one", "two"):
+            os.mkdir(os.path.join(self.folder, part))
+            names.append(os.path.join(self.folder, part, backend.build_wheel(os.path.join(self.folder, part))))
+        self.assertEqual([os.path.basename(name) for name in names], [f"coop-{VERSION}-py3-none-any.whl"] * 2)
+        self.assertEqual(bytes_of(names[0]), bytes_of(names[1]))
+        self.assertLess(os.path.getsize(names[0]), 600_000)  # packed
+        with zipfile.ZipFile(names[0]) as archive:
+            found = {name: archive.read(name) for name in archive.namelist()}
+        record = found[f"{info}/RECORD"].decode().splitlines()
+        self.assertEqual([line.split(",")[0] for line in record], list(found))
+        for line in record[:-1]:
+            name, digest, size = line.split(",")
+            self.assertEqual((digest, size), (f"sha256={backend.sum_of(found[name])}", str(len(found[name]))))
+        wanted = {f"coop/{name}": os.path.join(FOLDER, name) for name in backend.modules()}
+        for part in ("page/coop.html", "page/coop.mjs", "page/serve.mjs", "page/package.json", "scripts/check-anew"):
+            wanted[f"coop/{part}"] = os.path.join(TOP, part)
+        for part in ("host.js", "inside.js", "ports.js"):
+            wanted[f"coop/page/engine/{part}"] = os.path.join(TOP, "page", "engine", part)
+        own = {f"{info}/{part}" for part in ("METADATA", "WHEEL", "RECORD")}
+        self.assertEqual(set(found), {*wanted, *own})
+        for name, path in wanted.items():
+            self.assertEqual(found[name], bytes_of(path), name)
+        self.assertIn("coop/py.typed", found)
+        self.assertIn(b"\n\n# coop\n", found[f"{info}/METADATA"])
 
-    def imports(self, path: str) -> bool:
-        """Whether the package works out of the wheel alone."""
-        code = "import coop; print(coop.airport([1, 2]).worth(3), coop.__file__)"
-        settings = {"PYTHONPATH": path, "PATH": "/usr/bin:/bin"}
-        done = subprocess.run([sys.executable, "-B", "-c", code], env=settings, cwd="/", stdout=subprocess.PIPE)
-        return done.stdout.decode() == f"-2 {os.path.join(path, 'coop', '__init__.py')}\n"
+    def test_the_archive(self) -> None:
+        with tarfile.open(os.path.join(self.folder, backend.build_sdist(self.folder))) as archive:
+            names = archive.getnames()
+            archive.extractall(self.folder)
+        inside = os.path.join(self.folder, f"coop-{VERSION}")
+        self.assertEqual({name.split("/")[0] for name in names}, {f"coop-{VERSION}"})
+        code = "import sys, backend; print(backend.build_wheel(sys.argv[1]))"
+        done = subprocess.run([sys.executable, "-B", "-c", code, self.folder], cwd=inside, stdout=subprocess.PIPE)
+        again = bytes_of(os.path.join(self.folder, done.stdout.decode().strip()))
+        os.mkdir(os.path.join(self.folder, "own"))
+        own = backend.build_wheel(os.path.join(self.folder, "own"))
+        self.assertEqual(again, bytes_of(os.path.join(self.folder, "own", own)))
+
+    @unittest.skipUnless(NODE, "there is no Node")
+    def test_what_is_installed(self) -> None:
+        """A new environment without the repository, the network and a program answers by Node, and says what lacks."""
+        done = subprocess.run([sys.executable, "-m", "venv", "--without-pip", os.path.join(self.folder, "venv")])
+        self.assertEqual(done.returncode, 0)
+        python = os.path.join(self.folder, "venv", "bin", "python")
+        words = [python, "-c", "import sysconfig; print(sysconfig.get_path('purelib'))"]
+        site = subprocess.run(words, stdout=subprocess.PIPE, check=True).stdout.decode().strip()
+        with zipfile.ZipFile(os.path.join(self.folder, backend.build_wheel(self.folder))) as archive:
+            archive.extractall(site)
+        tools = os.path.join(self.folder, "tools")
+        os.mkdir(tools)
+        found = self.asked(python, tools)
+        self.assertIn(b"NotFound: there is no program coop: put Node 18 or later on the path", found[1])
+        os.symlink(NODE or "", os.path.join(tools, "nodejs"))
+        said = f"-2 {os.path.join(site, 'coop', '__init__.py')}\n{{'answer': 'yes'}}\n"
+        self.assertEqual(self.asked(python, tools), (said.encode(), b""))
+
+    def asked(self, python: str, path: str) -> tuple[bytes, bytes]:
+        """What a Python prints that asks the package, with these programs alone."""
+        words = [python, "-B", "-c", ASKS]
+        done = subprocess.run(words, env={"PATH": path}, cwd="/", stdout=subprocess.PIPE, stderr=subprocess.PIPE)
+        return done.stdout, done.stderr
 
 
 if __name__ == "__main__":

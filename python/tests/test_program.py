@@ -52,14 +52,15 @@ class Finding(unittest.TestCase):
             executable(kit, "rt", "exit 0")
             self.assertIn("NotFound", self.found(package))
             self.assertEqual(self.found(package, PATH=kit), str([builder]))
-            page = executable(os.path.join(top, "page"), "coop.mjs", "exit 0")
-            node = executable(tools, "node", "exit 0")
-            self.assertEqual(self.found(package, PATH=f"{kit}:{tools}"), str([node, page]))
-            for crate in ("coop", "coop_program"):
-                out = os.path.join(top, "crates", crate, "out")
-                os.makedirs(out)
-                built = executable(out, crate, "exit 0")
-                self.assertEqual(self.found(package, PATH=f"{kit}:{tools}"), str([built]))
+            page = executable(os.path.join(top, "page"), "serve.mjs", "exit 0")
+            self.assertIn("NotFound: there is no program coop: put Node 18 or later on the path", self.found(package))
+            for name in ("nodejs", "node"):
+                node = executable(tools, name, "exit 0")
+                self.assertEqual(self.found(package, PATH=f"{kit}:{tools}"), str([node, page]))
+            out = os.path.join(top, "crates", "coop_program", "out")
+            os.makedirs(out)
+            built = executable(out, "coop_program", "exit 0")
+            self.assertEqual(self.found(package, PATH=f"{kit}:{tools}"), str([built]))
 
     def test_by_name(self) -> None:
         self.assertEqual(named("/a/coop").command, ["/a/coop"])  # type: ignore[attr-defined]

@@ -298,9 +298,27 @@ class Reasons(unittest.TestCase):
                 self.assertIn(sentence, text)
         shapley = said({"answer": "shapley", "shares": ["2/3", "2/3", "2/3"]}, say=Style(2))[0]
         self.assertIn("player 1: 0.67 - player 2: 0.67 - player 3: 0.66", shapley)
-        beside = {"game": AIRPORT, "shares": ["2/3", "8/3", "8/3"]}
-        blocked = said({"answer": "blocked", "coalition": [3], "excess": "1"}, beside, Style(0))[0]
+        beside = {"game": {**AIRPORT, "costs": [6, 6, 2]}, "shares": ["2/3", "8/3", "8/3"]}
+        blocked = said({"answer": "blocked", "coalition": [3], "excess": "2/3"}, beside, Style(0))[0]
         self.assertIn("It pays 2, where", blocked)
+
+    def test_shares_that_werent_judged(self) -> None:
+        blocked = {"answer": "blocked", "coalition": [1], "excess": "1"}
+        good = [
+            (blocked, [3, 1, 2]),
+            ({"answer": "core"}, [1, "3/2", "7/2"]),
+            ({"answer": "not efficient", "sum": "7", "total": "6"}, [1, 2, 4]),
+            ({"answer": "prekernel"}, [1, "3/2", "7/2"]),
+            ({"answer": "not prekernel", "i": 1, "j": 2, "ij": "1", "ji": "-3"}, [3, 1, 2]),
+        ]
+        others = [[4, 1, 1], [1, 2, 5], [3, 1, 1]]  # the first add up, as those of the prekernel do
+        for line, shares in good:
+            said(line, {"game": AIRPORT, "shares": shares})
+            for some in others[1:] if line["answer"] == "prekernel" else others:
+                with self.assertRaisesRegex(BadInput, "aren't those that it judges", msg=f"{line} {some}"):
+                    said(line, {"game": AIRPORT, "shares": some})
+        per_head = {**AIRPORT, "excess": "per-head"}
+        said({"answer": "blocked", "coalition": [1, 2], "excess": "1/2"}, {"game": per_head, "shares": [2, 3, 1]})
 
     def test_names_are_safe(self) -> None:
         game = {**AIRPORT, "names": ["light\n\n  heavy: 0", "medium\u202e", "heavy"]}

@@ -3,15 +3,41 @@
 // Each line is a run: words, the document in base64 and, where it is to begin with little room for the line or memory
 // is to be refused, how. Each line printed is what came of it: status and line, in base64; or, where memory was
 // refused, how many runs there were, how many of them ended with want of memory, and those that ended otherwise than
-// they may.
+// they may. A run without limits has to come to the same in a new instance and in the one that many runs have had,
+// which has to be left with the memory of a new one.
 import fs from "node:fs";
-import { coop } from "../host.js";
+import { coop, Engine } from "../host.js";
 import { moduleIn } from "../inside.js";
 
 const OUT_OF_MEMORY = 7;
 const PAGE = 65536;
 
 const module = new WebAssembly.Module(moduleIn(fs.readFileSync(new URL("../../coop.html", import.meta.url), "latin1")));
+
+const engine = new Engine(module);
+const begun = Buffer.from(new WebAssembly.Instance(module, { heap: imports() }).exports.memory.buffer);
+const ZEROS = Buffer.alloc(1 << 20);
+
+function imports() {
+  return Object.fromEntries(["alloc", "realloc", "dealloc"].map((name) => [`rattle_${name}`, () => {}]));
+}
+
+/** Whether a memory is that of a new instance, with nothing behind it. */
+function isAsNew(memory) {
+  if (Buffer.compare(memory.subarray(0, begun.length), begun) !== 0) return false;
+  for (let at = begun.length; at < memory.length; at += ZEROS.length) {
+    const part = memory.subarray(at, at + ZEROS.length);
+    if (Buffer.compare(part, ZEROS.subarray(0, part.length)) !== 0) return false;
+  }
+  return true;
+}
+
+/** A run in the instance that earlier runs have had, compared with the one in a new instance. */
+function again(words, document, whole) {
+  const { status, line } = engine.run(words, document);
+  if (status !== whole.status || Buffer.from(line).toString("base64") !== whole.line) return `${status} when wiped`;
+  return engine.memory === null || isAsNew(engine.memory) ? status : `${status}, and the memory isn't wiped`;
+}
 
 function told(words, document, limits) {
   try {
@@ -50,7 +76,7 @@ function answer({ words, data, room, refusing, limiting }) {
   const whole = told(words, document, { room });
   if (refusing) return limited(words, document, whole, refusals(whole));
   if (limiting) return limited(words, document, whole, risingLimits(whole));
-  return [whole.status, whole.line];
+  return [again(words, document, whole), whole.line];
 }
 
 for (const row of fs.readFileSync(0, "utf8").split("\n")) console.log(JSON.stringify(answer(JSON.parse(row))));

@@ -1,6 +1,7 @@
 """The module as a command: page/coop.mjs in processes of its own, and bin/coop where nothing is built."""
 import base64
 import gzip
+import json
 import os
 import shutil
 import subprocess
@@ -13,8 +14,16 @@ from stops import small_module
 
 AIRPORT = os.path.join(TOP, "examples", "airport.json")
 NO_ANSWER = 70
-# What bin/coop calls before it has found that nothing is built; for Node, its shell and the page.
-CALLED = ("sh", "cat", "readlink", "dirname", "find", "env")
+# What bin/coop calls, but for node and rt.
+CALLED = (
+    "awk", "cat", "chmod", "date", "dirname", "env", "find", "flock", "grep", "mkdir", "nproc", "readlink", "rm", "sh",
+    "sleep", "touch",
+)
+# A kit that proves nothing and builds at once.
+RT = """#!/bin/sh
+[ "$1" = run ] || exit 0
+mkdir -p out && printf '#!/bin/sh\\necho the built program\\n' > out/coop_program && chmod 755 out/coop_program
+"""
 
 
 def called(words: list[str], document: bytes = b"", path: str = "") -> tuple[int, bytes, bytes]:
@@ -56,22 +65,97 @@ def faults_without_answer(page: str) -> Iterator[str]:
                 yield f"coop.mjs with {name}: status {status}, {line!r}, {errors!r}"
 
 
-def faults_unbuilt(page: str) -> Iterator[str]:
-    """Where bin/coop, with nothing built and no kit, doesn't answer by Node, and end with 70 without Node."""
-    with tempfile.TemporaryDirectory() as folder:
-        top, tools = os.path.join(folder, "top"), os.path.join(folder, "tools")
-        shutil.copytree(page, os.path.join(top, "page"), ignore=shutil.ignore_patterns("out"))
-        shutil.copytree(os.path.join(TOP, "bin"), os.path.join(top, "bin"))
-        shutil.copy(os.path.join(TOP, "crates.txt"), top)
-        os.makedirs(tools)
+# Answers 1 if a byte of its memory was written before, and else 0, and writes it; the second traps in the place of 0.
+KEEPING = b"\x41\x08\x2d\0\0\x41\x08\x41\x01\x3a\0\0"
+TRAPPING = b"\x41\x08\x2d\0\0\x04\x40\x41\x01\x0f\x0b\x41\x08\x41\x01\x3a\0\0\0"
+# What engines of these and of the page's module answer, several times each, and whether they keep their instance.
+ENGINES = """
+const [, host, inside, page, keeping, trapping] = process.argv;
+const { Engine } = await import(host), { moduleIn } = await import(inside), { readFileSync } = await import("node:fs");
+const module = (bytes) => new WebAssembly.Module(bytes), none = new Uint8Array(0);
+const own = module(moduleIn(readFileSync(page, "latin1")));
+const status = (engine, words = []) => {
+  const said = (() => { try { return engine.run(words, none).status; } catch (fault) { return fault.name; } })();
+  return [said, engine.memory !== null];
+};
+const large = ["gen", "table", "16", "1"], small = ["gen", "airport", "3", "1"];
+const [kept, trapped] = [keeping, trapping].map((text) => new Engine(module(Buffer.from(text, "base64"))));
+const [narrow, brief] = [new Engine(own, { most: 1 << 21 }), new Engine(own, { kept: 1 << 21 })];
+console.log(JSON.stringify([
+  [status(kept), status(kept)], [status(trapped), status(trapped)],
+  [status(narrow, large), status(narrow, small)], [status(brief, large), status(brief, small)],
+]));
+"""
+ANSWERS = [
+    [[0, True], [0, True]], [["EngineFault", False], ["EngineFault", False]],
+    [[7, False], [0, True]], [[0, False], [0, True]],
+]
+
+
+def faults_of_engine(page: str) -> Iterator[str]:
+    """Where a call finds what an earlier one left, or one that stopped or took too much memory keeps its instance."""
+    modules = [base64.b64encode(small_module(code=code)).decode() for code in (KEEPING, TRAPPING)]
+    places = [Path(page, "engine", name).resolve().as_uri() for name in ("host.js", "inside.js")]
+    words = ["node", "--input-type=module", "-e", ENGINES, *places, os.path.join(page, "coop.html"), *modules]
+    found = called(words)
+    if found[0] or json.loads(found[1]) != ANSWERS:
+        yield f"engines that stay: {found}, and not {ANSWERS}"
+
+
+class Bare:
+    """A copy of what bin/coop needs, with nothing built, and a path of the tools that are put there."""
+
+    def __init__(self, folder: str, page: str) -> None:
+        self.top, self.tools = os.path.join(folder, "top"), os.path.join(folder, "tools")
+        shutil.copytree(page, os.path.join(self.top, "page"), ignore=shutil.ignore_patterns("out"))
+        shutil.copytree(os.path.join(TOP, "bin"), os.path.join(self.top, "bin"))
+        shutil.copy(os.path.join(TOP, "crates.txt"), self.top)
+        for crate in ("coop", "coop_program"):
+            os.makedirs(os.path.join(self.top, "crates", crate, "src"))
+        os.makedirs(self.tools)
         for name in CALLED:
-            os.symlink(shutil.which(name) or "", os.path.join(tools, name))
-        words = [os.path.join(top, "bin", "coop"), "propose"]
-        document = Path(TOP, "examples", "majority.json").read_bytes()
-        found = called(words, document, tools)
-        if found[:2] != (NO_ANSWER, b"") or not found[2]:
-            yield f"bin/coop without a kit and Node: {found}"
-        os.symlink(shutil.which("node") or "", os.path.join(tools, "node"))
-        status, line, errors = called(words, document, tools)
-        if (status, line, errors.count(b"\n")) != (1, b'{"answer":"blocked","coalition":[2,3],"excess":"1"}\n', 1):
-            yield f"bin/coop without a kit: status {status}, {line!r}, {errors!r}"
+            os.symlink(shutil.which(name) or "", os.path.join(self.tools, name))
+        self.program = os.path.join(self.top, "crates", "coop_program", "out", "coop_program")
+
+    def put(self, names: str) -> None:
+        """Leaves of node and rt those that are named on the path; rt is a stand-in that builds at once."""
+        for name in ("node", "rt"):
+            path = os.path.join(self.tools, name)
+            if os.path.lexists(path):
+                os.unlink(path)
+        if "node" in names:
+            os.symlink(shutil.which("node") or "", os.path.join(self.tools, "node"))
+        if "rt" in names:
+            Path(self.tools, "rt").write_text(RT, "utf-8")
+            os.chmod(os.path.join(self.tools, "rt"), 0o755)
+
+    def edit(self) -> None:
+        """Makes a source newer than the program, where that is built."""
+        Path(self.top, "crates", "coop", "src", "lib.rt").write_text("", "utf-8")
+        if os.path.exists(self.program):
+            os.utime(self.program, (1, 1))
+
+
+def faults_unbuilt(page: str) -> Iterator[str]:
+    """Where bin/coop answers by another than it should: by the program, by the module, or not at all."""
+    module = (1, b'{"answer":"blocked","coalition":[2,3],"excess":"1"}\n', b"coop: answered by page/coop.mjs")
+    native, none = (0, b"the built program\n", b""), (NO_ANSWER, b"", b"coop: not built")
+    steps = [  # what is on the path, what is typed, and what comes of it
+        ("", "propose", none), ("node", "propose", module), ("node rt", "propose", module), ("node", "--build", none),
+        ("node rt", "--build propose", (NO_ANSWER, b"", b"coop: --build")),
+        ("rt", "propose", (*native[:2], b"coop: proving and building")), ("node rt", "propose", native),
+        ("node rt", "edit", None), ("node rt", "propose", module), ("", "propose", none),
+        ("node rt", "--build", (0, b"", b"coop: proving and building")), ("node rt", "--build", (0, b"", b"")),
+        ("", "propose", native),
+    ]
+    with tempfile.TemporaryDirectory() as folder:
+        bare, document = Bare(folder, page), Path(TOP, "examples", "majority.json").read_bytes()
+        for path, typed, wanted in steps:
+            bare.put(path)
+            if wanted is None:
+                bare.edit()
+                continue
+            found = called([os.path.join(bare.top, "bin", "coop"), *typed.split()], document, bare.tools)
+            is_said = found[2].startswith(wanted[2]) if wanted[2] else not found[2]
+            if found[:2] != wanted[:2] or not is_said or wanted == module and found[2].count(b"\n") != 1:
+                yield f"bin/coop {typed} with {path or 'nothing'} on the path: {found}, and not {wanted}"

@@ -1,5 +1,5 @@
 """What the making of the module has to stop at: changed texts of LLVM, changed modules and changed words of the kit."""
-from collections.abc import Callable, Iterator
+from collections.abc import Callable, Iterator, Sequence
 
 import kit
 import retarget
@@ -37,7 +37,10 @@ UNKNOWN_LLVM = [
 ]
 
 
-def small_module(*, memory: bytes = b"\0\2", asked: bytes = b"", more: bytes = b"", call: bytes = b"coop_run") -> bytes:
+def small_module(
+    *, memory: bytes = b"\0\2", asked: bytes = b"", more: bytes = b"", call: bytes = b"coop_run",
+    kept: Sequence[bytes] = (), code: bytes = b"\0",
+) -> bytes:
     """A module of the form that the host takes, whose call traps."""
     def section(number: int, *parts: bytes) -> bytes:
         data = sections.coded(len(parts)) + b"".join(parts)
@@ -51,10 +54,10 @@ def small_module(*, memory: bytes = b"\0\2", asked: bytes = b"", more: bytes = b
     called = bytes([1 if asked else 0])
     return sections.with_makers(b"\0asm\1\0\0\0" + b"".join([
         section(1, b"\x60\7" + i64 * 7 + b"\1" + i32), imports, section(3, b"\0"), more,
-        section(sections.MEMORIES, memory), section(6, i64 + b"\0\x42\x10\x0b"),
+        section(sections.MEMORIES, memory), section(sections.GLOBALS, i64 + b"\0\x42\x10\x0b", *kept),
         section(sections.EXPORTS, name(b"memory") + b"\2\0", name(b"__heap_base") + b"\3\0",
                 name(call) + b"\0" + called),
-        section(10, b"\3\0\0\x0b"),
+        section(sections.CODE, name(b"\0" + code + b"\x0b")),
     ]), "nobody" * 200)
 
 
@@ -77,12 +80,15 @@ def faults_of_stops() -> Iterator[str]:
     for known, unknown in UNKNOWN_LLVM:
         if not stops(lambda: retarget.retargeted(LLVM.replace(known, unknown))):
             yield f"a module of LLVM with {unknown} isn't stopped at"
-    for module in (small_module(), small_module(asked=b"rattle_alloc")):
+    one = b"\x7e\1\x42\x80\x80\x40\x0b"
+    for module in (small_module(), small_module(asked=b"rattle_alloc"), small_module(kept=[one])):
         if stops(checked(module)):
             yield "the known module of WebAssembly is stopped at"
     others = {"a memory of 64 bits": small_module(memory=b"\4\2"), "a shared memory": small_module(memory=b"\3\2\4"),
               "another import": small_module(asked=b"fetch"), "another export": small_module(call=b"other_run"),
-              "a table": small_module(more=b"\4\4\1\x70\0\1")}
+              "a table": small_module(more=b"\4\4\1\x70\0\1"), "two globals": small_module(kept=[one, one]),
+              "a global that another begins": small_module(kept=[b"\x7e\0\x23\0\x0b"]),
+              "memory.size": small_module(code=b"\x41\0\x1a\x3f\0\x1a"), "a vector": small_module(code=b"\xfd\x0f")}
     for name, module in others.items():
         if not stops(checked(module)):
             yield f"a module with {name} isn't stopped at"

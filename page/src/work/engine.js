@@ -1,15 +1,15 @@
 // The proved program itself, compiled to WebAssembly. The build puts the module, by gzip and in base64, into the place
 // below.
-import { coop } from "../../engine/host.js";
+import { Engine } from "../../engine/host.js";
 
 const MODULE = "/* MODULE */";
 
-let compiled = null, fault = null;
+let engine = null, fault = null;
 
 /** Unpacks and compiles the module; all that asks the program has to wait for it. It never fails: `solve` does. */
 export async function warmUp() {
   try {
-    compiled ??= await WebAssembly.compile(await unpacked());
+    engine ??= new Engine(await WebAssembly.compile(await unpacked()));
   } catch (cause) {
     fault = cause;
   }
@@ -22,9 +22,9 @@ function unpacked() {
 
 /** Answers a document by the program: the status that it ends with, and the line that it prints. */
 export function solve(words, document) {
-  if (!compiled) {
+  if (!engine) {
     throw new Error(`The program doesn’t start in this browser: ${fault?.message ?? "it wasn’t asked to"}`);
   }
-  const { status, line } = coop(compiled, words, new TextEncoder().encode(document));
+  const { status, line } = engine.run(words, new TextEncoder().encode(document));
   return { status, line: new TextDecoder().decode(line) };
 }

@@ -1,0 +1,179 @@
+"""Processes that stay, and answer many documents each: page/serve.mjs, which says what goes to and fro.
+
+A `Server` has as many processes as calls run at a time, up to a number, and begins each when it is first needed. A free
+process that has ended is replaced, so its request goes to a new one. All end with this process. What is forked off
+begins processes of its own, and so does a server that was pickled.
+"""
+from __future__ import annotations
+
+import os
+import struct
+import subprocess
+import threading
+import weakref
+from typing import IO, Any, Optional, Sequence
+
+from .errors import Fault
+
+HEAD = struct.Struct("<II")
+"""The two numbers that begin a request and an answer."""
+STOPPED = 70
+TOO_LATE = 124
+GRACE = 0.5  # seconds that a process has to end by itself
+
+
+class Ended(Exception):
+    """A process ended before it answered."""
+
+
+class Worker:
+    """One process, which has one request at a time."""
+
+    def __init__(self, command: Sequence[str]):
+        self.process = subprocess.Popen(list(command), stdin=subprocess.PIPE, stdout=subprocess.PIPE, bufsize=0)
+        assert self.process.stdin is not None and self.process.stdout is not None
+        self.input: IO[bytes] = self.process.stdin
+        self.output: IO[bytes] = self.process.stdout
+        self.is_late = False
+
+    def ask(self, request: bytes, seconds: Optional[float]) -> tuple[int, bytes]:
+        """The status and the line. Where they don't come in time, the process is ended."""
+        if seconds is None:
+            return self.asked(request)
+        timer = threading.Timer(seconds, self.stop_late)
+        timer.daemon = True
+        timer.start()
+        try:
+            return self.asked(request)
+        finally:
+            timer.cancel()
+            timer.join()  # so that it is settled whether it was late
+
+    def asked(self, request: bytes) -> tuple[int, bytes]:
+        """The answer to a request."""
+        rest = memoryview(request)
+        try:
+            while rest:
+                rest = rest[self.input.write(rest) :]
+        except (OSError, ValueError):
+            raise Ended from None
+        return self.receive()
+
+    def receive(self) -> tuple[int, bytes]:
+        """Reads an answer."""
+        status, length = HEAD.unpack(self.read(HEAD.size))
+        return status, self.read(length)
+
+    def read(self, count: int) -> bytes:
+        """So many bytes."""
+        parts = []
+        while count:
+            part = self.output.read(count)
+            if not part:
+                raise Ended
+            parts.append(part)
+            count -= len(part)
+        return b"".join(parts)
+
+    def stop_late(self) -> None:
+        """Ends the process since its time is over."""
+        self.is_late = True
+        self.process.kill()
+
+    def stop(self) -> int:
+        """Ends the process, and gives its status."""
+        for port in (self.input, self.output):
+            try:
+                port.close()
+            except OSError:
+                pass
+        try:
+            return self.process.wait(GRACE)
+        except subprocess.TimeoutExpired:
+            return self.kill()
+
+    def kill(self) -> int:
+        """Ends the process at once, and gives its status."""
+        self.process.kill()
+        return self.process.wait()
+
+
+class Server:
+    """A program that stays: `command` begins one process of it, and there are at most so many, one a processor unless
+    their number is named. A call that takes more than so many seconds is ended, with the status 124."""
+
+    def __init__(self, command: Sequence[str], processes: Optional[int] = None, seconds: Optional[float] = None):
+        self.command = list(command)
+        self.processes = processes or os.cpu_count() or 1
+        self.seconds = seconds
+        self.begin()
+
+    def begin(self) -> None:
+        """No process yet."""
+        self.owner = os.getpid()
+        self.free: list[Worker] = []
+        self.places = threading.Semaphore(self.processes)
+        weakref.finalize(self, stop_all, self.free, self.owner)
+
+    def __reduce__(self) -> tuple[Any, ...]:
+        return Server, (self.command, self.processes, self.seconds)
+
+    def run(self, words: Sequence[str], document: bytes) -> tuple[int, bytes]:
+        """The status and the line of one request, by a process that is free. Safe in threads."""
+        if os.getpid() != self.owner:
+            self.begin()  # this was forked off, and the processes are its parent's
+        typed = b"\0".join(word.encode() for word in words)
+        request = HEAD.pack(len(typed), len(document)) + typed + document
+        with self.places:
+            return self.answered(request, self.free.pop() if self.free else None)
+
+    def answered(self, request: bytes, free: Optional[Worker]) -> tuple[int, bytes]:
+        """The answer of a free process; or of a new one, if there is none or it has ended."""
+        worker = free or self.begun()
+        try:
+            status, line = worker.ask(request, self.seconds)
+        except Ended:
+            code = worker.stop()
+            if worker.is_late:
+                return TOO_LATE, b""
+            if free:  # others that are free may have ended with it, as for want of the machine's memory
+                return self.answered(request, None)
+            raise Fault(f"{' '.join(self.command)} ended with {code} before it answered", code) from None
+        except BaseException:  # as Ctrl-C: its answer would be taken for that of the next request
+            worker.kill()
+            worker.stop()
+            raise
+        if worker.is_late:
+            worker.stop()
+        else:
+            self.free.append(worker)
+        if status == STOPPED:
+            raise Fault(f"the module stopped: {line.decode('utf-8', 'replace')}", status)
+        return status, line
+
+    def begun(self) -> Worker:
+        """A new process, which has said that it is there."""
+        try:
+            worker = Worker(self.command)
+        except OSError as fault:
+            raise Fault(f"{self.command[0]} doesn't run: {fault.strerror}", -1) from None
+        try:
+            worker.receive()
+        except Ended:
+            code = worker.stop()
+            raise Fault(f"{' '.join(self.command)} ended with {code} when it began", code) from None
+        except BaseException:
+            worker.kill()
+            worker.stop()
+            raise
+        return worker
+
+    def close(self) -> None:
+        """Ends the processes that are free. A later call begins new ones."""
+        stop_all(self.free, self.owner)
+
+
+def stop_all(workers: list[Worker], owner: int) -> None:
+    """Ends the processes of this process."""
+    while workers and os.getpid() == owner:
+        workers.pop().stop()

@@ -1,0 +1,64 @@
+"""The package as a command: python -m coop."""
+import os
+import subprocess
+import sys
+import tempfile
+import unittest
+
+from coop.program import TOP, page_folder
+from coop.version import VERSION
+
+from .asking import needs_program
+
+AIRPORT = b'{"game":{"class":"airport","costs":[2,4,6]}}'
+
+
+def ended(words: list[str], document: bytes = b"", **settings: str) -> tuple[int, bytes, bytes]:
+    """How the command ends: the status, the line, and what it says beside it."""
+    environment = {**os.environ, "PYTHONPATH": os.path.join(TOP, "python"), **settings}
+    words = [sys.executable, "-m", "coop", *words]
+    done = subprocess.run(words, input=document, env=environment, cwd="/", stdout=subprocess.PIPE, stderr=subprocess.PIPE)
+    return done.returncode, done.stdout, done.stderr
+
+
+class Command(unittest.TestCase):
+    @needs_program
+    def test_answers(self) -> None:
+        core = b'{"answer":"core point","shares":["1","3/2","7/2"]}\n'
+        self.assertEqual(ended(["core"], AIRPORT), (0, core, b""))
+        self.assertEqual(ended(["core"]), (3, b'{"number":2,"refused":"NotJson"}\n', b""))
+        status, line, said = ended([])
+        self.assertEqual((status, line), (2, b'{"usage":"words"}\n'))
+        self.assertTrue(said.startswith(b"usage: python -m coop COMMAND"))
+
+    @needs_program
+    def test_hostile_ports(self) -> None:
+        for end, status in (("<&-", 5), (">&-", 6), (">/dev/full", 6)):
+            command = f"'{sys.executable}' -m coop core {end}"
+            settings = {**os.environ, "PYTHONPATH": os.path.join(TOP, "python")}
+            words = ["sh", "-c", command]
+            done = subprocess.run(words, input=AIRPORT, env=settings, stdout=subprocess.PIPE, stderr=subprocess.PIPE)
+            self.assertEqual((done.returncode, done.stdout, done.stderr), (status, b"", b""), end)
+
+    def test_without_an_answer(self) -> None:
+        status, line, said = ended(["core"], AIRPORT, COOP="/nowhere/coop")
+        self.assertEqual((status, line), (70, b""))
+        self.assertIn(b"coop: no answer: /nowhere/coop doesn't run", said)
+
+    def test_the_page(self) -> None:
+        with tempfile.TemporaryDirectory() as folder:
+            browser, opened = os.path.join(folder, "browser"), os.path.join(folder, "opened")
+            with open(browser, "w", encoding="utf-8") as file:
+                file.write(f'#!/bin/sh\necho "$1" > {opened}\n')
+            os.chmod(browser, 0o755)
+            page = os.path.join(page_folder() or "", "coop.html")
+            self.assertEqual(ended(["page"], BROWSER=f"{browser} %s"), (0, f"{page}\n".encode(), b""))
+            with open(opened, encoding="utf-8") as file:
+                self.assertEqual(file.read(), f"file://{page}\n")
+
+    def test_the_version(self) -> None:
+        self.assertEqual(ended(["--version"]), (0, f"{VERSION}\n".encode(), b""))
+
+
+if __name__ == "__main__":
+    unittest.main()

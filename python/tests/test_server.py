@@ -1,0 +1,250 @@
+"""Processes that stay: their answers, threads and forks, and how they end."""
+import os
+import pickle
+import signal
+import subprocess
+import sys
+import threading
+import time
+import unittest
+from typing import Optional
+
+import coop
+from coop.errors import Fault
+from coop.program import TOP, page_folder, which
+from coop.server import HEAD, Server
+
+NODE = which("node") or which("nodejs")
+COMMAND = [NODE or "", os.path.join(page_folder() or "", "serve.mjs")]
+AIRPORT = b'{"game":{"class":"airport","costs":[2,4,6]}}'
+CORE = b'{"answer":"core point","shares":["1","3/2","7/2"]}\n'
+READY = HEAD.pack(0, 0)
+needs_node = unittest.skipUnless(NODE, "there is no Node")
+
+
+def speaking(code: str) -> list[str]:
+    """A process that says that it is there, and then does what its code says."""
+    return [sys.executable, "-c", f"import os, sys; os.write(1, bytes(8)); {code}"]
+
+
+def is_alive(process: int) -> bool:
+    """Whether a process is there, and has not ended."""
+    try:
+        with open(f"/proc/{process}/stat", encoding="utf-8") as file:
+            return file.read().rsplit(")", 1)[1].split()[0] != "Z"
+    except FileNotFoundError:
+        return False
+
+
+def is_gone(process: int, seconds: float = 10) -> bool:
+    """Whether a process ends within some time."""
+    end = time.monotonic() + seconds
+    while is_alive(process) and time.monotonic() < end:
+        time.sleep(0.02)
+    return not is_alive(process)
+
+
+@needs_node
+class Answers(unittest.TestCase):
+    def setUp(self) -> None:
+        self.server = Server(COMMAND, 3)
+
+    def tearDown(self) -> None:
+        self.server.close()
+
+    def first(self) -> int:
+        """The number of the one process, once it has answered."""
+        self.assertEqual(self.server.run(["core"], AIRPORT), (0, CORE))
+        self.assertEqual(len(self.server.free), 1)
+        return self.server.free[0].process.pid
+
+    def test_what_they_say(self) -> None:
+        run = self.server.run
+        self.assertEqual(run(["core"], AIRPORT), (0, CORE))
+        self.assertEqual(run([], b""), (2, b'{"usage":"words"}\n'))
+        self.assertEqual(run(["core", "x"], AIRPORT)[0], 2)
+        self.assertEqual(run(["core"], b""), (3, b'{"number":2,"refused":"NotJson"}\n'))
+        self.assertEqual(run(["core"], b" " * (2 << 20) + AIRPORT)[0], 3)
+        self.assertEqual(run(["gen", "airport", "3", "1"], b"")[0], 0)
+        self.assertEqual(len(self.server.free), 1)
+
+    def test_threads(self) -> None:
+        seen: list[tuple[int, int]] = []
+
+        def ask(player: int) -> None:
+            for _ in range(20):
+                count = 2 + player % 5
+                game = b'{"game":{"class":"airport","costs":[%s]}}' % b",".join([b"60"] * count)
+                seen.append((count, self.server.run(["shapley"], game)[1].count(b",")))
+
+        threads = [threading.Thread(target=ask, args=(k,)) for k in range(12)]
+        for thread in threads:
+            thread.start()
+        for thread in threads:
+            thread.join()
+        self.assertEqual(len(seen), 240)
+        self.assertEqual([pair for pair in seen if pair[0] != pair[1]], [])
+        self.assertLessEqual(len(self.server.free), 3)
+
+    def test_killed_before(self) -> None:
+        os.kill(self.first(), signal.SIGKILL)
+        self.assertEqual(self.server.run(["core"], AIRPORT), (0, CORE))
+
+    def test_all_killed_before(self) -> None:
+        self.server.free += [self.server.begun() for _ in range(3)]
+        for worker in self.server.free:
+            os.kill(worker.process.pid, signal.SIGKILL)
+        for _ in range(4):
+            self.assertEqual(self.server.run(["core"], AIRPORT), (0, CORE))
+
+    def test_killed_within(self) -> None:
+        process = self.first()
+        os.kill(process, signal.SIGSTOP)
+        threading.Timer(0.3, os.kill, (process, signal.SIGKILL)).start()
+        self.assertEqual(self.server.run(["core"], AIRPORT), (0, CORE))
+        self.assertTrue(is_gone(process))
+
+    def test_pickled(self) -> None:
+        other = pickle.loads(pickle.dumps(self.server))
+        self.assertEqual(other.run(["core"], AIRPORT), (0, CORE))
+        other.close()
+
+    def test_forked(self) -> None:
+        process = self.first()
+        child = os.fork()
+        if child == 0:
+            good = [self.server.run(["core"], AIRPORT) == (0, CORE) for _ in range(20)]
+            is_own = self.server.free[0].process.pid != process
+            self.server.close()
+            os._exit(0 if all(good) and is_own else 1)
+        for _ in range(20):
+            self.assertEqual(self.server.run(["core"], AIRPORT), (0, CORE))
+        self.assertEqual(os.waitpid(child, 0)[1], 0)
+        self.assertEqual(self.first(), process)
+
+    def test_ctrl_c_in_a_terminal(self) -> None:
+        process = self.first()
+        os.kill(process, signal.SIGINT)
+        time.sleep(0.2)
+        self.assertEqual(self.first(), process)
+
+    def test_ctrl_c_within(self) -> None:
+        process = self.first()
+        os.kill(process, signal.SIGSTOP)
+        threading.Timer(0.3, os.kill, (os.getpid(), signal.SIGINT)).start()
+        with self.assertRaises(KeyboardInterrupt):
+            self.server.run(["shapley"], AIRPORT)
+            time.sleep(1)
+        self.assertTrue(is_gone(process))
+        self.assertEqual(self.server.run(["core"], AIRPORT), (0, CORE))
+
+    def test_exceptions_are_pickled(self) -> None:
+        negative = coop.Game({"class": "airport", "costs": [-1]})
+        for command, game in ((coop.bird, coop.airport([1, 2])), (coop.core, negative)):
+            with self.assertRaises(coop.NoAnswer) as found:
+                command(game, program=self.server)
+            fault, again = found.exception, pickle.loads(pickle.dumps(found.exception))
+            self.assertEqual((type(again), str(again), again.__dict__), (type(fault), str(fault), fault.__dict__))
+
+
+@needs_node
+class Ends(unittest.TestCase):
+    def test_time(self) -> None:
+        server = Server(COMMAND, 1, seconds=5)
+        server.run(["core"], AIRPORT)
+        process, server.seconds = server.free[0].process.pid, 0.3
+        os.kill(process, signal.SIGSTOP)
+        self.assertEqual(server.run(["core"], AIRPORT), (124, b""))
+        self.assertTrue(is_gone(process))
+        server.seconds = 30
+        self.assertEqual(server.run(["core"], AIRPORT), (0, CORE))
+        server.close()
+
+    def test_late_but_there(self) -> None:
+        answer = "os.read(0, 99); os.write(1, bytes(8))"
+        server = Server(speaking(f"{answer}; {answer}; os.read(0, 1)"), 1, seconds=30)
+        server.run([], b"")
+        server.free[0].is_late = True  # the time was over when the answer had come
+        self.assertEqual(server.run([], b""), (0, b""))
+        self.assertEqual(server.free, [])
+
+    def test_no_process(self) -> None:
+        for command in (["/nowhere/node"], ["false"], [NODE or "", "/nowhere/serve.mjs"]):
+            with self.assertRaises(Fault):
+                Server(command, 1).run(["core"], AIRPORT)
+
+    def test_ends_again_and_again(self) -> None:
+        with self.assertRaises(Fault) as found:
+            Server(speaking("os.read(0, 8); sys.exit(9)"), 1).run(["core"], AIRPORT)
+        self.assertEqual(found.exception.status, 9)
+
+    def test_stops(self) -> None:
+        trap = "os.read(0, 1 << 16); os.write(1, bytes([70, 0, 0, 0, 4, 0, 0, 0]) + b'trap')"
+        with self.assertRaisesRegex(Fault, "the module stopped: trap"):
+            Server(speaking(trap), 1).run(["core"], AIRPORT)
+
+    def test_no_memory(self) -> None:
+        wanting = Server(speaking("os.read(0, 1 << 16); os.write(1, bytes([7, 0, 0, 0, 0, 0, 0, 0]))"), 1)
+        with self.assertRaises(coop.NoMemory):
+            coop.core(coop.airport([1, 2]), program=wanting)
+
+    def begun_by(self, code: str) -> "subprocess.Popen[bytes]":
+        """A Python with a server that has answered, which says the number of its process."""
+        start = f"import sys; sys.path[:0] = [{os.path.join(TOP, 'python')!r}]\nfrom coop.server import Server\n"
+        asks = f"server = Server({COMMAND!r}); server.run(['core'], {AIRPORT!r})\n"
+        says = "print(server.free[0].process.pid, flush=True)\n"
+        words = [sys.executable, "-X", "dev", "-c", start + asks + says + code]
+        return subprocess.Popen(words, stdout=subprocess.PIPE, stderr=subprocess.PIPE)
+
+    def test_with_its_parent(self) -> None:
+        parent = self.begun_by("import time; time.sleep(60)")
+        assert parent.stdout is not None
+        process = int(parent.stdout.readline())
+        self.assertTrue(is_alive(process))
+        parent.kill()
+        parent.communicate()
+        self.assertTrue(is_gone(process))
+
+    def test_at_exit(self) -> None:
+        said, errors = self.begun_by("").communicate()
+        self.assertEqual(errors, b"")
+        self.assertTrue(is_gone(int(said)))
+
+
+def ended(data: bytes, options: Optional[list[str]] = None) -> tuple[int, bytes]:
+    """How page/serve.mjs ends on some input, and what it says."""
+    done = subprocess.run([*COMMAND, *(options or [])], input=data, stdout=subprocess.PIPE, stderr=subprocess.PIPE)
+    return done.returncode, done.stdout
+
+
+@needs_node
+class Frames(unittest.TestCase):
+    def test_requests(self) -> None:
+        request = HEAD.pack(4, len(AIRPORT)) + b"core" + AIRPORT
+        answer = HEAD.pack(0, len(CORE)) + CORE
+        self.assertEqual(ended(b""), (0, READY))
+        self.assertEqual(ended(request * 3), (0, READY + answer * 3))
+        for cut in (5, 10, len(request) - 1):
+            self.assertEqual(ended(request + request[:cut]), (5, READY + answer))
+
+    def test_lengths_that_are_too_large(self) -> None:
+        for words, document in ((4, (8 << 20) + 2), ((64 << 10) + 1, 4), (2**32 - 1, 2**32 - 1)):
+            self.assertEqual(ended(HEAD.pack(words, document) + b"core"), (5, READY))
+        longest = HEAD.pack(4, (8 << 20) + 1) + b"core" + b" " * ((8 << 20) + 1)
+        refused = b'{"number":1,"refused":"TooLong"}\n'
+        self.assertEqual(ended(longest), (0, READY + HEAD.pack(3, len(refused)) + refused))
+
+    def test_lines(self) -> None:
+        options, core, no = ["--lines", "core,shapley"], b"0 " + CORE, b'3 {"number":2,"refused":"NotJson"}\n'
+        shapley = b'0 {"answer":"shapley","shares":["2/3","5/3","11/3"]}\n'
+        self.assertEqual(ended(b"", options), (0, b""))
+        self.assertEqual(ended(AIRPORT + b"\nx\n\n" + AIRPORT, options), (0, core + shapley + no * 4 + core + shapley))
+        long = b'3 {"number":1,"refused":"TooLong"}\n'
+        wide = b"x" * (9 << 20) + b"\n" + b" " * (3 << 20) + b"\n" + AIRPORT
+        self.assertEqual(ended(wide, ["--lines", "core"]), (0, long * 2 + core))
+        for wrong in (["--lines"], ["core"]):
+            self.assertEqual(ended(AIRPORT, wrong), (2, b""))
+
+
+if __name__ == "__main__":
+    unittest.main()
