@@ -4,7 +4,7 @@ use Rattle.balanced_collections.specs.Collections.{ShowsEmpty}
 use Rattle.separation.specs.Shares.{IsReadFrom}
 use Rattle.balanced.proofs.Points.{in_core}
 use Rattle.balanced.proofs.Collected.{shows_empty}
-use Rattle.balanced.proofs.found_for.Goals as goal
+use Rattle.balanced.proofs.core_of_few.Goals as goal
 
 pub returns-then-is_efficient : goal.returns-then-is_efficient
 returns-then-is_efficient g c =
