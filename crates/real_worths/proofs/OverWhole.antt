@@ -1,26 +1,20 @@
--- Each real number over a whole number is a real number: so a positive fraction of each is a change of the unit.
-use Rattle.std.proofs.Common.{◌≡◌, ℕ, zero, suc, ◌+◌, ◌*◌, ◌/◌, ℤ, pos, negsuc, ◌+ℤ◌, ◌-ℤ◌, ◌*ℤ◌, ◌≤ℤ◌, neg_ℤ, refl}
-use Rattle.std.proofs.Common.{sym, ap, subst, ◌∙◌, arith}
+-- Each real number over a whole number is a real number: each of its multiples over that number, rounded down.
+use Rattle.std.proofs.Common.{◌≡◌, ℕ, zero, suc, ◌+◌, ◌/◌, ℤ, pos, negsuc, ◌+ℤ◌, ◌-ℤ◌, ◌*ℤ◌, ◌≤ℤ◌, neg_ℤ}
+use Rattle.std.proofs.Common.{sym, ap, ◌∙◌, arith}
 use Rattle.std.proofs.Math.Nat.{lt-div-mul-add, div-mul-le_self}
 use Rattle.std.proofs.lemmas.Int.{ints}
 use Rattle.definitions.proofs.Ring.{linear, mul-addℤ, zero-mulℤ, suc-mulℤ, neg-mulℤ, mul-nonnegativeℤ}
 use Rattle.definitions.proofs.Ring.{mul-le_cancelℤ}
 use Rattle.theorems.proofs.Products.{products}
-use Rattle.real_shares.specs.Numbers.{Numbers, IsOrderedGroup, AtMost, Equal, multiple, times}
+use Rattle.real_shares.specs.Numbers.{Numbers, IsOrderedGroup, Equal, multiple, times}
 use Rattle.real_shares.specs.Reals.{Real, AreReals}
-use Rattle.real_shares.proofs.Multiples.{chain, back as turn, plus-equal, times-keeps, times-cancel}
-use Rattle.real_shares.proofs.Multiples.{times-same, through}
 use Rattle.real_shares.proofs.RealNumbers.{are_ordered}
-use Rattle.real_worths.specs.RealWorths.{FractionsAreChanges}
 
 -- ---- an integer over r + 1, rounded down
 
 abbrev pub floor : ℕ → ℤ → ℤ
 floor r (pos k) = pos (k / suc r)
 floor r (negsuc k) = negsuc (k / suc r)
-
-times_suc : (r k : ℕ) → pos (suc r) *ℤ pos k ≡ pos (k * suc r)
-times_suc r k = omega (arith, ints)
 
 pub floor_low : (r : ℕ) (z : ℤ) → (pos (suc r) *ℤ floor r z) ≤ℤ z
 floor_low r (pos k) = omega (arith, ints, div-mul-le_self k (suc r))
@@ -94,56 +88,3 @@ module _ (N : Numbers Real) (R : AreReals N) where
     where
       by_both : (n : ℕ) → (times N z a).near n +ℤ (times N z b).near n ≡ z *ℤ a.near n +ℤ z *ℤ b.near n
       by_both n = omega (arith, linear, times_near z a n, times_near z b n)
-
-  -- a whole number of at least 1
-  one_more : (z : ℤ) → pos 1 ≤ℤ z → (r : ℕ) × (pos (suc r) ≡ z)
-  one_more (pos zero) h = absurd (omega (arith, linear))
-  one_more (pos (suc r)) h = (r, refl)
-  one_more (negsuc r) h = absurd (omega (arith, linear))
-
-  -- p / q of a number
-  part : (p q : ℤ) → pos 1 ≤ℤ q → (a : Real) → (b : Real) × Equal N (times N q b) (times N p a)
-  part p q one a =
-      let (r, e) = one_more q one in (
-        over r (times N p a),
-        subst (λ z. Equal N (times N z (over r (times N p a))) (times N p a)) e (over_times r (times N p a)),
-      )
-
-  module _ (p q : ℤ) (hp : pos 1 ≤ℤ p) (hq : pos 1 ≤ℤ q) where
-    abbrev to : Real → Real
-    to a = (part p q hq a).0
-
-    keeps_parts : (a b : Real) → AtMost N a b → AtMost N (to a) (to b)
-    keeps_parts a b le =
-        times-cancel N L q (to a) (to b) (omega (arith, linear, hq))
-        (through N L (part p q hq a).1.0
-        (through N L (times-keeps N L p a b (omega (arith, linear, hp)) le) (part p q hq b).1.1))
-
-  there_parts : (p q : ℤ) (hp : pos 1 ≤ℤ p) (hq : pos 1 ≤ℤ q) (a : Real)
-      → Equal N (part p q hq (part q p hp a).0).0 a
-  there_parts p q hp hq a =
-      let b = (part q p hp a).0 in
-      times-same N L q (part p q hq b).0 a (omega (arith, linear, hq))
-      (chain N L (part p q hq b).1 (part q p hp a).1)
-
-pub fractions_are_changes : FractionsAreChanges
-fractions_are_changes N p q R hp hq =
-    let L = are_ordered N R in
-    let to : Real → Real = λ a. (part N R p q hq a).0 in
-    let back : Real → Real = λ a. (part N R q p hp a).0 in (
-      to,
-      back,
-      record {
-        adds = λ a b.
-            times-same N L q (to (N.plus a b)) (N.plus (to a) (to b)) (omega (arith, linear, hq))
-            (chain N L (part N R p q hq (N.plus a b)).1
-            (chain N L (times_plus N R p a b)
-            (chain N L (turn N L (plus-equal N L (part N R p q hq a).1 (part N R p q hq b).1))
-            (turn N L (times_plus N R q (to a) (to b))))));
-        keeps = keeps_parts N R p q hp hq;
-        keeps_back = keeps_parts N R q p hq hp;
-        there = there_parts N R p q hp hq;
-        again = there_parts N R q p hq hp;
-      },
-      λ a. (part N R p q hq a).1,
-    )
