@@ -1,0 +1,6 @@
+mod VetoCores
+mod FurtherClaimants
+mod ARisenClaim
+mod OrdersBegin
+mod OnlyConvexGames
+mod ConstantSumGames

@@ -1,0 +1,4 @@
+pub mod Vetoes
+pub mod Estates
+pub mod ConvexGames
+pub mod ConstantSums

@@ -1,0 +1,7 @@
+//! Laws.
+#![tactic(auto)]
+
+pub mod constant_sums;
+pub mod convex_games;
+pub mod estates;
+pub mod vetoes;
