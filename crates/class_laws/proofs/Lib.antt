@@ -4,3 +4,5 @@ mod ARisenClaim
 mod OrdersBegin
 mod OnlyConvexGames
 mod ConstantSumGames
+mod MatchedPairs
+mod SidesOfMarkets

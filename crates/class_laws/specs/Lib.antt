@@ -2,3 +2,4 @@ pub mod Vetoes
 pub mod Estates
 pub mod ConvexGames
 pub mod ConstantSums
+pub mod Markets

@@ -21,3 +21,4 @@ mod OneKernelPoint
 mod ConvexKernel
 mod GreatestGain
 mod JustifiedObjection
+mod Desirability
