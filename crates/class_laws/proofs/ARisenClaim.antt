@@ -1,6 +1,6 @@
 -- Whose claim rises gets no less: else another one would get more, against whom it can't fall. And then the others, who
 -- have the same claims as before, divide no more.
-use Rattle.std.proofs.Common.{◌≡◌, ◌≢◌, ℕ, ◌+◌, ◌<◌, ◌≤◌, List, length, get_or, ℤ, pos, ◌+ℤ◌, ◌-ℤ◌, ◌*ℤ◌, ◌<ℤ◌}
+use Rattle.std.proofs.Common.{◌≡◌, ◌≢◌, ℕ, ◌<◌, ◌≤◌, List, length, get_or, ℤ, pos, ◌+ℤ◌, ◌-ℤ◌, ◌*ℤ◌, ◌<ℤ◌}
 use Rattle.std.proofs.Common.{◌≤ℤ◌, sym, ap, ◌∙◌, subst, inl, inr, arith}
 use Rattle.std.proofs.lemmas.Int.{ints, clamps, by_lt_z}
 use Rattle.definitions.proofs.Cases.{same_or_other}
@@ -23,7 +23,7 @@ risen_pair : (c u d a b e f : ℤ) → c ≤ℤ u → a ≤ℤ c → b ≤ℤ d 
 risen_pair c u d a b e f up ac bd eu fd a0 b0 e0 f0 h k less more = omega (arith, ints, clamps)
 
 -- numbers that are nowhere less, and somewhere more, add to more
-more_of : (n j : ℕ) (f g : ℕ → ℤ) → j < n → ((k : ℕ) → k < n → g k ≤ℤ f k) → g j <ℤ f j
+pub more_of : (n j : ℕ) (f g : ℕ → ℤ) → j < n → ((k : ℕ) → k < n → g k ≤ℤ f k) → g j <ℤ f j
     → sum_below n g <ℤ sum_below n f
 more_of n j f g lt all more =
     let one = (one_of n j (λ k. f k -ℤ g k) (λ k h. let le = all k h in omega (arith, linear, le)) lt).1 in

@@ -1,13 +1,13 @@
 -- Constant-sum games: what a coalition and the others get adds to what they are worth; and the nucleolus of a vote, at
 -- which no excess reaches one half, since none does where shares go by votes (Peleg 1968).
-use Rattle.std.proofs.Common.{◌≡◌, ◌↔◌, ◌⊎◌, ℕ, ◌+◌, ◌-◌, ◌^◌, ◌<◌, ◌≤◌, Bool, true, false, not, cond, List, [], ◌∷◌}
+use Rattle.std.proofs.Common.{◌≡◌, ◌↔◌, ◌⊎◌, ℕ, ◌-◌, ◌^◌, ◌<◌, Bool, true, false, not, cond, List, [], ◌∷◌}
 use Rattle.std.proofs.Common.{length, get_or, map, int_eq, int_le, ℤ, pos, ◌+ℤ◌, ◌-ℤ◌, ◌*ℤ◌, ◌<ℤ◌, ◌≤ℤ◌, refl, sym, ap}
-use Rattle.std.proofs.Common.{subst, ◌∙◌, inl, inr, arith, rules}
+use Rattle.std.proofs.Common.{◌∙◌, inl, inr, arith}
 use Rattle.std.proofs.lemmas.Bool.{false≢true}
 use Rattle.std.proofs.lemmas.Int.{ints, by_lt_z}
 use Rattle.std.proofs.lemmas.List.{get_or-map, length-map}
 use Rattle.definitions.proofs.Cases.{true_or_false, same_or_other}
-use Rattle.definitions.proofs.Families.{allocation_of, efficient_of, individual_of}
+use Rattle.definitions.proofs.Families.{allocation_of, efficient_of}
 use Rattle.definitions.proofs.Masks.{grand_coalition-within, singleton-within}
 use Rattle.definitions.proofs.Members.{sum_over-complement, sum_over-grand_coalition, sum_over-nonnegative}
 use Rattle.definitions.proofs.Members.{sum_over-singleton, has_player-complement, has_player-singleton}
@@ -15,10 +15,10 @@ use Rattle.definitions.proofs.Members.{has_player-singleton_other}
 use Rattle.definitions.proofs.Parts.{part, sum_below-le}
 use Rattle.definitions.proofs.Ring.{linear, mul-leℤ, mul-ltℤ}
 use Rattle.definitions.proofs.Splits.{passes_below-at, some_below-true, some_below-false}
-use Rattle.definitions.proofs.SumsOver.{amount-at, amount-empty, sum_over-same}
+use Rattle.definitions.proofs.SumsOver.{amount-at, sum_over-same}
 use Rattle.definitions.specs.Coalitions.{has_player, singleton, grand_coalition, proper_coalitions, sum_over, some_below}
 use Rattle.definitions.specs.Games.{Game, Allocation, share, amount, excess, IsAllocation, IsEfficient, InFamily}
-use Rattle.definitions.specs.Games.{IsIndividuallyRational, IsSame, IsNucleolus, Beats, InCore}
+use Rattle.definitions.specs.Games.{IsIndividuallyRational, IsSame, IsNucleolus, Beats}
 use Rattle.definitions.specs.Sums.{sum_below}
 use Rattle.definitions.specs.declared.Family.{Family}
 use Rattle.definitions.specs.declared.Family.TheVariants.{Imputations, Preimputations}

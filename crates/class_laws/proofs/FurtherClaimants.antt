@@ -1,5 +1,5 @@
 -- Where others claim as well, those who were there divide no more among them, in twos as before.
-use Rattle.std.proofs.Common.{◌≡◌, ◌≢◌, ℕ, ◌+◌, ◌<◌, List, length, ◌++◌, get_or, ℤ, pos, ◌+ℤ◌, ◌*ℤ◌, ◌≤ℤ◌, sym, ap, ◌∙◌}
+use Rattle.std.proofs.Common.{◌≡◌, ◌≢◌, ℕ, ◌+◌, ◌<◌, List, length, ◌++◌, ℤ, pos, ◌*ℤ◌, ◌≤ℤ◌, sym, ap, ◌∙◌}
 use Rattle.std.proofs.Common.{subst, arith, length-append}
 use Rattle.std.proofs.lemmas.Int.{by_lt_z}
 use Rattle.std.proofs.lemmas.List.{get_or_append_left}
@@ -7,7 +7,7 @@ use Rattle.definitions.proofs.Members.{sum_below-split, sum_below-nonnegative, s
 use Rattle.definitions.proofs.Ring.{linear, mul-leℤ, mul_left_commℤ}
 use Rattle.definitions.specs.Games.{Allocation, share}
 use Rattle.definitions.specs.Sums.{sum_below}
-use Rattle.theorems.proofs.Products.{products, sorted_products}
+use Rattle.theorems.proofs.Products.{sorted_products}
 use Rattle.theorems.proofs.Scaled.{above_zero}
 use Rattle.talmud.specs.Rule.{IsTalmud}
 use Rattle.laws.proofs.EachTwoAreAGarment.{two_are_a_garment, nobody_more}

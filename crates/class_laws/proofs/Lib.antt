@@ -1,6 +1,9 @@
 mod VetoCores
 mod FurtherClaimants
 mod ARisenClaim
+mod SmallerGroups
+mod CutClaims
+mod AGreaterWhole
 mod OrdersBegin
 mod OnlyConvexGames
 mod ConstantSumGames

@@ -1,9 +1,9 @@
 -- What two core points of a market do with a matching of greatest value: by both, each of its pairs gets just its worth,
 -- and who is in none gets nothing (Shapley and Shubik 1971).
-use Rattle.std.proofs.Common.{◌≡◌, ◌≢◌, ◌⊎◌, ℕ, ◌+◌, ◌^◌, ◌<◌, ◌≤◌, Bool, true, false, ◌&&◌, not, cond, nat_eq}
-use Rattle.std.proofs.Common.{List, [], ◌∷◌, IsTrue, ℤ, pos, ◌+ℤ◌, ◌*ℤ◌, ◌≤ℤ◌, refl, sym, ap, ◌∙◌, inl, inr, arith}
+use Rattle.std.proofs.Common.{◌≡◌, ◌≢◌, ◌⊎◌, ℕ, ◌+◌, ◌^◌, ◌<◌, Bool, true, false, ◌&&◌, not, cond, nat_eq}
+use Rattle.std.proofs.Common.{List, [], ◌∷◌, ℤ, pos, ◌+ℤ◌, ◌*ℤ◌, ◌≤ℤ◌, sym, ap, ◌∙◌, inl, inr, arith}
 use Rattle.std.proofs.lemmas.Int.{ints}
-use Rattle.definitions.proofs.Cases.{same_or_other, nat_eq-same, nat_eq-other, and_right, true_or_false}
+use Rattle.definitions.proofs.Cases.{same_or_other, nat_eq-same, nat_eq-other, and_right}
 use Rattle.definitions.proofs.Masks.{singleton-within}
 use Rattle.definitions.proofs.Members.{sum_below-same, sum_below-add, sum_below-nonnegative, sum_over-singleton}
 use Rattle.definitions.proofs.Members.{has_player-singleton, has_player-singleton_other}
@@ -11,7 +11,7 @@ use Rattle.definitions.proofs.Parts.{has_player-more_same, has_player-more_other
 use Rattle.definitions.proofs.Ring.{linear, mul-addℤ, mul-leℤ}
 use Rattle.definitions.proofs.SumsOver.{amount-at}
 use Rattle.definitions.specs.Classes.{Matrix, entry, removed, IsMatching, matching_value, IsAssignmentGame}
-use Rattle.definitions.specs.Coalitions.{has_player, singleton}
+use Rattle.definitions.specs.Coalitions.{singleton}
 use Rattle.definitions.specs.Games.{Game, Allocation, share, InCore}
 use Rattle.definitions.specs.Sums.{sum_below}
 use Rattle.laws.proofs.EachTwoAreAGarment.{one_of}

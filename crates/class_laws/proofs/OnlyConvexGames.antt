@@ -1,12 +1,12 @@
 -- Where the marginal shares of each order lie in the core, the game is convex: in the order of the members of a coalition,
 -- i and j, the coalition with j gets at least its worth (Ichiishi 1981).
-use Rattle.std.proofs.Common.{◌≡◌, ℕ, ◌+◌, ◌^◌, ◌<◌, List, length, map, ℤ, pos, ◌+ℤ◌, ◌-ℤ◌, ◌*ℤ◌, ◌≤ℤ◌, sym, ap, ◌∙◌, arith}
+use Rattle.std.proofs.Common.{◌≡◌, ℕ, ◌+◌, ◌^◌, ◌<◌, List, map, pos, ◌≤ℤ◌, sym, ◌∙◌, arith}
 use Rattle.std.specs.List.{range_with_len}
 use Rattle.std.proofs.lemmas.List.FromFn.{get_or-map-range_with_len, length-map-range_with_len}
 use Rattle.definitions.proofs.Parts.{more-lt}
 use Rattle.definitions.proofs.Ring.{linear, one-mulℤ}
 use Rattle.definitions.proofs.SumsOver.{amount-at, sum_over-same}
-use Rattle.definitions.specs.Convexity.{IsConvex, IsMarginal, AreOutside, apart, together}
+use Rattle.definitions.specs.Convexity.{IsMarginal, AreOutside, apart, together}
 use Rattle.definitions.specs.Games.{Game, Allocation, share, amount, InCore}
 use Rattle.definitions.specs.Shapley.{IsOrder, marginal_worth}
 use Rattle.convexity.proofs.AlongOrders.{along, amount-along, rest_of_order}

@@ -1,7 +1,7 @@
 -- An order that begins with the members of a coalition and two players outside, and what a player adds in it.
 use Rattle.std.proofs.Common.{◌≡◌, ◌≢◌, ℕ, zero, suc, ◌+◌, ◌^◌, ◌<◌, Bool, true, false, not, cond, nat_eq, nat_lt}
-use Rattle.std.proofs.Common.{List, [], ◌∷◌, ◌++◌, length, ℤ, pos, ◌+ℤ◌, ◌-ℤ◌, refl, sym, ap, ◌∙◌, inl, inr, arith}
-use Rattle.std.proofs.Common.{add-one, length-append, append_assoc}
+use Rattle.std.proofs.Common.{List, [], ◌∷◌, ◌++◌, ℤ, pos, ◌+ℤ◌, ◌-ℤ◌, refl, sym, ap, ◌∙◌, inl, inr, arith}
+use Rattle.std.proofs.Common.{length-append}
 use Rattle.std.specs.List.{AllByRecursion}
 use Rattle.std.proofs.lemmas.Bool.{false≢true}
 use Rattle.std.proofs.lemmas.Bool.Decides.{nat_tests}
@@ -159,12 +159,16 @@ module _ (n s i j : ℕ) (within : s < 2 ^ n) (hi : i < n) (hj : j < n) (ne : i 
         (all_members (λ p. p < n) n s (λ k lt inside. lt))
         (hi, (hj, all_members (λ p. p < n) n last (λ k lt inside. lt)));
     once = all_differ (has_player s) (members n s) (i ∷ (j ∷ members n last))
-        (all_members (λ k. has_player s k ≡ true) n s (λ k lt inside. inside))
-        (out, (other, all_members (λ k. has_player s k ≡ false) n last
-        (λ k lt inside. not_true (has_player s k)
-        (λ has. false≢true (sym (outside k lt inside) ∙ has_member k has)))))
-        (members-differ n s)
-        (
+        (all_members (λ k. has_player s k ≡ true) n s (λ k lt inside. inside)) (
+          out,
+          (
+            other,
+            all_members (λ k. has_player s k ≡ false) n last
+                (λ k lt inside. not_true (has_player s k)
+                (λ has. false≢true (sym (outside k lt inside) ∙ has_member k has))),
+          ),
+        )
+        (members-differ n s) (
           (nat_eq-other i j ne, all_members (λ k. nat_eq i k ≡ false) n last (λ k lt inside. not_last i k has_i lt inside)),
           (all_members (λ k. nat_eq j k ≡ false) n last (λ k lt inside. not_last j k has_j lt inside), members-differ n last),
         );

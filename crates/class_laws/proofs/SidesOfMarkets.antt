@@ -1,10 +1,10 @@
 -- A player's gain is the loss of the one it is matched with: so at a core point that is best for one side, each of the
 -- other side gets the least of the core (Shapley and Shubik 1971).
-use Rattle.std.proofs.Common.{◌≡◌, ◌⊎◌, ℕ, ◌+◌, ◌<◌, ◌≤◌, ℤ, pos, ◌+ℤ◌, ◌*ℤ◌, ◌≤ℤ◌, sym, ap, ◌∙◌, subst, inl, inr, arith}
+use Rattle.std.proofs.Common.{◌≡◌, ℕ, ◌+◌, ◌<◌, ℤ, pos, ◌+ℤ◌, ◌*ℤ◌, ◌≤ℤ◌, sym, ap, ◌∙◌, subst, inl, inr, arith}
 use Rattle.definitions.proofs.Masks.{grand_coalition-within}
 use Rattle.definitions.proofs.Members.{has_player-grand_coalition}
 use Rattle.definitions.proofs.Parts.{has_player-within}
-use Rattle.definitions.proofs.Ring.{linear, mul-leℤ}
+use Rattle.definitions.proofs.Ring.{linear}
 use Rattle.definitions.proofs.SumsOver.{amount-at}
 use Rattle.definitions.specs.Classes.{Matrix, entry, IsAssignmentGame}
 use Rattle.definitions.specs.Coalitions.{has_player, grand_coalition}
@@ -13,8 +13,11 @@ use Rattle.definitions.specs.Sides.{IsBestFor, IsBuyer, IsSeller}
 use Rattle.laws.proofs.NucleolusIsInCore.{nucleolus_in_core}
 use Rattle.theorems.proofs.Products.{products, sorted_products}
 use Rattle.class_laws.proofs.MatchedPairs.{IsMatched, alone, paired, matched, pairs_get}
+use Rattle.class_laws.specs.Markets.{NucleolusIsBetween}
 
-use Rattle.class_laws.specs.Markets.{GetsNoMore, BestForOneIsWorstForTheOther, NucleolusIsBetween}
+-- player i gets at x no more than at z
+abbrev GetsNoMore : Allocation → Allocation → ℕ → Type 0
+GetsNoMore x z i = (share x i *ℤ z.den) ≤ℤ (share z i *ℤ x.den)
 
 module _ (matrix : Matrix) (rows : ℕ) (g : Game) (market : IsAssignmentGame matrix rows g) where
   -- by two core points, the pairs of a matching of greatest value get just their worths
@@ -63,12 +66,6 @@ module _ (matrix : Matrix) (rows : ℕ) (g : Game) (market : IsAssignmentGame ma
             subst (GetsNoMore x z) (sym at)
             (swapped x.den z.den (pos (entry matrix r c)) (share x (rows + c)) (share x r) (share z (rows + c))
             (share z r) (omega (arith, linear, one)) (omega (arith, linear, two)) (best.1 z hz r hr row))
-
-pub best_for_one_is_worst_for_the_other : BestForOneIsWorstForTheOther
-best_for_one_is_worst_for_the_other matrix buyers g x z i market hz hi = (
-  worst_for_buyers matrix buyers g market x z hz i hi,
-  worst_for_sellers matrix buyers g market x z hz i hi,
-)
 
 pub nucleolus_is_between : NucleolusIsBetween
 nucleolus_is_between family measure matrix buyers g x b c i can market h hi best_b best_c =

@@ -1,25 +1,23 @@
 -- The core of a simple game: who gets something is in each winning coalition, since otherwise a coalition without it
 -- that wins would block.
-use Rattle.std.proofs.Common.{◌≡◌, ◌≢◌, ◌⊎◌, ℕ, zero, suc, ◌+◌, ◌-◌, ◌^◌, ◌<◌, Bool, true, false, ◌||◌, not, cond, nat_eq, List, length}
-use Rattle.std.proofs.Common.{get_or, map, int_eq, int_le, ℤ, pos, ◌+ℤ◌, ◌-ℤ◌, ◌*ℤ◌, ◌<ℤ◌, ◌≤ℤ◌, refl, sym, ap, subst, ◌∙◌}
+use Rattle.std.proofs.Common.{◌≡◌, ◌≢◌, ◌⊎◌, ℕ, zero, suc, ◌+◌, ◌-◌, ◌^◌, ◌<◌, Bool, true, false, ◌||◌, cond, length}
+use Rattle.std.proofs.Common.{get_or, map, int_eq, int_le, ℤ, pos, ◌*ℤ◌, ◌<ℤ◌, ◌≤ℤ◌, refl, sym, ap, subst, ◌∙◌}
 use Rattle.std.proofs.Common.{inl, inr, arith, rules}
 use Rattle.std.specs.List.{range_with_len}
-use Rattle.std.proofs.lemmas.Bool.{false≢true}
 use Rattle.std.proofs.lemmas.Int.{ints, by_lt_z}
 use Rattle.std.proofs.lemmas.List.FromFn.{get_or-map-range_with_len, length-map-range_with_len}
 use Rattle.definitions.proofs.Cases.{true_or_false, same_or_other, or_other}
 use Rattle.definitions.proofs.Masks.{grand_coalition-within, singleton-within}
 use Rattle.definitions.proofs.Members.{sum_below-same, sum_below-zero, sum_over-complement, sum_over-grand_coalition}
 use Rattle.definitions.proofs.Members.{sum_over-nonnegative, sum_over-singleton, has_player-grand_coalition}
-use Rattle.definitions.proofs.Members.{has_player-complement, has_player-singleton, has_player-singleton_other, zero_either}
+use Rattle.definitions.proofs.Members.{has_player-complement, has_player-singleton_other, zero_either}
 use Rattle.definitions.proofs.Parts.{has_player-more_other, more-lt, part, sum_below-le, sum_over-more}
 use Rattle.definitions.proofs.Ring.{linear, mul-leℤ}
 use Rattle.definitions.proofs.Splits.{passes_below, passes_below-at}
 use Rattle.definitions.proofs.SumsOver.{amount-at}
 use Rattle.definitions.specs.Coalitions.{has_player, singleton, grand_coalition, sum_over}
-use Rattle.definitions.specs.Games.{Game, Allocation, share, amount, IsAllocation, IsEfficient, InCore}
+use Rattle.definitions.specs.Games.{Game, Allocation, share, amount, IsAllocation, InCore}
 use Rattle.definitions.specs.Players.{AddsNoLess}
-use Rattle.definitions.specs.Sums.{sum_below}
 use Rattle.definitions.specs.declared.Family.TheVariants.{Imputations}
 use Rattle.theorems.proofs.Examples.{from_int_eq}
 use Rattle.theorems.proofs.Products.{products}
@@ -85,11 +83,11 @@ module _ (g : Game) (simple : IsSimple g) (x : Allocation) where
   unblocked : IsAmongVetoes g x → (s : ℕ) → s < 2 ^ g.players → (x.den *ℤ g.worth s) ≤ℤ amount x s
   unblocked d s lt = elim (simple.votes s lt) [
     | inl loses ↦ omega (
-        products,
-        ap (◌*ℤ◌ x.den) loses,
-        amount-at g x s d.shares,
-        sum_over-nonnegative g.players s (share x) d.no_less,
-      )
+      products,
+      ap (◌*ℤ◌ x.den) loses,
+      amount-at g x s d.shares,
+      sum_over-nonnegative g.players s (share x) d.no_less,
+    )
     | inr wins ↦
         let n = g.players in
         let more = simple.more s (grand_coalition n) lt (grand_coalition-within n)

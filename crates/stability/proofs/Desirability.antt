@@ -1,6 +1,6 @@
 -- Whoever adds no less than another gets no less in the prekernel and in the kernel: with the one in the place of the
 -- other, the coalition of the other's surplus could do better by itself by what the other gets more.
-use Rattle.std.proofs.Common.{◌≡◌, ◌≢◌, ◌⊎◌, ℕ, ◌+◌, ◌^◌, ◌<◌, true, false, not, ℤ, ◌+ℤ◌, ◌-ℤ◌, ◌*ℤ◌, ◌<ℤ◌, ◌≤ℤ◌}
+use Rattle.std.proofs.Common.{◌≡◌, ◌≢◌, ◌⊎◌, ℕ, ◌+◌, ◌^◌, ◌<◌, true, false, not, ◌+ℤ◌, ◌-ℤ◌, ◌<ℤ◌, ◌≤ℤ◌}
 use Rattle.std.proofs.Common.{sym, ap, ◌∙◌, inl, inr, arith}
 use Rattle.std.proofs.lemmas.Int.{by_lt_z}
 use Rattle.definitions.proofs.Cases.{same_or_other, from_not}
@@ -38,7 +38,7 @@ module _ (g : Game) (x : Allocation) (i j : ℕ) (hx : IsAllocation g x) (hi : i
         joined (has_player t i) (has_player t j) (has_player-more_same r i lacks_i)
             (ap not (has_player-more_other r i j lacks_i (λ e. ne (sym e)) ∙ part.2)),
         (let other = excess-other g x r i j adds hx part.1 hi hj lacks_i part.2 in
-        omega (arith, linear, other, ap (excess g x) part.3)),
+            omega (arith, linear, other, ap (excess g x) part.3)),
       )
 
   in_prekernel : InPrekernel g x → share x j ≤ℤ share x i
