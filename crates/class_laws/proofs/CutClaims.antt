@@ -1,17 +1,14 @@
 -- Of an estate a claim counts as far as the estate goes: the shares of two claimants are the garment of their cut claims.
 use Rattle.std.proofs.Common.{◌≡◌, ◌≢◌, ◌⊎◌, ℕ, ◌<◌, List, length, get_or, ℤ, pos, ◌+ℤ◌, ◌-ℤ◌, ◌*ℤ◌, ◌≤ℤ◌, sym, ap, ◌∙◌}
-use Rattle.std.proofs.Common.{subst, inl, inr, arith}
-use Rattle.std.specs.Int.{int_max}
+use Rattle.std.proofs.Common.{inl, inr, arith}
 use Rattle.std.proofs.lemmas.Int.{ints, clamps}
 use Rattle.definitions.proofs.Cases.{int_max-cases, less_or_greater}
 use Rattle.definitions.proofs.Ring.{linear, mul-leℤ}
 use Rattle.definitions.specs.Games.{Allocation, share}
-use Rattle.definitions.specs.Sums.{sum_below}
-use Rattle.theorems.proofs.Products.{products}
 use Rattle.talmud.specs.Rule.{IsTalmud}
 use Rattle.laws.proofs.EachTwoAreAGarment.{one_of, two_of, two_are_a_garment, nobody_more}
-use Rattle.laws.specs.TalmudRule.{unclaimed, IsGarment, claimed}
-use Rattle.class_laws.proofs.SmallerGroups.{above, cut_to}
+use Rattle.laws.specs.TalmudRule.{unclaimed, IsGarment}
+use Rattle.class_laws.proofs.SmallerGroups.{cut_to}
 
 -- a claim is at most the estate, or counts as it
 cases : (e c : ℤ) → (cut_to e c ≡ c) ⊎ ((cut_to e c ≡ e) × (e ≤ℤ c))

@@ -9,3 +9,4 @@ mod OnlyConvexGames
 mod ConstantSumGames
 mod MatchedPairs
 mod SidesOfMarkets
+mod MarketLattices

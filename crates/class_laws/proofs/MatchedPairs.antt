@@ -53,7 +53,7 @@ pub record PairsGet (matrix : Matrix) (rows n : ℕ) (den : ℤ) (f : ℕ → �
   pub pair : (i j : ℕ) → i < rows → rows + j < n → (den *ℤ pos (entry matrix i j)) ≤ℤ (f i +ℤ f (rows + j))
 
 module _ (matrix : Matrix) (rows n : ℕ) where
-  abbrev left : (ℕ → Bool) → ℕ × ℕ → ℕ → Bool
+  abbrev pub left : (ℕ → Bool) → ℕ × ℕ → ℕ → Bool
   left test p = removed (removed test p.0) (rows + p.1)
 
   -- a pair, and those who are left
@@ -65,17 +65,17 @@ module _ (matrix : Matrix) (rows n : ℕ) where
     still : removed test p.0 (rows + p.1) ≡ true
     still = removed-other test p.0 (rows + p.1) apart ∙ second
 
-    left-within : (k : ℕ) → left test p k ≡ true → k < n
+    pub left-within : (k : ℕ) → left test p k ≡ true → k < n
     left-within k h =
         within k (and_right (not (nat_eq k p.0)) (test k) (and_right (not (nat_eq k (rows + p.1))) (removed test p.0 k) h))
 
-    parts : sum_below n (counted test f) ≡ (f p.0 +ℤ f (rows + p.1)) +ℤ sum_below n (counted (left test p) f)
+    pub parts : sum_below n (counted test f) ≡ (f p.0 +ℤ f (rows + p.1)) +ℤ sum_below n (counted (left test p) f)
     parts =
         let one = sum_below-removed n p.0 test f (within p.0 first) first in
         let two = sum_below-removed n (rows + p.1) (removed test p.0) f (within (rows + p.1) second) still in
         omega (arith, linear, one, two)
 
-  value-more : (den : ℤ) (p : ℕ × ℕ) (ps : List (ℕ × ℕ))
+  pub value-more : (den : ℤ) (p : ℕ × ℕ) (ps : List (ℕ × ℕ))
       → den *ℤ pos (matching_value matrix (p ∷ ps))
       ≡ den *ℤ pos (entry matrix p.0 p.1) +ℤ den *ℤ pos (matching_value matrix ps)
   value-more den p ps =
@@ -99,6 +99,31 @@ module _ (matrix : Matrix) (rows n : ℕ) where
       let pair = gets.pair p.0 p.1 m.0 (within (rows + p.1) m.2) in
       omega (arith, linear, rest, pair, parts test p f m.0 m.1 m.2 within, value-more den p ps)
 
+  -- where those who pass get no more than nothing, each gets nothing
+  pub nothing_left : (d : ℤ) (f : ℕ → ℤ) (test : ℕ → Bool) → PairsGet matrix rows n d f
+      → sum_below n (counted test f) ≤ℤ (d *ℤ pos 0) → (k : ℕ) → k < n → test k ≡ true → f k ≡ pos 0
+  nothing_left d f test fs low k lt passes =
+      let one = (one_of n k (counted test f) (λ l h. nothing_or (test l) (f l) (fs.alone l h)) lt).1 in
+      let here : counted test f k ≡ f k = ap (λ (b : Bool). cond b (f k) (pos 0)) passes in
+      omega (products, one, here, fs.alone k lt, low)
+    where
+      nothing_or : (b : Bool) (z : ℤ) → pos 0 ≤ℤ z → pos 0 ≤ℤ cond b z (pos 0)
+      nothing_or true z low = low
+      nothing_or false z low = omega (arith, linear)
+
+  -- where they get no more than the value of a matching, its first pair gets just its worth, and so do the others
+  pub first_tight : (d : ℤ) (f : ℕ → ℤ) → PairsGet matrix rows n d f → (p : ℕ × ℕ) (ps : List (ℕ × ℕ)) (test : ℕ → Bool)
+      → IsMatching rows test (p ∷ ps) → ((k : ℕ) → test k ≡ true → k < n)
+      → sum_below n (counted test f) ≤ℤ (d *ℤ pos (matching_value matrix (p ∷ ps)))
+      → (f p.0 +ℤ f (rows + p.1) ≡ d *ℤ pos (entry matrix p.0 p.1))
+      × (sum_below n (counted (left test p) f) ≤ℤ (d *ℤ pos (matching_value matrix ps)))
+  first_tight d f fs p ps test m within low =
+      let rest = reach d f fs ps (left test p) m.3 (left-within test p f m.0 m.1 m.2 within) in
+      let pair = fs.pair p.0 p.1 m.0 (within (rows + p.1) m.2) in
+      let sum = parts test p f m.0 m.1 m.2 within in
+      let value = value-more d p ps in
+      (omega (arith, linear, rest, pair, sum, value, low), omega (arith, linear, pair, sum, value, low))
+
   -- a pair with player k, which gets by both just its worth; or k gets nothing by both
   pub data IsMatched (d e : ℤ) (f h : ℕ → ℤ) (k : ℕ) : Type 0 where
     alone : f k ≡ pos 0 → h k ≡ pos 0 → IsMatched d e f h k
@@ -112,41 +137,18 @@ module _ (matrix : Matrix) (rows n : ℕ) where
       → sum_below n (counted test h) ≤ℤ (e *ℤ pos (matching_value matrix ps))
       → (k : ℕ) → test k ≡ true → IsMatched d e f h k
   matched d e f h fs hs [] test m within low other k passes =
-      alone (nothing d f fs low) (nothing e h hs other)
-    where
-      nothing : (d : ℤ) (f : ℕ → ℤ) → PairsGet matrix rows n d f
-          → sum_below n (counted test f) ≤ℤ (d *ℤ pos 0) → f k ≡ pos 0
-      nothing d f fs low =
-          let one = (one_of n k (counted test f) (λ l lt. nothing_or (test l) (f l) (fs.alone l lt)) (within k passes)).1 in
-          let here : counted test f k ≡ f k = ap (λ (b : Bool). cond b (f k) (pos 0)) passes in
-          let some = fs.alone k (within k passes) in
-          omega (products, one, here, some, low)
-        where
-          nothing_or : (b : Bool) (z : ℤ) → pos 0 ≤ℤ z → pos 0 ≤ℤ cond b z (pos 0)
-          nothing_or true z low = low
-          nothing_or false z low = omega (arith, linear)
+      alone (nothing_left d f test fs low k (within k passes) passes)
+      (nothing_left e h test hs other k (within k passes) passes)
   matched d e f h fs hs (p ∷ ps) test m within low other k passes =
-      let rest = left-within test p f m.0 m.1 m.2 within in
       let column = within (rows + p.1) m.2 in
-      let one = reach d f fs ps (left test p) m.3 rest in
-      let two = reach e h hs ps (left test p) m.3 rest in
-      let pf = fs.pair p.0 p.1 m.0 column in
-      let ph = hs.pair p.0 p.1 m.0 column in
-      let sf = parts test p f m.0 m.1 m.2 within in
-      let sh = parts test p h m.0 m.1 m.2 within in
-      let vf = value-more d p ps in
-      let vh = value-more e p ps in
-      let tight : f p.0 +ℤ f (rows + p.1) ≡ d *ℤ pos (entry matrix p.0 p.1) =
-      omega (arith, linear, one, pf, sf, vf, low) in
-      let other_tight : h p.0 +ℤ h (rows + p.1) ≡ e *ℤ pos (entry matrix p.0 p.1) =
-      omega (arith, linear, two, ph, sh, vh, other) in
+      let a = first_tight d f fs p ps test m within low in
+      let b = first_tight e h hs p ps test m within other in
       elim (same_or_other k p.0) [
-        | inl at_row ↦ paired p.0 p.1 m.0 (within p.0 m.1) column (inl at_row) tight other_tight
+        | inl at_row ↦ paired p.0 p.1 m.0 (within p.0 m.1) column (inl at_row) a.0 b.0
         | inr ne ↦ elim (same_or_other k (rows + p.1)) [
-          | inl at_column ↦ paired p.0 p.1 m.0 (within p.0 m.1) column (inr at_column) tight other_tight
+          | inl at_column ↦ paired p.0 p.1 m.0 (within p.0 m.1) column (inr at_column) a.0 b.0
           | inr differ ↦
-              matched d e f h fs hs ps (left test p) m.3 rest (omega (arith, linear, pf, sf, vf, low))
-              (omega (arith, linear, ph, sh, vh, other)) k
+              matched d e f h fs hs ps (left test p) m.3 (left-within test p f m.0 m.1 m.2 within) a.1 b.1 k
               (removed-other (removed test p.0) (rows + p.1) k differ ∙ removed-other test p.0 k ne ∙ passes)
         ]
       ]

@@ -22,3 +22,4 @@ mod ConvexKernel
 mod GreatestGain
 mod JustifiedObjection
 mod Desirability
+mod SuperadditiveGames
