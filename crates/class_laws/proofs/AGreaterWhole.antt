@@ -1,7 +1,8 @@
--- Where the estate is greater and each smaller group is worth what it was, nobody gets less. If one claimant got less, each
--- who gets more would get at most half of the rise more, and have at least half of its claim before; but any two claims
--- cover the estate, so at most two such claimants find room in it, and they don't take up the rise.
-use Rattle.std.proofs.Common.{◌≡◌, ◌≢◌, ℕ, ◌<◌, ◌≤◌, List, length, nat_eq, cond, Bool, true, false, refl, ℤ, pos, ◌+ℤ◌, ◌-ℤ◌}
+-- Where the estate is greater and each smaller group is worth what it was, nobody gets less. If one claimant got less,
+-- each who gets more would get at most half of the rise more, and have at least half of its claim before; but any two
+-- claims cover the estate, so at most two such claimants find room in it, and they don't take up the rise.
+use Rattle.std.proofs.Common.{◌≡◌, ◌≢◌, ℕ, ◌<◌, ◌≤◌, List, length, nat_eq, cond, Bool, true, false, refl, ℤ, pos}
+use Rattle.std.proofs.Common.{◌+ℤ◌, ◌-ℤ◌}
 use Rattle.std.proofs.Common.{◌*ℤ◌, ◌<ℤ◌, ◌≤ℤ◌, sym, ap, ◌∙◌, subst, inl, inr, arith}
 use Rattle.std.proofs.lemmas.Int.{ints, clamps, by_lt_z}
 use Rattle.definitions.proofs.Cases.{same_or_other, nat_eq-same, nat_eq-other, same_or_less}
@@ -172,7 +173,8 @@ module _ (n : ℕ) (t f g : ℕ → ℤ) (d whole : ℤ) (d0 : pos 0 ≤ℤ d)
       no_third
       (gainer n j (replaced l g (replaced k g f)) g hj
       (left_by_two (sum_below n g) (sum_below n f) (sum_below n (replaced k g f))
-      (sum_below n (replaced l g (replaced k g f))) (f k) (g k) (replaced k g f l) (f l) (g l) d whole all_before all_now
+      (sum_below n (replaced l g (replaced k g f))) (f k) (g k) (replaced k g f l) (f l) (g l) d whole all_before
+      all_now
       sum_one sum_two (other l lk) a.0 b.0) (subst (λ (z : ℤ). z <ℤ g j) (sym at_j) less))
     where
       no_third : ((m : ℕ) × (m < n) × (g m <ℤ replaced l g (replaced k g f) m)) → ⊥
@@ -250,7 +252,8 @@ module _ (estate more : ℕ) (claims others : List ℕ) (x y : Allocation) (le :
       ∙ scaled_add y.den x.den (cut_claim estate claims x h j) rise
 
   nobody_falls : (j : ℕ) → j < n → f j <ℤ g j → ⊥
-  nobody_falls = no_fall n t f g (scaled rise) (scaled (pos estate)) d0 before now g_within f_within all_before all_now cover
+  nobody_falls =
+      no_fall n t f g (scaled rise) (scaled (pos estate)) d0 before now g_within f_within all_before all_now cover
     where
       d0 : pos 0 ≤ℤ scaled rise
       d0 = scaled_nonnegative y.den x.den rise y_positive x_positive (omega (arith, linear, le))
@@ -297,7 +300,8 @@ module _ (estate more : ℕ) (claims others : List ℕ) (x y : Allocation) (le :
             | inr lt ↦ lt
           ] in
           let two = two_cover estate more claims others players same less i j hi hj ne in
-          let inner = mul-leℤ x.den (pos estate) (cut_claim estate claims x h i +ℤ cut_claim estate claims x h j) x_positive
+          let inner =
+          mul-leℤ x.den (pos estate) (cut_claim estate claims x h i +ℤ cut_claim estate claims x h j) x_positive
           two in
           let outer = mul-leℤ y.den (x.den *ℤ pos estate)
           (x.den *ℤ (cut_claim estate claims x h i +ℤ cut_claim estate claims x h j)) y_positive inner in
@@ -311,7 +315,8 @@ module _ (estate more : ℕ) (claims others : List ℕ) (x y : Allocation) (le :
           none : estate ≡ more → pos 0 <ℤ scaled rise → ⊥
           none e up =
               let zero : rise ≡ pos 0 = omega (arith, linear, e) in
-              let nothing = ap (λ (z : ℤ). y.den *ℤ (x.den *ℤ z)) zero ∙ ap (◌*ℤ◌ y.den) (mul-zeroℤ x.den) ∙ mul-zeroℤ y.den in
+              let nothing = ap (λ (z : ℤ). y.den *ℤ (x.den *ℤ z)) zero ∙ ap (◌*ℤ◌ y.den) (mul-zeroℤ x.den)
+              ∙ mul-zeroℤ y.den in
               omega (arith, linear, up, nothing)
 
 pub a_greater_whole : AGreaterWhole

@@ -16,7 +16,8 @@ use Rattle.definitions.proofs.Parts.{part, sum_below-le}
 use Rattle.definitions.proofs.Ring.{linear, mul-leℤ, mul-ltℤ}
 use Rattle.definitions.proofs.Splits.{passes_below-at, some_below-true, some_below-false}
 use Rattle.definitions.proofs.SumsOver.{amount-at, sum_over-same}
-use Rattle.definitions.specs.Coalitions.{has_player, singleton, grand_coalition, proper_coalitions, sum_over, some_below}
+use Rattle.definitions.specs.Coalitions.{has_player, singleton, grand_coalition, proper_coalitions, sum_over}
+use Rattle.definitions.specs.Coalitions.{some_below}
 use Rattle.definitions.specs.Games.{Game, Allocation, share, amount, excess, IsAllocation, IsEfficient, InFamily}
 use Rattle.definitions.specs.Games.{IsIndividuallyRational, IsSame, IsNucleolus, Beats}
 use Rattle.definitions.specs.Sums.{sum_below}
@@ -174,12 +175,14 @@ module _ (quota : ℕ) (weights : List ℕ) (sums : IsConstantSum (voting_game q
     beaten : (s : ℕ) → s < 2 ^ n → g.worth s ≡ pos 1 → (amount x s +ℤ amount x s) ≤ℤ x.den → Beats Plain g by_votes x
     beaten s lt won little =
         let one = hx.1 in
-        let not_empty : s ≡ 0 → ⊥ = λ same. (let none = nobody_loses in omega (arith, ints, won, none, ap g.worth same)) in
+        let not_empty : s ≡ 0 → ⊥ =
+        λ same. (let none = nobody_loses in omega (arith, ints, won, none, ap g.worth same)) in
         let not_all : s ≡ grand_coalition n → ⊥ =
         λ same. omega (products, little, one, e, ap (amount x) same, ap (◌*ℤ◌ x.den) wins) in
         ComesBefore-sorted bound (map first (proper_coalitions n)) (map second (proper_coalitions n))
         (SameOrLow-range bound first second 1 (2 ^ n - 2) (λ t lo hi. inr (low t (omega (arith, lo, hi)))))
-        (SomeAbove-range bound first second 1 (2 ^ n - 2) s (omega (arith, not_empty)) (omega (arith, lt, not_all)) (low s lt)
+        (SomeAbove-range bound first second 1 (2 ^ n - 2) s (omega (arith, not_empty)) (omega (arith, lt, not_all))
+        (low s lt)
         (omega (arith, linear)))
       where
         first : ℕ → ℤ
@@ -196,7 +199,8 @@ module _ (quota : ℕ) (weights : List ℕ) (sums : IsConstantSum (voting_game q
             let one = hx.1 in
             let a = mul-ltℤ x.den (excess g by_votes t +ℤ excess g by_votes t) whole (omega (arith, linear, one))
             (low_excess t within) in
-            let b = mul-leℤ whole x.den (excess g x s +ℤ excess g x s) (let some = some_votes in omega (arith, linear, some))
+            let b = mul-leℤ whole x.den (excess g x s +ℤ excess g x s)
+            (let some = some_votes in omega (arith, linear, some))
             (high_excess s won little) in
             halve (first t) (whole *ℤ excess g x s) (omega (sorted_products, a, b))
           where
@@ -209,7 +213,8 @@ module _ (quota : ℕ) (weights : List ℕ) (sums : IsConstantSum (voting_game q
         let one = hx.1 in
         let a = mul-ltℤ x.den (excess g by_votes s +ℤ excess g by_votes s) whole (omega (arith, linear, one))
         (low_excess s lt) in
-        let b = mul-leℤ whole x.den (excess g x s +ℤ excess g x s) (let some = some_votes in omega (arith, linear, some))
+        let b = mul-leℤ whole x.den (excess g x s +ℤ excess g x s)
+        (let some = some_votes in omega (arith, linear, some))
         (high_excess s won little) in
         omega (sorted_products, a, b, same_excess g x by_votes s hx allocation same)
 
@@ -245,7 +250,8 @@ module _ (quota : ℕ) (weights : List ℕ) (sums : IsConstantSum (voting_game q
 
   -- ---- where one alone wins, it gets all
 
-  module _ (x : Allocation) (h : InFamily Imputations g x) (d : ℕ) (hd : d < n) (alone : g.worth (singleton d) ≡ pos 1) where
+  module _ (x : Allocation) (h : InFamily Imputations g x) (d : ℕ) (hd : d < n)
+      (alone : g.worth (singleton d) ≡ pos 1) where
     nothing_less : (i : ℕ) → i < n → pos 0 ≤ℤ share x i
     nothing_less i hi =
         let one = h.0.1 in

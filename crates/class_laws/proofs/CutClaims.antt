@@ -1,4 +1,5 @@
--- Of an estate a claim counts as far as the estate goes: the shares of two claimants are the garment of their cut claims.
+-- Of an estate a claim counts as far as the estate goes: the shares of two claimants are the garment of their cut
+-- claims.
 use Rattle.std.proofs.Common.{◌≡◌, ◌≢◌, ◌⊎◌, ℕ, ◌<◌, List, length, get_or, ℤ, pos, ◌+ℤ◌, ◌-ℤ◌, ◌*ℤ◌, ◌≤ℤ◌, sym, ap, ◌∙◌}
 use Rattle.std.proofs.Common.{inl, inr, arith}
 use Rattle.std.proofs.lemmas.Int.{ints, clamps}
@@ -55,7 +56,8 @@ module _ (estate : ℕ) (claims : List ℕ) (x : Allocation) (h : IsTalmud estat
   pub cut_garment : (j l : ℕ) → j < length claims → l < length claims → j ≢ l
       → IsGarment (x.den *ℤ cut_claim j) (x.den *ℤ cut_claim l) (share x j) (share x l)
   cut_garment j l hj hl ne =
-      garment-cut x.den (pos estate) (pos (get_or claims j 0)) (pos (get_or claims l 0)) (share x j) (share x l) positive
+      garment-cut x.den (pos estate) (pos (get_or claims j 0)) (pos (get_or claims l 0)) (share x j) (share x l)
+      positive
       (together j l hj hl ne) (two_are_a_garment estate claims x h j l hj hl ne)
 
   pub within_cut : (k : ℕ) → k < length claims → (pos 0 ≤ℤ share x k) × (share x k ≤ℤ (x.den *ℤ cut_claim k))

@@ -1,5 +1,6 @@
--- Of two core points of a market, the greater share for one side and the lesser for the other: a pair gets no less than its
--- worth, and the pairs of a matching of greatest value just that, as they do at both (Shapley and Shubik 1971).
+-- Of two core points of a market, the greater share for one side and the lesser for the other: a pair gets no less
+-- than its worth, and the pairs of a matching of greatest value just that, as they do at both (Shapley and Shubik
+-- 1971).
 use Rattle.std.proofs.Common.{◌≡◌, ℕ, ◌+◌, ◌^◌, ◌<◌, Bool, true, false, not, cond, nat_lt, List, [], ◌∷◌, length}
 use Rattle.std.proofs.Common.{ℤ, pos, ◌+ℤ◌, ◌*ℤ◌, ◌≤ℤ◌, refl, sym, ap, ◌∙◌, subst, arith}
 use Rattle.std.specs.Int.{int_max, int_min}
@@ -164,7 +165,8 @@ module _ (matrix : Matrix) (rows : ℕ) (g : Game) (market : IsAssignmentGame ma
       let worth = market all (grand_coalition-within n) in
       let best = worth.2.reached in
       let value = worth.1 ∙ ap pos best.2 in
-      let high = total best.0 (has_player all) best.1 (λ i has. has_player-within n all i (grand_coalition-within n) has)
+      let high = total best.0 (has_player all) best.1
+      (λ i has. has_player-within n all i (grand_coalition-within n) has)
       (omega (arith, linear, hx.1, amount-at g x all hx.0, ap (◌*ℤ◌ x.den) value))
       (omega (arith, linear, hz.1, amount-at g z all hz.0, ap (◌*ℤ◌ z.den) value)) in
       let same = sum_below-same n (counted (has_player all) (share y)) (counted (has_player all) gets)

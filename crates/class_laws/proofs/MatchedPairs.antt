@@ -1,5 +1,5 @@
--- What two core points of a market do with a matching of greatest value: by both, each of its pairs gets just its worth,
--- and who is in none gets nothing (Shapley and Shubik 1971).
+-- What two core points of a market do with a matching of greatest value: by both, each of its pairs gets just its
+-- worth, and who is in none gets nothing (Shapley and Shubik 1971).
 use Rattle.std.proofs.Common.{◌≡◌, ◌≢◌, ◌⊎◌, ℕ, ◌+◌, ◌^◌, ◌<◌, Bool, true, false, ◌&&◌, not, cond, nat_eq}
 use Rattle.std.proofs.Common.{List, [], ◌∷◌, ℤ, pos, ◌+ℤ◌, ◌*ℤ◌, ◌≤ℤ◌, sym, ap, ◌∙◌, inl, inr, arith}
 use Rattle.std.proofs.lemmas.Int.{ints}
@@ -67,7 +67,9 @@ module _ (matrix : Matrix) (rows n : ℕ) where
 
     pub left-within : (k : ℕ) → left test p k ≡ true → k < n
     left-within k h =
-        within k (and_right (not (nat_eq k p.0)) (test k) (and_right (not (nat_eq k (rows + p.1))) (removed test p.0 k) h))
+        within k
+        (and_right (not (nat_eq k p.0)) (test k)
+        (and_right (not (nat_eq k (rows + p.1))) (removed test p.0 k) h))
 
     pub parts : sum_below n (counted test f) ≡ (f p.0 +ℤ f (rows + p.1)) +ℤ sum_below n (counted (left test p) f)
     parts =
@@ -181,7 +183,8 @@ module _ (matrix : Matrix) (rows : ℕ) (g : Game) (market : IsAssignmentGame ma
       let s = singleton i + 2 ^ (rows + j) in
       let lt = more-lt n (singleton i) (rows + j) (singleton-within n i hi) column lacks in
       let worth = market s lt in
-      let has_i = has_player-more_other (singleton i) (rows + j) i lacks (λ e. apart (sym e)) ∙ has_player-singleton i in
+      let has_i = has_player-more_other (singleton i) (rows + j) i lacks (λ e. apart (sym e))
+      ∙ has_player-singleton i in
       let has_j = has_player-more_same (singleton i) (rows + j) lacks in
       let at_least = worth.2.greatest ((i, j) ∷ []) (row, has_i, has_j, tt) in
       let den = core.0.1 in

@@ -1,5 +1,5 @@
--- Where the marginal shares of each order lie in the core, the game is convex: in the order of the members of a coalition,
--- i and j, the coalition with j gets at least its worth (Ichiishi 1981).
+-- Where the marginal shares of each order lie in the core, the game is convex: in the order of the members of a
+-- coalition, i and j, the coalition with j gets at least its worth (Ichiishi 1981).
 use Rattle.std.proofs.Common.{◌≡◌, ℕ, ◌+◌, ◌^◌, ◌<◌, List, map, pos, ◌≤ℤ◌, sym, ◌∙◌, arith}
 use Rattle.std.specs.List.{range_with_len}
 use Rattle.std.proofs.lemmas.List.FromFn.{get_or-map-range_with_len, length-map-range_with_len}

@@ -30,7 +30,8 @@ all_members : (P : ℕ → Type 0) (n s : ℕ) → ((k : ℕ) → k < n → has_
 all_members P zero s h = rw (members-zero s) tt
 all_members P (suc n) s h = elim (true_or_false (has_player s n)) [
   | inl has ↦ rw (members-yes n s has)
-      (all_join P (members n s) (n ∷ []) (all_members P n s (λ k lt. h k (omega (arith, lt)))) (h n (omega arith) has, tt))
+      (all_join P (members n s) (n ∷ []) (all_members P n s (λ k lt. h k (omega (arith, lt))))
+      (h n (omega arith) has, tt))
   | inr lacks ↦ rw (members-no n s lacks) (all_members P n s (λ k lt. h k (omega (arith, lt))))
 ]
 
@@ -169,8 +170,14 @@ module _ (n s i j : ℕ) (within : s < 2 ^ n) (hi : i < n) (hj : j < n) (ne : i 
           ),
         )
         (members-differ n s) (
-          (nat_eq-other i j ne, all_members (λ k. nat_eq i k ≡ false) n last (λ k lt inside. not_last i k has_i lt inside)),
-          (all_members (λ k. nat_eq j k ≡ false) n last (λ k lt inside. not_last j k has_j lt inside), members-differ n last),
+          (
+            nat_eq-other i j ne,
+            all_members (λ k. nat_eq i k ≡ false) n last (λ k lt inside. not_last i k has_i lt inside),
+          ),
+          (
+            all_members (λ k. nat_eq j k ≡ false) n last (λ k lt inside. not_last j k has_j lt inside),
+            members-differ n last,
+          ),
         );
   }
 

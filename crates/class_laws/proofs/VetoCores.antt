@@ -206,7 +206,8 @@ a_core_needs_a_veto g simple wins = (
 pub votes_are_simple : VotesAreSimple
 votes_are_simple quota weights = record {
   votes = λ s lt. zero_or_one (int_le (pos quota) (sum_over n weight s));
-  more = λ s t ls lt part_of. wins_too (pos quota) _ _ (sum_below-le n (part weight s) (part weight t) (here s t part_of));
+  more = λ s t ls lt part_of. wins_too (pos quota) _ _
+      (sum_below-le n (part weight s) (part weight t) (here s t part_of));
 }
   where
     n : ℕ

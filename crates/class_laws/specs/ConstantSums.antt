@@ -1,10 +1,10 @@
--- Games in which what a coalition and all others are worth adds to the same (von Neumann and Morgenstern 1944). Each law
--- is the contract of a function of this crate.
+-- Games in which what a coalition and all others are worth adds to the same (von Neumann and Morgenstern 1944). Each
+-- law is the contract of a function of this crate.
 --
 --   IsConstantSum g           each coalition and the others are worth together what all are
 --   ConstantSumCores          at a core point of such a game each coalition gets just its worth
---   NucleolusRepresents       of such a vote, in which all together win, a coalition wins just where the nucleolus gives
---                             it more than half (Peleg 1968)
+--   NucleolusRepresents       of such a vote, in which all together win, a coalition wins just where the nucleolus
+--                             gives it more than half (Peleg 1968)
 --   MajorityIsConstantSum     an example that meets this definition, and one that doesn't
 use Rattle.std.specs.Prelude.{◌≡◌, ◌↔◌, ℕ, ◌-◌, ◌^◌, ◌<◌, List, [], ◌∷◌, pos, ◌+ℤ◌, ◌*ℤ◌, ◌<ℤ◌}
 use Rattle.definitions.specs.Coalitions.{grand_coalition}
@@ -24,8 +24,8 @@ ConstantSumCores =
     (g : Game) (x : Allocation) (s : ℕ) → IsConstantSum g → InCore g x → s < 2 ^ g.players →
     amount x s ≡ x.den *ℤ g.worth s
 
--- where of each coalition and the others just one wins, the shares of the nucleolus, and of the prenucleolus, are weights
--- for the vote, with more than half as quota
+-- where of each coalition and the others just one wins, the shares of the nucleolus, and of the prenucleolus, are
+-- weights for the vote, with more than half as quota
 abbrev pub NucleolusRepresents : Type 0
 NucleolusRepresents =
     (family : Family) (quota : ℕ) (weights : List ℕ) (x : Allocation) (s : ℕ) →

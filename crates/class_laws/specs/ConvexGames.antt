@@ -1,8 +1,8 @@
--- Which games are convex: those whose marginal shares, in each order of joining, no group could better by itself. The law
--- is the contract of a function of this crate.
+-- Which games are convex: those whose marginal shares, in each order of joining, no group could better by itself. The
+-- law is the contract of a function of this crate.
 --
---   OnlyConvexGamesDo   in convex games alone the marginal shares of each order lie in the core (Ichiishi 1981; that they
---                       do in convex games: Shapley 1971)
+--   OnlyConvexGamesDo   in convex games alone the marginal shares of each order lie in the core (Ichiishi 1981; that
+--                       they do in convex games: Shapley 1971)
 use Rattle.std.specs.Prelude.{◌≡◌, ◌↔◌, ℕ, List, pos}
 use Rattle.definitions.specs.Convexity.{IsConvex, IsMarginal}
 use Rattle.definitions.specs.Games.{Game, Allocation, InCore}

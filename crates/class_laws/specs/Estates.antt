@@ -3,8 +3,8 @@
 --
 --   FurtherClaimantsGiveNobodyMore   of one estate nobody gets more where others claim as well
 --   ARisenClaim                      whose claim rises gets no less, and nobody else gets more
---   AGreaterWhole                    where all together are worth more, and each other coalition what it was, nobody gets
---                                    less (aggregate monotonicity: Megiddo 1974)
+--   AGreaterWhole                    where all together are worth more, and each other coalition what it was, nobody
+--                                    gets less (aggregate monotonicity: Megiddo 1974)
 use Rattle.std.specs.Prelude.{◌≡◌, ◌≢◌, ℕ, ◌<◌, ◌≤◌, List, length, ◌++◌, ◌*ℤ◌, ◌≤ℤ◌, slice_index}
 use Rattle.definitions.specs.Classes.{bankruptcy_worth}
 use Rattle.definitions.specs.Coalitions.{grand_coalition}
@@ -28,12 +28,13 @@ ARisenClaim =
     ((share x i *ℤ y.den) ≤ℤ (share y i *ℤ x.den))
     × ((j : ℕ) → j < length claims → j ≢ i → (share y j *ℤ x.den) ≤ℤ (share x j *ℤ y.den))
 
--- All claimants are worth the estate together. So where it is greater, and each other coalition is worth what it was, the
--- claims differ too
+-- All claimants are worth the estate together. So where it is greater, and each other coalition is worth what it was,
+-- the claims differ too
 abbrev pub AGreaterWhole : Type 0
 AGreaterWhole =
     (estate more : ℕ) (claims others : List ℕ) (x y : Allocation) (i : ℕ) → estate ≤ more →
     length others ≡ length claims →
-    ((s : ℕ) → s < grand_coalition (length claims) → bankruptcy_worth estate claims s ≡ bankruptcy_worth more others s) →
+    ((s : ℕ) → s < grand_coalition (length claims) →
+    bankruptcy_worth estate claims s ≡ bankruptcy_worth more others s) →
     IsTalmud estate claims x → IsTalmud more others y → i < length claims →
     (share x i *ℤ y.den) ≤ℤ (share y i *ℤ x.den)

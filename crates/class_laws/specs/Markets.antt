@@ -1,10 +1,10 @@
 -- Markets of buyers and sellers (Shapley and Shubik 1971). Each law is the contract of a function of this crate.
 --
---   NucleolusIsBetween   the nucleolus gives each player no less than the core point that is best for the other side, and
---                        no more than the one that is best for its own
+--   NucleolusIsBetween   the nucleolus gives each player no less than the core point that is best for the other side,
+--                        and no more than the one that is best for its own
 --   better_for test x z  of two allocations the greater share for who passes the test, and the lesser for the others
---   CoreIsALattice       of two core points the greater share for each buyer, and the lesser for each seller, make a core
---                        point; and the other way round
+--   CoreIsALattice       of two core points the greater share for each buyer, and the lesser for each seller, make a
+--                        core point; and the other way round
 use Rattle.std.specs.Prelude.{ℕ, ◌<◌, Bool, not, nat_lt, map, length, if◌then◌else◌, ◌*ℤ◌, ◌≤ℤ◌}
 use Rattle.std.specs.Int.{int_max, int_min}
 use Rattle.std.specs.List.{range_with_len}

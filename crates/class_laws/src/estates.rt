@@ -1,5 +1,5 @@
-//! What the Talmud rule promises if somebody else claims as well, or claims more. Each function's contract is a theorem,
-//! and it does nothing when it runs.
+//! What the Talmud rule promises if somebody else claims as well, or claims more. Each function's contract is a
+//! theorem, and it does nothing when it runs.
 
 ghost use Rattle.class_laws.specs.Estates.{FurtherClaimantsGiveNobodyMore, ARisenClaim, AGreaterWhole};
 

@@ -1,5 +1,6 @@
-//! What rules promise in games of some kinds: votes and other simple games, estates, markets, constant-sum games; and which
-//! games are convex. Each function's contract is a theorem, and its body is empty. No crate of the program needs them.
+//! What rules promise in games of some kinds: votes and other simple games, estates, markets, constant-sum games; and
+//! which games are convex. Each function's contract is a theorem, and its body is empty. No crate of the program needs
+//! them.
 #![tactic(auto)]
 
 pub mod constant_sums;
