@@ -1,6 +1,5 @@
 //! Lines of a nucleolus that no small document has.
 ghost use Rattle.std.specs.Prelude.{IfOk};
-ghost use Rattle.std.specs.List.{AllByRecursion};
 ghost use Rattle.report.specs.Limits.{IsFine};
 
 use coalitions::Coalition;
