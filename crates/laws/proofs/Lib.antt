@@ -10,7 +10,7 @@ pub mod EquivalentGamesAgree
 pub mod Withouts
 mod DummiesGetTheirWorth
 mod DummiesMayGetLess
-mod WhoAddsNoLessGetsNoLess
+pub mod WhoAddsNoLessGetsNoLess
 mod AlikePlayersGetAlike
 pub mod ShapleyValuesExist
 pub mod TotalsAdd
@@ -44,3 +44,5 @@ pub mod Gathered
 pub mod RenumberedCoalitions
 pub mod RenumberingChangesNothing
 pub mod ExchangeChangesNothing
+pub mod ShapleyIsAnonymous
+pub mod ShapleyIsCovariant

@@ -12,3 +12,15 @@ mod LevelsAreEnough
 mod SmallSteps
 mod LevelsAreNeeded
 mod KohlbergTheorem
+mod Halfway
+mod UnbeatenIsNucleolus
+mod OverWhole
+mod Rows
+mod LeastUnknown
+mod ExcessRows
+mod Minimax
+mod LeastLists
+mod NucleoliExist
+mod MembersExist
+mod Factors
+mod OneChange
