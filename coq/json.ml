@@ -1,4 +1,5 @@
-(* Strict JSON: a text is read as RFC 8259 says, and anything else is refused. Numbers stay texts. *)
+(* Strict JSON: a text is read as RFC 8259 says, and anything else is refused. Numbers stay
+   texts. *)
 
 type t =
   | Null

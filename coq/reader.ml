@@ -143,7 +143,8 @@ let sparse_item version n names tree =
   let players = List.map (member n names) (array "a coalition of sparse" coalition) in
   need (players <> []) "a coalition of sparse has no member";
   let ascending = List.sort_uniq compare players in
-  need (List.length ascending = List.length players) "a player stands twice in a coalition of sparse";
+  need (List.length ascending = List.length players)
+    "a player stands twice in a coalition of sparse";
   (ascending, game_number version value)
 
 let table version n names find =
