@@ -34,6 +34,7 @@ TOOLS = (
     Tool("count-work", uses=("valgrind",), has_folder=False, needs_kit=True),
     Tool("try-sizes", has_folder=False),
     Tool("try-check-anew"),
+    Tool("try-coq", needs=("coqc", "coqchk", "coq_makefile", "ocamlopt", "make")),
     Tool("try-scripts"),
     Tool("try-python", uses=("mypy", "flake8")),
     Tool("try-languages", uses=("Rscript", "julia", "cc"), takes_program=False, needs_kit=True),
