@@ -167,7 +167,7 @@ export const assumed = [
     expect("open", await page.run("document.querySelector('details.inline').open"), true);
     await page.fill("details.inline textarea", "group;cost\nSales;8\nOps;7\n\nOps;9");
     await page.click("Use this list");
-    await told(page, MESSAGE, /^Line 5: Ops stands twice/);
+    await told(page, MESSAGE, /^Line 5: Ops occurs twice/);
     expect("the answer stays", await page.text(".lead"), /together 12.00/);
     const isBeside = await page.run(`document.querySelector("${MESSAGE}").getBoundingClientRect().bottom
       <= document.querySelector(".groups").getBoundingClientRect().top`);

@@ -55,7 +55,7 @@ const SAME = [
   ["no names", agreed.replace(`,${names}`, ""), agreed, false, /The names: the line has none/],
   ["a text that is none", agreed, "Adler;100", null, /Nobody can say: the agreed file can’t be read/],
   ["no game", agreed, "{}", null, /the agreed file has no game/],
-  ["a key twice", agreed, agreed.replace('"claims"', '"claims":[1],"claims"'), null, /a key stands twice: claims/],
+  ["a key twice", agreed, agreed.replace('"claims"', '"claims":[1],"claims"'), null, /a key occurs twice: claims/],
   ["nonsense", agreed, '{"game":{"class":{},"names":[[]],"excess":{}}}', null, /hasn’t the form of a game/],
 ];
 
@@ -99,7 +99,7 @@ const plain = '{"a":"one two","b":[1,2]}', read = (text) => mended(text) ?? "";
 for (const [name, text, told] of [
   ["a mark in front", `\ufeff${plain}`, /nobody sees/],
   ["an answer", `> ${plain.replace(",", ",\n> ")}`, /begin with “>”/],
-  ["a letter around it", `Dear all,\n${plain}\nYours`, /in front of the first \{[\s\S]*behind the last \}/],
+  ["a letter around it", `Dear all,\n${plain}\nYours`, /before the first \{[\s\S]*after the last \}/],
   ["broken lines", plain.replace("tw", "t\nw"), /broken into lines/],
   ["packed", plain.replaceAll(",", "=2C").replace("one", "o=\nne"), /quoted-printable/],
   ["quote marks", plain.replace(/"(\w)/g, "“$1").replace(/"/g, "”"), /typographic/],

@@ -8,6 +8,7 @@ import { assumed } from "./assumed.mjs";
 import { bothWays } from "./both-ways.mjs";
 import { casesTyped, otherCases, tables } from "./cases.mjs";
 import { checks } from "./checks.mjs";
+import { desk } from "./desk.mjs";
 import { checking, documents } from "./documents.mjs";
 import { entering } from "./entering.mjs";
 import { failing } from "./failing.mjs";
@@ -28,6 +29,7 @@ const slack = Number(option("--slack", "1")), told = [];
 const harness = new Harness(pathToFileURL(page).href, option("--only", ""), slack);
 const program = resolve(option("--program", join(top, "crates", "coop_program", "out", "coop_program")));
 harness.add(large(slack, told));
+harness.add(desk);
 for (const some of [entering, assumed, saying, lecture, landings, bothWays, casesTyped, tables, otherCases,
   documents(top, program), checking(top), checks(top), letters(top), lawyer(top), failing(page, top), looks, access,
   precise]) {

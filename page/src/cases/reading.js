@@ -75,7 +75,7 @@ export class Reading {
     if (fault === "is empty") return this.open(cell);
     if (doubt) this.doubt(doubt, typed, value);
     if (doubt && !this.either) this.either = eitherOf(typed);
-    const shown = doubt && !isWhole ? OTHER[/[.,]/.exec(typed)[0]] : by;
+    const shown = doubt ? this.markOfWhole(typed, isWhole) : by;
     if (shown && !this.shown.has(shown)) this.shown.set(shown, typed);
     if (!isWhole) return this.fault(cell, `${what} is a whole number.`);
     const number = value.toNumber();
@@ -83,7 +83,14 @@ export class Reading {
     return this.fault(cell, `${what} is from ${low} to ${countText(high)}.`);
   }
 
-  /** Where a whole number is one by both marks, no other number shows which stands in front of decimals, and the user
+  /** The mark that a whole number shows, by which alone it is whole; none if it is whole by both. */
+  markOfWhole(typed, isWhole) {
+    if (!isWhole) return OTHER[/[.,]/.exec(typed)[0]];
+    const other = OTHER[this.mark] && readNumber(typed, OTHER[this.mark]).value;
+    return other && !other.isWhole() ? this.mark : undefined;
+  }
+
+  /** Where a whole number is one by both marks, no other number shows which comes before decimals, and the user
    * hasn't said it (`isMarked`), it is asked. */
   askOfEither({ isMarked }) {
     if (isMarked || this.settles() !== null || this.mark.length !== 1) this.either = null;
@@ -96,7 +103,7 @@ export class Reading {
     for (const { typed, cell } of isNamed ? cells : []) if (!typed.trim()) this.open(cell);
     names.forEach((name, i) => {
       if (bytesOf(name) > 64) this.fault(cells[i].cell, "A name has at most 64 letters (32 with accents).");
-      if (first.has(name)) this.fault(cells[i].cell, `The name “${withEscapes(name)}” stands twice.`);
+      if (first.has(name)) this.fault(cells[i].cell, `The name “${withEscapes(name)}” occurs twice.`);
       else first.set(name, i);
     });
     this.remark(names);

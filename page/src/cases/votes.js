@@ -7,26 +7,28 @@ import { readList } from "./lists.js";
 
 const MOST_IN_TABLE = 16;
 const MOST_VOTES = 1000n;
+const VOTER = /voter|state|party|member|country|holder|owner|name|staat|land|partei|mitglied|aktion|état|pays|parti/iu;
+const VOTES = /vote|seat|share|weight|stimme|sitz|anteil|voix|siège|part\b|population|bevölkerung/iu;
 
 export const votes = {
   id: "votes",
   classes: ["voting"],
   title: "Votes",
-  teaser: "Who has how much power, where one quota decides, or two?",
+  teaser: "How much power does each voter have, with one quota or two?",
   unit: "voter",
   isVote: true,
   places: 3,
   single: {
     key: "quota", title: "Votes needed",
-    help: "A motion passes with at least so many, or with such a part of all votes: 60 %.",
+    help: "The least number that is enough, or a percentage of all votes, such as 60 %.",
   },
   columns: [
-    { key: "name", title: "Who votes", wide: true, placeholder: "Voter" },
-    { key: "votes", title: "Votes", number: true },
+    { key: "name", title: "Who votes", wide: true, placeholder: "Voter", heads: VOTER },
+    { key: "votes", title: "Votes", number: true, heads: VOTES },
   ],
   second: {
-    single: { key: "secondQuota", title: "Needed of the second", help: "A motion passes where it reaches both." },
-    column: { key: "second", title: "Second votes", number: true, fallback: "1" },
+    single: { key: "secondQuota", title: "Needed of the second", help: "A motion has to reach both." },
+    column: { key: "second", title: "Second votes", number: true, grey: "1" },
   },
   help: "One row for each voter, party or shareholder.",
   most: 32,
@@ -81,15 +83,17 @@ function readBallot(reading, typed, cell, what, { values, cells }) {
   return { votes: values, quota };
 }
 
-/** The second votes, in the rows that have a name or votes; an empty cell is 1. */
+/** The second votes, in the rows that have a name or votes. As long as all are empty each counts as 1; once one is
+ * typed, the others are asked for. */
 function readSecond(reading, state, mark, names) {
   const kept = state.rows.map((row, r) => ({ row, r })).filter(({ row }) => row.name.trim() || row.votes.trim());
-  const values = [], cells = [];
+  const isAny = kept.some(({ row }) => row.second?.trim()), values = [], cells = [];
   for (const { row, r } of kept.slice(0, names.length)) {
     cells.push(`rows.${r}.second`);
-    const typed = row.second?.trim() || "1";
+    const typed = isAny ? row.second ?? "" : "1";
     values.push(reading.number(cells.at(-1), typed, "The second number of votes") ?? Rational.of(0));
   }
+  if (!isAny) reading.notes.push("No second votes are typed, so each voter has one.");
   return readBallot(reading, state.secondQuota, "secondQuota", "The second quota", { values, cells });
 }
 

@@ -2,6 +2,7 @@
 import { Rational } from "../exact/rational.js";
 import { decimal, fractionText } from "../exact/decimals.js";
 import { el } from "../page/dom.js";
+import { listed } from "../tell/words.js";
 import { tickText } from "./bars.js";
 import { chart } from "./chart.js";
 import { figure } from "./figure.js";
@@ -42,7 +43,11 @@ export function tradesTable(deals, format) {
 export function trades(game, matching, { solution, wide, ...format }) {
   const deals = dealsOf(game, matching, solution), traded = new Set(deals.flatMap(({ pair }) => pair));
   const idle = game.everyone().filter((i) => !traded.has(i)).map((i) => game.shown[i]);
-  return el("div", {}, tradesTable(deals, format),
+  const pairs = deals.length > 6 ? `${deals.length} pairs` : listed(deals.map(({ who }) => who));
+  return el("div", {},
+    deals.length > 0 && el("p", { class: "lead" }, `${pairs} ${deals.length > 1 ? "trade" : "trades"}: together they `
+      + `gain ${format.show(Rational.of(matching.value))}.`),
+    tradesTable(deals, format),
     el("p", { class: "hint" },
       `Together they gain ${format.show(Rational.of(matching.value))}; no other pairs gain more. `,
       "A price is what the seller gets of the gain, above its own value. The ranges say how far each price can go, ",

@@ -1,6 +1,7 @@
 // Runways of more landings than the program takes: what the page calculates by itself, and that it says so.
 import { Rational } from "../exact/rational.js";
-import { el } from "./dom.js";
+import { typedText } from "../exact/decimals.js";
+import { button, el } from "./dom.js";
 import { movedText, withSum } from "./format.js";
 import { linesOf, ownSum, shareCell } from "./shares-table.js";
 import { ownInput } from "./proposal-cells.js";
@@ -8,7 +9,7 @@ import { airlineLines, csvButton, roundingLines, shareLines } from "./table-line
 import { changeBelow, todayTitle, todayTools } from "./today.js";
 import { typeLines, typesTable } from "./types-table.js";
 
-const OURS = "So the page itself calculated what stands here, by a formula, in exact fractions. These numbers do NOT "
+const OURS = "So the page itself calculated these shares, by a formula, in exact fractions. These numbers do NOT "
   + "come from the proved program, and there is no certificate of them.";
 const THEOREMS = {
   nucleolus: "for the nucleolus the theorem payments_are_the_nucleolus (Littlechild’s payments; Littlechild 1974)",
@@ -41,6 +42,12 @@ export function beyondTexts({ isAll, all, points }) {
 
 const COSTS = { costs: true }; // as of a game
 
+/** A number rounded to so many decimals. */
+function roundedTo(value, places) {
+  const unit = new Rational(10n ** BigInt(places));
+  return new Rational(value.times(unit).plus(new Rational(1n, 2n)).floor()).over(unit);
+}
+
 /** The parts of the answer that the page calculates. */
 export function beyondParts(sent, { format, today }) {
   const beyond = read(sent), { isAll, rows, points } = beyond;
@@ -53,6 +60,9 @@ export function beyondParts(sent, { format, today }) {
       return ownInput(row, r, today, "today", todayTitle(COSTS));
     } })),
     points.some(({ totals }) => format.isMoved(totals, rows)) && el("p", { class: "hint moved" }, movedText(rows)),
+    isAll && !today.texts && el("p", { class: "tools" }, button("Keep this answer to compare", () => {
+      today.setAll(points[0].totals.map((total) => typedText(roundedTo(total, format.places), format.mark)));
+    }, { class: "quiet" })),
     isAll && todayTools(COSTS, today),
     isAll && typesTable(rows, points, format),
     isAll && el("p", { class: "hint" }, SCALED),

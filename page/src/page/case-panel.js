@@ -3,7 +3,7 @@ import { fileNames } from "../cases/coarse.js";
 import { withEscapes } from "../game/names.js";
 import { coarseNumbers, coarseText } from "../tell/coarse-text.js";
 import { plural } from "../tell/words.js";
-import { markFaults } from "./cells.js";
+import { markFaults, markOdds } from "./cells.js";
 import { button, cellOf, copy, download, el, refill } from "./dom.js";
 import { doubtNotes } from "./doubts.js";
 import { shown } from "./files.js";
@@ -11,6 +11,7 @@ import { landingsList } from "./landings-list.js";
 import { listGrid } from "./list-grid.js";
 import { marketGrid } from "./market-grid.js";
 import { networkGrid } from "./network-grid.js";
+import { markChanged } from "./pinned.js";
 import { tableGrid } from "./table-grid.js";
 
 const MOST_FAULTS = 6;
@@ -26,29 +27,30 @@ export function casePanel(kind, typed, settings) {
   const faults = el("div", { class: "faults", role: "status" }), made = el("div", { class: "made" });
   const coarse = el("div");
   const element = el("div", { class: "case" },
-    el("p", { class: "help" }, kind.help, el("span", { class: "screen" }, " Paste from a spreadsheet into any cell.")),
+    el("p", { class: "help" }, kind.help, el("span", { class: "screen" }, " You can paste from a spreadsheet.")),
     notes.map((note) => el("p", { class: "note" }, note)), coarse, grid, faults,
     el("p", { class: "tools bottom" },
+      button("Clear all", () => onReset(cleared(kind, typed), "Clear all"), { class: "quiet" }),
       button("Fill in the worked example", () => onReset(kind.example(), "Fill in the worked example"),
-        { class: "quiet" }),
-      button("Clear all", () => onReset(cleared(kind, typed), "Clear all"), { class: "quiet" }), undo),
-    made);
+        { class: "quiet" }), undo));
 
   /** Shows what the reading of the cells says. */
   function tell(reading) {
     markFaults(grid, reading.faults);
+    markOdds(grid, oddsOf(reading, typed));
+    markChanged(grid, settings.changed?.());
     refill(coarse, coarseNote(typed, settings));
     refill(faults, reading.notes.map((note) => el("p", { class: "note" }, note)),
       reading.asked && sumQuestion(reading.asked, typed, settings),
       reading.either ? eitherQuestion(reading.either, settings) : doubtNotes(reading, settings),
-      emptyCells(reading, grid), faultList(reading, grid),
+      emptyCells(reading, grid), faultList(reading, grid), oddList(oddsOf(reading, typed), grid),
       reading.isTooFine && finenessHelp(settings));
     const isBeyond = reading.beyond && !reading.text; // more landings than a document has
     refill(made, reading.text && documentOf(kind, reading.text, typed, settings),
       isBeyond && landingsList(typed, reading.beyond, reading.settled ?? reading.mark));
   }
 
-  return { element, tell };
+  return { element, tell, made };
 }
 
 /** Asks whether a row is the sum of the others: until that is settled there is no answer. */
@@ -58,7 +60,7 @@ function sumQuestion({ r, name }, typed, { onReset, onChange }) {
     typed.notSum = name;
     onChange(0);
   };
-  const [which, rest] = name ? [`, “${withEscapes(name)}”.`, " "] : [" has no name.", " Else give it a name. "];
+  const [which, rest] = name ? [`, “${withEscapes(name)}”.`, " "] : [" has no name.", " If not, give it a name. "];
   const asked = `The last row${which} Is it the sum of the others? It would count as one more.${rest}`;
   return el("p", { class: "note" }, asked,
     button("Yes, remove it", without, { class: "quiet" }), name && button("No, it counts", keep, { class: "quiet" }));
@@ -87,9 +89,32 @@ function undoButton(before, { onUndo }) {
 function faultList({ faults, count }, grid) {
   if (!count) return null;
   const items = faults.slice(0, MOST_FAULTS).map(({ cell, sentence }) => {
-    return el("li", {}, button(sentence, () => cellOf(grid, cell)?.focus(), { class: "fault" }));
+    return el("li", {}, button(sentence, () => goTo(grid, cell), { class: "fault" }));
   });
   return el("ul", {}, items, count > MOST_FAULTS && el("li", {}, `and ${count - MOST_FAULTS} more`));
+}
+
+/** Remarks on numbers that were typed; what the page filled follows them. */
+function oddsOf({ odds = [] }, { filled }) {
+  return odds.filter(({ mask }) => !Array.isArray(filled) || !filled.includes(mask));
+}
+
+function oddList(odds, grid) {
+  if (!odds.length) return null;
+  const items = odds.map(({ cell, sentence }) => {
+    return el("li", {}, button(sentence, () => goTo(grid, cell), { class: "fault gentle" }));
+  });
+  const asked = odds.length > 1 ? "Are these numbers meant?" : "Is this number meant?";
+  return el("div", { class: "note" }, el("p", {}, asked),
+    el("ul", { class: "odds" }, items));
+}
+
+/** Goes to a cell, also to one on another page of the groups. */
+function goTo(grid, cell) {
+  if (!cellOf(grid, cell)) grid.dispatchEvent(new CustomEvent("show-cell", { detail: cell }));
+  const input = cellOf(grid, cell);
+  input?.focus();
+  input?.select?.();
 }
 
 /** Two ways for numbers with too many decimals, as other programs give them. */
@@ -101,29 +126,27 @@ function finenessHelp({ coarsen }) {
 }
 
 function emptyCells({ empty: { count, first } }, grid) {
-  const goTo = () => {
-    const input = cellOf(grid, first);
-    if (input) input.focus();
-    else [...grid.querySelectorAll("button")].find(({ textContent }) => textContent === "First empty one")?.click();
-  };
   const said = `${plural(count, "cell is", "cells are")} still empty. Go to the first.`;
-  return count > 0 && button(said, goTo, { class: "fault gentle" });
+  return count > 0 && button(said, () => goTo(grid, first), { class: "fault gentle" });
 }
 
 function documentOf(kind, text, { coarse }, { caseText }) {
   const { game: file } = fileNames(kind.id, coarse), numbers = coarse && coarseNumbers(coarse);
-  return el("div", {}, shown("The document that this makes", text),
+  return el("div", {},
     el("p", { class: "tools" },
-      button("Save the case", () => download(`${kind.id}-case.json`, caseText()), { class: "quiet" }),
+      button("Save the case", () => download(`${kind.id}-case.json`, caseText()), { class: "main" })),
+    el("p", { class: "hint screen" }, "Open it here later and go on: it keeps what the page filled in, the decimal ",
+      "mark, the heading, the unit, your own division, and the answer that you kept to compare."),
+    el("p", { class: "tools" },
       button(`Save the document${numbers ? ` (${numbers})` : ""}`, () => download(file, `${text}\n`), {
         class: "quiet",
       }),
-      button("Copy it", (event) => copy(text, event.target), { class: "quiet" })),
-    el("p", { class: "hint screen" }, "The page opens a case with what was filled in, the decimal mark, heading, unit ",
-      "and your proposal. The program reads the document alone."),
-    coarse && el("p", { class: "note" }, `${coarseText(coarse)} The document holds the ${numbers} alone, and has no `,
-      `place to say so: the file is named ${file}, and this page tells it when it is opened under that name. Under `,
-      "another name nobody can see it. A saved case holds it."));
+      button("Copy it", (event) => copy(text, event.target), { class: "quiet", "aria-label": "Copy the document" })),
+    el("p", { class: "hint screen" }, "The program reads the document. It holds the numbers only."),
+    coarse && el("p", { class: "note" }, `${coarseText(coarse)} The document holds only the ${numbers}, and has no `,
+      `place to say so: the file is named ${file}, and this page says so when it is opened under that name. Under `,
+      "another name nobody can see it. A saved case holds it."),
+    shown("The document that this makes", text));
 }
 
 /** What was done to all numbers, for as long as they are these. */

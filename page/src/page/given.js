@@ -2,8 +2,8 @@
 import { el } from "./dom.js";
 import { fingerprint } from "./files.js";
 
-const MENDED = "What a mail program had done to the line was undone before it was read: marks in front, broken lines, "
-  + "other quote marks.";
+const MENDED = "What a mail program had done to the line was undone before it was read: marks before lines, broken "
+  + "lines, other quote marks.";
 
 /** Where a line and the agreed file come from; {ofLine, ofGame} are as a place for texts says it. */
 export function givenParts({ line, agreed }, { ofLine, ofGame }) {

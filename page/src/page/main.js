@@ -8,10 +8,11 @@ import { casePanel } from "./case-panel.js";
 import { Documents } from "./documents.js";
 import { el, refill } from "./dom.js";
 import { Paper } from "./paper.js";
+import { changedCells, keptTree, pinOfTree } from "./pinned.js";
 import { Session } from "./session.js";
 import { startCards } from "./start.js";
 import { verifyPanel } from "./verify.js";
-import { showView, viewOfAddress } from "./views.js";
+import { showPart, showView, viewOfAddress, watchAnswer } from "./views.js";
 
 const at = (id) => document.getElementById(id);
 const WAYS = { round: "Round all to four decimals", whole: "All times a power of ten" };
@@ -23,6 +24,7 @@ const session = new Session({
   stale: () => view.stale(),
   read: () => {
     panel.tell(session.reading);
+    view.showFiles(panel.made);
     verify.beside(session.reading.text ?? null);
   },
   answer: () => view.show(),
@@ -48,7 +50,7 @@ function openCase(kind, typed, { before = null, notes = [], doubt = "", paper, .
       session.changed(wait);
     },
     onReset: (next, what, isSame = false) => {
-      const { entry, isTyped } = session, marks = isSame ? { entry, isTyped } : {};
+      const { entry, isTyped, pinned } = session, marks = isSame ? { entry, isTyped, pinned } : {};
       openCase(kind, next, { ...marks, before: { what, ...nowTyped() } });
     },
     onUndo: (back) => undo(kind, back),
@@ -68,13 +70,15 @@ function openCase(kind, typed, { before = null, notes = [], doubt = "", paper, .
 /** What a case asks for: marks, workers, and itself as a file. */
 function asked(kind) {
   return {
+    changed: () => session.pinned && changedCells(session.pinned.typed, session.typed),
     mark: () => session.entryMark(), setEntry: (mark) => session.setEntry(mark),
     readList: (what) => session.reader.ask("readList", { ...what, mark: session.entryMark() }),
     readCells: (text) => session.reader.ask("readCells", { text }),
     help: (task, what) => session.reader.ask(task, what),
     caseText: () => {
       const { shown: [[by] = [], other], mark, text } = session.reading;
-      return caseText({ ...nowTyped(), mark: session.mark, entry: by && !other ? by : mark, text });
+      const { pinned } = session, kept = pinned ? keptTree(pinned, session.typed) : undefined;
+      return caseText({ ...nowTyped(), kept, mark: session.mark, entry: by && !other ? by : mark, text });
     },
   };
 }
@@ -104,8 +108,8 @@ async function coarsen(kind, how) {
 
 /** What stands in the cells of the case that is shown. */
 function cellsNow() {
-  const { typed, measure, texts, todays, entry, doubt, file, isTyped } = session;
-  return { typed, measure, texts, todays, entry, doubt, file, isTyped };
+  const { typed, measure, texts, todays, pinned, entry, doubt, file, isTyped } = session;
+  return { typed, measure, texts, todays, pinned, entry, doubt, file, isTyped };
 }
 
 /** The same with the decimals, and what was typed below the answer. */
@@ -136,11 +140,15 @@ function tellUnforeseen() {
 }
 
 function listen() {
-  const calm = matchMedia("(prefers-reduced-motion: reduce)").matches;
   for (const home of document.querySelectorAll("[data-home]")) home.addEventListener("click", () => show(""));
-  for (const link of document.querySelectorAll("[data-part]")) {
-    link.addEventListener("click", () => at(link.dataset.part).scrollIntoView({ behavior: calm ? "auto" : "smooth" }));
-  }
+  document.addEventListener("click", (event) => {
+    const link = event.target.closest?.("[data-part], [data-show]");
+    if (!link) return;
+    event.preventDefault();
+    if (link.dataset.part) showPart(link.dataset.part);
+    else show(link.dataset.show);
+  });
+  watchAnswer();
   let width = innerWidth;
   addEventListener("resize", () => {
     if (innerWidth !== width && session.result) view.show();
@@ -160,7 +168,8 @@ function begin() {
   const documents = new Documents({
     mark: () => session.usualMark(), onLine: (text, from) => verify.setLine(text, from),
     onOpen: (kind, typed, settings) => {
-      openCase(kind, typed, { ...settings, isFile: true, before: replaced(kind, "Open a document") });
+      const { kept: tree, ...others } = settings, pinned = tree ? pinOfTree(tree, typed) : null;
+      openCase(kind, typed, { ...others, pinned, isFile: true, before: replaced(kind, "Open a document") });
     },
   });
   verify = verifyPanel({

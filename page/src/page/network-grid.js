@@ -1,5 +1,6 @@
 // The grid of a network: what a link between each two places costs.
 import { readNumber } from "../exact/decimals.js";
+import { cellsOfNetwork, networkOf, takenText, withSource } from "../cases/links.js";
 import { sourceName } from "../cases/matrices.js";
 import { withEscapes } from "../game/names.js";
 import { cellInput, moveByKeys, pasteCells } from "./cells.js";
@@ -16,12 +17,13 @@ export function networkGrid(kind, typed, settings) {
 
 class NetworkGrid {
   constructor(kind, typed, { mark, onChange, readCells, help, asTable, remember }) {
-    Object.assign(this, { kind, typed, onChange, remember });
+    Object.assign(this, { kind, typed, mark, onChange, remember });
+    this.said = el("p", { class: "note", role: "status" });
     this.holder = el("div", { class: "scroll" });
     this.tools = el("p", { class: "tools" });
     const setLinks = (links, filled) => this.change(() => Object.assign(typed, { links, filled }));
     this.help = noLinkHelp(typed, { mark, help, remember, setLinks, asTable });
-    this.element = el("div", {}, this.holder, this.tools, this.help);
+    this.element = el("div", {}, this.said, this.holder, this.tools, this.help);
     moveByKeys(this.holder, (cell, step) => {
       const [what, place] = cell.split(".");
       if (what === "source") return "names.0";
@@ -56,7 +58,20 @@ class NetworkGrid {
       el("thead", {}, el("tr", {}, el("th", { scope: "col" }, "A link from"), titles, none)), el("tbody", {}, rows)));
     refill(this.tools, typed.names.length < this.kind.most
       ? button("Add a place", () => this.add(), { class: "quiet" })
-      : el("span", { class: "hint" }, "16 places is the most."));
+      : el("span", { class: "hint" }, "16 places is the most."),
+    this.sourceChoice(names));
+  }
+
+  /** Which point is the source: the others pay. */
+  sourceChoice(names) {
+    const choose = (event) => {
+      this.remember("Choose the source");
+      const next = withSource(this.typed, Number(event.target.value));
+      this.change(() => Object.assign(this.typed, next));
+      this.said.textContent = `${sourceName(this.typed)} is the source now.`;
+    };
+    return el("label", { class: "hint" }, "Source ", el("select", { "data-cell": "which", on: { change: choose } },
+      names.map((name, i) => el("option", { value: String(i), selected: i === 0 }, name))));
   }
 
   /** The source is no player: its name is for show, and isn't asked about. */
@@ -100,9 +115,20 @@ class NetworkGrid {
     return undefined;
   }
 
+  /** A whole network takes the place of all cells; a block of numbers goes where it was pasted. */
   pasted(cell, rows) {
+    const { typed } = this, isFirst = ["source", "names.0", "links.0-1"].includes(cell);
+    const found = networkOf(rows, { mark: this.mark(), source: typed.source });
+    const isWhole = found && (isFirst || found.fault || found.shape.includes("list") || found.shape.includes("names"));
+    this.said.textContent = isWhole && found.fault ? `${found.fault} Nothing was taken.` : "";
+    if (isWhole && found.fault) return;
     this.remember("Paste");
-    this.change(() => pasteLinks(this.kind, this.typed, cell, rows));
+    if (isWhole) {
+      const cells = cellsOfNetwork(found);
+      cells.source ||= found.points[0] === "" && found.points.some(Boolean) ? typed.source ?? "" : cells.source;
+      this.change(() => Object.assign(typed, cells, { filled: {} }));
+      this.said.textContent = takenText(found, sourceName(typed));
+    } else this.change(() => pasteLinks(this.kind, typed, cell, rows));
     if (Object.values(this.typed.filled ?? {}).includes("way")) this.help.again();
   }
 

@@ -1,7 +1,7 @@
 // Help for links that don't exist: each needs a number, and it decides much.
 import { button, el, refill } from "./dom.js";
 
-const HINT = "Leave it empty, and say what a group would do that needs it. The answer depends on it.";
+const HINT = "Leave it empty, and say what a group that needs it would do. The answer depends on it.";
 const EACH = "It counts for each such link: a group that lacks two of them pays it twice. These links are marked.";
 const REWARD = "A place that spares others such a link is rewarded for it: the more, the larger the number is.";
 
@@ -45,7 +45,7 @@ function waysPart({ fillWays, makeTable, fillWith, said }) {
     el("ul", { class: "ways" },
       el("li", {}, el("b", {}, "It may build through the places of others. "),
         button("Fill in the cheapest ways", fillWays),
-        " That is right for one place. Where ways of a group share a stretch, ",
+        " That is right for one place. If detours of a group share a stretch, ",
         button("make a table of costs of it", makeTable),
         ": each group then costs the cheapest network that joins it."),
       el("li", {}, el("b", {}, "It can’t build at all. "), "Give what it costs to do without: ", amount, " ",

@@ -34,7 +34,7 @@ export function takesPerHead(game) {
 /** Asks all that is asked of a game. `read` is what a worker read; `onPart(result)` is called as answers come. */
 export async function askAll(read, { engine, checker, onPart }) {
   const { rows, text, beyond } = read, game = nameByRows(new Facts(read.facts), rows);
-  const result = { game, text, beyond, points: [], checks: {} };
+  const result = { game, text, beyond, points: [], checks: {}, odds: read.odds };
   const ask = async (word, document = read.text) => checked(await engine("solve", { word, document }));
   await askSolution(result, ask);
   if (result.refusal) return onPart(result), result;

@@ -2,18 +2,19 @@
 import { Rational } from "../exact/rational.js";
 import { fractionText } from "../exact/decimals.js";
 import { listed, Namer, plural } from "../tell/words.js";
-import { againstOf, comparisonPart } from "./comparison.js";
-import { el } from "./dom.js";
-import { excessesPart } from "./excesses.js";
+import { againstOf } from "./comparison.js";
+import { button, copy, el } from "./dom.js";
 import { labelOf, movedText, totalsOf, withSum } from "./format.js";
-import { meanings, monotonic, subtitleOf, words } from "./meanings.js";
-import { ownInput, proposalSum, proposalTools } from "./proposal-cells.js";
-import { airlineLines, roundingLines, shareLines } from "./table-lines.js";
-import { changeBelow, todayTitle, todayTools } from "./today.js";
+import { subtitleOf } from "./meanings.js";
+import { pinnedNote, pinTools, sinceKept } from "./pinned.js";
+import { ownInput, proposalSum } from "./proposal-cells.js";
+import { airlineLines, roundingLines, shareLines, tabbed } from "./table-lines.js";
+import { changeBelow, todayTitle } from "./today.js";
 
 const BRIEF = 8; // rows that are kept on one printed page
 const NARROW = 520;
 const FEW = 3; // landings that are named one by one
+const LONG_EXACT = 26; // characters of a fraction that are shown unfolded
 
 export function sharesTable(result, settings) {
   const { game, points } = result, { rows, format, proposal } = settings;
@@ -23,25 +24,24 @@ export function sharesTable(result, settings) {
     return { ...point, steps, texts: withSum(steps).map(format.text) };
   });
   const against = againstOf(points[0], rows, proposal, format), isNarrow = settings.wide < NARROW;
-  const span = columns.length + [proposal.canBe, against, settings.today.texts].filter(Boolean).length;
+  const beside = [proposal.canBe, against, settings.today.texts, settings.pinned?.pin].filter(Boolean);
+  const span = columns.length + beside.length;
   const view = { ...settings, game, context, columns, against, isNarrow, span };
-  const hasHolds = points.some(({ hold }) => hold);
-  const kinds = ["shares", proposal.totals ? "" : "unproposed", rows.length <= BRIEF ? "brief" : ""];
+  const isOwn = proposal.texts?.some(Boolean) || settings.typed.isProposing;
+  const kinds = ["shares", isOwn ? "proposing" : "", settings.pinned?.pin ? "comparing" : "",
+    proposal.totals ? "" : "unproposed", rows.length <= BRIEF ? "brief" : ""];
+  const copied = (event) => copy(tabbed(tablesOf(result, settings)[0]), event.target);
   return el("div", {},
+    settings.pinned && pinnedNote(settings.pinned, result, rows, settings),
     el("div", { class: "scroll" }, el("table", { class: kinds.filter(Boolean).join(" ") },
       headOf(view), el("tbody", {}, linesOf(rows).map((line) => (line.of ? sumRow(line, view) : shareRow(line, view)))),
-      footOf(view, hasHolds))),
-    columns.some(({ shares }) => format.isMoved(totalsOf(rows, shares), rows))
-      && el("p", { class: "hint moved" }, `${movedText(rows)} The exact shares stand in small print.`),
-    sameText(result) && el("p", { class: "hint" }, sameText(result)),
-    proposal.canBe && proposalTools(result, settings),
-    todayTools(game, settings.today),
+      footOf(view))),
     proposal.shares && sameAs(points, proposal.shares),
-    points.length > 0 && comparisonPart(proposal, points[0], game, settings),
-    excessesPart(result, settings),
-    meanings(points, hasHolds, game),
-    !game.ballots && !game.isMarket() && monotonic(),
-    words());
+    el("div", { class: "tools" }, settings.pinned && pinTools(settings.pinned),
+      button("Copy the table", copied, { class: "quiet" }),
+      columns.some(({ shares }) => format.isMoved(totalsOf(rows, shares), rows))
+        && el("details", { class: "inline hint moved" }, el("summary", {}, "Rounded so that they add up"),
+          el("p", {}, `${movedText(rows)} The exact shares are in small print.`))));
 }
 
 /** Why there is no column of the prenucleolus. */
@@ -50,10 +50,10 @@ export function sameText({ hasOneNucleolus, game }) {
 }
 
 /** Which division of the table a proposal is. */
-function sameAs(points, shares) {
+export function sameAs(points, shares) {
   const same = points.filter((point) => point.shares.every((share, i) => share.equals(shares[i])));
   return same.length > 0 && el("p", { class: "same-as" },
-    `Your proposal is just what stands under ${listed(same.map(({ title }) => `“${title}”`))}.`);
+    `Your proposal is exactly the column ${listed(same.map(({ title }) => `“${title}”`))}.`);
 }
 
 /** A row with its name in front; on a narrow page above it, where no number that is scrolled goes behind it. */
@@ -65,26 +65,36 @@ function named({ isNarrow, span }, kind, name, cells) {
   ];
 }
 
-function headOf({ game, context, columns, proposal, today, against, isNarrow }) {
-  const column = ({ key, title }) => el("th", { scope: "col", class: "number", "data-point": key },
+function headOf({ game, context, columns, proposal, today, pinned, against, isNarrow }) {
+  const column = ({ key, title }, k) => el("th", { scope: "col", class: kindOf(key, k), "data-point": key },
     title, el("small", {}, subtitleOf(key, game)));
   return el("thead", {}, el("tr", {},
     !isNarrow && el("th", { scope: "col" }, game.costs ? "Who pays" : "Who gets"),
     context && el("th", { scope: "col", class: "number context" }, context.title),
     today.texts && el("th", { scope: "col", class: "number today" }, todayTitle(game)),
+    pinned?.pin && el("th", { scope: "col", class: "number kept" }, "Kept", el("small", {}, "the answer before")),
     columns.map(column),
     proposal.canBe && el("th", { scope: "col", class: "number proposed", "data-point": "proposal" },
       "Your proposal", el("small", {}, subtitleOf("proposal", game))),
     against && el("th", { scope: "col", class: "number against" }, against.title)));
 }
 
+/** The first column is the answer; a core point is shown with a proposal only, since it proposes nothing. */
+function kindOf(key, k) {
+  return `number${k ? "" : " main"}${key === "core" ? " core-point" : ""}`;
+}
+
 function shareRow({ row, r }, view) {
-  const { game, context, columns, format, proposal, today, against } = view, count = row.players.length;
+  const { game, context, columns, format, proposal, today, pinned, against } = view, count = row.players.length;
+  const kept = pinned?.pin && pinned.value(columns[0].key, row);
   return named(view, "", [row.label, count > 1 && el("small", {}, plural(count, "landing"))], [
     context && el("td", { class: "number context" }, context.texts[r]),
     today.texts && el("td", { class: "number today" }, ownInput(row, r, today, "today", todayTitle(game))),
-    columns.map(({ texts, steps, shares }) => {
-      return shareCell(texts[r], shares[row.players[0]], count, format, changeOf(steps[r], r, today, format));
+    pinned?.pin && el("td", { class: "number kept" }, kept ? format.show(kept) : "–"),
+    columns.map(({ key, texts, steps, shares }, k) => {
+      const changes = [changeOf(steps[r], r, today, format),
+        pinned?.pin && sinceKept(steps[r], key, row, pinned, format)];
+      return shareCell(texts[r], shares[row.players[0]], count, format, changes, kindOf(key, k));
     }),
     proposal.canBe && el("td", { class: "number proposed" },
       ownInput(row, r, proposal, "proposal", "Your proposal")),
@@ -92,10 +102,13 @@ function shareRow({ row, r }, view) {
   ]);
 }
 
-export function shareCell(text, share, count, format, change) {
+export function shareCell(text, share, count, format, change, kind = "number") {
   const fraction = !format.isExact(share) && fractionText(share);
   const exact = count > 1 ? `${count} × ${format.show(share)}${fraction ? ` (${fraction})` : ""}` : fraction;
-  return el("td", { class: "number" }, text, change, exact && el("small", { class: "exact" }, exact));
+  const isLong = exact && exact.length > LONG_EXACT;
+  return el("td", { class: kind }, text, change, exact && (isLong
+    ? el("details", { class: "inline exact" }, el("summary", {}, "exact"), el("small", {}, exact))
+    : el("small", { class: "exact" }, exact)));
 }
 
 /** How much more it is than today, where that was typed. */
@@ -114,15 +127,17 @@ export function linesOf(rows) {
 }
 
 function sumRow({ sum, of }, view) {
-  const { rows, context, columns, format, proposal, today, against } = view;
+  const { rows, context, columns, format, proposal, today, pinned, against } = view;
   const now = today.texts && ownSum(of, today), proposed = proposal.canBe && ownSum(of, proposal);
-  const cells = columns.map(({ shares, steps }) => {
+  const cells = columns.map(({ key, shares, steps }, k) => {
     const exact = Rational.sum(totalsOf(of.map((r) => rows[r]), shares)), shown = withSum(of.map((r) => steps[r]));
-    return shareCell(format.text(shown.at(-1)), exact, 1, format, now && changeBelow(shown.at(-1), now, format));
+    const change = now && changeBelow(shown.at(-1), now, format);
+    return shareCell(format.text(shown.at(-1)), exact, 1, format, change, kindOf(key, k));
   });
   return named(view, "subtotal", `${sum}, together`, [
     context && el("td", { class: "context" }), today.texts && el("td", { class: "number" }, now && format.show(now)),
-    cells, proposal.canBe && el("td", { class: "number proposed" }, proposed && format.show(proposed)),
+    pinned?.pin && el("td", { class: "kept" }), cells,
+    proposal.canBe && el("td", { class: "number proposed" }, proposed && format.show(proposed)),
     against && el("td"),
   ]);
 }
@@ -133,27 +148,42 @@ export function ownSum(of, { values }) {
   return own.every(Boolean) ? Rational.sum(own) : null;
 }
 
-function footOf(view, hasHolds) {
-  const { game, rows, context, columns, format, proposal, today, against } = view, last = rows.length;
+function footOf(view) {
+  const { game, rows, context, columns, format, proposal, today, pinned, against } = view, last = rows.length;
   const sum = named(view, "sum", "together", [
     context && el("td", { class: "number context" }, context.sum),
     today.texts && el("td", { class: "number today" }, today.values[last] ? format.show(today.values[last]) : "–"),
-    columns.map(({ texts, steps }) => {
-      return el("td", { class: "number" }, texts.at(-1), changeOf(withSum(steps).at(-1), last, today, format));
+    pinned?.pin && el("td", { class: "number kept" }, keptSum(pinned, columns[0].key, format)),
+    columns.map(({ key, texts, steps }, k) => {
+      return el("td", { class: kindOf(key, k) }, texts.at(-1), changeOf(withSum(steps).at(-1), last, today, format));
     }),
     proposal.canBe && el("td", { class: "number proposed" }, proposalSum(game, proposal, format)),
     against && el("td", { class: "number against" }, against.texts.at(-1)),
   ]);
   const asked = (title, told, own) => named(view, "verdict", title, [
-    context && el("td", { class: "context" }), today.texts && el("td"),
-    columns.map((point) => el("td", { class: "number" }, told(point))),
+    context && el("td", { class: "context" }), today.texts && el("td"), pinned?.pin && el("td", { class: "kept" }),
+    columns.map((point, k) => el("td", { class: kindOf(point.key, k) }, told(point))),
     proposal.canBe && el("td", { class: "number proposed", colspan: against ? "2" : false, role: "status" },
       proposal.shares ? told(own) : "–"),
   ]);
   const isJudged = columns.some(({ verdict }) => verdict !== null);
   return el("tfoot", {}, sum,
-    isJudged && asked("Can a group do better by itself?", (one) => verdictText(game, one.verdict, format), proposal),
-    hasHolds && asked("Has one a stronger hold on another?", (one) => holdText(rows, one.hold, format), proposal));
+    isJudged && asked("Could a group do better by itself?", (one) => verdictText(game, one.verdict, format), proposal));
+}
+
+function keptSum({ pin }, key, format) {
+  return pin.shares[key] ? format.show(Rational.sum(pin.shares[key].map(Rational.of))) : "";
+}
+
+/** Whether one player has a stronger hold on another, a line for each division; null if nothing is known of it. */
+export function holdsPart({ points }, { rows, format, proposal }) {
+  const own = proposal.shares && { title: "Your proposal", hold: proposal.hold };
+  const known = [...points, own].filter((one) => one?.hold);
+  if (!known.length) return null;
+  return el("div", { class: "holds" }, el("h3", {}, "Does one player have a stronger hold on another?"),
+    el("ul", { class: "plain" }, known.map(({ title, hold }) => {
+      return el("li", {}, el("b", {}, `${title}: `), holdText(rows, hold, format));
+    })));
 }
 
 /** What is known of each beside the shares, and its sum where one may add it up. */

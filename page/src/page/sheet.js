@@ -33,10 +33,10 @@ const MOST_LEVELS = 1100; // characters of what the levels behind the first sett
 const MOST_DOCUMENT = 420; // characters of the game's document that are printed
 const MOST_ALONE = 900; // the same where there is no picture
 
-const OPEN = "Open coop.html from the project’s repository, at the commit named below (whoever sends this has to give "
+const OPEN = "Open coop.html from the project’s repository, at the commit named below (the sender has to give "
   + "you its address)";
 const TYPE_IN = " Or simply type the numbers into that page: the answer has to be the same.";
-const AREA = "The dark area, where there is one: the divisions by which no group does better by itself.";
+const AREA = "The dark area, if there is one: the divisions by which no group could do better by itself.";
 const OF_FILE = " That is of the file, and not of the box below, in which the same numbers stand as this page writes "
   + "them.";
 const OF_TEXT = " That is of the file: of the text in the box below, with an end of line behind it.";
@@ -256,7 +256,7 @@ function reasonsOf({ result, pair }) {
     el("p", {}, sentences.join(" ")),
     behind.length > 0 && el("ul", { class: "levels" }, behind.map((text) => el("li", {}, text))),
     el("p", {}, isCore && "By these shares no group does better by itself. ",
-      `No other division meets the principle: there is just one ${rule} (${sourceOf(game.perHead)}).`),
+      `No other division meets the principle: there is exactly one ${rule} (${sourceOf(game.perHead)}).`),
     pair && el("p", {}, pair));
 }
 
@@ -318,11 +318,11 @@ function checkOf({ result: { rule, answer, line, game }, kind, doubt, coarse }) 
   const foot = document.querySelector("footer p").textContent;
   if (doubt) return el("section", {}, el("p", { class: "hint" }, foot));
   const steps = line && !game.ballots
-    ? `${OPEN}, choose “I got an answer and doubt it”, and give it the agreed file and the line with the certificate, `
+    ? `${OPEN}, choose “Check an answer”, and give it the agreed file and the line with the certificate, `
       + `${fileNames(kind.id, coarse).line}-${ruleFile(answer, game.perHead)}.json. `
       + `Two checkers, apart from each other, say whether these shares are the ${rule} of the agreed game. `
       + "It goes by hand, too: the page lists the eight conditions under “What a yes means”."
-    : `${OPEN}, choose “Open or paste a document”, and give it the agreed file: it works the answer out anew.`;
+    : `${OPEN}, choose “Open a saved case”, and give it the agreed file: it works the answer out anew.`;
   return el("section", {}, el("h2", {}, "How to check it"), el("p", {}, steps, TYPE_IN),
     el("p", { class: "hint" }, foot));
 }

@@ -54,7 +54,7 @@ function trusted() {
         `covers the translation to WebAssembly; it was compared on ${COMPARED} documents with the program as it is `,
         "built for Linux."),
       el("li", {}, el("b", {}, "The page’s own checker. "), "Some 600 lines of JavaScript that share nothing with ",
-        "the program and stand in this file: nothing is proved of them. Trusted are these lines and this browser.")),
+        "the program and are in this file: nothing is proved of them. Trusted are these lines and this browser.")),
     el("p", {}, "Each of the two says its word by itself. A checker of a third kind, in Python, comes with the ",
       "project. Nothing that you type leaves this page, and nothing is kept."),
   ];

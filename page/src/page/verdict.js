@@ -16,7 +16,7 @@ export function conclusion([same, ...checks], { answer, doubles = [], fault }, g
   if (checks.some(({ isYes }) => !isYes)) return lead("No: this line doesn’t show that its shares are right.");
   const name = ruleName(answer, game?.perHead);
   if (doubles.length) {
-    return lead("Don’t take this line: a key stands twice in it, so its text can be read in two ways. By the last of "
+    return lead("Don’t take this line: a key occurs twice in it, so its text can be read in two ways. By the last of "
       + `each, its shares are the ${name} of ${same.isYes ? "the agreed game" : "its own game"}.`);
   }
   if (same.isYes) return lead(`Yes: these shares are the ${name} of the agreed game.`);
@@ -28,7 +28,7 @@ export function conclusion([same, ...checks], { answer, doubles = [], fault }, g
 
 export function twice({ doubles = [] }) {
   return doubles.length > 0 && el("p", { class: "notice" },
-    `In this text a key stands twice: ${doubles.join(", ")}. The last one counts, for the checkers and for what is `,
+    `In this text a key occurs twice: ${doubles.join(", ")}. The last one counts, for the checkers and for what is `,
     "shown here. Don’t go by the text itself, and ask for one in which each key stands once.");
 }
 
@@ -80,7 +80,7 @@ export function unreadable({ fault, help = [], mended }, onMend) {
 /** What is missing in a line without a certificate, and what to ask for. */
 export function bareText({ answer, isRefusal }, game, bare) {
   if (isRefusal) return "This is no answer: the program refused a document, and says why in this line.";
-  const ask = "Ask for the whole line that the program printed, or that this page saved under “Hand it on”.";
+  const ask = "Ask for the whole line that the program printed, or that this page saved under “Send it to others”.";
   const kind = ["nucleolus", "prenucleolus", "shares"].includes(answer) ? ""
     : " Only those of the nucleolus and the prenucleolus have one.";
   const missing = game ? "It has no certificate" : "It has no game and no certificate";

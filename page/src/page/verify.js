@@ -45,12 +45,13 @@ class VerifyPanel {
     this.apart = el("div", { class: "in-case screen apart", "aria-live": "polite" });
     this.means = el("div", {}, meaning());
     this.ofLine = textPlace({
-      title: "The line to check", hint: "What the program printed, or this page saved: an answer with its certificate.",
+      title: "The line to check",
+      hint: "The answer with its certificate, as the program printed it or this page saved it.",
       onText: (text, from) => this.check({ line: text, from: { ...this.from, ofLine: from } }),
     });
     this.ofGame = textPlace({
       title: "The game that was agreed on",
-      hint: "The file that all agreed on before anyone knew an answer. It may be left out.",
+      hint: "The file that everybody agreed on before anyone knew an answer. You may leave it out.",
       onText: (text, from) => this.check({ agreed: text, from: { ...this.from, ofGame: from } }),
     });
     const places = el("div", { class: "places screen" }, this.ofLine, this.ofGame);

@@ -29,7 +29,7 @@ export function leavingPart(view) {
   const details = el("details", { class: "other leaves", open: Boolean(typed.open?.leaves), on: {
     toggle: () => { typed.open = { ...typed.open, leaves: details.open }; },
   } }, el("summary", {}, "If one leaves"),
-  el("p", { class: "hint" }, `What each group ${game.costs ? "costs" : "gains"} by itself stays, and the case too.`),
+  el("p", { class: "hint" }, `What would the others ${game.costs ? "pay" : "get"}? The cells stay as they are.`),
   el("p", { class: "tools" }, el("label", {}, el("span", { class: "field" }, "Who leaves? "), choice)), found);
   if (typed.open?.leaves) work();
   return details;

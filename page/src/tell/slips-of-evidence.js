@@ -27,7 +27,7 @@ function shareIsRead(share, place, add) {
   if (share instanceof Inexact) {
     add(5, `${share.text.slice(0, 30)} is no whole number. Write a fraction as a text, "25/2".`, place);
   } else if (typeof share !== "string") {
-    add(3, `${withEscapes(writeJson(share).slice(0, 30))} stands where a share has to be.`, place);
+    add(3, `${withEscapes(writeJson(share).slice(0, 30))} is where a share belongs.`, place);
   } else {
     const slip = fractionSlip(share);
     if (slip) add(5, slip, place);

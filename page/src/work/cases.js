@@ -20,9 +20,9 @@ const MOST_BYTES = 2097152;
 /** What the cells say: the rows of the answer, what is wrong, and, where nothing is, the document and its facts. */
 export function readCase({ id, typed, mark, measure }) {
   const { reading, rows, tree, ballots, landings } = readByOneMark(caseNamed(id), typed, mark);
-  const { faults, count, empty, notes, asked, either, isTooFine = false } = reading;
+  const { faults, count, empty, notes, asked, either, isTooFine = false, odds = [] } = reading;
   const read = {
-    rows, faults, count, empty, notes, asked, either, isTooFine, isRight: reading.isRight(), ...marksOf(reading),
+    rows, faults, count, empty, notes, asked, either, isTooFine, odds, isRight: reading.isRight(), ...marksOf(reading),
   };
   if (!read.isRight) return read;
   if (landings) read.beyond = beyondProgram(landings, rows);

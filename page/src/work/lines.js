@@ -77,7 +77,8 @@ function partsOf(tree) {
 
 /** The game of a tree that nobody has tested yet; null where it isn’t one. */
 function gameOf(tree) {
-  if (tree.players > 16n || tree.matrix?.length > 33 || tree.matrix?.[0]?.length > 33) return null;
+  const isLarge = "players" in tree && !(typeof tree.players === "bigint" && tree.players <= 16n);
+  if (isLarge || tree.matrix?.length > 33 || tree.matrix?.[0]?.length > 33) return null;
   try {
     const game = new Game(tree), areNames = (names) => names.every((name) => typeof name === "string");
     if (game.kind === "assignment" && game.n > 16) return null;

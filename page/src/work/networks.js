@@ -58,7 +58,7 @@ function notesOf(told, lacking) {
   const notes = [];
   if (told.length) {
     notes.push(`Filled by the cheapest way through the others: ${told.join("; ")}. `
-      + "Where several of a group’s ways share a stretch, this counts the stretch more than once, and rewards the "
+      + "If several detours of a group share a stretch, this counts the stretch more than once, and rewards the "
       + "place that it leads through. Then make a table of costs. These links are marked, and follow when another "
       + "number changes.");
   }

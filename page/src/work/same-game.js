@@ -23,7 +23,7 @@ export function sameGame(line, agreed) {
   if (!isObject(line.tree.game)) return unsaid("Nobody can say: the line has no game in it.");
   if (agreed.doubles.length) {
     const keys = agreed.doubles.map((key) => withEscapes(key.slice(0, 60))).join(", ");
-    return unsaid(`In the agreed file a key stands twice: ${keys}. Nobody can say which one was agreed on.`);
+    return unsaid(`In the agreed file a key occurs twice: ${keys}. Nobody can say which one was agreed on.`);
   }
   const found = told(line, agreed);
   const bare = agreed.isBare ? " (The agreed file is the game alone, without {\"game\":…} around it.)" : "";
@@ -97,7 +97,15 @@ function differences(line, agreed) {
   for (const [key, value] of other.values) {
     if (!mine.values.has(key) && value !== mine.byDefault) tell(placeOf(mine, key), mine.byDefault, value);
   }
+  if (mine.byDefault !== other.byDefault && groupsOf(mine, other) < 2 ** mine.n - 1) {
+    tell("every group that isn’t listed", mine.byDefault, other.byDefault);
+  }
   return { items, isReordered: Boolean(order) };
+}
+
+/** How many groups one of the two games lists. */
+function groupsOf(mine, other) {
+  return new Set([...mine.values.keys(), ...other.values.keys()]).size;
 }
 
 function nameDifferences(mine, other, tell) {
@@ -195,9 +203,11 @@ function reordered(view, order) {
     if (view.rows !== undefined) {
       const [i, j] = key.split("-").map(Number), point = (k) => (k ? back.get(k - 1) + 1 : 0);
       values.set(columns ? `${back.get(i)}-${back.get(j + columns) - columns}` : `${point(i)}-${point(j)}`, value);
+      if (!columns && !view.values.has(`${j}-${i}`)) values.set(`${point(j)}-${point(i)}`, value); // it was told once
     } else if (isList(view.kind)) values.set(String(back.get(Number(key))), value);
     else values.set(String(membersOf(Number(key)).reduce((mask, j) => mask + 2 ** back.get(j), 0)), value);
   }
+  if (view.kind === "tree") inOneDirection(values);
   return { ...view, values, names: order.map((j) => view.names[j]) };
 }
 

@@ -90,7 +90,7 @@ function notesOf({ count, lacking, hasWhole, above, costs, how }) {
     const way = `its ${split} into groups that have a number${isLarger ? ", or a larger group that holds it" : ""}`;
     notes.push(`${plural(count, "group was", "groups were")} filled, each by ${way}. They are marked, and follow when `
       + "another number changes. "
-      + `That says: together they would ${cost} no ${less} than ${isLarger ? "so" : "apart"}. Where a group could, the `
+      + `That says: together they would ${cost} no ${less} than ${isLarger ? "so" : "apart"}. If a group could, the `
       + "shares may change, those of the nucleolus too.");
   }
   if (above) {
