@@ -21,6 +21,7 @@ import { access, large, looks } from "./looks.mjs";
 import { monkey } from "./monkey.mjs";
 import { precise } from "./precise.mjs";
 import { saying } from "./saying.mjs";
+import { users } from "./users.mjs";
 
 const words = process.argv.slice(2), [page, top] = words.map((word) => resolve(word));
 const option = (name, byDefault) => (words.includes(name) ? words[words.indexOf(name) + 1] : byDefault);
@@ -30,6 +31,7 @@ const harness = new Harness(pathToFileURL(page).href, option("--only", ""), slac
 const program = resolve(option("--program", join(top, "crates", "coop_program", "out", "coop_program")));
 harness.add(large(slack, told));
 harness.add(desk);
+harness.add(users);
 for (const some of [entering, assumed, saying, lecture, landings, bothWays, casesTyped, tables, otherCases,
   documents(top, program), checking(top), checks(top), letters(top), lawyer(top), failing(page, top), looks, access,
   precise]) {

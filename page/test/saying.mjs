@@ -38,7 +38,7 @@ export const saying = [
     await page.until("document.querySelector('#verify .lead')");
     const checked = /The shares are the nucleolus per head of the game in the line/;
     expect("checked", await page.text("#verify .lead"), checked);
-    expect("and its line", await page.text("#verify .answers"), /The line says: the nucleolus per head of 3 players/);
+    expect("and its line", await page.text("#verify .answers"), /What the line says: the nucleolus per head, for 3 players/);
   }],
 
   ["a proposal that the page fills in is whole", "gains", async (page, expect) => {

@@ -18,10 +18,10 @@ const TESTS = {
 /** An answer that was kept to compare: the rows, their shares by each rule, and the cells that have changed since. */
 function isKept(one) {
   const isShare = (text) => typeof text === "string" && /^-?\d{1,400}(\/[1-9]\d{0,400})?$/.test(text);
-  const { names, shares, cells = {} } = isObject(one) ? one : {};
+  const { names, sums = names, shares, cells = {} } = isObject(one) ? one : {};
   const isList = (list, is) => Array.isArray(list) && list.length === names.length && list.every(is);
-  return Array.isArray(names) && names.every((name) => typeof name === "string") && isObject(shares)
-    && Object.values(shares).every((list) => isList(list, isShare)) && isObject(cells)
+  return Array.isArray(names) && names.every((name) => typeof name === "string") && isList(sums, isText)
+    && isObject(shares) && Object.values(shares).every((list) => isList(list, isShare)) && isObject(cells)
     && Object.values(cells).every(isText);
 }
 

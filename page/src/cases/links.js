@@ -1,7 +1,7 @@
 // A network that was pasted, in any of the shapes in which people have one: a square, a triangle, or a list of links.
 // What is read is points, links between them, and which point is the source; or a fault in words.
 import { readNumber } from "../exact/decimals.js";
-import { withEscapes } from "../game/names.js";
+import { isSumWord, withEscapes } from "../game/names.js";
 import { plural } from "../tell/words.js";
 import { SPOILT } from "./pasting.js";
 
@@ -44,14 +44,14 @@ export function networkOf(pasted, { mark = ".", source = "" } = {}) {
   if (rows.length < 2) return null;
   const found = listOf(rows, judge) ?? labelledOf(rows, judge) ?? namedOf(rows, judge) ?? squareOf(rows, judge);
   if (!found || found.fault) return found;
-  const { points, shape } = found, twice = points.find((name, i) => name && points.indexOf(name) < i);
+  const { points, shape, left = [] } = found, twice = points.find((name, i) => name && points.indexOf(name) < i);
   if (twice) return { fault: `“${withEscapes(twice)}” is there twice.` };
   if (points.length > MOST_POINTS) {
     return { fault: `These are ${points.length} points. A network has at most 16 places and the source.` };
   }
   const { links, fault } = joined(found, judge);
   if (fault) return { fault };
-  return { points, links, shape, ...sourceOf(points, found, source) };
+  return { points, links, shape, left, ...sourceOf(points, found, source) };
 }
 
 /** The source: the point that has its name already, or a name that says so, or else the first. */
@@ -92,7 +92,7 @@ function joined({ entries, points }, judge) {
 /** A list: a link a row, with its two ends and its cost, with headings or without. */
 function listOf(rows, judge) {
   const isHeading = !rows[0].some(judge.isNumber) && rows.length > 1, wide = rows[0].length;
-  const below = rows.slice(isHeading ? 1 : 0).filter((row) => row.some(Boolean));
+  const given = rows.slice(isHeading ? 1 : 0).filter((row) => row.some(Boolean)), below = withoutSum(given, judge);
   if (wide < 3 || !below.length) return null;
   const columns = rows[0].map((_, c) => c), all = (c, is) => below.every((row) => is(row[c]));
   const headOf = (head) => (isHeading ? columns.find((c) => head.test(rows[0][c])) : undefined);
@@ -104,17 +104,37 @@ function listOf(rows, judge) {
     && below.some((row) => judge.isNumber(row[c])));
   const isPlain = names.length === 2 && costs.length > 0 && (wide === 3 || costs.length <= 2);
   if (!isHeaded && !isPlain) return null;
-  const [from, to, cost] = isHeaded ? headed : [...names, costs.at(-1)];
+  const priced = costs.filter((c) => !below.every((row, k) => Number(row[c]) === k + 1)); // and no row numbers
+  if (!isHeaded && priced.length > 1) return { fault: "Two columns are numbers. Give the cost’s a heading: Cost." };
+  const [from, to, cost] = isHeaded ? headed : [...names, priced[0] ?? costs[0]];
+  const loose = below.find((row) => isNone(row[from]) || isNone(row[to]));
+  if (loose) return { fault: `In “${withEscapes(loose.filter(Boolean).join("; "))}” a link has one end only.` };
   const points = [...new Set(below.flatMap((row) => [row[from], row[to]]))], place = (name) => points.indexOf(name);
   const entries = below.map((row) => [place(row[from]), place(row[to]), row[cost]]).map(([i, j, text]) => {
     return i < j ? [i, j, text] : [j, i, text];
   });
   const left = wide > 3 && isHeading ? columns.filter((c) => ![from, to, cost].includes(c)).map((c) => rows[0][c]) : [];
-  return { points, entries, shape: `a list of from, to, cost${left.length ? `; left out: ${left.join(", ")}` : ""}` };
+  const lost = below.length < given.length ? [`“${given.at(-1).filter(Boolean).join("; ")}”, a sum`] : [];
+  return { points, entries, shape: "a list of from, to, cost", left: [...left, ...lost] };
+}
+
+/** The rows of a list without the last one, if it is named as a sum, or has a number and one end at most. */
+function withoutSum(rows, { isNumber, isName }) {
+  const last = rows.at(-1) ?? [], hasNumber = last.some(isNumber), names = last.filter(isName);
+  return rows.length > 1 && hasNumber && (names.length < 2 || isSumWord(last.find(Boolean))) ? rows.slice(0, -1) : rows;
+}
+
+/** A block with names above and before, without a row and a column of sums: {rows, left}. */
+function withoutSums([heads, ...below], { isName }) {
+  const isSum = (name = "") => isName(name) && isSumWord(name), columns = heads.map((name, c) => c === 0 || !isSum(name));
+  const rows = [heads, ...below.filter(([name]) => !isSum(name))];
+  const left = [...new Set([...heads.slice(1), ...below.map(([name]) => name)].filter(isSum))];
+  return { rows: rows.map((row) => row.filter((_, c) => columns[c])), left: left.map((name) => `“${name}”, a sum`) };
 }
 
 /** Names above and names before each row: what they share says how the block is to be read. */
-function labelledOf([heads, ...below], { isNumber, isName, isZero }) {
+function labelledOf(given, { isNumber, isName, isZero }) {
+  const { rows: [heads, ...below], left } = withoutSums(given, { isName });
   const columns = heads.slice(1), lines = below.filter((row) => row.some(Boolean)), names = lines.map(([name]) => name);
   const isCounted = heads[0] === "" && String(columns) === String(names)
     && columns.every((text, k) => Number(text) === Number(columns[0]) + k) && ["0", "1"].includes(columns[0]);
@@ -133,7 +153,7 @@ function labelledOf([heads, ...below], { isNumber, isName, isZero }) {
   const isHalf = [(i, j) => i < j, (i, j) => i > j].some((is) => {
     return entries.every(([i, j, text]) => !is(i, j) || isNone(text) || isZero(text));
   });
-  return { points, entries, shape: `a ${isHalf ? "triangle" : "square"} with names`, isFirst: !isSquare };
+  return { points, entries, shape: `a ${isHalf ? "triangle" : "square"} with names`, left, isFirst: !isSquare };
 }
 
 /** Names before each row alone: a square, or a triangle whose first row is the source’s. */
@@ -205,11 +225,22 @@ export function withSource({ names, source = "", links, filled = {} }, k) {
   return { source: points[k], names: others, links: move(links), filled: move(filled) };
 }
 
+/** The network without place `k` (from 0): no link of it stays, and no way that was filled through it is taken back. */
+export function withoutPlace({ names, links, filled = {}, ...others }, k) {
+  const moved = (i) => (i > k + 1 ? i - 1 : i), kept = (entries) => {
+    const own = Object.entries(entries).map(([key, value]) => [key.split("-").map(Number), value]);
+    const left = own.filter(([ends]) => !ends.includes(k + 1));
+    return Object.fromEntries(left.map(([ends, value]) => [ends.map(moved).join("-"), value]));
+  };
+  return { ...others, names: names.filter((_, i) => i !== k), links: kept(links), filled: kept(filled) };
+}
+
 /** What was taken, in a sentence or two. */
-export function takenText({ points, links, shape, source, isSure }, named = "") {
+export function takenText({ points, links, shape, left = [], source, isSure }, named = "") {
   const all = (points.length * (points.length - 1)) / 2, count = Object.keys(links).length;
   const name = withEscapes(points[source]) || named || "the first point";
   return `Taken as ${shape}: ${plural(points.length, "point")}, ${plural(count, "link")}`
-    + `${count < all ? ` of ${all} that could be` : ""}, source: ${name}.`
-    + (isSure ? "" : " Nothing says which point is the source, so it is the first. Choose another below.");
+    + `${count < all ? ` of ${all} that could be` : ""}${isSure ? `, source: ${name}` : ""}.`
+    + (left.length ? ` Left out: ${left.map(withEscapes).join(", ")}.` : "")
+    + (isSure ? "" : " Nothing says which point is the source.");
 }

@@ -31,6 +31,7 @@ export const network = {
       }
     }
     reading.close();
+    reading.isOpen = Boolean(state.isSourceOpen); // which point is the source has to be said first
     return {
       reading,
       rows: rowsOf(names),

@@ -4,6 +4,7 @@ import { readNumber, typedText } from "../exact/decimals.js";
 import { membersOf } from "../game/groups.js";
 import { withEscapes } from "../game/names.js";
 import { readList } from "./lists.js";
+import { askOfSum } from "./sum-row.js";
 
 const MOST_IN_TABLE = 16;
 const MOST_VOTES = 1000n;
@@ -43,6 +44,7 @@ export const votes = {
     const isDouble = state.secondQuota !== undefined;
     const rows = state.rows.map(({ name, votes }) => ({ name, votes }));
     const list = readList({ rows }, mark, "votes", "The number of votes", "Voter"), { reading, names } = list;
+    askOfSum(reading, state, ["votes"]);
     const ballots = [readBallot(reading, state.quota, "quota", "The quota", list)];
     if (isDouble) ballots.push(readSecond(reading, state, mark, names));
     reading.close();

@@ -87,7 +87,7 @@ function remarkOn(i, share, ballots) {
 }
 
 /** `ballots` have the votes and the quota of each of one or two ballots. */
-export function power(game, shares, { mark, wide }) {
+export function power(game, shares, { mark, wide, kept }) {
   const { ballots, shown } = game, isDouble = ballots.length > 1;
   const hasParts = !isDouble || wide >= NARROW; // the power has to be seen without scrolling
   const parts = ballots.map(({ votes }) => votes.map((own) => own.over(Rational.sum(votes))));
@@ -100,9 +100,11 @@ export function power(game, shares, { mark, wide }) {
         el("td", { class: "number" }, String(votes[i])),
         hasParts && el("td", { class: "number" }, percent(parts[b][i])),
       ]),
+      kept && el("td", { class: "number kept" }, kept[i] ? percent(kept[i]) : "–"),
       el("td", { class: "number main" }, percent(shares[i]), exact && el("small", {}, exact)));
   });
-  const all = ["Voter", "Votes", "of all", ...(isDouble ? ["Second votes", "of all"] : []), "Power"];
+  const own = isDouble ? ["Second votes", "of all"] : [];
+  const all = ["Voter", "Votes", "of all", ...own, ...(kept ? ["Kept"] : []), "Power"];
   const heads = all.filter((head) => hasParts || head !== "of all");
   const reaches = isDouble ? "reaches both quotas" : "reaches the quota";
   return el("div", {}, tableOf("power", heads, rows),

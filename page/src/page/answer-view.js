@@ -1,8 +1,8 @@
 // The panels below a case: the answer, its settings, the reasons and the evidence.
 import { sourceName } from "../cases/matrices.js";
-import { groupLabel } from "../cases/tables.js";
 import { answerParts, morePictures } from "./answer.js";
 import { beyondParts } from "./beyond.js";
+import { labelOfCell } from "./cell-names.js";
 import { comparisonPart } from "./comparison.js";
 import { button, el, refill } from "./dom.js";
 import { evidenceParts } from "./evidence.js";
@@ -18,6 +18,7 @@ import { takesPerHead } from "./questions.js";
 import { holdsPart, sameText, tablesOf } from "./shares-table.js";
 import { csvButton } from "./table-lines.js";
 import { todayOf, todayTools } from "./today.js";
+import { waitingParts } from "./waiting.js";
 import { fillsAsked, fillsPart } from "./two-fills.js";
 import { whyParts } from "./why.js";
 import { pairPart } from "./why-pair.js";
@@ -102,6 +103,12 @@ export class AnswerView {
     for (const id of PARTS) if (id !== "files") at(id).hidden = !isWhole;
     if (!result) refill(at("next"));
     this.showPeek(result);
+  }
+
+  /** What is in the place of the answer while there is none; `panel` is that of the case. */
+  showWaiting(reading, { goTo, choices }) {
+    const labelOf = (cell) => labelOfCell(cell, this.session);
+    refill(at("waiting"), waitingParts(reading, { goTo, labelOf, choices }));
   }
 
   showWhy(result, { rows, format, filled, ...view }) {
@@ -238,7 +245,7 @@ export class AnswerView {
     const settings = {
       rows, format, mark, typed: this.typed, setEntry: isSettled ? null : (other) => session.setEntry(other),
       ask: (task, what) => session.checker.ask(task, what), assumed: (groups) => isFilled(session, groups),
-      fills: fillsAsked(session, mark),
+      fills: fillsAsked(session, mark), network: filledNetwork(session, mark),
     };
     session.pair = "";
     this.pair = pairPart(result, { ...settings, onSaid: (sentence) => { session.pair = sentence; } });
@@ -293,9 +300,8 @@ export class AnswerView {
   }
 }
 
-/** What a cell is called in a sentence: the name that those have who can't see where it is. */
-function labelOfCell(cell, { kind, typed }) {
-  const input = document.querySelector(`#case [data-cell="${CSS.escape(cell)}"]`);
-  if (input) return input.getAttribute("aria-label").replace(/^Link between /, "").replace(/, filled by the page$/, "");
-  return kind.isTable ? groupLabel(typed.names, Number(cell.split(".")[1])) : cell;
+/** A network with ways that the page filled, as it has to be filled anew without a place; undefined for another case. */
+function filledNetwork({ kind, typed: { names, links, filled = {}, source } }, mark) {
+  const hasWays = kind.isNetwork && Object.values(filled).includes("way");
+  return hasWays ? structuredClone({ names, links, filled, source, mark }) : undefined;
 }

@@ -1,5 +1,5 @@
 // The answer: who gets or pays what, by several divisions side by side, with pictures.
-import { decimal } from "../exact/decimals.js";
+import { decimal, decimalOf, stepsOf } from "../exact/decimals.js";
 import { Rational } from "../exact/rational.js";
 import { bars } from "../draw/bars.js";
 import { plan } from "../draw/plan.js";
@@ -12,6 +12,7 @@ import { enumerated, listed, Namer, times } from "../tell/words.js";
 import { beyondParts } from "./beyond.js";
 import { el } from "./dom.js";
 import { totalsOf } from "./format.js";
+import { pinnedNote, pinTools } from "./pinned.js";
 import { missingText } from "./questions.js";
 import { sharesTable } from "./shares-table.js";
 import { typesTable } from "./types-table.js";
@@ -53,6 +54,7 @@ export function morePictures(result, settings) {
   return pictures(result, seen, { ...settings, wide: Math.min(wide, 900) }).slice(1);
 }
 
+const HUNDRED = Rational.of(100);
 const SPLIT = "One player alone and all the others together gain least by joining. What one gains the other loses, so "
   + "no division is better for both.";
 const RUNWAY = "No group pays more than a runway of its own would cost, and those that gain least are treated as well "
@@ -102,16 +104,31 @@ function pictures({ game, bird }, points, { rows, format, wide, remark, source, 
   return [bird && plan(game, bird.tree, { ...format, wide, source }), ...drawn].filter(Boolean);
 }
 
-function votes({ game, points }, { format, wide }) {
+function votes({ game, points }, { rows, format, wide, pinned, labelOfCell }) {
   const shapley = points.find(({ key }) => key === "shapley"), solution = solutionOf({ points });
+  const percents = percentsOf(format), kept = shapley && pinned?.pin ? keptPower(pinned, percents) : undefined;
   const parts = [shapley && powerLead(game, shapley.shares, format),
-    shapley && power(game, shapley.shares, { ...format, wide })];
+    kept && pinnedNote(pinned, { points: [{ ...shapley, title: "Power" }] }, rows, { format: percents, labelOfCell }),
+    shapley && power(game, shapley.shares, { ...format, wide, kept }),
+    shapley && pinned && el("p", { class: "tools" }, pinTools(pinned))];
   if (solution) {
     parts.push(el("h3", {}, "Dividing a prize of 1 among the voters"),
       el("p", { class: "hint" }, "That is another question than power: a voter may get nothing of the prize and have ",
         "influence all the same."));
   }
   return parts;
+}
+
+/** How power is shown: in per cent, with one decimal. */
+function percentsOf({ mark }) {
+  const text = (steps) => `${decimalOf(steps, 1, { mark })}\u202f%`, stepOf = (value) => stepsOf(value.times(HUNDRED), 1);
+  const show = (value) => text(stepsOf(value, 1));
+  return { places: 1, mark, text, show, steps: (values) => values.map(stepOf) };
+}
+
+/** The kept power of each voter, of 1. */
+function keptPower(pinned, percents) {
+  return pinned.kept("shapley", percents)?.values.map((value) => value && value.over(HUNDRED));
 }
 
 /** Who has most power, and who has none. */

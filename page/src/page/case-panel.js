@@ -2,6 +2,8 @@
 import { fileNames } from "../cases/coarse.js";
 import { withEscapes } from "../game/names.js";
 import { coarseNumbers, coarseText } from "../tell/coarse-text.js";
+import { Rational } from "../exact/rational.js";
+import { countText, typedText } from "../exact/decimals.js";
 import { plural } from "../tell/words.js";
 import { markFaults, markOdds } from "./cells.js";
 import { button, cellOf, copy, download, el, refill } from "./dom.js";
@@ -42,26 +44,28 @@ export function casePanel(kind, typed, settings) {
     refill(coarse, coarseNote(typed, settings));
     refill(faults, reading.notes.map((note) => el("p", { class: "note" }, note)),
       reading.asked && sumQuestion(reading.asked, typed, settings),
-      reading.either ? eitherQuestion(reading.either, settings) : doubtNotes(reading, settings),
-      emptyCells(reading, grid), faultList(reading, grid), oddList(oddsOf(reading, typed), grid),
+      reading.mixed && mixedQuestion(reading.mixed, reading, settings),
+      reading.either ? eitherQuestion(reading.either, settings) : !reading.mixed && doubtNotes(reading, settings),
+      emptyCells(reading, kind, grid), faultList(reading, grid), oddList(oddsOf(reading, typed), grid),
       reading.isTooFine && finenessHelp(settings));
     const isBeyond = reading.beyond && !reading.text; // more landings than a document has
     refill(made, reading.text && documentOf(kind, reading.text, typed, settings),
       isBeyond && landingsList(typed, reading.beyond, reading.settled ?? reading.mark));
   }
 
-  return { element, tell, made };
+  return { element, tell, made, goTo: (cell) => goTo(grid, cell), choices: () => grid.choices?.() };
 }
 
 /** Asks whether a row is the sum of the others: until that is settled there is no answer. */
-function sumQuestion({ r, name }, typed, { onReset, onChange }) {
+function sumQuestion({ r, name, isLast }, typed, { onReset, onChange }) {
   const without = () => onReset({ ...typed, rows: typed.rows.filter((_, k) => k !== r) }, "Remove the sum", true);
   const keep = () => {
-    typed.notSum = name;
+    typed.notSums = [...(typed.notSums ?? []), name];
     onChange(0);
   };
   const [which, rest] = name ? [`, “${withEscapes(name)}”.`, " "] : [" has no name.", " If not, give it a name. "];
-  const asked = `The last row${which} Is it the sum of the others? It would count as one more.${rest}`;
+  const row = isLast ? "The last row" : `Row ${r + 1}`, others = isLast ? "the others" : "others";
+  const asked = `${row}${which} Is it the sum of ${others}? It would count as one more.${rest}`;
   return el("p", { class: "note" }, asked,
     button("Yes, remove it", without, { class: "quiet" }), name && button("No, it counts", keep, { class: "quiet" }));
 }
@@ -73,6 +77,17 @@ function eitherQuestion({ typed, ways: [[less, one], [more, other]] }, { setEntr
   });
   return el("p", { class: "note" }, `“${withEscapes(typed.trim())}” can be read as ${less} or as ${more}, and no `,
     "other number here shows which. Which is it? ", way(less, one), way(more, other));
+}
+
+/** Asks whether numbers as 90,000 have decimals, though another number shows that they would: until that is settled
+ * there is no answer. */
+function mixedQuestion({ typed, value, whole, proof, count }, { settled, mark }, { setEntry }) {
+  const quoted = (text) => `“${withEscapes(text.trim())}”`, more = count > 1 ? ` and ${count - 1} like it` : "";
+  const way = (text, by) => button(text, () => setEntry(by), { class: "quiet" });
+  const shown = typedText(Rational.of(value), mark);
+  return el("p", { class: "note" }, `${quoted(proof)} shows which mark comes before decimals. So ${quoted(typed)}${more} `,
+    `would be ${shown}, with decimals. Or are these whole numbers, as ${countText(whole)}? `,
+    way(`${countText(whole)}, whole`, ""), way(`${shown}, with decimals`, settled ?? ".,"));
 }
 
 /** A vote by two quotas stays one. */
@@ -125,7 +140,11 @@ function finenessHelp({ coarsen }) {
     way("All times a power of ten, as whole numbers", "whole"), said);
 }
 
-function emptyCells({ empty: { count, first } }, grid) {
+function emptyCells({ empty: { count, first } }, { isNetwork }, grid) {
+  if (count > 0 && isNetwork && grid.querySelector(".no-link").open) {
+    return el("p", { class: "hint" }, `${plural(count, "cell is", "cells are")} still empty. If such a link can’t be `,
+      "built, choose above what a group without it does.");
+  }
   const said = `${plural(count, "cell is", "cells are")} still empty. Go to the first.`;
   return count > 0 && button(said, () => goTo(grid, first), { class: "fault gentle" });
 }

@@ -10,12 +10,12 @@ export function givenParts({ line, agreed }, { ofLine, ofGame }) {
   return [
     oneGiven("The line", ofLine.given ?? line, ofLine),
     ofLine.given !== undefined && el("small", { class: "fingerprint" }, MENDED),
-    agreed.trim() ? oneGiven("The agreed file", agreed, ofGame)
+    agreed.trim() ? oneGiven(ofGame.ofCase ? "The game" : "The agreed file", agreed, ofGame)
       : el("small", { class: "fingerprint" }, "No agreed file was given."),
   ];
 }
 
-function oneGiven(what, text, { name = "pasted text", size }) {
+function oneGiven(what, text, { ofCase, name = ofCase ? "from your case" : "pasted text", size }) {
   const bytes = size ?? new TextEncoder().encode(text).length;
   return fingerprint(text, `${what} (${name}, ${bytes.toLocaleString("en")} bytes), as it was given, has the SHA-256 `);
 }

@@ -25,6 +25,7 @@ const session = new Session({
   read: () => {
     panel.tell(session.reading);
     view.showFiles(panel.made);
+    view.showWaiting(session.reading, panel);
     verify.beside(session.reading.text ?? null);
   },
   answer: () => view.show(),
@@ -117,9 +118,10 @@ function nowTyped() {
   return { ...cellsNow(), places: session.places, paper: view.typed };
 }
 
-/** Shows a part of the page; a case as it was left. */
+/** Shows a part of the page; a case as it was left. What was typed is the game that a line is checked by at first. */
 function show(name) {
-  const kind = caseNamed(name);
+  const kind = caseNamed(name), { isTyped, reading } = session;
+  if (name === "verify") verify.fromCase(isTyped && reading?.text ? { ...reading, title: session.kind.title } : null);
   if (kind && session.kind !== kind) openCase(kind, kept.get(kind)?.typed ?? kind.example(), kept.get(kind));
   else showView(name);
 }

@@ -1,6 +1,6 @@
 // The grid of a network: what a link between each two places costs.
 import { readNumber } from "../exact/decimals.js";
-import { cellsOfNetwork, networkOf, takenText, withSource } from "../cases/links.js";
+import { cellsOfNetwork, networkOf, takenText, withoutPlace, withSource } from "../cases/links.js";
 import { sourceName } from "../cases/matrices.js";
 import { withEscapes } from "../game/names.js";
 import { cellInput, moveByKeys, pasteCells } from "./cells.js";
@@ -24,6 +24,7 @@ class NetworkGrid {
     const setLinks = (links, filled) => this.change(() => Object.assign(typed, { links, filled }));
     this.help = noLinkHelp(typed, { mark, help, remember, setLinks, asTable });
     this.element = el("div", {}, this.said, this.holder, this.tools, this.help);
+    this.element.choices = () => this.help.choices();
     moveByKeys(this.holder, (cell, step) => {
       const [what, place] = cell.split(".");
       if (what === "source") return "names.0";
@@ -67,8 +68,9 @@ class NetworkGrid {
     const choose = (event) => {
       this.remember("Choose the source");
       const next = withSource(this.typed, Number(event.target.value));
+      delete this.typed.isSourceOpen;
       this.change(() => Object.assign(this.typed, next));
-      this.said.textContent = `${sourceName(this.typed)} is the source now.`;
+      refill(this.said, `${sourceName(this.typed)} is the source now.`);
     };
     return el("label", { class: "hint" }, "Source ", el("select", { "data-cell": "which", on: { change: choose } },
       names.map((name, i) => el("option", { value: String(i), selected: i === 0 }, name))));
@@ -120,16 +122,31 @@ class NetworkGrid {
     const { typed } = this, isFirst = ["source", "names.0", "links.0-1"].includes(cell);
     const found = networkOf(rows, { mark: this.mark(), source: typed.source });
     const isWhole = found && (isFirst || found.fault || found.shape.includes("list") || found.shape.includes("names"));
-    this.said.textContent = isWhole && found.fault ? `${found.fault} Nothing was taken.` : "";
+    refill(this.said, isWhole && found.fault && `${found.fault} Nothing was taken.`);
     if (isWhole && found.fault) return;
     this.remember("Paste");
     if (isWhole) {
-      const cells = cellsOfNetwork(found);
+      const cells = cellsOfNetwork(found), isSourceOpen = !found.isSure && found.points.some(Boolean);
       cells.source ||= found.points[0] === "" && found.points.some(Boolean) ? typed.source ?? "" : cells.source;
-      this.change(() => Object.assign(typed, cells, { filled: {} }));
-      this.said.textContent = takenText(found, sourceName(typed));
+      this.change(() => Object.assign(typed, cells, { filled: {}, isSourceOpen }));
+      refill(this.said, takenText(found, sourceName(typed)), isSourceOpen && this.sourceQuestion());
+      this.said.classList.toggle("warn", found.left.length > 0);
     } else this.change(() => pasteLinks(this.kind, typed, cell, rows));
+    this.help.openIfEmpty();
     if (Object.values(this.typed.filled ?? {}).includes("way")) this.help.again();
+  }
+
+  /** Asked before there is an answer: nothing that was pasted says which point is the source. */
+  sourceQuestion() {
+    const names = [this.typed.source ?? "", ...this.typed.names].map((name, i) => withEscapes(name) || `Point ${i + 1}`);
+    const choose = (k) => () => {
+      if (k) Object.assign(this.typed, withSource(this.typed, k));
+      delete this.typed.isSourceOpen;
+      this.change(() => 0);
+      refill(this.said, `${sourceName(this.typed)} is the source.`);
+    };
+    return [el("b", {}, " Which point is the source? "),
+      names.map((name, k) => button(name, choose(k), { class: "quiet" }))];
   }
 
   removal(k, name) {
@@ -147,14 +164,7 @@ class NetworkGrid {
   }
 
   remove(k) {
-    const point = k + 1, moved = (i) => (i > point ? i - 1 : i);
-    const without = (entries) => Object.fromEntries(Object.entries(entries).flatMap(([key, value]) => {
-      const [i, j] = key.split("-").map(Number);
-      return i === point || j === point ? [] : [[`${moved(i)}-${moved(j)}`, value]];
-    }));
-    this.typed.links = without(this.typed.links);
-    this.typed.filled = without(this.typed.filled ?? {});
-    this.typed.names.splice(k, 1);
+    Object.assign(this.typed, withoutPlace(this.typed, k));
   }
 }
 

@@ -32,7 +32,27 @@ export function noLinkHelp(typed, { mark, help, remember, setLinks, asTable }) {
     tell([REWARD, EACH]);
   };
   const asked = ask("costsOfNetwork", ({ typed: table, notes }) => asTable(table, notes)), makeTable = () => asked();
-  return Object.assign(waysPart({ fillWays, makeTable, fillWith, said }), { again });
+  const part = waysPart({ fillWays, makeTable, fillWith, said });
+  return Object.assign(part, {
+    again, choices: () => choicesOf({ part, fillWays, makeTable }),
+    openIfEmpty: () => { part.open ||= hasEmpty(typed); },
+  });
+}
+
+function hasEmpty({ names, links }) {
+  const all = (names.length * (names.length + 1)) / 2;
+  return Object.values(links).filter((text) => text.trim()).length < all;
+}
+
+/** The same ways in short, for the place of the answer. */
+function choicesOf({ part, fillWays, makeTable }) {
+  const price = () => {
+    part.open = true;
+    part.querySelector("input").focus();
+  };
+  return el("div", {}, el("p", {}, "Can’t some links be built? Say what a group that needs one would do:"),
+    el("p", { class: "tools" }, button("Build through the places of others", fillWays),
+      button("The same, as a table of costs", makeTable), button("Pay a price to do without", price)));
 }
 
 function waysPart({ fillWays, makeTable, fillWith, said }) {

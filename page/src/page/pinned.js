@@ -4,49 +4,55 @@ import { withEscapes } from "../game/names.js";
 import { listed, plural } from "../tell/words.js";
 import { button, el } from "./dom.js";
 import { changeBelow } from "./today.js";
-import { signedDifferences, totalsOf } from "./format.js";
+import { totalsOf, withSum } from "./format.js";
 
 const MOST_NAMED = 4; // changed cells that a sentence names
 
 /** What is kept of the answer that a session shows: the rows' names, what each pays or gets by each rule, the cells. */
 export function pinOf({ result: { points }, reading: { rows }, typed }) {
   const shares = points.map(({ key, shares: own }) => [key, totalsOf(rows, own).map(String)]);
-  return { names: rows.map(({ label }) => label), shares: Object.fromEntries(shares), typed: structuredClone(typed) };
+  const names = rows.map(({ label }) => label), sums = rows.map(({ sum = "" }) => sum);
+  return { names, sums, shares: Object.fromEntries(shares), typed: structuredClone(typed) };
 }
 
-/** What was kept, for these rows, and how to keep another; `pin` is null if nothing is kept. */
+/** What was kept, for these rows, and how to keep another; `pin` is null if nothing is kept. `kept(key, format)` are the
+ * kept numbers of a rule as they were shown, {values, sum}, null for a row that wasn't there. */
 export function pinnedOf(session, rows) {
-  const { pinned: pin, result, typed } = session, { game } = result;
-  const canBe = Boolean(game) && !game.isMarket() && !game.ballots && result.points.length > 0;
+  const { pinned: pin, result, typed } = session, canBe = Boolean(result.game) && result.points.length > 0;
   const set = (next) => session.setPinned(next);
   if (!canBe || !pin) return { canBe, pin: null, keep: () => set(pinOf(session)) };
-  const place = new Map(pin.names.map((name, k) => [name, k]));
-  const value = (key, { label }) => {
-    const text = pin.shares[key]?.[place.get(label)];
-    return text === undefined ? null : Rational.of(text);
-  };
   const gone = pin.names.filter((name) => rows.every(({ label }) => label !== name));
   return {
-    canBe, pin, value, gone, changed: changedCells(pin.typed, typed),
+    canBe, pin, gone, changed: changedCells(pin.typed, typed), kept: (key, format) => keptOf(pin, key, rows, format),
     keep: () => set(pinOf(session)), drop: () => set(null),
   };
 }
 
+/** Rounded as they were: so that they add up, with those of an airline. */
+function keptOf({ names, sums = [], shares }, key, rows, format) {
+  if (!shares[key]) return null;
+  const own = names.map((label, k) => ({ label, sum: sums[k] || undefined }));
+  const steps = format.steps(shares[key].map(Rational.of), own), unit = new Rational(10n ** BigInt(format.places));
+  const place = new Map(names.map((name, k) => [name, k])), valueOf = (step) => new Rational(step).over(unit);
+  const values = rows.map(({ label }) => (place.has(label) ? valueOf(steps[place.get(label)]) : null));
+  return { values, sum: valueOf(withSum(steps).at(-1)) };
+}
+
 /** What a saved case has of it: the old texts of the cells that have changed since, beside what was kept. */
-export function keptTree({ names, shares, typed: before }, typed) {
-  const changed = changedCells(before, typed);
-  if (!changed) return { names, shares };
-  return { names, shares, cells: Object.fromEntries(changed.map(({ cell, before: old }) => [cell, old])) };
+export function keptTree({ names, sums = [], shares, typed: before }, typed) {
+  const changed = changedCells(before, typed), own = sums.some(Boolean) ? { names, sums, shares } : { names, shares };
+  if (!changed) return own;
+  return { ...own, cells: Object.fromEntries(changed.map(({ cell, before: old }) => [cell, old])) };
 }
 
 /** What was kept, as a saved case has it, with all cells as they were. */
-export function pinOfTree({ names, shares, cells }, typed) {
+export function pinOfTree({ names, sums, shares, cells }, typed) {
   const before = cells ? structuredClone(typed) : null;
   for (const [cell, text] of Object.entries(cells ?? {})) {
     const keys = cell.split("."), last = keys.pop(), place = keys.reduce((one, key) => one?.[key], before);
     if (place && Object.hasOwn(place, last)) place[last] = text;
   }
-  return { names, shares, typed: before };
+  return { names, sums, shares, typed: before };
 }
 
 const valueAt = (typed, cell) => cell.split(".").reduce((one, key) => one?.[key], typed);
@@ -54,7 +60,8 @@ const valueAt = (typed, cell) => cell.split(".").reduce((one, key) => one?.[key]
 /** The numbers that differ from what was kept: {cell, before, after}; null if the players are others, or in another
  * order. Of a list those in rows of the same name. */
 export function changedCells(before, after) {
-  const who = ({ names = [], source = "" }) => JSON.stringify([names, source]), found = [];
+  const who = ({ names = [], source = "", buyers, sellers }) => JSON.stringify([names, source, buyers, sellers]);
+  const found = [];
   if (!before || who(before) !== who(after)) return null;
   const compare = (cell) => {
     const [old, fresh] = [before, after].map((typed) => String(valueAt(typed, cell) ?? "").trim());
@@ -63,6 +70,7 @@ export function changedCells(before, after) {
   for (const key of ["estate", "quota", "secondQuota"]) if (key in after) compare(key);
   for (const key of Object.keys(after.links ?? {})) compare(`links.${key}`);
   (after.numbers ?? []).forEach((_, mask) => mask && compare(`numbers.${mask}`));
+  (after.values ?? []).forEach((row, i) => row.forEach((_, j) => compare(`values.${i}.${j}`)));
   for (const [r, row] of (after.rows ?? []).entries()) {
     const isSame = before.rows?.[r]?.name === row.name;
     for (const key of Object.keys(row)) if (isSame && key !== "name") compare(`rows.${r}.${key}`);
@@ -82,32 +90,43 @@ export function markChanged(element, changed) {
 }
 
 /** How much more a share is than the kept one by the same rule, in small print. */
-export function sinceKept(step, key, row, { pin, value }, format) {
-  const before = pin && value(key, row);
-  if (!before) return null;
-  return format.text(step) === format.show(before) ? el("small", { class: "same" }, "as before")
-    : changeBelow(step, before, format);
+export function sinceKept(step, kept, format) {
+  if (!kept) return null;
+  return format.text(step) === format.show(kept) ? el("small", { class: "same" }, "as before")
+    : changeBelow(step, kept, format);
 }
 
-/** The sentence below the table: who bears the change. */
-export function pinnedNote({ pin, changed, gone, value }, { points: [first] }, rows, { format, labelOfCell }) {
-  if (!pin) return null;
-  const known = rows.filter((row) => value(first.key, row));
-  const fresh = rows.filter((row) => !known.includes(row)).map(({ label }) => label);
-  const texts = known.length ? signedDifferences(
-    totalsOf(known, first.shares), known.map((row) => value(first.key, row)), known, format) : [];
-  const told = known.map(({ label }, k) => [label, texts[k]]).filter(([, text]) => /[1-9]/.test(text));
-  const whose = told.map(([label, text]) => `${label} ${text}`);
-  const cells = (changed ?? []).slice(0, MOST_NAMED).map(({ cell, before, after }) => {
-    return `${labelOfCell(cell)}: ${withEscapes(before) || "empty"} → ${withEscapes(after) || "empty"}`;
+/** Who bears the change, in sentences: by the first rule, for the numbers that are shown. */
+export function pinnedText({ changed, gone, kept }, { points: [first] }, rows, { format, labelOfCell }) {
+  const before = kept(first.key, format)?.values ?? rows.map(() => null);
+  const steps = format.steps(totalsOf(rows, first.shares), rows), unit = new Rational(10n ** BigInt(format.places));
+  const by = rows.map((_, r) => before[r] && new Rational(steps[r]).over(unit).minus(before[r]));
+  const told = rows.map(({ label }, r) => by[r] && !by[r].isZero() && signed(label, by[r], format)).filter(Boolean);
+  const fresh = rows.filter((_, r) => !before[r]).map(({ label }) => label), known = rows.length - fresh.length;
+  const cells = (changed ?? []).slice(0, MOST_NAMED).map(({ cell, before: old, after }) => {
+    return `${labelOfCell(cell)}: ${withEscapes(old) || "empty"} → ${withEscapes(after) || "empty"}`;
   });
   const more = (changed ?? []).length - cells.length;
-  return el("p", { class: "note pinned", role: "status" },
-    whose.length ? `Against the kept answer, by the ${first.title.toLowerCase()}: ${listed(whose)}`
-      + `${whose.length < known.length ? "; the others as before" : ""}.` : "The shares are those of the kept answer.",
-    cells.length > 0 && ` Changed since: ${cells.join("; ")}${more ? `; and ${plural(more, "more cell")}` : ""}.`,
-    fresh.length > 0 && ` New: ${fresh.join(", ")}.`,
-    gone.length > 0 && ` Kept, and gone since: ${gone.join(", ")}.`);
+  return [
+    told.length ? `Against the kept answer, ${ruled(first)}: ${listed(told)}`
+      + `${told.length < known ? "; the others as before" : ""}.` : "The shares are those of the kept answer.",
+    cells.length > 0 && `Changed since: ${cells.join("; ")}${more ? `; and ${plural(more, "more cell")}` : ""}.`,
+    fresh.length > 0 && `New: ${fresh.join(", ")}.`,
+    gone.length > 0 && `Kept, and gone since: ${gone.join(", ")}.`,
+  ].filter(Boolean).join(" ");
+}
+
+function ruled({ title }) {
+  return title === "Power" ? "in power" : `by the ${title.replace(/^[NP]/, (letter) => letter.toLowerCase())}`;
+}
+
+function signed(label, by, { show }) {
+  return `${label} ${by.isNegative() ? "" : "+"}${show(by)}`;
+}
+
+/** The same beside the table. */
+export function pinnedNote(pinned, result, rows, settings) {
+  return pinned.pin && el("p", { class: "note pinned", role: "status" }, pinnedText(pinned, result, rows, settings));
 }
 
 /** The buttons below the table. */

@@ -124,7 +124,8 @@ export class Session {
     const slow = setTimeout(() => isMine() && this.on.busy(true), BUSY), { engine, checker } = this.asking(mine);
     try {
       const { kind, entry: mark, measure } = this, typed = kind.pack?.(this.typed) ?? this.typed;
-      const reading = await engine("readCase", { id: kind.id, typed, mark, measure });
+      const { isMarked } = this.typed;
+      const reading = await engine("readCase", { id: kind.id, typed, mark, measure, isMarked });
       if (!isMine()) return;
       this.reading = this.ofFile(reading);
       if (this.file) this.file.made ??= reading.text;

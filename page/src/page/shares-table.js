@@ -26,18 +26,20 @@ export function sharesTable(result, settings) {
   const against = againstOf(points[0], rows, proposal, format), isNarrow = settings.wide < NARROW;
   const beside = [proposal.canBe, against, settings.today.texts, settings.pinned?.pin].filter(Boolean);
   const span = columns.length + beside.length;
-  const view = { ...settings, game, context, columns, against, isNarrow, span };
+  const pinned = game.ballots ? null : settings.pinned; // of votes the power is compared
+  const kept = new Map(columns.map(({ key }) => [key, pinned?.pin && pinned.kept(key, format)]));
+  const view = { ...settings, pinned, kept, game, context, columns, against, isNarrow, span };
   const isOwn = proposal.texts?.some(Boolean) || settings.typed.isProposing;
-  const kinds = ["shares", isOwn ? "proposing" : "", settings.pinned?.pin ? "comparing" : "",
+  const kinds = ["shares", isOwn ? "proposing" : "", pinned?.pin ? "comparing" : "",
     proposal.totals ? "" : "unproposed", rows.length <= BRIEF ? "brief" : ""];
   const copied = (event) => copy(tabbed(tablesOf(result, settings)[0]), event.target);
   return el("div", {},
-    settings.pinned && pinnedNote(settings.pinned, result, rows, settings),
+    pinned && pinnedNote(pinned, result, rows, settings),
     el("div", { class: "scroll" }, el("table", { class: kinds.filter(Boolean).join(" ") },
       headOf(view), el("tbody", {}, linesOf(rows).map((line) => (line.of ? sumRow(line, view) : shareRow(line, view)))),
       footOf(view))),
     proposal.shares && sameAs(points, proposal.shares),
-    el("div", { class: "tools" }, settings.pinned && pinTools(settings.pinned),
+    el("div", { class: "tools" }, pinned && pinTools(pinned),
       button("Copy the table", copied, { class: "quiet" }),
       columns.some(({ shares }) => format.isMoved(totalsOf(rows, shares), rows))
         && el("details", { class: "inline hint moved" }, el("summary", {}, "Rounded so that they add up"),
@@ -86,14 +88,14 @@ function kindOf(key, k) {
 
 function shareRow({ row, r }, view) {
   const { game, context, columns, format, proposal, today, pinned, against } = view, count = row.players.length;
-  const kept = pinned?.pin && pinned.value(columns[0].key, row);
+  const kept = (key) => view.kept.get(key)?.values[r];
   return named(view, "", [row.label, count > 1 && el("small", {}, plural(count, "landing"))], [
     context && el("td", { class: "number context" }, context.texts[r]),
     today.texts && el("td", { class: "number today" }, ownInput(row, r, today, "today", todayTitle(game))),
-    pinned?.pin && el("td", { class: "number kept" }, kept ? format.show(kept) : "–"),
+    pinned?.pin && el("td", { class: "number kept" }, kept(columns[0].key) ? format.show(kept(columns[0].key)) : "–"),
     columns.map(({ key, texts, steps, shares }, k) => {
       const changes = [changeOf(steps[r], r, today, format),
-        pinned?.pin && sinceKept(steps[r], key, row, pinned, format)];
+        sinceKept(steps[r], kept(key), format)];
       return shareCell(texts[r], shares[row.players[0]], count, format, changes, kindOf(key, k));
     }),
     proposal.canBe && el("td", { class: "number proposed" },
@@ -153,7 +155,7 @@ function footOf(view) {
   const sum = named(view, "sum", "together", [
     context && el("td", { class: "number context" }, context.sum),
     today.texts && el("td", { class: "number today" }, today.values[last] ? format.show(today.values[last]) : "–"),
-    pinned?.pin && el("td", { class: "number kept" }, keptSum(pinned, columns[0].key, format)),
+    pinned?.pin && el("td", { class: "number kept" }, view.kept.get(columns[0].key) && format.show(view.kept.get(columns[0].key).sum)),
     columns.map(({ key, texts, steps }, k) => {
       return el("td", { class: kindOf(key, k) }, texts.at(-1), changeOf(withSum(steps).at(-1), last, today, format));
     }),
@@ -169,10 +171,6 @@ function footOf(view) {
   const isJudged = columns.some(({ verdict }) => verdict !== null);
   return el("tfoot", {}, sum,
     isJudged && asked("Could a group do better by itself?", (one) => verdictText(game, one.verdict, format), proposal));
-}
-
-function keptSum({ pin }, key, format) {
-  return pin.shares[key] ? format.show(Rational.sum(pin.shares[key].map(Rational.of))) : "";
 }
 
 /** Whether one player has a stronger hold on another, a line for each division; null if nothing is known of it. */

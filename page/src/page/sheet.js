@@ -9,7 +9,7 @@ import { Rational } from "../exact/rational.js";
 import { fileNames } from "../cases/coarse.js";
 import { coarseText, dividedText } from "../tell/coarse-text.js";
 import { ruleFile, sourceOf } from "../tell/rule-names.js";
-import { Namer } from "../tell/words.js";
+import { listed, Namer } from "../tell/words.js";
 import { lead, notices, solutionOf } from "./answer.js";
 import { beyondSheet } from "./beyond.js";
 import { el, refill } from "./dom.js";
@@ -17,6 +17,8 @@ import { knownDigest } from "./files.js";
 import { fitOnPaper } from "./fit.js";
 import { filledLines, filledText, givenText } from "./filled.js";
 import { formatOf, movedText, totalsOf, withSum } from "./format.js";
+import { labelOfCell } from "./cell-names.js";
+import { pinnedOf, pinnedText } from "./pinned.js";
 import { contextOf, ownSum, sameText } from "./shares-table.js";
 import { airlineLines } from "./table-lines.js";
 import { changeText, todayOf, todayTitle } from "./today.js";
@@ -31,6 +33,7 @@ const LONG = 900; // characters of the reasons above which they are, too
 const MOST_TOLD = 800; // characters of the first reason that are printed in full
 const MOST_LEVELS = 1100; // characters of what the levels behind the first settle
 const MOST_DOCUMENT = 420; // characters of the game's document that are printed
+const MOST_SAVING = 8; // rows of whom each saving is named
 const MOST_ALONE = 900; // the same where there is no picture
 
 const OPEN = "Open coop.html from the project’s repository, at the commit named below (the sender has to give "
@@ -66,10 +69,12 @@ function fillSheet(sheet, session, typed) {
     return;
   }
   const { rows } = reading, format = formatOf(session.places, session.mark), today = todayOf(session, rows);
-  const { heading, unit, withProposal } = typed, { coarse } = session.typed;
-  const view = { ...session, heading, unit, withProposal, result, rows, format, today, coarse };
+  const { heading, unit, withProposal } = typed, { coarse } = session.typed, pinned = pinnedOf(session, rows);
+  const labelOf = (cell) => labelOfCell(cell, session);
+  const view = { ...session, heading, unit, withProposal, result, rows, format, today, coarse, pinned,
+    labelOfCell: labelOf };
   const reasons = reasonsOf(view), isLong = rows.length > MANY_ROWS || reasons.textContent.length > LONG;
-  const isTight = isLong || Boolean(withProposal || coarse || result.core?.collection);
+  const isTight = isLong || Boolean(withProposal || coarse || pinned.pin || result.core?.collection);
   sheet.className = isTight ? "tight" : "";
   refill(sheet, headOf(view), notices(result, format, coarse), answerOf(view), pictureOf(view), reasons,
     agreedOf(view), checkOf(view));
@@ -86,7 +91,7 @@ export function dayText() {
 // ---- Who, and how much
 
 function answerOf(view) {
-  const { result, rows, format, unit, today, coarse } = view, { game } = result;
+  const { result, rows, format, unit, today, coarse, pinned } = view, { game } = result;
   const shapley = result.points.find(({ key }) => key === "shapley");
   const point = game.ballots ? shapley : solutionOf(result) ?? result.points[0];
   if (!point) return null;
@@ -97,7 +102,8 @@ function answerOf(view) {
   const context = contextOf(game, rows, format), texts = format.column(totals, rows);
   const hasExact = totals.some((total) => !format.isExact(total)), who = game.costs ? "Who pays" : "Who gets";
   const beside = othersOf(view, point);
-  const others = [...todaysOf(today, format.steps(totals, rows), game, format), ...beside];
+  const steps = format.steps(totals, rows), kept = pinned.pin && !game.ballots ? pinned.kept(point.key, format) : null;
+  const others = [...todaysOf(today, steps, game, format), ...keptsOf(kept, steps, format), ...beside];
   const heads = [game.ballots ? "Who votes" : who, context?.title, title, hasExact ? "exactly" : undefined,
     ...others.flatMap(({ title: name, exact }) => (exact ? [name, "exactly"] : [name]))];
   const line = (r) => el("tr", {},
@@ -118,7 +124,16 @@ function answerOf(view) {
     coarse?.times && [{ title, totals }, ...beside].map((one) => {
       return el("p", { class: "hint" }, dividedText(coarse, one.title, rows, one.totals));
     }),
+    kept && el("p", { class: "hint" }, pinnedText(pinned, { points: [point] }, rows, view)),
     saidOfAll(view, point, beside));
+}
+
+/** What was kept to compare, and how much more the share is now. */
+function keptsOf(kept, steps, format) {
+  if (!kept) return [];
+  const all = [...kept.values, kept.sum], told = (say) => withSum(steps).map((step, r) => (all[r] ? say(all[r], step) : ""));
+  return [{ title: "Before", texts: told(format.show) },
+    { title: "Change", texts: told((now, step) => changeText(step, now, format)) }];
 }
 
 /** The bill: what each airline pays for all its rows, by the columns that are shown; null where none has several. */
@@ -241,7 +256,24 @@ function powerOf(game, points, { show }) {
 
 // ---- The reasons
 
-function reasonsOf({ result, pair }) {
+/** What each saves, or gets more, against going alone, as the numbers are shown; "" if somebody doesn't, or the class
+ * has no such numbers. */
+function savingsText(game, { shares }, rows, format) {
+  if (!game.own || game.isMarket() || game.kind === "bankruptcy") return "";
+  const totals = totalsOf(rows, shares), alone = totalsOf(rows, game.own), unit = new Rational(10n ** BigInt(format.places));
+  const steps = format.steps(totals, rows), shown = alone.map((value, r) => {
+    const more = value.minus(new Rational(steps[r]).over(unit));
+    return game.costs ? more : more.negated();
+  });
+  if (shown.some((value) => value.isNegative())) return "";
+  const does = game.costs ? "saves" : "gains", sum = format.show(Rational.sum(shown));
+  const told = rows.map(({ label }, r) => `${label} ${does} ${format.show(shown[r])}`);
+  const most = rows[shown.findIndex((value) => value.equals(Rational.max(shown)))].label;
+  return `Against going alone, ${rows.length > MOST_SAVING ? `${most} ${does} most, ${format.show(Rational.max(shown))}`
+    : listed(told)}: together ${sum}.`;
+}
+
+function reasonsOf({ result, pair, rows, format }) {
   const { reasons, answer, rule, game, points } = result;
   if (game.ballots || !reasons) {
     return el("section", {}, el("h2", {}, "How it was found"), el("p", {}, game.ballots ? POWER : PRICES));
@@ -252,7 +284,8 @@ function reasonsOf({ result, pair }) {
     sentences.push(`So the first of ${levels} levels; the certificate has them all.`);
   }
   const isCore = points.find(({ key }) => key === answer)?.verdict?.isCore;
-  return el("section", {}, el("h2", {}, `Why: the ${rule}`),
+  const saved = savingsText(game, points[0], rows, format);
+  return el("section", {}, el("h2", {}, `Why: the ${rule}`), saved && el("p", {}, saved),
     el("p", {}, sentences.join(" ")),
     behind.length > 0 && el("ul", { class: "levels" }, behind.map((text) => el("li", {}, text))),
     el("p", {}, isCore && "By these shares no group does better by itself. ",

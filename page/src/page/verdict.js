@@ -9,20 +9,27 @@ const MOST_NAMED = 12; // whose shares are others than they should be
 
 const lead = (sentence) => el("p", { class: "lead" }, sentence);
 
+/** Which game it is, beside its name: what is divided, if the class has a number for that. */
+function whichOf(game, format) {
+  if (game?.kind === "bankruptcy") return `, an estate of ${format.show(game.single)}`;
+  return game && game.costs ? `, a cost of ${format.show(game.whole())}` : "";
+}
+
 /** What the words come to, in a sentence; null while they are asked. */
-export function conclusion([same, ...checks], { answer, doubles = [], fault }, game) {
+export function conclusion([same, ...checks], { answer, doubles = [], fault }, game, format) {
   if (fault) return lead("This line can’t be read, so nothing of it is checked.");
   if (checks.some(({ isYes }) => isYes === undefined)) return null;
   if (checks.some(({ isYes }) => !isYes)) return lead("No: this line doesn’t show that its shares are right.");
-  const name = ruleName(answer, game?.perHead);
+  const name = ruleName(answer, game?.perHead), which = whichOf(game, format);
+  const agreed = same.isOfCase ? "the game of your case" : "the agreed game";
   if (doubles.length) {
     return lead("Don’t take this line: a key occurs twice in it, so its text can be read in two ways. By the last of "
-      + `each, its shares are the ${name} of ${same.isYes ? "the agreed game" : "its own game"}.`);
+      + `each, its shares are the ${name} of ${same.isYes ? agreed : "its own game"}.`);
   }
-  if (same.isYes) return lead(`Yes: these shares are the ${name} of the agreed game.`);
-  const own = `The shares are the ${name} of the game in the line.`;
-  if (same.isYes === false) return lead(`${own} But that isn’t the agreed game.`);
-  return lead(same.isGiven ? `${own} But nobody can say whether it is the agreed one.`
+  if (same.isYes) return lead(`Yes: these shares are the ${name} of ${agreed}${which}.`);
+  const own = `The shares are the ${name} of the game in the line${which}.`;
+  if (same.isYes === false) return lead(`${own} But that isn’t ${agreed}.`);
+  return lead(same.isGiven ? `${own} But nobody can say whether it is ${same.isOfCase ? agreed : "the agreed one"}.`
     : `${own} See that it is the game you mean.`);
 }
 

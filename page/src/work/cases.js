@@ -18,11 +18,13 @@ const ANSWERS = ["nucleolus", "prenucleolus", "shapley"];
 const MOST_BYTES = 2097152;
 
 /** What the cells say: the rows of the answer, what is wrong, and, where nothing is, the document and its facts. */
-export function readCase({ id, typed, mark, measure }) {
+export function readCase({ id, typed, mark, measure, isMarked = typed.isMarked }) {
   const { reading, rows, tree, ballots, landings } = readByOneMark(caseNamed(id), typed, mark);
-  const { faults, count, empty, notes, asked, either, isTooFine = false, odds = [] } = reading;
+  reading.askOfMixed(isMarked);
+  const { faults, count, empty, notes, asked, either, mixed, isTooFine = false, odds = [] } = reading;
   const read = {
-    rows, faults, count, empty, notes, asked, either, isTooFine, odds, isRight: reading.isRight(), ...marksOf(reading),
+    rows, faults, count, empty, notes, asked, either, mixed, isTooFine,
+    isAsking: Boolean(asked || either || mixed || reading.isOpen), odds, isRight: reading.isRight(), ...marksOf(reading),
   };
   if (!read.isRight) return read;
   if (landings) read.beyond = beyondProgram(landings, rows);
@@ -74,7 +76,7 @@ export function openDocument({ text, mark }) {
   if (status > 1 && Number(said.number) !== 10) return { refusal: slip?.number === refusal.number ? slip : refusal };
   const game = new Game(tree.game), kind = caseOfClass(game.kind), typed = kind.fromGame(game);
   const isProposal = Array.isArray(tree.shares) && !("answer" in tree) && tree.shares.length === game.n;
-  typed.notSum = typed.rows?.at?.(-1)?.name; // a document's players are players, whatever their names
+  typed.notSums = true; // a document's players are players, whatever their names
   const { rows } = kind.read(typed, ".");
   return {
     id: kind.id, typed: kind.pack?.(typed) ?? typed, measure: game.perHead ? "per-head" : "plain",

@@ -1,6 +1,6 @@
 // Help for links that don't exist: the ways through the others, or a table of what each group's cheapest network costs.
 import { lcm, Rational } from "../exact/rational.js";
-import { readNumber, shortText, typedText } from "../exact/decimals.js";
+import { cellNumber, shortText, typedText } from "../exact/decimals.js";
 import { sourceName } from "../cases/matrices.js";
 import { withEscapes } from "../game/names.js";
 
@@ -9,7 +9,7 @@ function linksOf({ names, links, mark }) {
   const n = names.length, costs = new Map();
   for (let i = 0; i <= n; i++) {
     for (let j = i + 1; j <= n; j++) {
-      const text = links[`${i}-${j}`] ?? "", { value, fault } = readNumber(text, mark);
+      const text = links[`${i}-${j}`] ?? "", { value, fault } = cellNumber(text, mark);
       if (text.trim() && (fault || value.isNegative())) return { fault: "Mend the numbers that are marked first." };
       costs.set(`${i}-${j}`, value ?? null);
     }

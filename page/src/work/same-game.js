@@ -12,6 +12,8 @@ const LISTS = { airport: "costs", bankruptcy: "claims", voting: "weights" };
 const SINGLES = { bankruptcy: ["estate", "the estate"], voting: ["quota", "the quota"] };
 const MEASURES = { plain: "“as a whole”", "per-head": "“per head”" };
 
+const UNALIKE = "Nobody can say: entry for entry no difference is found, but some group is worth otherwise.";
+
 const isList = (kind) => Object.hasOwn(LISTS, kind);
 
 /** Whether the line is of the agreed game: {isYes, sentence, items}; `isYes` is null where nobody can say. */
@@ -42,8 +44,9 @@ function verdict(line, agreed) {
   const [mine, other] = [line.tree.game, agreed.tree.game], yes = (sentence) => ({ isYes: true, sentence });
   const path = firstDifference(mine, other);
   if (!path) return yes("Yes: the two games are the same, entry for entry.");
-  const { isReordered, items } = differences(mine, other), where = path.filter((key) => typeof key === "string");
-  if (!items.length && isReordered) return yes("Yes: they have the same names and numbers, in another order.");
+  const { order, items } = differences(mine, other), where = path.filter((key) => typeof key === "string");
+  if (!items.length && isOtherwise(line.game, agreed.game, order)) return { isYes: null, sentence: UNALIKE };
+  if (!items.length && order) return yes("Yes: they have the same names and numbers, in another order.");
   if (!items.length) {
     return yes(`Yes: they are written differently (${withEscapes(where.join(", "))}), but each name and each number `
       + "is the same.");
@@ -59,6 +62,18 @@ function verdict(line, agreed) {
 function firstOf(items) {
   const more = items.length - MOST_TOLD, count = more === 1 ? "one" : more.toLocaleString("en");
   return more > 0 ? [...items.slice(0, MOST_TOLD), `and ${count} more ${more === 1 ? "place" : "places"}.`] : items;
+}
+
+/** Whether some group is worth otherwise in one of two games of few players, in which the same entries were found. */
+function isOtherwise(one, other, order) {
+  if (!one || !other || one.n > MOST_COMPARED) return false;
+  const place = (i) => (order ? order[i] : i), everyone = one.everyone();
+  if (one.n !== other.n || one.costs !== other.costs || one.perHead !== other.perHead) return true;
+  for (let mask = 1; mask < 2 ** one.n; mask++) {
+    const group = everyone.filter((i) => (mask >> i) & 1), theirs = group.map(place).sort((i, j) => i - j);
+    if (!one.worth(group).equals(other.worth(theirs))) return true;
+  }
+  return false;
 }
 
 /** Whether two games of few players have the same names, measure and worths. */
@@ -77,7 +92,7 @@ function areWorthTheSame(one, other) {
 
 // ---- Where two games differ
 
-/** Each place where the games differ, in words, and whether the names stand in another order. */
+/** Each place where the games differ, in words, and the other order in which the names stand, if they do. */
 function differences(line, agreed) {
   const [mine, unordered] = [line, agreed].map(viewOf), order = orderOf(mine, unordered);
   const other = order ? reordered(unordered, order) : unordered, items = [];
@@ -100,7 +115,7 @@ function differences(line, agreed) {
   if (mine.byDefault !== other.byDefault && groupsOf(mine, other) < 2 ** mine.n - 1) {
     tell("every group that isn’t listed", mine.byDefault, other.byDefault);
   }
-  return { items, isReordered: Boolean(order) };
+  return { items, order };
 }
 
 /** How many groups one of the two games lists. */
