@@ -109,7 +109,9 @@ class Page {
       width: wide, height: high, deviceScaleFactor: isPhone ? 2 : 1, mobile: isPhone,
     });
     await this.send("Emulation.setEmulatedMedia", {
-      media: print ? "print" : "", features: [{ name: "prefers-color-scheme", value: dark ? "dark" : "light" }],
+      media: print ? "print" : "", features: [
+        { name: "prefers-color-scheme", value: dark ? "dark" : "light" }, { name: "hover", value: isPhone ? "none" : "hover" },
+      ],
     });
   }
 

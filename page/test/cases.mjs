@@ -75,7 +75,7 @@ export const casesTyped = [
     }
     expect("rounded", lines.some(([, , text]) => text === "3.34"), true);
     const first = /What each airline pays for all its rows is rounded first, and then the rows, so that they add/;
-    expect("and told", await page.run("document.querySelector('#answer .moved').textContent"), first);
+    expect("and told", await page.run("document.querySelector('#why .moved').textContent"), first);
   }],
 
   ["64 landings, and more", "runway", async (page, expect) => {
@@ -156,7 +156,7 @@ export const tables = [
   }],
 
   ["per head", "gains", async (page, expect) => {
-    await page.click("per head");
+    await page.run(`(() => { const choice = document.querySelector('[data-cell="measure"]'); choice.value = "per-head"; choice.dispatchEvent(new Event("change")); })()`);
     await settle(page);
     expect("told", await page.text("#why"), /counted per member/);
     expect("document", await page.run("document.querySelector('.made pre').textContent"), /"excess":"per-head"/);
@@ -252,7 +252,7 @@ export const otherCases = [
     await page.click("Fill in the cheapest ways");
     await page.until(READY);
     expect("ways", await page.text(".lead"), /pays 0.00, .*pays 5.50 .*pays 6.50/);
-    expect("what was filled", await page.text(".no-link"), /Place 2 – Place 3 7/);
+    expect("what was filled", await page.run("document.querySelector('.named').textContent"), /Place 2 – Place 3 7/);
     await typeAll(page, { "links.0-2": "", "links.0-3": "", "links.2-3": "", without: "20" });
     await page.click("Fill it in");
     await settle(page);

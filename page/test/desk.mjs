@@ -70,13 +70,10 @@ export const desk = [
     await page.paste('[data-cell="names.0"]', "\tA\tB\tWell\nA\t\t5\t9\nB\t6\t\t8\nWell\t9\t8\t");
     expect("refused", await page.text("#case .note"), "A – B has two costs: 5 and 6. Nothing was taken.");
     await page.paste('[data-cell="names.0"]', "\tA\tB\tC\nA\t\t5\t9\nB\t5\t\t8\nC\t9\t8\t");
-    await settle(page);
-    expect("the first", await page.text("#case .note"), /source: A\. Nothing says which point is the source/);
-    await page.run(`(() => {
-      const choice = document.querySelector('[data-cell="which"]');
-      choice.value = "2";
-      choice.dispatchEvent(new Event("change", { bubbles: true }));
-    })()`);
+    const asked = await told(page, "#case .note", /Which point is the source/);
+    expect("asked", asked, /Taken as a square with names: 3 points, 3 links\. Nothing says which point is the source\./);
+    await page.until("document.getElementById('answer').hidden"); // no answer before
+    await page.click("C", "document.querySelector('#case .note')");
     await settle(page);
     expect("another", await page.run(`document.querySelector('[data-cell="source"]').value`), "C");
     expect("its links", await page.run(`document.querySelector('[data-cell="links.0-1"]').value`), "9");

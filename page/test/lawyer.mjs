@@ -25,7 +25,7 @@ async function propose(page) {
 async function cents(page, expect) {
   await sixClaims(page);
   const rule = /all are rounded down, and each unit of the last place[^.]*lost most by that, among equals to the upper/;
-  expect("the rule", await page.run("document.querySelector('#answer .moved').textContent"), rule);
+  expect("the rule", await page.run("document.querySelector('#why .moved').textContent"), rule);
   expect("as the cents went", await page.text(".lead"), /Adler Bau gets 80.074.88, .* Dupont gets 15.575.62/);
   expect("the claims together", await page.text(".shares .sum .context"), /^259.501.00$/);
   const hint = await page.run("document.querySelector('.other .hint').textContent");

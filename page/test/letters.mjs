@@ -81,15 +81,15 @@ async function agreedFileOnPaper(page, expect, line, agreed) {
   await page.until(READY);
   const named = new RegExp(`agreed.json: its SHA-256 is ${digest}`);
   expect("the agreed file", await page.run(PAPER), named);
-  const ofFile = /That is of the file, and not of the box below, in which the same numbers stand as this page/;
+  const ofFile = /That is the SHA-256 of the file\. The box below has the same numbers as this page writes them/;
   expect("of what the sum is", await page.run(PAPER), ofFile);
   expect("and on the screen", await page.text("#evidence .steps"), new RegExp(`agreed.json[^.]*SHA-256 ${digest}`));
   await page.run("dispatchEvent(new Event('afterprint'))");
   await page.type("rows.2.cost", "7");
   await settle(page);
-  const own = /a file of its own, runway-game.json: its SHA-256 is [0-9a-f]{64}\. Numbers were changed since agreed/;
+  const own = /a file that this page writes, runway-game.json\. Its SHA-256 is [0-9a-f]{64}\. Numbers were changed since agreed/;
   await page.until(`${own}.test(${PAPER})`);
-  const ofText = /That is of the file: of the text in the box below, with an end of line behind it/;
+  const ofText = /That is the SHA-256 of the text in the box below, with a line end after it/;
   expect("of its own file", await page.run(PAPER), ofText);
   const [shownSum, box] = await page.run("['digest', 'document'].map((part) => "
     + "document.querySelector('#sheet .' + part).textContent)");

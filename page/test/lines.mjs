@@ -59,7 +59,7 @@ const SAME = [
   ["a text that is none", agreed, "Adler;100", null, /Nobody can say: the agreed file can’t be read/],
   ["no game", agreed, "{}", null, /the agreed file has no game/],
   ["a key twice", agreed, agreed.replace('"claims"', '"claims":[1],"claims"'), null, /a key occurs twice: claims/],
-  ["nonsense", agreed, '{"game":{"class":{},"names":[[]],"excess":{}}}', null, /hasn’t the form of a game/],
+  ["nonsense", agreed, '{"game":{"class":{},"names":[[]],"excess":{}}}', null, /doesn’t have the form of a game/],
 ];
 
 for (const [name, line, file, isYes, wanted] of SAME) {

@@ -15,7 +15,7 @@ async function savedNames(page) {
 
 export const saying = [
   ["per head is said wherever the rule is named", "gains", async (page, expect) => {
-    await page.click("per head");
+    await page.run(`(() => { const choice = document.querySelector('[data-cell="measure"]'); choice.value = "per-head"; choice.dispatchEvent(new Event("change")); })()`);
     await settle(page);
     const column = /Nucleolus per head\s+best for those who gain least, per member/;
     expect("column", await page.text(".shares thead"), column);
@@ -73,14 +73,14 @@ export const saying = [
     for (const [r, text] of ["100", "200", "300"].entries()) await page.type(`rows.${r}.claim`, text);
     await page.type("estate", "100");
     await settle(page);
-    const told = await page.run("document.querySelector('#answer .moved').textContent");
+    const told = await page.run("document.querySelector('#why .moved').textContent");
     expect("told", told, /Rounded so that they add up[\s\S]*small print/);
     expect("on paper", await sheetOf(page), /Rounded so that they add up/);
     expect("decimals beside a fraction", await page.text("#why"), /but at most 100\/3 \(about 33.33\)/);
     await page.run("dispatchEvent(new Event('afterprint'))");
     await page.type("estate", "300");
     await settle(page);
-    expect("not where none is", await page.run("document.querySelector('#answer .moved')"), null);
+    expect("not where none is", await page.run("document.querySelector('#why .moved')"), null);
   }],
 
   ["changes of an overrun are those of the numbers shown", "runway", async (page, expect) => {

@@ -68,14 +68,16 @@ export const runway = {
 
 /** The rows that aren't empty, and have a cost and a number of landings: {airline, type, cost, count}. */
 function readLandings(state, reading) {
-  const kept = [];
+  const kept = [], hasNames = state.rows.some(({ name = "" }) => name.trim());
   state.rows.forEach((row, r) => {
     if (isEmpty(row)) return;
     const text = (key) => (row[key] ?? "").trim().normalize("NFC");
     if (!text("name") && state.isNamed) reading.open(`rows.${r}.name`);
     const cost = reading.number(`rows.${r}.cost`, row.cost, "The cost");
     const count = reading.whole(`rows.${r}.count`, row.count, "The number of landings", 1, 999999999);
-    if (cost && count) kept.push({ airline: text("name") || `Airline ${r + 1}`, type: text("type"), cost, count });
+    const byType = !hasNames && text("type"); // without airlines each type is one
+    const own = byType ? { airline: byType, type: "" } : { airline: text("name") || `Airline ${r + 1}`, type: text("type") };
+    if (cost && count) kept.push({ ...own, cost, count });
   });
   return kept;
 }

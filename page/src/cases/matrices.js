@@ -2,6 +2,7 @@
 import { typedText } from "../exact/decimals.js";
 import { withEscapes } from "../game/names.js";
 import { rowsOf } from "./lists.js";
+import { detoursOf } from "./detours.js";
 import { Reading } from "./reading.js";
 
 export const network = {
@@ -23,14 +24,17 @@ export const network = {
   read(state, mark) {
     const reading = new Reading(mark), n = state.names.length;
     const names = reading.names(state.names.map((typed, i) => ({ typed, cell: `names.${i}` })), "Place");
-    const matrix = Array.from({ length: n + 1 }, () => Array(n + 1).fill(0n));
+    const matrix = Array.from({ length: n + 1 }, () => Array(n + 1).fill(0n)), costs = new Map();
     for (let i = 0; i <= n; i++) {
       for (let j = i + 1; j <= n; j++) {
         const value = reading.number(`links.${i}-${j}`, state.links[`${i}-${j}`] ?? "", "The cost of this link");
         if (value) matrix[i][j] = matrix[j][i] = value.toDocument();
+        costs.set(`${i}-${j}`, value);
       }
     }
     reading.close();
+    const cost = (i, j) => costs.get(i < j ? `${i}-${j}` : `${j}-${i}`), nameOf = (i) => (i ? names[i - 1] : sourceName(state));
+    reading.odds = detoursOf({ filled: state.filled, n, cost, nameOf, mark });
     reading.isOpen = Boolean(state.isSourceOpen); // which point is the source has to be said first
     return {
       reading,

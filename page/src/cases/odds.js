@@ -4,16 +4,17 @@
 import { shortText } from "../exact/decimals.js";
 import { lcm, Rational } from "../exact/rational.js";
 
-const MOST_PLAYERS = 10; // above, all splits of all groups would take too long at each key
+const MOST_SPLIT = 10; // players above whom a group is compared with those of one player more or less only
 const MOST_TOLD = 4;
+const MOST_MISFITS = 20000; // that are looked at
 
 /** The remarks on values by mask (undefined if there is none): {mask, sentence}; `nameOf(mask)` names a group. */
 export function oddsOf(values, n, { isCost, nameOf }) {
-  if (n > MOST_PLAYERS || n < 2) return [];
+  if (n < 2) return [];
   const scale = values.reduce((all, value) => (value ? lcm(all, value.den) : all), 1n);
   const whole = values.map((value) => value && Number((value.num * scale) / value.den));
   const text = (mask) => shortText(new Rational(BigInt(whole[mask]), scale)), found = [];
-  let left = misfits(whole, isCost);
+  let left = misfits(whole, isCost, n);
   while (left.length && found.length < MOST_TOLD) {
     const mask = mostOften(left), own = left.filter((groups) => groups.includes(mask));
     const more = own.length > 1 ? ` (${own.length - 1} more such)` : "";
@@ -24,16 +25,19 @@ export function oddsOf(values, n, { isCost, nameOf }) {
 }
 
 /** Groups whose numbers don't fit together: [group, part, rest], or [large, small]. */
-function misfits(values, isCost) {
+function misfits(values, isCost, n) {
   const found = [];
-  for (let mask = 3; mask < values.length; mask++) {
+  for (let mask = 3; mask < values.length && found.length < MOST_MISFITS; mask++) {
     if (values[mask] === undefined) continue;
-    for (let part = (mask - 1) & mask; part; part = (part - 1) & mask) {
-      const rest = mask & ~part, [own, one, other] = [mask, part, rest].map((group) => values[group]);
+    const compare = (part) => {
+      const rest = mask & ~part, [own, one, other] = [values[mask], values[part], values[rest]];
       if (one !== undefined && one > own) found.push([mask, part]);
-      if (part < rest || one === undefined || other === undefined) continue;
+      if (n > MOST_SPLIT && other > own) found.push([mask, rest]);
+      if ((n <= MOST_SPLIT && part < rest) || one === undefined || other === undefined) return;
       if (isCost ? own > one + other : own < one + other) found.push([mask, part, rest]);
-    }
+    };
+    if (n <= MOST_SPLIT) for (let part = (mask - 1) & mask; part; part = (part - 1) & mask) compare(part);
+    else for (let bit = 1; bit <= mask; bit *= 2) if (mask & bit && mask !== bit) compare(mask & ~bit);
   }
   return found;
 }

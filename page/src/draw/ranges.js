@@ -1,6 +1,6 @@
 // Who trades with whom, and the range of the price; and the power of votes.
 import { Rational } from "../exact/rational.js";
-import { decimal, fractionText } from "../exact/decimals.js";
+import { decimal, fractionText, shortText } from "../exact/decimals.js";
 import { el } from "../page/dom.js";
 import { listed } from "../tell/words.js";
 import { tickText } from "./bars.js";
@@ -76,6 +76,11 @@ export function pricesPicture(deals, price, show, wide) {
 
 // ---- Votes
 
+/** Votes as they are counted: whole, or with decimals. */
+export function votesText(value) {
+  return value.isWhole() ? String(value) : shortText(value);
+}
+
 const HUNDRED = Rational.of(100);
 const NARROW = 520;
 
@@ -97,7 +102,7 @@ export function power(game, shares, { mark, wide, kept }) {
     return el("tr", {},
       el("th", { scope: "row" }, shown[i], remark && el("small", {}, remark)),
       ballots.map(({ votes }, b) => [
-        el("td", { class: "number" }, String(votes[i])),
+        el("td", { class: "number" }, votesText(votes[i])),
         hasParts && el("td", { class: "number" }, percent(parts[b][i])),
       ]),
       kept && el("td", { class: "number kept" }, kept[i] ? percent(kept[i]) : "–"),
@@ -109,7 +114,8 @@ export function power(game, shares, { mark, wide, kept }) {
   const reaches = isDouble ? "reaches both quotas" : "reaches the quota";
   return el("div", {}, tableOf("power", heads, rows),
     el("p", { class: "hint" },
-      `Power: in what part of all orders of joining a voter is the one who ${reaches} (Shapley and Shubik 1954).`),
+      `Power: in what part of all orders of joining a voter is the one who ${reaches} (Shapley and Shubik 1954). `,
+      "This page has no Banzhaf index, and no third condition such as a blocking minority."),
     figure("powers", "power", powerPicture(game, shares, parts, percent, wide)));
 }
 

@@ -35,10 +35,10 @@ export function stepsOf(value, places) {
 }
 
 /** Steps of the last place as a decimal: 1234567 in two places is "12 345.67". */
-export function decimalOf(steps, places, { mark = ".", grouped = true } = {}) {
+export function decimalOf(steps, places, { mark = ".", grouped = true, least = 4 } = {}) {
   const digits = String(steps < 0n ? -steps : steps).padStart(places + 1, "0");
   const whole = digits.slice(0, digits.length - places);
-  const shown = grouped && whole.length > 4 ? whole.replace(/(?=(\d{3})+$)(?!^)/g, NARROW) : whole;
+  const shown = grouped && whole.length > least ? whole.replace(/(?=(\d{3})+$)(?!^)/g, NARROW) : whole;
   return (steps < 0n ? "−" : "") + shown + (places ? mark + digits.slice(-places) : "");
 }
 

@@ -2,9 +2,11 @@
 import { sourceName } from "../cases/matrices.js";
 import { answerParts, morePictures } from "./answer.js";
 import { beyondParts } from "./beyond.js";
+import { beyondPower } from "./beyond-power.js";
 import { labelOfCell } from "./cell-names.js";
 import { comparisonPart } from "./comparison.js";
-import { button, el, refill } from "./dom.js";
+import { pictureButtons } from "../draw/figure.js";
+import { button, copy, el, refill } from "./dom.js";
 import { evidenceParts } from "./evidence.js";
 import { excessesPart } from "./excesses.js";
 import { filledLines, filledText, isFilled } from "./filled.js";
@@ -15,8 +17,8 @@ import { paperPart } from "./paper.js";
 import { pinnedOf } from "./pinned.js";
 import { proposalTools } from "./proposal-cells.js";
 import { takesPerHead } from "./questions.js";
-import { holdsPart, sameText, tablesOf } from "./shares-table.js";
-import { csvButton } from "./table-lines.js";
+import { holdsPart, roundingPart, sameText, tablesOf } from "./shares-table.js";
+import { csvButton, tabbed } from "./table-lines.js";
 import { todayOf, todayTools } from "./today.js";
 import { waitingParts } from "./waiting.js";
 import { fillsAsked, fillsPart } from "./two-fills.js";
@@ -29,7 +31,7 @@ const MEASURES = [["plain", "as a whole"], ["per-head", "per head"]];
 
 const WIDE = 1000; // pixels of the page above which the reasons have pictures beside them
 const PARTS = ["why", "what-if", "evidence", "paper", "files"];
-const BODIES = ["answer-settings", "answer-body", "own-body", "answer-more", "why-body", "evidence-body", "paper-body",
+const BODIES = ["answer-measure", "answer-settings", "answer-body", "own-body", "answer-more", "why-body", "evidence-body", "paper-body",
   "files-body"];
 const LINKS = { "what-if": "What if", evidence: "Evidence", paper: "On paper", files: "Files" };
 
@@ -67,7 +69,10 @@ export class AnswerView {
     if (this.isHidden && !result.refusal) return this.showHidden();
     if (!result.game) return this.showBeyond(result);
     const view = this.viewOf(result);
-    refill(at("answer-settings"), result.refusal ? [] : this.settings(result));
+    const measures = !result.refusal && takesPerHead(result.game) && this.measures(result.game);
+    const isAside = result.game.ballots || result.game.isMarket(); // there it is a question that few ask
+    refill(at("answer-settings"), result.refusal ? [] : [isAside && measures, this.settings()]);
+    refill(at("answer-measure"), !isAside && measures);
     refill(at("answer-body"), answerParts(result, view));
     this.say();
     if (result.refusal) return;
@@ -121,7 +126,7 @@ export class AnswerView {
       el("div", { class: beside.length ? "halves-of-part" : "" }, el("div", {}, why),
         beside.length > 0 && el("div", {}, beside)),
       why.length > 0 && excessesPart(result, settings), same && el("p", { class: "hint" }, same),
-      meanings(points, hasHolds, game), !game.ballots && !game.isMarket() && monotonic(), words());
+      roundingPart(result, settings), meanings(points, hasHolds, game), !game.ballots && !game.isMarket() && monotonic(), words());
   }
 
   /** Another division beside the answer: the user's own, and what each pays today. */
@@ -171,8 +176,10 @@ export class AnswerView {
     });
     at("files").hidden = !hasMade;
     if (!hasMade || !reading) return;
-    refill(at("files-body"), made, points.length > 0 && !this.isHidden && el("p", { class: "tools" },
-      csvButton(`${kind.id}-answer`, tables, this.format())));
+    const isShown = points.length > 0 && !this.isHidden, copied = (event) => copy(tabbed(tables()[0]), event.target);
+    refill(at("files-body"), made, isShown && el("p", { class: "tools" },
+      csvButton(`${kind.id}-answer`, tables, this.format()), button("Copy the table", copied, { class: "quiet" }),
+      pictureButtons([at("answer-body"), at("why-body")])));
   }
 
   /** Hides the answer, with the reasons, the evidence and the check of a line, or shows it again. */
@@ -195,6 +202,7 @@ export class AnswerView {
     for (const id of ["why", "what-if", "evidence"]) at(id).hidden = true;
     for (const id of ["why-body", "own-body", "answer-more", "evidence-body"]) refill(at(id));
     refill(at("answer-settings"), this.hiding());
+    refill(at("answer-measure"));
     refill(at("answer-body"), el("p", { class: "hint" }, "The answer is hidden: only the case is shown and printed."),
       el("p", { class: "tools" }, button("Show it", () => this.hide(false))));
     this.shownMore = "hidden";
@@ -208,8 +216,9 @@ export class AnswerView {
   showBeyond({ beyond }) {
     for (const id of ["why", "evidence", "what-if"]) at(id).hidden = true;
     refill(at("answer-settings"), this.formats(), this.hiding());
-    const today = todayOf(this.session, beyond.rows);
-    refill(at("answer-body"), beyondParts(beyond, { format: this.format(), today }));
+    refill(at("answer-measure"));
+    const today = todayOf(this.session, beyond.rows), format = this.format(), wide = at("answer-body").clientWidth || 640;
+    refill(at("answer-body"), beyond.power ? beyondPower(beyond, { format, wide }) : beyondParts(beyond, { format, today }));
     this.showPaper();
     this.showLinks();
     this.say();
@@ -252,8 +261,8 @@ export class AnswerView {
     refill(at("answer-more"), fillsPart(session, settings), otherAmounts(result, settings));
   }
 
-  settings({ game }) {
-    return [takesPerHead(game) && this.measures(game), this.formats(), this.hiding()];
+  settings() {
+    return [this.formats(), this.hiding()];
   }
 
   formats() {
@@ -269,12 +278,12 @@ export class AnswerView {
     return [places, mark];
   }
 
+  /** Per head is a rule of its own, so it isn't among the settings of what is shown. */
   measures(game) {
-    const now = game.perHead ? "per-head" : "plain", name = "How a group’s loss is counted";
-    return el("span", { class: "choice", role: "group", "aria-label": name }, "A group’s loss counts",
-      el("span", {}, MEASURES.map(([value, title]) => button(title, () => this.session.setMeasure(value), {
-        "aria-pressed": String(value === now),
-      }))));
+    const now = game.perHead ? "per-head" : "plain";
+    return el("label", {}, "A group’s loss counts ", el("select", {
+      "data-cell": "measure", on: { change: (event) => this.session.setMeasure(event.target.value) },
+    }, MEASURES.map(([value, title]) => el("option", { value, selected: value === now }, title))));
   }
 
   // ---- At work, and faults
@@ -293,7 +302,7 @@ export class AnswerView {
     for (const id of ["answer", ...PARTS]) at(id).hidden = id !== "answer";
     at("waiting").hidden = true;
     for (const id of ["answer", "parts"]) at(id).classList.remove("stale");
-    for (const id of ["answer-settings", "answer-more", "next"]) refill(at(id));
+    for (const id of ["answer-measure", "answer-settings", "answer-more", "next"]) refill(at(id));
     this.shownMore = null;
     refill(at("answer-body"), el("div", { class: "notice bad", role: "alert" }, el("p", {}, sentence),
       button("Try again", () => this.session.changed(0))));

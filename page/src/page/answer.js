@@ -27,14 +27,15 @@ export function answerParts(result, settings) {
   const seen = proposal.shares ? [...points, own] : points, { format } = settings;
   const pictured = { ...settings, wide: Math.min(wide, 900) }, missing = missingText(game);
   return [
-    notices(result, format, coarse, result.odds),
-    coarse && el("p", { class: "note coarse-note" }, coarseText(coarse)),
-    filled && el("p", { class: "note filled-note" }, filled),
+    briefNotice(result),
     ...(game.ballots ? votes(result, pictured) : []),
     result.matching && trades(game, result.matching, { ...format, solution, wide: pictured.wide }),
     solution && !game.ballots && !game.isMarket() && lead(result, solution, settings),
     solution && !game.ballots && !game.isMarket() && becauseOf(result),
     points.length > 0 && (!game.ballots || solution) && sharesTable(result, settings),
+    notices(result, format, coarse, result.odds),
+    filled && el("p", { class: "note filled-note" }, filled),
+    coarse && el("p", { class: "note coarse-note" }, coarseText(coarse)),
     coarse?.times && seen.map(({ title, shares }) => {
       return el("p", { class: "hint divided" }, dividedText(coarse, title, rows, totalsOf(rows, shares)));
     }),
@@ -97,7 +98,7 @@ function refused({ sentence, place }) {
 /** All pictures of an answer, the one that tells most first. */
 function pictures({ game, bird }, points, { rows, format, wide, remark, source, typed }) {
   const turn = (typed.turn ??= { ...START });
-  const narrow = points.filter(({ key }) => !["core", "buyers", "sellers"].includes(key));
+  const narrow = points.filter(({ key }) => !["core", "buyers", "sellers", "proportion"].includes(key));
   const drawn = [bars(game, rows, narrow, { ...format, wide, remark }),
     game.n === 3 && triangle(game, points, { wide }),
     game.n === 4 && game.groups && tetrahedron(game, points, { wide, view: turn })];
@@ -132,7 +133,7 @@ function keptPower(pinned, percents) {
 }
 
 /** Who has most power, and who has none. */
-function powerLead({ shown }, shares, { mark }) {
+export function powerLead({ shown }, shares, { mark }) {
   const most = Rational.max(shares), of = (is) => shown.filter((_, i) => is(shares[i]));
   const strong = of((share) => share.equals(most)), none = of((share) => share.isZero());
   const part = `${decimal(most.times(Rational.of(100)), 1, { mark })}\u202f%`;
@@ -144,6 +145,13 @@ function powerLead({ shown }, shares, { mark }) {
 }
 
 // ---- What has to be said first
+
+/** The one notice above the answer: that no division is all right. The whole of it is below the table. */
+function briefNotice({ game, noImputation, core }) {
+  const text = noImputation ? `In every division somebody ${game.costs ? "pays more" : "gets less"} than alone.`
+    : core?.collection ? "Whatever the division, some group could do better by itself." : "";
+  return text && el("p", { class: "ahead" }, text, el("span", { class: "hint" }, " The reason is below the table."));
+}
 
 /** Also on paper. `coarse` is what was done to the numbers; `odds` are remarks on them. */
 export function notices({ game, noImputation, core }, { apart }, coarse, odds = []) {
@@ -205,9 +213,9 @@ function extremes({ who, totals, texts, verb }) {
   const place = (isBetter) => totals.reduce((best, value, k) => (isBetter(value, totals[best]) ? k : best), 0);
   const most = place((value, other) => other.less(value)), least = place((value, other) => value.less(other));
   const isEven = totals[most].equals(totals[least]);
-  return el("p", { class: "lead" }, isEven ? `All ${who.length} ${verb.slice(0, -1)} the same, ${texts[0]}: `
-    : `${who[most]} ${verb} most, ${texts[most]}; ${who[least]} least, ${texts[least]}: `,
-  `${who.length} together ${texts.at(-1)}.`);
+  return el("p", { class: "lead" }, isEven ? `All ${who.length} ${verb.slice(0, -1)} the same, ${texts[0]} each: `
+    : `${who[most]} ${verb} most, ${texts[most]}, and ${who[least]} least, ${texts[least]}: all ${who.length} `,
+  `together ${texts.at(-1)}.`);
 }
 
 export function lead({ game }, { shares, key, title }, { rows, format }) {

@@ -65,8 +65,43 @@ export function beyondParts(sent, { format, today }) {
     }, { class: "quiet" })),
     isAll && todayTools(COSTS, today),
     isAll && typesTable(rows, points, format),
+    isAll && alikeTexts(beyond, format).map((text) => el("p", { class: "alike" }, text)),
+    isAll && feesTexts(beyond, format).map((text) => el("p", { class: "hint" }, text)),
     isAll && el("p", { class: "hint" }, SCALED),
     el("p", { class: "tools" }, csvButton("runway-calculated", tables, format)));
+}
+
+/** Why many pay alike by the nucleolus: those up to a cost share what of it isn't paid yet, and one part more if others
+ * need more. */
+function alikeTexts({ rows, points }, { show }) {
+  const point = points.find(({ key }) => key === "nucleolus"), order = rows.map((_, r) => r);
+  order.sort((one, other) => rows[one].cost.compare(rows[other].cost));
+  const told = [];
+  let paid = new Rational(0n);
+  while (point && order.length) {
+    const [first] = order, own = order.filter((r) => point.each[r].equals(point.each[first])), last = own.at(-1);
+    const count = own.reduce((sum, r) => sum + rows[r].count, 0), isLast = own.length === order.length;
+    const left = rows[last].cost.minus(paid), parts = Rational.of(count + (isLast ? 0 : 1));
+    if (!left.over(parts).equals(point.each[first])) return [];
+    const cost = paid.isZero() ? show(left) : `(${show(rows[last].cost)} − ${show(paid)})`;
+    if (own.length > 1) {
+      told.push(`All up to ${rows[last].label} pay alike: ${cost} / ${isLast ? count : `(${count} + 1)`} = `
+        + `${show(point.each[first])} a landing.`);
+    }
+    paid = paid.plus(point.each[first].times(Rational.of(count)));
+    order.splice(0, own.length);
+  }
+  return told;
+}
+
+/** What fees for a landing, rounded to the decimals that are shown, bring in. */
+function feesTexts({ rows, points }, { places, show, by }) {
+  return points.flatMap(({ title, each, totals }) => {
+    const fees = each.map((share, r) => roundedTo(share, places).times(Rational.of(rows[r].count)));
+    const [sum, whole] = [fees, totals].map((values) => Rational.sum(values)), rest = whole.minus(sum);
+    return rest.isZero() ? [] : [`${title}: at fees with ${places} decimals, all landings pay ${show(sum)}, which is `
+      + `${by(rest.abs())} ${rest.isNegative() ? "more" : "less"} than the cost of ${show(whole)}.`];
+  });
 }
 
 /** `own(row, r)` is what stands in the column of today; where the program answers too, that stands in its own table. */

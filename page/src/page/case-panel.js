@@ -13,6 +13,7 @@ import { landingsList } from "./landings-list.js";
 import { listGrid } from "./list-grid.js";
 import { marketGrid } from "./market-grid.js";
 import { networkGrid } from "./network-grid.js";
+import { numbered, shortened, withNames } from "../cases/mended-names.js";
 import { markChanged } from "./pinned.js";
 import { tableGrid } from "./table-grid.js";
 
@@ -31,10 +32,11 @@ export function casePanel(kind, typed, settings) {
   const element = el("div", { class: "case" },
     el("p", { class: "help" }, kind.help, el("span", { class: "screen" }, " You can paste from a spreadsheet.")),
     notes.map((note) => el("p", { class: "note" }, note)), coarse, grid, faults,
-    el("p", { class: "tools bottom" },
-      button("Clear all", () => onReset(cleared(kind, typed), "Clear all"), { class: "quiet" }),
-      button("Fill in the worked example", () => onReset(kind.example(), "Fill in the worked example"),
-        { class: "quiet" }), undo));
+    el("div", { class: "tools bottom" }, undo, el("details", { class: "inline more-tools" },
+      el("summary", {}, "More for the cells"), grid.more, el("p", { class: "tools" },
+        button("Clear all", () => onReset(cleared(kind, typed), "Clear all"), { class: "quiet" }),
+        button("Fill in the worked example", () => onReset(kind.example(), "Fill in the worked example"),
+          { class: "quiet" })))));
 
   /** Shows what the reading of the cells says. */
   function tell(reading) {
@@ -46,9 +48,9 @@ export function casePanel(kind, typed, settings) {
       reading.asked && sumQuestion(reading.asked, typed, settings),
       reading.mixed && mixedQuestion(reading.mixed, reading, settings),
       reading.either ? eitherQuestion(reading.either, settings) : !reading.mixed && doubtNotes(reading, settings),
-      emptyCells(reading, kind, grid), faultList(reading, grid), oddList(oddsOf(reading, typed), grid),
+      emptyCells(reading, kind, grid), faultList(reading, grid), nameHelp(reading, typed, settings), oddList(oddsOf(reading, typed), grid, () => onReset(lowered(typed, reading.odds), "Lower the links", true)),
       reading.isTooFine && finenessHelp(settings));
-    const isBeyond = reading.beyond && !reading.text; // more landings than a document has
+    const isBeyond = reading.beyond?.points && !reading.text; // more landings than a document has
     refill(made, reading.text && documentOf(kind, reading.text, typed, settings),
       isBeyond && landingsList(typed, reading.beyond, reading.settled ?? reading.mark));
   }
@@ -101,6 +103,15 @@ function undoButton(before, { onUndo }) {
   return button(title, () => onUndo(before), { class: "quiet" });
 }
 
+/** A way out for names that occur twice, or are too long. */
+function nameHelp({ faults }, typed, { onReset }) {
+  const isTwice = faults.some(({ sentence }) => sentence.includes("occurs twice"));
+  const isLong = faults.some(({ sentence }) => sentence.startsWith("A name has at most"));
+  const way = (title, change) => button(title, () => onReset(withNames(typed, change), title, true), { class: "quiet" });
+  return (isTwice || isLong) && el("p", { class: "tools" },
+    isTwice && way("Number the names that occur twice", numbered), isLong && way("Shorten the long names", shortened));
+}
+
 function faultList({ faults, count }, grid) {
   if (!count) return null;
   const items = faults.slice(0, MOST_FAULTS).map(({ cell, sentence }) => {
@@ -114,14 +125,25 @@ function oddsOf({ odds = [] }, { filled }) {
   return odds.filter(({ mask }) => !Array.isArray(filled) || !filled.includes(mask));
 }
 
-function oddList(odds, grid) {
+function oddList(odds, grid, onLower) {
   if (!odds.length) return null;
+  const isLower = odds.some(({ lower }) => lower);
   const items = odds.map(({ cell, sentence }) => {
     return el("li", {}, button(sentence, () => goTo(grid, cell), { class: "fault gentle" }));
   });
   const asked = odds.length > 1 ? "Are these numbers meant?" : "Is this number meant?";
-  return el("div", { class: "note" }, el("p", {}, asked),
-    el("ul", { class: "odds" }, items));
+  return el("div", { class: "note" }, el("p", {}, asked), el("ul", { class: "odds" }, items),
+    isLower && el("p", { class: "tools" }, button("Lower them to the cheapest way", onLower, { class: "quiet" })));
+}
+
+/** The links with the ways in the place of dearer ones. */
+function lowered(typed, odds) {
+  const links = { ...typed.links }, filled = { ...typed.filled };
+  for (const { cell, lower } of odds) {
+    const key = cell.split(".")[1];
+    [links[key], filled[key]] = [lower, "way"];
+  }
+  return { ...typed, links, filled };
 }
 
 /** Goes to a cell, also to one on another page of the groups. */

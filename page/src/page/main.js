@@ -43,6 +43,7 @@ function openCase(kind, typed, { before = null, notes = [], doubt = "", paper, .
   const now = session.kind && nowTyped();
   if (now) kept.set(session.kind, now);
   session.open(kind, typed, { ...settings, doubt });
+  at("desk").classList.remove("wide");
   view.clear(paper);
   panel = casePanel(kind, typed, {
     ...asked(kind), before, notes: doubt ? [doubt, ...notes] : notes,
@@ -50,6 +51,7 @@ function openCase(kind, typed, { before = null, notes = [], doubt = "", paper, .
       isUnsaved = session.isTyped = true;
       session.changed(wait);
     },
+    onWide: (isWide) => at("desk").classList.toggle("wide", isWide),
     onReset: (next, what, isSame = false) => {
       const { entry, isTyped, pinned } = session, marks = isSame ? { entry, isTyped, pinned } : {};
       openCase(kind, next, { ...marks, before: { what, ...nowTyped() } });

@@ -7,13 +7,17 @@ const SUBTITLES = {
   shapley: "average over all orders of joining",
   core: "one of many; proposes nothing",
   bird: "each pays its own link",
+  proportion: "the same part of each claim",
   buyers: "the lowest prices",
   sellers: "the highest prices",
   proposal: "to be judged",
 };
 
+const RULES = { bankruptcy: "the Talmud’s rule", airport: "Littlechild’s rule" };
+
 /** What stands below the title of a column. */
-export function subtitleOf(key, { perHead }) {
+export function subtitleOf(key, { perHead, kind }) {
+  if (key === "nucleolus" && !perHead && RULES[kind]) return RULES[kind];
   return key === "nucleolus" && perHead ? "best for those who gain least, per member" : SUBTITLES[key];
 }
 
@@ -29,6 +33,8 @@ const MEANINGS = {
   core: "A core point is a division by which no group does better by itself. This is one of many, so it says "
     + "nothing about who deserves what.",
   bird: "Bird’s shares let each place pay the link by which the cheapest network reaches it (Bird 1976).",
+  proportion: "In proportion: each gets the same part of its claim, as insolvency law commonly has it. The page itself "
+    + "calculates this column.",
   buyers: "The two ends of the market: the lowest and the highest prices by which no buyer and seller do better "
     + "together (Shapley and Shubik 1971).",
 };

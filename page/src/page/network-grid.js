@@ -8,6 +8,8 @@ import { button, cellOf, el, refill } from "./dom.js";
 import { noLinkHelp } from "./no-link.js";
 
 const WAIT = 150; // milliseconds between the last key and filling anew
+const DENSE = 6; // places from which the grid is set in smaller letters
+const WIDE = 29; // rem of a grid that fit into the narrower column
 const REFILL = 60000; // the question waits for what is filled anew
 
 /** `asTable(typed, notes)` opens a table of costs that was made of the network; `help(task, what)` asks a worker. */
@@ -16,8 +18,8 @@ export function networkGrid(kind, typed, settings) {
 }
 
 class NetworkGrid {
-  constructor(kind, typed, { mark, onChange, readCells, help, asTable, remember }) {
-    Object.assign(this, { kind, typed, mark, onChange, remember });
+  constructor(kind, typed, { mark, onChange, onWide, readCells, help, asTable, remember }) {
+    Object.assign(this, { kind, typed, mark, onChange, onWide, remember });
     this.said = el("p", { class: "note", role: "status" });
     this.holder = el("div", { class: "scroll" });
     this.tools = el("p", { class: "tools" });
@@ -46,8 +48,9 @@ class NetworkGrid {
     const { typed } = this, places = typed.names.map((name, i) => withEscapes(name) || `Place ${i + 1}`);
     const names = [sourceName(typed), ...places];
     const ends = names.slice(0, -1), none = el("td", { class: "tool" });
+    const isDense = ends.length >= DENSE, digits = Math.max(4, ...Object.values(typed.links).map(({ length }) => length));
     const titles = ends.map((name, j) => {
-      return el("th", { scope: "col", class: "number" }, "to ", j ? name : this.sourceInput());
+      return el("th", { scope: "col", class: "number" }, !isDense && "to ", j ? name : this.sourceInput());
     });
     const rows = typed.names.map((name, k) => el("tr", {},
       el("th", { scope: "row" }, this.nameInput(name, k)),
@@ -55,7 +58,11 @@ class NetworkGrid {
         return el("td", {}, j <= k && this.linkInput(j, k + 1, `Link between ${names[k + 1]} and ${other}`));
       }),
       el("td", { class: "tool" }, typed.names.length > 1 && this.removal(k, names[k + 1]))));
-    refill(this.holder, el("table", { class: "grid matrix" },
+    // a wide grid takes more of the desk
+    const source = Math.min(11, Math.max(digits, sourceName(typed).length));
+    this.onWide(isDense && 7 + source * 0.5 + 0.75 + (ends.length - 1) * (digits * 0.49 + 0.75) > WIDE);
+    const style = `--digits: ${digits}; --source: ${source}`;
+    refill(this.holder, el("table", { class: `grid matrix${isDense ? " dense" : ""}`, style },
       el("thead", {}, el("tr", {}, el("th", { scope: "col" }, "A link from"), titles, none)), el("tbody", {}, rows)));
     refill(this.tools, typed.names.length < this.kind.most
       ? button("Add a place", () => this.add(), { class: "quiet" })

@@ -35,7 +35,8 @@ function keptOf({ names, sums = [], shares }, key, rows, format) {
   const steps = format.steps(shares[key].map(Rational.of), own), unit = new Rational(10n ** BigInt(format.places));
   const place = new Map(names.map((name, k) => [name, k])), valueOf = (step) => new Rational(step).over(unit);
   const values = rows.map(({ label }) => (place.has(label) ? valueOf(steps[place.get(label)]) : null));
-  return { values, sum: valueOf(withSum(steps).at(-1)) };
+  const exact = rows.map(({ label }) => (place.has(label) ? Rational.of(shares[key][place.get(label)]) : null));
+  return { values, exact, sum: valueOf(withSum(steps).at(-1)) };
 }
 
 /** What a saved case has of it: the old texts of the cells that have changed since, beside what was kept. */
@@ -89,19 +90,23 @@ export function markChanged(element, changed) {
   }
 }
 
-/** How much more a share is than the kept one by the same rule, in small print. */
-export function sinceKept(step, kept, format) {
-  if (!kept) return null;
-  return format.text(step) === format.show(kept) ? el("small", { class: "same" }, "as before")
-    : changeBelow(step, kept, format);
+/** How much more a row has than the kept one by the same rule, in small print. The rounding that makes all add up is
+ * no change. */
+export function sinceKept(step, total, kept, r, format) {
+  const before = kept?.values[r];
+  if (!before) return null;
+  const isSame = format.text(step) === format.show(before) || total.equals(kept.exact[r]);
+  return isSame ? el("small", { class: "same" }, "as before") : changeBelow(step, before, format);
 }
 
 /** Who bears the change, in sentences: by the first rule, for the numbers that are shown. */
 export function pinnedText({ changed, gone, kept }, { points: [first] }, rows, { format, labelOfCell }) {
-  const before = kept(first.key, format)?.values ?? rows.map(() => null);
-  const steps = format.steps(totalsOf(rows, first.shares), rows), unit = new Rational(10n ** BigInt(format.places));
+  const { values: before = rows.map(() => null), exact = [] } = kept(first.key, format) ?? {};
+  const totals = totalsOf(rows, first.shares);
+  const steps = format.steps(totals, rows), unit = new Rational(10n ** BigInt(format.places));
   const by = rows.map((_, r) => before[r] && new Rational(steps[r]).over(unit).minus(before[r]));
-  const told = rows.map(({ label }, r) => by[r] && !by[r].isZero() && signed(label, by[r], format)).filter(Boolean);
+  const isOther = (r) => by[r] && !by[r].isZero() && !totals[r].equals(exact[r]);
+  const told = rows.map(({ label }, r) => isOther(r) && signed(label, by[r], format)).filter(Boolean);
   const fresh = rows.filter((_, r) => !before[r]).map(({ label }) => label), known = rows.length - fresh.length;
   const cells = (changed ?? []).slice(0, MOST_NAMED).map(({ cell, before: old, after }) => {
     return `${labelOfCell(cell)}: ${withEscapes(old) || "empty"} → ${withEscapes(after) || "empty"}`;

@@ -1,14 +1,15 @@
 // The table of the answer: a row for each who pays or gets, a column for each division, and what is asked of them.
 import { Rational } from "../exact/rational.js";
 import { fractionText } from "../exact/decimals.js";
+import { votesText } from "../draw/ranges.js";
 import { listed, Namer, plural } from "../tell/words.js";
 import { againstOf } from "./comparison.js";
-import { button, copy, el } from "./dom.js";
+import { el } from "./dom.js";
 import { labelOf, movedText, totalsOf, withSum } from "./format.js";
 import { subtitleOf } from "./meanings.js";
 import { pinnedNote, pinTools, sinceKept } from "./pinned.js";
 import { ownInput, proposalSum } from "./proposal-cells.js";
-import { airlineLines, roundingLines, shareLines, tabbed } from "./table-lines.js";
+import { airlineLines, roundingLines, shareLines } from "./table-lines.js";
 import { changeBelow, todayTitle } from "./today.js";
 
 const BRIEF = 8; // rows that are kept on one printed page
@@ -21,7 +22,7 @@ export function sharesTable(result, settings) {
   const context = contextOf(game, rows, format);
   const columns = points.map((point) => {
     const steps = format.steps(totalsOf(rows, point.shares), rows);
-    return { ...point, steps, texts: withSum(steps).map(format.text) };
+    return { ...point, steps, texts: format.texts(withSum(steps)) };
   });
   const against = againstOf(points[0], rows, proposal, format), isNarrow = settings.wide < NARROW;
   const beside = [proposal.canBe, against, settings.today.texts, settings.pinned?.pin].filter(Boolean);
@@ -32,7 +33,6 @@ export function sharesTable(result, settings) {
   const isOwn = proposal.texts?.some(Boolean) || settings.typed.isProposing;
   const kinds = ["shares", isOwn ? "proposing" : "", pinned?.pin ? "comparing" : "",
     proposal.totals ? "" : "unproposed", rows.length <= BRIEF ? "brief" : ""];
-  const copied = (event) => copy(tabbed(tablesOf(result, settings)[0]), event.target);
   return el("div", {},
     pinned && pinnedNote(pinned, result, rows, settings),
     el("div", { class: "scroll" }, el("table", { class: kinds.filter(Boolean).join(" ") },
@@ -40,10 +40,17 @@ export function sharesTable(result, settings) {
       footOf(view))),
     proposal.shares && sameAs(points, proposal.shares),
     el("div", { class: "tools" }, pinned && pinTools(pinned),
-      button("Copy the table", copied, { class: "quiet" }),
-      columns.some(({ shares }) => format.isMoved(totalsOf(rows, shares), rows))
-        && el("details", { class: "inline hint moved" }, el("summary", {}, "Rounded so that they add up"),
-          el("p", {}, `${movedText(rows)} The exact shares are in small print.`))));
+      isMoved(points, rows, format) && el("span", { class: "hint" }, "Rounded so that the shares add up.")));
+}
+
+function isMoved(points, rows, format) {
+  return points.some(({ shares }) => format.isMoved(totalsOf(rows, shares), rows));
+}
+
+/** How the shares were rounded, if some were moved so that all add up; it belongs to the reasons. */
+export function roundingPart({ points }, { rows, format }) {
+  return isMoved(points, rows, format) && el("details", { class: "meanings moved screen" },
+    el("summary", {}, "How the shares are rounded"), el("p", {}, `${movedText(rows)} The exact shares are in small print.`));
 }
 
 /** Why there is no column of the prenucleolus. */
@@ -95,7 +102,7 @@ function shareRow({ row, r }, view) {
     pinned?.pin && el("td", { class: "number kept" }, kept(columns[0].key) ? format.show(kept(columns[0].key)) : "–"),
     columns.map(({ key, texts, steps, shares }, k) => {
       const changes = [changeOf(steps[r], r, today, format),
-        sinceKept(steps[r], kept(key), format)];
+        sinceKept(steps[r], shares[row.players[0]].times(Rational.of(count)), view.kept.get(key), r, format)];
       return shareCell(texts[r], shares[row.players[0]], count, format, changes, kindOf(key, k));
     }),
     proposal.canBe && el("td", { class: "number proposed" },
@@ -190,8 +197,8 @@ export function contextOf(game, rows, { show, column }) {
   const of = (values, title) => ({ title, texts: rows.map(({ players: [i] }) => show(values[i])) });
   const votes = game.ballots?.[0].votes;
   if (votes) {
-    const texts = rows.map(({ players: [i] }) => String(votes[i]));
-    return { title: "Votes", texts, sum: String(Rational.sum(votes)) };
+    const texts = rows.map(({ players: [i] }) => votesText(votes[i]));
+    return { title: "Votes", texts, sum: votesText(Rational.sum(votes)) };
   }
   if (game.kind === "bankruptcy") {
     const texts = column(rows.map(({ players: [i] }) => game.amounts[i]));

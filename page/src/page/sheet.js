@@ -12,6 +12,7 @@ import { ruleFile, sourceOf } from "../tell/rule-names.js";
 import { listed, Namer } from "../tell/words.js";
 import { lead, notices, solutionOf } from "./answer.js";
 import { beyondSheet } from "./beyond.js";
+import { beyondPower } from "./beyond-power.js";
 import { el, refill } from "./dom.js";
 import { knownDigest } from "./files.js";
 import { fitOnPaper } from "./fit.js";
@@ -39,13 +40,12 @@ const MOST_ALONE = 900; // the same where there is no picture
 const OPEN = "Open coop.html from the project’s repository, at the commit named below (the sender has to give "
   + "you its address)";
 const TYPE_IN = " Or simply type the numbers into that page: the answer has to be the same.";
-const AREA = "The dark area, if there is one: the divisions by which no group could do better by itself.";
-const OF_FILE = " That is of the file, and not of the box below, in which the same numbers stand as this page writes "
-  + "them.";
-const OF_TEXT = " That is of the file: of the text in the box below, with an end of line behind it.";
-const POWER = "Power is in what part of all orders of joining a voter is the one by whom the votes suffice (Shapley "
-  + "and Shubik 1954).";
-const PRICES = "By the pairs that gain most together, and the prices at which no other pair does better.";
+const AREA = "The dark area, if there is one, has the divisions by which no group could do better by itself.";
+const OF_FILE = " That is the SHA-256 of the file. The box below has the same numbers as this page writes them.";
+const OF_TEXT = " That is the SHA-256 of the text in the box below, with a line end after it.";
+const POWER = "A voter’s power is the part of all orders of joining in which it is the voter who makes the votes "
+  + "sufficient (Shapley and Shubik 1954).";
+const PRICES = "The pairs are those that gain most together. At these prices no other pair does better.";
 
 /** Fills the sheet with the answer of a session, and gives the number of sheets of paper that it takes; leaves it empty
  * where there is no answer. */
@@ -61,7 +61,8 @@ function fillSheet(sheet, session, typed) {
     const format = formatOf(session.places, session.mark), today = todayOf(session, result.beyond.rows);
     const view = { ...session, ...typed, format, today };
     sheet.className = "tight";
-    refill(sheet, headOf(view), beyondSheet(result.beyond, view));
+    const { beyond } = result;
+    refill(sheet, headOf(view), beyond.power ? beyondPower(beyond, { format, wide: WIDE }) : beyondSheet(beyond, view));
     return;
   }
   if (!result || result.refusal || !result.points.length) {
@@ -281,7 +282,7 @@ function reasonsOf({ result, pair, rows, format }) {
   const [principle, next] = reasons, levels = reasons.filter(({ isLevel }) => isLevel).length;
   const sentences = [...principle.sentences, ...(next ? toldOf(next) : [])], behind = levelsBehind(reasons, next);
   if (next?.isLevel && levels > 1 && !behind.length) {
-    sentences.push(`So the first of ${levels} levels; the certificate has them all.`);
+    sentences.push(`That is the first of ${levels} levels. The certificate has all of them.`);
   }
   const isCore = points.find(({ key }) => key === answer)?.verdict?.isCore;
   const saved = savingsText(game, points[0], rows, format);
@@ -319,10 +320,10 @@ function toldOf({ sentences, items, last = "" }) {
 /** The numbers by the file that was opened, while they are its own; else by that which the page writes of them. */
 function numbersOf({ file, kind, coarse, result: { text } }) {
   const isOpened = file?.made === text, digest = isOpened ? file.digest : knownDigest(`${text}\n`);
-  const sum = el("span", { class: "digest" }, digest ?? "(this browser works out none)");
-  if (isOpened) return [`The numbers of the game, as they stand in ${file.name}: its SHA-256 is `, sum, "."];
+  const sum = el("span", { class: "digest" }, digest ?? "(this browser can’t calculate it)");
+  if (isOpened) return [`The numbers of the game are in the file ${file.name}. Its SHA-256 is `, sum, "."];
   const { game: own } = fileNames(kind.id, coarse);
-  return [`The numbers of the game, as this page writes them in a file of its own, ${own}: its SHA-256 is `, sum, ".",
+  return [`The numbers of the game are in a file that this page writes, ${own}. Its SHA-256 is `, sum, ".",
     file && ` Numbers were changed since ${file.name} was opened.`];
 }
 
@@ -353,8 +354,8 @@ function checkOf({ result: { rule, answer, line, game }, kind, doubt, coarse }) 
   const steps = line && !game.ballots
     ? `${OPEN}, choose “Check an answer”, and give it the agreed file and the line with the certificate, `
       + `${fileNames(kind.id, coarse).line}-${ruleFile(answer, game.perHead)}.json. `
-      + `Two checkers, apart from each other, say whether these shares are the ${rule} of the agreed game. `
-      + "It goes by hand, too: the page lists the eight conditions under “What a yes means”."
+      + `Two independent checkers say whether these shares are the ${rule} of the agreed game. `
+      + "You can check by hand, too: the page lists the eight conditions under “What a yes means”."
     : `${OPEN}, choose “Open a saved case”, and give it the agreed file: it works the answer out anew.`;
   return el("section", {}, el("h2", {}, "How to check it"), el("p", {}, steps, TYPE_IN),
     el("p", { class: "hint" }, foot));

@@ -9,7 +9,8 @@ import { headingOf, numbersIn } from "../cases/vectors.js";
 import { plural } from "../tell/words.js";
 import { pasteBox } from "./paste-box.js";
 
-const PAGE = 63; // all groups of six players
+const MOST_WHOLE = 6; // players whose groups are all shown
+const PAGE = 42; // groups of more players that are shown at a time
 const WAIT = 150; // milliseconds between the last key and filling anew
 const REFILL = 60000; // the question waits for what is filled anew
 const SIZES = ["", "Alone", "Two together", "Three together", "Four together", "Five together", "Six together"];
@@ -27,7 +28,8 @@ class TableGrid {
     });
     this.message = el("div", { class: "note", role: "status" });
     Object.assign(this, { players, pages, tools, list, fills, start: 0, wanted: "" });
-    this.element = el("div", {}, players, this.message, pages, list, fills, tools);
+    this.element = el("div", {}, players, this.message, pages, list, fills);
+    this.element.more = tools;
     this.order = masksBySize(typed.names.length);
     this.element.addEventListener("show-cell", ({ detail }) => this.showCell(detail));
     moveByKeys(list, (cell, step) => `numbers.${this.order[this.placeOf(cell) + step]}`);
@@ -105,7 +107,7 @@ class TableGrid {
   showGroups() {
     this.showFills();
     const bySize = new Map(), { names } = this.typed;
-    for (const mask of this.found().slice(this.start, this.start + PAGE)) {
+    for (const mask of this.found().slice(this.start, this.start + this.page())) {
       const count = membersOf(mask).length;
       bySize.set(count, [...(bySize.get(count) ?? []), mask]);
     }
@@ -176,7 +178,7 @@ class TableGrid {
   // ---- Tools
 
   showTools() {
-    refill(this.pages, this.order.length > PAGE && this.pager());
+    refill(this.pages, this.typed.names.length > MOST_WHOLE && this.pager());
     refill(this.tools,
       pasteBox((text, order, close) => this.takeList(text, order, close)),
       button("Copy the list", (event) => copy(this.spreadsheet(), event.target), {
@@ -229,6 +231,11 @@ class TableGrid {
     if (mine === this.filling) this.say(notes.join(" "), namedGroups(above));
   }
 
+  /** How many groups are shown at a time. */
+  page() {
+    return this.typed.names.length > MOST_WHOLE ? PAGE : this.order.length;
+  }
+
   pager() {
     const masks = this.found(), last = Math.floor(Math.max(0, masks.length - 1) / PAGE) * PAGE;
     const turn = (by) => () => this.go(Math.max(0, Math.min(this.start + by, last)));
@@ -259,7 +266,7 @@ class TableGrid {
     const place = this.order.findIndex((mask) => !(this.typed.numbers[mask] ?? "").trim());
     if (place < 0) return this.say("No group is empty.");
     this.wanted = "";
-    this.go(Math.floor(place / PAGE) * PAGE);
+    this.go(Math.floor(place / this.page()) * this.page());
     return cellOf(this.list, `numbers.${this.order[place]}`)?.focus();
   }
 
@@ -268,7 +275,7 @@ class TableGrid {
     const place = this.placeOf(cell);
     if (!cell.startsWith("numbers.") || place < 0) return;
     this.wanted = "";
-    this.go(Math.floor(place / PAGE) * PAGE);
+    this.go(Math.floor(place / this.page()) * this.page());
   }
 
   spreadsheet() {

@@ -94,7 +94,7 @@ class LevelReader {
     if (!coalitions.length) this.form("A level has at least one coalition.", `${place}, coalitions`);
     earlier.forEach((mask, k) => {
       const where = `${place}, earlier, item ${k + 1}`;
-      if (mask !== null && !listed.has(mask)) this.form("This coalition stands in no level in front.", where);
+      if (mask !== null && !listed.has(mask)) this.form("No earlier level lists this coalition.", where);
     });
     for (const mask of coalitions) listed.add(mask);
     return undefined;

@@ -56,7 +56,7 @@ class NumberReader {
   fraction(item, place) {
     const shown = withEscapes(item.slice(0, 30));
     if (!this.hasFractions) {
-      return this.add(3, `“${shown}” stands in quotes; fractions need "version":2 in the game.`, place);
+      return this.add(3, `“${shown}” is in quotes. Fractions need "version":2 in the game.`, place);
     }
     const slip = fractionSlip(item);
     if (slip) return this.add(5, slip, place);

@@ -3,6 +3,7 @@ import { lcm, Rational } from "../exact/rational.js";
 import { cellNumber, shortText, typedText } from "../exact/decimals.js";
 import { sourceName } from "../cases/matrices.js";
 import { withEscapes } from "../game/names.js";
+import { plural } from "../tell/words.js";
 
 /** The costs that were typed, by "i-j", those of empty cells being null; or a fault in words. */
 function linksOf({ names, links, mark }) {
@@ -51,16 +52,15 @@ export function fillLinks({ names, links, source, mark, only = null }) {
       }
     }
   }
-  return { links: filled, ways: made, notes: notesOf(told, lacking) };
+  return { links: filled, ways: made, told, notes: notesOf(told, lacking) };
 }
 
 function notesOf(told, lacking) {
   const notes = [];
   if (told.length) {
-    notes.push(`Filled by the cheapest way through the others: ${told.join("; ")}. `
-      + "If several detours of a group share a stretch, this counts the stretch more than once, and rewards the "
-      + "place that it leads through. Then make a table of costs. These links are marked, and follow when another "
-      + "number changes.");
+    notes.push(`${plural(told.length, "link was", "links were")} filled by the cheapest way through the others. They are `
+      + "marked, and follow when another number changes. If several detours of a group share a stretch, the stretch "
+      + "counts more than once, and the place that it leads through is rewarded. Then make a table of costs.");
   }
   if (lacking.length) notes.push(`No way leads there: ${lacking.join("; ")}.`);
   return notes.length ? notes : ["No link is empty."];

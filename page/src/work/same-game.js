@@ -36,7 +36,7 @@ function told(line, agreed) {
   try {
     return verdict(line, agreed);
   } catch {
-    return { isYes: null, sentence: "Nobody can say: one of the two games hasn’t the form of a game." };
+    return { isYes: null, sentence: "Nobody can say: one of the two games doesn’t have the form of a game." };
   }
 }
 
