@@ -156,7 +156,7 @@ export const tables = [
   }],
 
   ["per head", "gains", async (page, expect) => {
-    await page.run(`(() => { const choice = document.querySelector('[data-cell="measure"]'); choice.value = "per-head"; choice.dispatchEvent(new Event("change")); })()`);
+    await page.choose("measure", "per-head");
     await settle(page);
     expect("told", await page.text("#why"), /counted per member/);
     expect("document", await page.run("document.querySelector('.made pre').textContent"), /"excess":"per-head"/);
@@ -223,7 +223,7 @@ export const tables = [
 
   ["a vector of another program, in both orders", "gains", async (page, expect) => {
     for (const [order, wanted] of [["size", /4.50, .*4.50 .*3.00/], ["mask", /2.00, .*2.00 .*8.00/]]) {
-      if (!(await page.run("document.querySelector('details.inline').open"))) await page.click("Paste a whole list");
+      if (!(await page.run("document.querySelector('.more-tools details').open"))) await page.click("Paste a whole list");
       await page.fill("details.inline textarea", "0\n0\n0\n6\n2\n2\n12");
       await page.run(`document.querySelector("details.inline select").value = "${order}"`);
       await page.click("Use this list");

@@ -30,7 +30,8 @@ const PER_HEAD = '{"answer":"nucleolus","certificate":{"levels":[{"bounds":[],"c
 
 async function perHead(page, expect) {
   const text = await give(page, PER_HEAD);
-  expect("the headline", text, /The shares are the nucleolus per head of the game in the line, an estate of 200.00. See that/);
+  expect("the headline", text,
+    /The shares are the nucleolus per head of the game in the line, an estate of 200.00. See that/);
   expect("what the line says", text, /the nucleolus per head of an estate of 200.00, for 3 players/);
   expect("claims beside", text, /Who gets\s+Claim\s+By the line\s+A\s+100.00\s+33.34/);
   expect("rounding", text, /Rounded so that they add up/);

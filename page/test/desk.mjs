@@ -71,7 +71,8 @@ export const desk = [
     expect("refused", await page.text("#case .note"), "A – B has two costs: 5 and 6. Nothing was taken.");
     await page.paste('[data-cell="names.0"]', "\tA\tB\tC\nA\t\t5\t9\nB\t5\t\t8\nC\t9\t8\t");
     const asked = await told(page, "#case .note", /Which point is the source/);
-    expect("asked", asked, /Taken as a square with names: 3 points, 3 links\. Nothing says which point is the source\./);
+    expect("asked", asked,
+      /Taken as a square with names: 3 points, 3 links\. Nothing says which point is the source\./);
     await page.until("document.getElementById('answer').hidden"); // no answer before
     await page.click("C", "document.querySelector('#case .note')");
     await settle(page);

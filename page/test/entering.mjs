@@ -8,7 +8,7 @@ const MESSAGE = "#case .note[role=status]";
 const message = (page) => page.text(MESSAGE);
 
 async function useList(page, text, order = "size") {
-  if (!(await page.run("document.querySelector('details.inline').open"))) await page.click("Paste a whole list");
+  if (!(await page.run("document.querySelector('.more-tools details').open"))) await page.click("Paste a whole list");
   await page.fill("details.inline textarea", text);
   await page.run(`document.querySelector("details.inline select").value = "${order}"`);
   await page.click("Use this list");

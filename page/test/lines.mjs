@@ -120,7 +120,8 @@ expect("a group by its names", lookAtLine({ line: byName, agreed: byMask.replace
   /^No. The group a \+ b: the line has 4, the agreed file 5.$/);
 const many = `{"game":{"class":"airport","costs":[${Array.from({ length: 30 }, (_, k) => k)}]}}`;
 const others = `{"game":{"class":"airport","costs":[${Array.from({ length: 30 }, (_, k) => k + 1)}]}}`;
-expect("ten places, and how many more", lookAtLine({ line: many, agreed: others }, ask).same.items.join(), /20 more places/);
+expect("ten places, and how many more", lookAtLine({ line: many, agreed: others }, ask).same.items.join(),
+  /20 more places/);
 
 // ---- Names
 

@@ -12,6 +12,7 @@ import { desk } from "./desk.mjs";
 import { checking, documents } from "./documents.mjs";
 import { entering } from "./entering.mjs";
 import { failing } from "./failing.mjs";
+import { figures } from "./figures.mjs";
 import { Harness } from "./harness.mjs";
 import { landings } from "./landings.mjs";
 import { lawyer } from "./lawyer.mjs";
@@ -32,6 +33,7 @@ const program = resolve(option("--program", join(top, "crates", "coop_program", 
 harness.add(large(slack, told));
 harness.add(desk);
 harness.add(users);
+harness.add(figures);
 for (const some of [entering, assumed, saying, lecture, landings, bothWays, casesTyped, tables, otherCases,
   documents(top, program), checking(top), checks(top), letters(top), lawyer(top), failing(page, top), looks, access,
   precise]) {

@@ -15,7 +15,7 @@ async function savedNames(page) {
 
 export const saying = [
   ["per head is said wherever the rule is named", "gains", async (page, expect) => {
-    await page.run(`(() => { const choice = document.querySelector('[data-cell="measure"]'); choice.value = "per-head"; choice.dispatchEvent(new Event("change")); })()`);
+    await page.choose("measure", "per-head");
     await settle(page);
     const column = /Nucleolus per head\s+best for those who gain least, per member/;
     expect("column", await page.text(".shares thead"), column);
@@ -38,7 +38,8 @@ export const saying = [
     await page.until("document.querySelector('#verify .lead')");
     const checked = /The shares are the nucleolus per head of the game in the line/;
     expect("checked", await page.text("#verify .lead"), checked);
-    expect("and its line", await page.text("#verify .answers"), /What the line says: the nucleolus per head, for 3 players/);
+    expect("and its line", await page.text("#verify .answers"),
+      /What the line says: the nucleolus per head, for 3 players/);
   }],
 
   ["a proposal that the page fills in is whole", "gains", async (page, expect) => {

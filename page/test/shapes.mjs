@@ -2,6 +2,8 @@
 // what the page's modules make of them, against what was written down or found by plain searches.
 import { cellsOf } from "../src/cases/pasting.js";
 import { cellsOfNetwork, networkOf, withSource } from "../src/cases/links.js";
+import { detoursOf } from "../src/cases/detours.js";
+import { numbered, shortened } from "../src/cases/mended-names.js";
 import { oddsOf } from "../src/cases/odds.js";
 import { coreOfFour } from "../src/draw/core-of-four.js";
 import { Rational } from "../src/exact/rational.js";
@@ -19,11 +21,11 @@ function expect(what, found, wanted) {
 
 const P = ["Reservoir", "Alby", "Brook", "Carle"], LAST = ["Alby", "Brook", "Carle", "Reservoir"];
 const COSTS = { "0-1": 10, "0-2": 12, "0-3": 14, "1-2": 55, "1-3": 6, "2-3": 7 };
-const cost = (one, other) => COSTS[[P.indexOf(one), P.indexOf(other)].sort((a, b) => a - b).join("-")];
+const priceOf = (one, other) => COSTS[[P.indexOf(one), P.indexOf(other)].sort((a, b) => a - b).join("-")];
 const text = (rows) => rows.map((row) => row.join("\t")).join("\n");
-const full = (names, own) => names.map((one) => names.map((other) => (one === other ? own : cost(one, other))));
+const full = (names, own) => names.map((one) => names.map((other) => (one === other ? own : priceOf(one, other))));
 const headed = (names, block, corner = "") => [[corner, ...names], ...block.map((row, i) => [names[i], ...row])];
-const half = (is, blank = "") => P.map((one, i) => P.map((other, j) => (is(i, j) ? cost(one, other) : blank)));
+const half = (is, blank = "") => P.map((one, i) => P.map((other, j) => (is(i, j) ? priceOf(one, other) : blank)));
 const listed = Object.entries(COSTS).map(([key, price]) => [...key.split("-").map((i) => P[i]), price]);
 
 const SHAPES = {
@@ -67,6 +69,35 @@ const moved = withSource({ source: "S", names: ["A", "B"], links: { "0-1": "1", 
 expect("another source", `${moved.source} ${moved.names} ${JSON.stringify(moved.links)}`,
   'B S,A {"1-2":"1","0-1":"2","0-2":"3"}');
 
+// ---- Sums, loose ends, and what can be read in two ways
+
+const readOf = (rows) => networkOf(cellsOf(text(rows))), withHeads = [["From", "To", "Cost"], ...listed];
+for (const sum of [["Total", "", 104], ["", "", 104], ["Total cost", "", 104]]) {
+  const found = readOf([...withHeads, sum]);
+  expect(`${sum}: points`, found.points.length, 4);
+  expect(`${sum}: left out`, found.left.length, 1);
+}
+const summed = readOf([...headed(P, full(P, "")).map((row, i) => [...row, i ? 99 : "Sum"]), ["Total", 9, 9, 9, 9, 9]]);
+expect("a row and a column of sums", `${summed.points.length} ${summed.left}`, "4 “Sum”, a sum,“Total”, a sum");
+expect("one end only", readOf([withHeads[0], ["Alby", "", 7], ...listed]).fault, /“Alby; 7” a link has one end only/);
+const lengths = listed.map(([one, other, price], k) => [one, other, price * (k + 2), price]);
+expect("two columns of numbers", readOf(lengths).fault, /Two columns are numbers/);
+expect("row numbers", Object.values(readOf(listed.map((row, k) => [...row, k + 1])).links).join(), "10,12,14,55,6,7");
+expect("a source that nothing names", readOf(headed(["A", "B"], [["", 3], [3, ""]])).isSure, false);
+
+// ---- Names that are mended, and links dearer than a detour
+
+expect("numbered", numbered(["A", "B", "A", "A 2", "A"]).join(), "A,B,A 3,A 2,A 4");
+const long = shortened(["x".repeat(80), "x".repeat(90), "Bee"]);
+expect("shortened", long.map((name) => Buffer.byteLength(name) <= 64).join(), "true,true,true");
+expect("and not the same", new Set(long).size, 3);
+const link = { "0-1": 5, "0-2": 3, "1-2": 1 };
+const cost = (i, j) => Rational.of(link[[i, j].sort().join("-")]);
+const detours = (filled) => detoursOf({ filled, n: 2, cost, nameOf: (i) => "SAB"[i], mark: "." });
+expect("a detour", JSON.stringify(detours({ "0-2": "way" })),
+  '[{"cell":"links.0-1","lower":"4","sentence":"A – S costs 5, more than the way by B: 4"}]');
+expect("none where no way was filled", detours({}).length, 0);
+
 // ---- Numbers that can hardly be meant
 
 const odds = (numbers, isCost) => oddsOf(numbers.map((one) => (one === null ? undefined : Rational.of(one))), 3, {
@@ -77,6 +108,10 @@ expect("dearer than apart", odds([null, 8, 7, 20, 6, 10, 10, 12], true), "3");
 expect("cheaper than a part", odds([null, 8, 7, 10, 6, 10, 10, 5], true), "7");
 expect("gains that fit", odds([null, 1, 2, 4, 0, 2, 3, 9], false), "");
 expect("gains less than apart", odds([null, 4, 4, 6, 0, 5, 5, 12], false), "3");
+
+const many = Array.from({ length: 2 ** 12 }, (_, mask) => Rational.of(mask.toString(2).split("1").length - 1));
+many[2 ** 11] = Rational.of(9);
+expect("one of twelve players", oddsOf(many, 12, { isCost: true, nameOf: String }).map(({ mask }) => mask).join(), 2 ** 11);
 
 // ---- The core of four players
 

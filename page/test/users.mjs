@@ -6,9 +6,11 @@ import { lineOf } from "./program.mjs";
 const SAID = "document.querySelector('#verify .answers .word')"
   + " && ![...document.querySelectorAll('#verify .word.busy')].some((word) => word.textContent.includes('at work'))";
 const some = '"sparse":[[["Ann"],100],[["Bob"],100],[["Cem"],100],[["Ann","Bob"],150],[["Ann","Bob","Cem"],210]]';
-const sparse = (rest) => `{"game":{"class":"cost-table","default":${rest},"names":["Ann","Bob","Cem"],"players":3,${some}}}`;
+const three = '"names":["Ann","Bob","Cem"],"players":3';
+const sparse = (rest) => `{"game":{"class":"cost-table","default":${rest},${three},${some}}}`;
 const network = (back) => `{"game":{"class":"tree","matrix":[[0,5,8],[5,0,3],[8,${back},0]]}}`;
-const estateOf = (amount) => `{"game":{"class":"bankruptcy","claims":[40,60],"estate":${amount},"names":["Ida","Jan"]}}`;
+const claims = '"claims":[40,60],"names":["Ida","Jan"]';
+const estateOf = (amount) => `{"game":{"class":"bankruptcy",${claims},"estate":${amount}}}`;
 
 async function checked(page, line, agreed) {
   await giveLine(page, line, agreed);
@@ -19,12 +21,14 @@ async function checked(page, line, agreed) {
 async function otherGames(page, expect) {
   const forged = lineOf("nucleolus", sparse(115));
   const found = await checked(page, forged, sparse(160));
-  expect("another default", found, /^The shares are the nucleolus of the game in the line.*But that isn’t the agreed game/);
+  expect("another default", found,
+    /^The shares are the nucleolus of the game in the line.*But that isn’t the agreed game/);
   expect("which", found, /every group that isn’t listed: the line has 115, the agreed file 160/i);
   const right = await checked(page, lineOf("nucleolus", sparse(160)), sparse(160));
   expect("its own", right, /^Yes: these shares are the nucleolus of the agreed game, a cost of 210.00\./);
   const refused = await checked(page, lineOf("nucleolus", network(3)), network(4));
-  expect("a file that is refused", refused, /But nobody can say whether it is the agreed one[\s\S]*the program refuses the/);
+  expect("a file that is refused", refused,
+    /But nobody can say whether it is the agreed one[\s\S]*the program refuses the/);
 }
 
 async function heir(page, expect) {
@@ -37,7 +41,8 @@ async function heir(page, expect) {
   expect("his own case is there", await page.run(`${places}[1].value`), /"estate":90/);
   expect("and said", await page.text("#verify .drop:nth-child(2)"), /From your case, “An estate or a bankruptcy”/);
   const other = await checked(page, lineOf("nucleolus", estateOf(100)));
-  expect("the estate in the headline", other, /the game in the line, an estate of 100.00\. But that isn’t the game of your/);
+  expect("the estate in the headline", other,
+    /the game in the line, an estate of 100.00\. But that isn’t the game of your/);
   expect("and both", other, /the estate: the line has 100, your case 90/i);
   const own = await checked(page, lineOf("nucleolus", estateOf(90)));
   expect("his own", own, /^Yes: these shares are the nucleolus of the game of your case, an estate of 90.00/);
@@ -49,7 +54,8 @@ async function heir(page, expect) {
   expect("it follows", await page.run(`${places}[1].value`), /"estate":95/);
 }
 
-const LINKS = [["From", "To", "Cost"], ["Well", "Ash", 10], ["Ash", "Birch", 2], ["Well", "Cedar", 10], ["Birch", "Cedar", 30]];
+const LINKS = [["From", "To", "Cost"], ["Well", "Ash", 10], ["Ash", "Birch", 2], ["Well", "Cedar", 10],
+  ["Birch", "Cedar", 30]];
 const rowsOf = (rows) => rows.map((row) => row.join("\t")).join("\n");
 
 async function emptyLinks(page, expect) {
@@ -61,13 +67,12 @@ async function emptyLinks(page, expect) {
   await settle(page);
   expect("an answer", await page.text("#answer .lead"), /together 22.00/);
   await page.click("If one leaves");
-  await page.run(`(() => {
-    const choice = document.querySelector('[data-cell="leaves"]');
-    choice.value = "Ash"; choice.dispatchEvent(new Event("change"));
-  })()`);
+  await page.choose("leaves", "Ash");
   const found = await told(page, ".leaves .found", /If the place of Ash is gone/);
-  expect("through its place", found, /may still build through the place of Ash[\s\S]*the others cost 22.00[\s\S]*Ash adds 0.00/);
-  expect("without it", found, /place of Ash is gone[\s\S]*the others cost 40.00, and all together 22.00: Ash saves them 18/);
+  expect("through its place", found,
+    /may still build through the place of Ash[\s\S]*the others cost 22.00[\s\S]*Ash adds 0.00/);
+  expect("without it", found,
+    /place of Ash is gone[\s\S]*the others cost 40.00, and all together 22.00: Ash saves them 18/);
 }
 
 async function sumsOfLinks(page, expect) {
@@ -114,7 +119,8 @@ async function unreadable(page, expect) {
   await page.type("numbers.3", "4*2.5 + 0.25");
   await noted(page, /“4\*2.5 \+ 0.25” is worked out: 10.25/);
   await settle(page);
-  expect("in the document", await page.run("document.querySelector('.made pre').textContent"), /\["Sales","Ops"\],"41\/4"\]/);
+  expect("in the document", await page.run("document.querySelector('.made pre').textContent"),
+    /\["Sales","Ops"\],"41\/4"\]/);
 }
 
 async function notice(page, expect) {

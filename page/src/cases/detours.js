@@ -2,8 +2,8 @@
 // same assumption they would cost no more.
 import { shortText, typedText } from "../exact/decimals.js";
 
-/** Remarks on them, as {cell, sentence, lower}: `lower` is the cost of the way, as it is typed. Nothing if no link takes
- * a way, or some link has no cost. `cost(i, j)` is that of a link, `nameOf(i)` a point's name. */
+/** Remarks on them, as {cell, sentence, lower}: `lower` is the cost of the way, as it is typed. Nothing if no link
+ * takes a way, or some link has no cost. `cost(i, j)` is that of a link, `nameOf(i)` a point's name. */
 export function detoursOf({ filled = {}, n, cost, nameOf, mark }) {
   const points = Array.from({ length: n + 1 }, (_, i) => i);
   const isWhole = points.every((i) => points.every((j) => i === j || cost(i, j)));

@@ -126,7 +126,8 @@ function withoutSum(rows, { isNumber, isName }) {
 
 /** A block with names above and before, without a row and a column of sums: {rows, left}. */
 function withoutSums([heads, ...below], { isName }) {
-  const isSum = (name = "") => isName(name) && isSumWord(name), columns = heads.map((name, c) => c === 0 || !isSum(name));
+  const isSum = (name = "") => isName(name) && isSumWord(name);
+  const columns = heads.map((name, c) => c === 0 || !isSum(name));
   const rows = [heads, ...below.filter(([name]) => !isSum(name))];
   const left = [...new Set([...heads.slice(1), ...below.map(([name]) => name)].filter(isSum))];
   return { rows: rows.map((row) => row.filter((_, c) => columns[c])), left: left.map((name) => `“${name}”, a sum`) };

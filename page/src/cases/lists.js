@@ -76,7 +76,7 @@ function readLandings(state, reading) {
     const cost = reading.number(`rows.${r}.cost`, row.cost, "The cost");
     const count = reading.whole(`rows.${r}.count`, row.count, "The number of landings", 1, 999999999);
     const byType = !hasNames && text("type"); // without airlines each type is one
-    const own = byType ? { airline: byType, type: "" } : { airline: text("name") || `Airline ${r + 1}`, type: text("type") };
+    const airline = byType || text("name") || `Airline ${r + 1}`, own = { airline, type: byType ? "" : text("type") };
     if (cost && count) kept.push({ ...own, cost, count });
   });
   return kept;

@@ -33,7 +33,8 @@ export const network = {
       }
     }
     reading.close();
-    const cost = (i, j) => costs.get(i < j ? `${i}-${j}` : `${j}-${i}`), nameOf = (i) => (i ? names[i - 1] : sourceName(state));
+    const cost = (i, j) => costs.get(i < j ? `${i}-${j}` : `${j}-${i}`);
+    const nameOf = (i) => (i ? names[i - 1] : sourceName(state));
     reading.odds = detoursOf({ filled: state.filled, n, cost, nameOf, mark });
     reading.isOpen = Boolean(state.isSourceOpen); // which point is the source has to be said first
     return {

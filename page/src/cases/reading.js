@@ -158,7 +158,8 @@ export class Reading {
   }
 
   isRight() {
-    return !this.isOpen && !this.count && !this.empty.count && !this.asked && !this.either && !this.mixed && !this.isPaused;
+    return !this.isOpen && !this.count && !this.empty.count && !this.asked && !this.either && !this.mixed
+      && !this.isPaused;
   }
 }
 

@@ -4,8 +4,8 @@ import { isSumWord } from "../game/names.js";
 
 export const isEmpty = (row) => Object.values(row).every((text) => !text.trim());
 
-/** Asks of a row that is named as a sum, or of the last one, if it has no name below names and a number of it is the sum
- * of those above, or the greatest. `keys` are the columns of numbers; `state.notSums` are the names of which it was
+/** Asks of a row that is named as a sum, or of the last one, if it has no name below names and a number of it is the
+ * sum of those above, or the greatest. `keys` are the columns of numbers; `state.notSums` are the names of which it was
  * said already, or true for all. Whether it was asked. */
 export function askOfSum(reading, state, keys) {
   const kept = state.rows.map((row, r) => ({ row, r })).filter(({ row }) => !isEmpty(row)), last = kept.at(-1);

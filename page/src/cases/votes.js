@@ -117,8 +117,10 @@ function votingGame(reading, { names, cells }, ballot) {
   // votes alone decide which sums are reached, so the quota is rounded up where only the votes have a common divisor
   const ofVotes = votes.reduce(gcd, 0n) || 1n, by = all > MOST_VOTES ? ofVotes : 1n;
   if (all / by > MOST_VOTES) {
-    reading.fault(cells.at(-1), `The votes add to ${shortText(Rational.sum(ballot.votes))}, and the program takes 1,000. `
-      + "They have no common divisor that helps. Choose two quotas, with a second one that all reach: then any votes do.");
+    reading.fault(cells.at(-1),
+      `The votes add to ${shortText(Rational.sum(ballot.votes))}, and the program takes 1,000. `
+      + "They have no common divisor that helps. Choose two quotas, with a second one that all reach: then any "
+      + "votes do.");
   }
   if (by > 1n) {
     const rounded = common === by ? "" : ", rounded up";

@@ -15,7 +15,8 @@ export function barsPicture(game, rows, points, { show, column, wide }) {
   const most = Rational.max(values), isFar = most.times(Rational.of(4)).less(Rational.max(alone));
   const low = Rational.min([...values, ...alone]).toNumber();
   const high = isFar ? most.toNumber() * 1.1 : Rational.max([...values, ...alone]).toNumber();
-  const own = game.costs ? "costs alone" : "is worth alone";
+  const own = game.costs ? "costs alone" : game.kind === "bankruptcy" ? "is left if all others are paid in full"
+    : "is worth alone";
   const isSeveral = rows.some(({ players }) => players.length > 1);
   const isWhole = !isSeveral && rows.length === game.n; // then the numbers are those of the table, which add up
   const texts = points.map(({ shares }) => {

@@ -31,8 +31,8 @@ const MEASURES = [["plain", "as a whole"], ["per-head", "per head"]];
 
 const WIDE = 1000; // pixels of the page above which the reasons have pictures beside them
 const PARTS = ["why", "what-if", "evidence", "paper", "files"];
-const BODIES = ["answer-measure", "answer-settings", "answer-body", "own-body", "answer-more", "why-body", "evidence-body", "paper-body",
-  "files-body"];
+const BODIES = ["answer-measure", "answer-settings", "answer-body", "own-body", "answer-more", "why-body",
+  "evidence-body", "paper-body", "files-body"];
 const LINKS = { "what-if": "What if", evidence: "Evidence", paper: "On paper", files: "Files" };
 
 const at = (id) => document.getElementById(id);
@@ -126,7 +126,8 @@ export class AnswerView {
       el("div", { class: beside.length ? "halves-of-part" : "" }, el("div", {}, why),
         beside.length > 0 && el("div", {}, beside)),
       why.length > 0 && excessesPart(result, settings), same && el("p", { class: "hint" }, same),
-      roundingPart(result, settings), meanings(points, hasHolds, game), !game.ballots && !game.isMarket() && monotonic(), words());
+      meanings(points, hasHolds, game), !game.ballots && !game.isMarket() && monotonic(),
+      roundingPart(result, settings), words());
   }
 
   /** Another division beside the answer: the user's own, and what each pays today. */
@@ -217,8 +218,10 @@ export class AnswerView {
     for (const id of ["why", "evidence", "what-if"]) at(id).hidden = true;
     refill(at("answer-settings"), this.formats(), this.hiding());
     refill(at("answer-measure"));
-    const today = todayOf(this.session, beyond.rows), format = this.format(), wide = at("answer-body").clientWidth || 640;
-    refill(at("answer-body"), beyond.power ? beyondPower(beyond, { format, wide }) : beyondParts(beyond, { format, today }));
+    const today = todayOf(this.session, beyond.rows), format = this.format();
+    const wide = at("answer-body").clientWidth || 640;
+    refill(at("answer-body"), beyond.power ? beyondPower(beyond, { format, wide })
+      : beyondParts(beyond, { format, today }));
     this.showPaper();
     this.showLinks();
     this.say();
@@ -309,7 +312,7 @@ export class AnswerView {
   }
 }
 
-/** A network with ways that the page filled, as it has to be filled anew without a place; undefined for another case. */
+/** A network with ways that the page filled, as it has to be filled anew without a place; undefined for another. */
 function filledNetwork({ kind, typed: { names, links, filled = {}, source } }, mark) {
   const hasWays = kind.isNetwork && Object.values(filled).includes("way");
   return hasWays ? structuredClone({ names, links, filled, source, mark }) : undefined;

@@ -122,7 +122,8 @@ function votes({ game, points }, { rows, format, wide, pinned, labelOfCell }) {
 
 /** How power is shown: in per cent, with one decimal. */
 function percentsOf({ mark }) {
-  const text = (steps) => `${decimalOf(steps, 1, { mark })}\u202f%`, stepOf = (value) => stepsOf(value.times(HUNDRED), 1);
+  const text = (steps) => `${decimalOf(steps, 1, { mark })}\u202f%`;
+  const stepOf = (value) => stepsOf(value.times(HUNDRED), 1);
   const show = (value) => text(stepsOf(value, 1));
   return { places: 1, mark, text, show, steps: (values) => values.map(stepOf) };
 }

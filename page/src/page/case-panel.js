@@ -32,11 +32,11 @@ export function casePanel(kind, typed, settings) {
   const element = el("div", { class: "case" },
     el("p", { class: "help" }, kind.help, el("span", { class: "screen" }, " You can paste from a spreadsheet.")),
     notes.map((note) => el("p", { class: "note" }, note)), coarse, grid, faults,
-    el("div", { class: "tools bottom" }, undo, el("details", { class: "inline more-tools" },
+    el("div", { class: "tools bottom" }, el("details", { class: "inline more-tools" },
       el("summary", {}, "More for the cells"), grid.more, el("p", { class: "tools" },
         button("Clear all", () => onReset(cleared(kind, typed), "Clear all"), { class: "quiet" }),
         button("Fill in the worked example", () => onReset(kind.example(), "Fill in the worked example"),
-          { class: "quiet" })))));
+          { class: "quiet" }))), undo));
 
   /** Shows what the reading of the cells says. */
   function tell(reading) {
@@ -48,7 +48,8 @@ export function casePanel(kind, typed, settings) {
       reading.asked && sumQuestion(reading.asked, typed, settings),
       reading.mixed && mixedQuestion(reading.mixed, reading, settings),
       reading.either ? eitherQuestion(reading.either, settings) : !reading.mixed && doubtNotes(reading, settings),
-      emptyCells(reading, kind, grid), faultList(reading, grid), nameHelp(reading, typed, settings), oddList(oddsOf(reading, typed), grid, () => onReset(lowered(typed, reading.odds), "Lower the links", true)),
+      emptyCells(reading, kind, grid), faultList(reading, grid), nameHelp(reading, typed, settings),
+      oddList(oddsOf(reading, typed), grid, () => onReset(lowered(typed, reading.odds), "Lower the links", true)),
       reading.isTooFine && finenessHelp(settings));
     const isBeyond = reading.beyond?.points && !reading.text; // more landings than a document has
     refill(made, reading.text && documentOf(kind, reading.text, typed, settings),
@@ -87,7 +88,8 @@ function mixedQuestion({ typed, value, whole, proof, count }, { settled, mark },
   const quoted = (text) => `“${withEscapes(text.trim())}”`, more = count > 1 ? ` and ${count - 1} like it` : "";
   const way = (text, by) => button(text, () => setEntry(by), { class: "quiet" });
   const shown = typedText(Rational.of(value), mark);
-  return el("p", { class: "note" }, `${quoted(proof)} shows which mark comes before decimals. So ${quoted(typed)}${more} `,
+  return el("p", { class: "note" },
+    `${quoted(proof)} shows which mark comes before decimals. So ${quoted(typed)}${more} `,
     `would be ${shown}, with decimals. Or are these whole numbers, as ${countText(whole)}? `,
     way(`${countText(whole)}, whole`, ""), way(`${shown}, with decimals`, settled ?? ".,"));
 }
@@ -107,7 +109,8 @@ function undoButton(before, { onUndo }) {
 function nameHelp({ faults }, typed, { onReset }) {
   const isTwice = faults.some(({ sentence }) => sentence.includes("occurs twice"));
   const isLong = faults.some(({ sentence }) => sentence.startsWith("A name has at most"));
-  const way = (title, change) => button(title, () => onReset(withNames(typed, change), title, true), { class: "quiet" });
+  const way = (title, change) => button(title, () => onReset(withNames(typed, change), title, true),
+    { class: "quiet" });
   return (isTwice || isLong) && el("p", { class: "tools" },
     isTwice && way("Number the names that occur twice", numbered), isLong && way("Shorten the long names", shortened));
 }

@@ -48,7 +48,8 @@ class NetworkGrid {
     const { typed } = this, places = typed.names.map((name, i) => withEscapes(name) || `Place ${i + 1}`);
     const names = [sourceName(typed), ...places];
     const ends = names.slice(0, -1), none = el("td", { class: "tool" });
-    const isDense = ends.length >= DENSE, digits = Math.max(4, ...Object.values(typed.links).map(({ length }) => length));
+    const isDense = ends.length >= DENSE, lengths = Object.values(typed.links).map(({ length }) => length);
+    const digits = Math.max(4, ...lengths);
     const titles = ends.map((name, j) => {
       return el("th", { scope: "col", class: "number" }, !isDense && "to ", j ? name : this.sourceInput());
     });
@@ -145,7 +146,8 @@ class NetworkGrid {
 
   /** Asked before there is an answer: nothing that was pasted says which point is the source. */
   sourceQuestion() {
-    const names = [this.typed.source ?? "", ...this.typed.names].map((name, i) => withEscapes(name) || `Point ${i + 1}`);
+    const points = [this.typed.source ?? "", ...this.typed.names];
+    const names = points.map((name, i) => withEscapes(name) || `Point ${i + 1}`);
     const choose = (k) => () => {
       if (k) Object.assign(this.typed, withSource(this.typed, k));
       delete this.typed.isSourceOpen;

@@ -15,8 +15,8 @@ export function pinOf({ result: { points }, reading: { rows }, typed }) {
   return { names, sums, shares: Object.fromEntries(shares), typed: structuredClone(typed) };
 }
 
-/** What was kept, for these rows, and how to keep another; `pin` is null if nothing is kept. `kept(key, format)` are the
- * kept numbers of a rule as they were shown, {values, sum}, null for a row that wasn't there. */
+/** What was kept, for these rows, and how to keep another; `pin` is null if nothing is kept. `kept(key, format)` are
+ * the kept numbers of a rule as they were shown, {values, sum}, null for a row that wasn't there. */
 export function pinnedOf(session, rows) {
   const { pinned: pin, result, typed } = session, canBe = Boolean(result.game) && result.points.length > 0;
   const set = (next) => session.setPinned(next);

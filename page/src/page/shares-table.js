@@ -50,7 +50,8 @@ function isMoved(points, rows, format) {
 /** How the shares were rounded, if some were moved so that all add up; it belongs to the reasons. */
 export function roundingPart({ points }, { rows, format }) {
   return isMoved(points, rows, format) && el("details", { class: "meanings moved screen" },
-    el("summary", {}, "How the shares are rounded"), el("p", {}, `${movedText(rows)} The exact shares are in small print.`));
+    el("summary", {}, "How the shares are rounded"),
+    el("p", {}, `${movedText(rows)} The exact shares are in small print.`));
 }
 
 /** Why there is no column of the prenucleolus. */
@@ -159,10 +160,11 @@ export function ownSum(of, { values }) {
 
 function footOf(view) {
   const { game, rows, context, columns, format, proposal, today, pinned, against } = view, last = rows.length;
+  const kept = view.kept.get(columns[0].key);
   const sum = named(view, "sum", "together", [
     context && el("td", { class: "number context" }, context.sum),
     today.texts && el("td", { class: "number today" }, today.values[last] ? format.show(today.values[last]) : "–"),
-    pinned?.pin && el("td", { class: "number kept" }, view.kept.get(columns[0].key) && format.show(view.kept.get(columns[0].key).sum)),
+    pinned?.pin && el("td", { class: "number kept" }, kept && format.show(kept.sum)),
     columns.map(({ key, texts, steps }, k) => {
       return el("td", { class: kindOf(key, k) }, texts.at(-1), changeOf(withSum(steps).at(-1), last, today, format));
     }),

@@ -132,7 +132,8 @@ function answerOf(view) {
 /** What was kept to compare, and how much more the share is now. */
 function keptsOf(kept, steps, format) {
   if (!kept) return [];
-  const all = [...kept.values, kept.sum], told = (say) => withSum(steps).map((step, r) => (all[r] ? say(all[r], step) : ""));
+  const all = [...kept.values, kept.sum];
+  const told = (say) => withSum(steps).map((step, r) => (all[r] ? say(all[r], step) : ""));
   return [{ title: "Before", texts: told(format.show) },
     { title: "Change", texts: told((now, step) => changeText(step, now, format)) }];
 }
@@ -261,7 +262,8 @@ function powerOf(game, points, { show }) {
  * has no such numbers. */
 function savingsText(game, { shares }, rows, format) {
   if (!game.own || game.isMarket() || game.kind === "bankruptcy") return "";
-  const totals = totalsOf(rows, shares), alone = totalsOf(rows, game.own), unit = new Rational(10n ** BigInt(format.places));
+  const totals = totalsOf(rows, shares), alone = totalsOf(rows, game.own),
+    unit = new Rational(10n ** BigInt(format.places));
   const steps = format.steps(totals, rows), shown = alone.map((value, r) => {
     const more = value.minus(new Rational(steps[r]).over(unit));
     return game.costs ? more : more.negated();

@@ -6,22 +6,26 @@ import { el } from "./dom.js";
 const COMPARED = "7,192";
 
 const RULES = {
-  nucleolus: "The nucleolus treats the group that gains least by joining as well as possible, then the next one, and so "
+  nucleolus: "The nucleolus treats the group that gains least by joining as well as possible, then the next one, "
+    + "and so "
     + "on. It gives nobody less than it is worth alone.",
   prenucleolus: "The prenucleolus is another rule than the nucleolus. It treats the group that gains least as well as "
     + "possible, then the next one, and so on, among all divisions of the whole. So somebody may get less than alone.",
 };
-const PER_HEAD = "Per head is a rule of its own: what a group gains or lacks is divided by the number of its members. Its "
+const PER_HEAD = "Per head is a rule of its own: what a group gains or lacks is divided by the number of its "
+  + "members. Its "
   + "shares mostly differ from those of the plain rule.";
 
 /** The eight conditions, in the words of docs/certificates.md. */
 const CONDITIONS = [
   "The shares add to the worth of all players together.",
   "For the nucleolus, each player gets at least what it is worth alone. For the prenucleolus this isn’t asked.",
-  "Each group that a level lists has exactly the level’s excess: its worth less what its members get. Per head, that is "
+  "Each group that a level lists has exactly the level’s excess: its worth less what its members get. Per head, "
+    + "that is "
     + "divided by the number of members.",
   "Each weight is at least 1: those of the groups that a level lists, and those of its bounds. A bound is a player who "
-    + "gets exactly what it is worth alone. If an earlier level gave a bound a weight of 1 or more, its later weights may "
+    + "gets exactly what it is worth alone. If an earlier level gave a bound a weight of 1 or more, its later "
+    + "weights may "
     + "be smaller.",
   "At each player the weights of a level add to the same total: those of its groups that hold the player, listed or "
     + "taken from earlier levels, and that of the player’s bound.",
@@ -35,10 +39,13 @@ export function meaning(answer = "nucleolus", isPerHead = false) {
   return el("details", { class: "meanings" },
     el("summary", {}, "What a yes means, and what is trusted"),
     el("h3", {}, "What a yes means"),
-    el("p", {}, "The line has a certificate: levels of groups, with excesses and weights. If these meet eight conditions, ",
-      `the shares are the ${name} of the game in the line, and no other division is. That is a theorem (Kohlberg 1971), `,
+    el("p", {}, "The line has a certificate: levels of groups, with excesses and weights. If these meet eight "
+      + "conditions, ",
+      `the shares are the ${name} of the game in the line, and no other division is. That is a theorem (Kohlberg `
+        + `1971), `,
       "proved anew for this program. ", RULES[known], isPerHead && ` ${PER_HEAD}`),
-    el("p", {}, "You can check the conditions by hand, too. Go level by level for 3 to 7. For costs, read “pays at most ",
+    el("p", {}, "You can check the conditions by hand, too. Go level by level for 3 to 7. For costs, read “pays at "
+      + "most ",
       "what it costs alone”."),
     el("ol", { class: "conditions" }, CONDITIONS.map((text) => el("li", {}, text))),
     trusted());

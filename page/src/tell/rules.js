@@ -59,7 +59,8 @@ function runwayStep(game, namer, { who, part, done, paid }, before) {
   if (isLast) sentences.push(several ? "They share it equally." : "The last pays it.");
   else if (count === 2) sentences.push("Half of it is paid, and half is saved.");
   else sentences.push(`Each pays one of ${count} parts, and one part is saved.`);
-  const more = before && before.part.less(part) ? `, ${fullText(part.minus(before.part))} more than the earlier ones` : "";
+  const more = before && before.part.less(part) ? `, ${fullText(part.minus(before.part))} more than the earlier ones`
+    : "";
   return {
     label: `${namer.players(who)} ${several ? "pay" : "pays"} ${fullText(part)}${several ? " each" : ""}${more}.`,
     text: sentences.join(" "),
@@ -70,7 +71,8 @@ function runway(done, end, players) {
   if (end === players) return "The runway for all";
   if (end === 1) return "Its own runway";
   if (!done) return `A runway for these ${end}`;
-  return `A runway for ${end - done === 1 ? "it" : "them"} and the ${done === 1 ? "earlier one" : `${done} earlier ones`}`;
+  const earlier = done === 1 ? "earlier one" : `${done} earlier ones`;
+  return `A runway for ${end - done === 1 ? "it" : "them"} and the ${earlier}`;
 }
 
 // ---- An estate

@@ -28,7 +28,8 @@ export function readCase({ id, typed, mark, measure, isMarked = typed.isMarked }
   const { faults, count, empty, notes, asked, either, mixed, isTooFine = false, odds = [] } = reading;
   const read = {
     rows, faults, count, empty, notes, asked, either, mixed, isTooFine,
-    isAsking: Boolean(asked || either || mixed || reading.isOpen), odds, isRight: reading.isRight(), ...marksOf(reading),
+    isAsking: Boolean(asked || either || mixed || reading.isOpen), odds,
+    isRight: reading.isRight(), ...marksOf(reading),
   };
   if (!read.isRight) return read;
   if (landings) read.beyond = beyondProgram(landings, rows);

@@ -1,6 +1,7 @@
 // Power by two quotas of more voters than a table has: in what part of all orders of joining each voter is the one by
-// whom both quotas are reached (Shapley and Shubik 1954). Nobody has proved what is here; up to 16 voters it is compared
-// with the program. The groups of all other voters are counted by size, from the sorted sums of two halves of them.
+// whom both quotas are reached (Shapley and Shubik 1954). Nobody has proved what is here; up to 16 voters it is
+// compared with the program. The groups of all other voters are counted by size, from the sorted sums of two halves of
+// them.
 import { Rational } from "../exact/rational.js";
 import { inWhole } from "../cases/votes.js";
 
@@ -12,7 +13,8 @@ function sumsOf(voters) {
   for (const { first, second: own } of voters) {
     const next = new Map([...groups].map(([key, group]) => [key, { ...group, sums: [...group.sums] }]));
     for (const { size, second, sums } of groups.values()) {
-      const key = `${size + 1} ${second + own}`, found = next.get(key) ?? { size: size + 1, second: second + own, sums: [] };
+      const key = `${size + 1} ${second + own}`, fresh = { size: size + 1, second: second + own, sums: [] };
+      const found = next.get(key) ?? fresh;
       for (const sum of sums) found.sums.push(sum + first);
       next.set(key, found);
     }
@@ -45,8 +47,8 @@ function pivots({ first, second }, halves, [quota, other]) {
   return counts;
 }
 
-/** The power of each voter as a text; null if there are too many kinds of second votes for it. `votes` and `seconds` are
- * whole numbers, `quotas` the two least sums. */
+/** The power of each voter as a text; null if there are too many kinds of second votes for it. `votes` and `seconds`
+ * are whole numbers, `quotas` the two least sums. */
 export function doublePower(votes, seconds, quotas) {
   const voters = votes.map((first, i) => ({ first, second: seconds[i] })), n = voters.length;
   const factorials = [1n];
@@ -66,8 +68,8 @@ export function doublePower(votes, seconds, quotas) {
   return shares;
 }
 
-/** What a case of votes shows beyond the program: the power of two ballots as texts, with the rows; null if it takes too
- * long. */
+/** What a case of votes shows beyond the program: the power of two ballots as texts, with the rows; null if it takes
+ * too long. */
 export function powerBeyond(ballots, rows) {
   const [one, other] = ballots.map(inWhole), numbers = ({ votes }) => votes.map(Number);
   const power = doublePower(numbers(one), numbers(other), [one, other].map(({ quota }) => Number(quota)));

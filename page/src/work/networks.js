@@ -58,9 +58,9 @@ export function fillLinks({ names, links, source, mark, only = null }) {
 function notesOf(told, lacking) {
   const notes = [];
   if (told.length) {
-    notes.push(`${plural(told.length, "link was", "links were")} filled by the cheapest way through the others. They are `
-      + "marked, and follow when another number changes. If several detours of a group share a stretch, the stretch "
-      + "counts more than once, and the place that it leads through is rewarded. Then make a table of costs.");
+    notes.push(`${plural(told.length, "link was", "links were")} filled by the cheapest way through the others. `
+      + "They are marked, and follow when another number changes. If several detours of a group share a stretch, the "
+      + "stretch counts more than once, and the place that it leads through is rewarded. Then make a table of costs.");
   }
   if (lacking.length) notes.push(`No way leads there: ${lacking.join("; ")}.`);
   return notes.length ? notes : ["No link is empty."];
