@@ -223,7 +223,8 @@ export const tables = [
 
   ["a vector of another program, in both orders", "gains", async (page, expect) => {
     for (const [order, wanted] of [["size", /4.50, .*4.50 .*3.00/], ["mask", /2.00, .*2.00 .*8.00/]]) {
-      if (!(await page.run("document.querySelector('.more-tools details').open"))) await page.click("Paste a whole list");
+      const isOpen = await page.run("document.querySelector('.more-tools details').open");
+      if (!isOpen) await page.click("Paste a whole list");
       await page.fill("details.inline textarea", "0\n0\n0\n6\n2\n2\n12");
       await page.run(`document.querySelector("details.inline select").value = "${order}"`);
       await page.click("Use this list");

@@ -82,7 +82,7 @@ export const desk = [
 
   ["numbers that can hardly be meant", "costs", async (page, expect) => {
     await page.paste('[data-cell="numbers.1"]', GROUPS);
-    await noted(page, /Is this number meant\?\s+A \+ B costs 260, more than B and A cost apart: 95 \+ 150/);
+    await noted(page, /Is this number right\?\s+A \+ B costs 260, more than B and A cost apart: 95 \+ 150/);
     await settle(page);
     expect("marked", await page.run("document.querySelector('.odd').dataset.cell"), "numbers.3");
     await page.type("numbers.3", "226");
@@ -114,7 +114,7 @@ export const desk = [
   ["a whole number that shows the mark needs no button", "runway", async (page, expect) => {
     await page.paste('[data-cell="rows.0.name"]', "Airline\tLandings\tCost\nAer\t1,212\t65,899\nBee\t2\t90,000");
     await noted(page, /“1,212” shows that the point comes before decimals/);
-    expect("no button", /Let the comma do so/.test(await page.text("#case .faults")), false);
+    expect("no button", /No, the comma/.test(await page.text("#case .faults")), false);
   }],
 
   ["the core of four players can be turned", "gains", async (page, expect) => {

@@ -35,10 +35,10 @@ const marks = [
     await settle(page);
     expect("told", await notes(page), /“3.922” is read as 3.9220, with decimals[\s\S]*So are the 3 numbers/);
     const before = await made(page);
-    await page.click("Let the comma do so");
+    await page.click("No, the comma");
     await settle(page);
     expect("by the other", await notes(page), /“3.922” is read as the whole number 3922/);
-    await page.click("Let the point do so");
+    await page.click("No, the point");
     await settle(page);
     expect("and back", await made(page), before);
   }],
@@ -91,7 +91,7 @@ marks.push(["numbers beside a file are read by its own mark", "estate", async (p
   await settle(page);
   await workOut(page, "120.000 240.000");
   await told(page, ".found", /“120.000” is read as 120: the point comes before decimals/);
-  await page.click("Let the comma do so");
+  await page.click("No, the comma");
   await told(page, ".found thead", /120\u202f000\.00\s+240\u202f000\.00/);
   await openText(page, `{"coop-page":1,"document":${estateOf(280000)},"entry":".","mark":","}`);
   await told(page, ".lead", /together 280\u202f000,00/);

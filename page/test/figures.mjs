@@ -19,7 +19,8 @@ const SEEN = `(() => {
   const walker = document.createTreeWalker(document.body, NodeFilter.SHOW_TEXT), words = [];
   while (walker.nextNode()) {
     const { parentElement: own, data } = walker.currentNode;
-    if (!own.closest("script, style, svg, noscript, select, .away, .skip") && isSeen(own)) words.push(...data.split(/\\s+/));
+    const isText = !own.closest("script, style, svg, noscript, select, .away, .skip");
+    if (isText && isSeen(own)) words.push(...data.split(/\\s+/));
   }
   const answer = document.querySelector("#answer .lead").getBoundingClientRect();
   const before = [...document.querySelectorAll("#answer-body .note, #answer-body .notice, #answer-body .ahead")];
@@ -27,8 +28,8 @@ const SEEN = `(() => {
   return {
     buttons: controls.length, words: words.filter(Boolean).length, high: document.documentElement.scrollHeight,
     answer: answer.bottom, above: before.filter((one) => one.getBoundingClientRect().bottom <= answer.top + 1).length,
-    cut: grid ? grid.scrollWidth - grid.clientWidth : 0, measure: Boolean(document.querySelector('[data-cell="measure"]')
-      ?.checkVisibility()),
+    cut: grid ? grid.scrollWidth - grid.clientWidth : 0,
+    measure: Boolean(document.querySelector('[data-cell="measure"]')?.checkVisibility()),
   };
 })()`;
 
@@ -47,8 +48,9 @@ const GROUPS = Array.from({ length: 127 }, (_, k) => {
   const members = NAMES.filter((_, i) => ((k + 1) >> i) & 1);
   return `${members.join("+")}\t${members.length * 100 - members.length ** 2 * 5}`;
 }).join("\n");
-const HALF = NAMES.map((name, k) => [name, ...Array.from({ length: k + 1 }, (_, i) => `${30 + ((k * 7 + i * 13) % 50)}.50`)]
-  .join("\t")).join("\n");
+const HALF = NAMES.map((name, k) => {
+  return [name, ...Array.from({ length: k + 1 }, (_, i) => `${30 + ((k * 7 + i * 13) % 50)}.50`)].join("\t");
+}).join("\n");
 
 async function sevenPlaces(page, expect) {
   await page.paste('[data-cell="names.0"]', HALF);
@@ -76,11 +78,12 @@ async function manyNotices(page, expect) {
   await page.click("Keep this answer to compare");
   await page.type("numbers.7", "610");
   await settle(page);
-  await noted(page, /Is this number meant/);
+  await noted(page, /Is this number right/);
   const { answer, above } = await page.run(SEEN);
   expect("one notice above", above, 1);
   expect(`the answer ends at ${answer}`, answer < 300, true);
-  expect("which", await page.text("#answer-body .ahead"), /^Whatever the division, some group could do better by itself/);
+  expect("which", await page.text("#answer-body .ahead"),
+    /^Whatever the division, some group could do better by itself/);
   expect("the reason below the table", await page.text("#answer-body .notice"), /Take .* they hold each player/);
 }
 
@@ -107,7 +110,8 @@ async function twentyVoters(page, expect) {
   await page.type("quota", "65 %");
   await page.type("secondQuota", "55 %");
   await told(page, "#answer .lead", /^S20 has most power, 9\.8/);
-  expect("the page's own", await page.text("#answer .notice"), /the page itself counted[\s\S]*does NOT come from the proved/i);
+  expect("the page's own", await page.text("#answer .notice"),
+    /the page itself counted[\s\S]*does NOT come from the proved/i);
   expect("what isn’t there", await page.text("#answer-body"), /no Banzhaf index, and no third condition/);
 }
 
@@ -125,7 +129,7 @@ async function detours(page, expect) {
   await page.paste('[data-cell="names.0"]', "From\tTo\tCost\nWell\tA\t9\nWell\tB\t3\nA\tB\t2\nB\tC\t4");
   await told(page, "#waiting", /Can’t some links be built/);
   await page.click("Build through the places of others");
-  await noted(page, /Is this number meant\?\s+A – Well costs 9, more than the way by B: 5/);
+  await noted(page, /Is this number right\?\s+A – Well costs 9, more than the way by B: 5/);
   await page.click("Lower them to the cheapest way");
   await settle(page);
   expect("lowered", await page.run(`document.querySelector('[data-cell="links.0-1"]').value`), "5");
@@ -139,7 +143,8 @@ async function types(page, expect) {
   expect("types are names", found, /Vanguard[\s\S]*Comet[\s\S]*Boeing/);
   expect("no airlines that nobody has", /Airline 1/.test(found), false);
   expect("why many pay alike", found, /All up to Comet pay alike: 104\.85 \/ \(4439 \+ 1\) = 0\.02 a landing\./);
-  expect("what fees bring in", found, /Nucleolus: at fees with 2 decimals, all landings pay .* (less|more) than the cost of/);
+  expect("what fees bring in", found,
+    /Nucleolus: at fees with 2 decimals, all landings pay .* (less|more) than the cost of/);
 }
 
 export const figures = [

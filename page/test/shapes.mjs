@@ -111,7 +111,8 @@ expect("gains less than apart", odds([null, 4, 4, 6, 0, 5, 5, 12], false), "3");
 
 const many = Array.from({ length: 2 ** 12 }, (_, mask) => Rational.of(mask.toString(2).split("1").length - 1));
 many[2 ** 11] = Rational.of(9);
-expect("one of twelve players", oddsOf(many, 12, { isCost: true, nameOf: String }).map(({ mask }) => mask).join(), 2 ** 11);
+expect("one of twelve players", oddsOf(many, 12, { isCost: true, nameOf: String }).map(({ mask }) => mask).join(),
+  2 ** 11);
 
 // ---- The core of four players
 

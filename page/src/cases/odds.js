@@ -12,7 +12,7 @@ const MOST_MISFITS = 20000; // that are looked at
 export function oddsOf(values, n, { isCost, nameOf }) {
   if (n < 2) return [];
   const scale = values.reduce((all, value) => (value ? lcm(all, value.den) : all), 1n);
-  const whole = values.map((value) => value && Number((value.num * scale) / value.den));
+  const whole = values.map((value) => value && Number(scale === 1n ? value.num : (value.num * scale) / value.den));
   const text = (mask) => shortText(new Rational(BigInt(whole[mask]), scale)), found = [];
   let left = misfits(whole, isCost, n);
   while (left.length && found.length < MOST_TOLD) {

@@ -10,6 +10,7 @@ import { mayBeOfRounding } from "../cases/coarse.js";
 import { coarseText, dividedText } from "../tell/coarse-text.js";
 import { enumerated, listed, Namer, times } from "../tell/words.js";
 import { beyondParts } from "./beyond.js";
+import { extremes } from "./extremes.js";
 import { el } from "./dom.js";
 import { totalsOf } from "./format.js";
 import { pinnedNote, pinTools } from "./pinned.js";
@@ -208,16 +209,6 @@ function roundedCore({ collection, k, value, against }, coarse) {
 // ---- The answer in a sentence
 
 const MOST_LED = 6;
-
-/** Of many: who pays or gets most, and who least. */
-function extremes({ who, totals, texts, verb }) {
-  const place = (isBetter) => totals.reduce((best, value, k) => (isBetter(value, totals[best]) ? k : best), 0);
-  const most = place((value, other) => other.less(value)), least = place((value, other) => value.less(other));
-  const isEven = totals[most].equals(totals[least]);
-  return el("p", { class: "lead" }, isEven ? `All ${who.length} ${verb.slice(0, -1)} the same, ${texts[0]} each: `
-    : `${who[most]} ${verb} most, ${texts[most]}, and ${who[least]} least, ${texts[least]}: all ${who.length} `,
-  `together ${texts.at(-1)}.`);
-}
 
 export function lead({ game }, { shares, key, title }, { rows, format }) {
   const who = [...new Set(rows.map((row) => row.sum ?? row.label))];

@@ -1,6 +1,7 @@
 // Runways of more landings than the program takes: what the page calculates by itself, and that it says so.
 import { Rational } from "../exact/rational.js";
 import { typedText } from "../exact/decimals.js";
+import { extremes } from "./extremes.js";
 import { button, el } from "./dom.js";
 import { movedText, withSum } from "./format.js";
 import { linesOf, ownSum, shareCell } from "./shares-table.js";
@@ -53,7 +54,7 @@ export function beyondParts(sent, { format, today }) {
   const beyond = read(sent), { isAll, rows, points } = beyond;
   const tables = () => [shareLines(rows, points, format), airlineLines(rows, points, format),
     typeLines(rows, points, format), roundingLines(points, format)];
-  return el("div", { class: "beyond" },
+  return el("div", { class: "beyond" }, isAll && leadOf(beyond, format),
     el("h3", {}, isAll ? "Above 64 landings" : "Shapley shares above 32 landings"),
     el("div", { class: "notice" }, beyondTexts(beyond).map((text) => el("p", {}, text))),
     el("div", { class: "scroll" }, table(beyond, { format, today, own: (row, r) => {
@@ -69,6 +70,13 @@ export function beyondParts(sent, { format, today }) {
     isAll && feesTexts(beyond, format).map((text) => el("p", { class: "hint" }, text)),
     isAll && el("p", { class: "hint" }, SCALED),
     el("p", { class: "tools" }, csvButton("runway-calculated", tables, format)));
+}
+
+/** Who pays most by the nucleolus, and who least. */
+function leadOf({ rows, points: [{ totals }] }, format) {
+  const who = [...new Set(rows.map(({ sum }) => sum))];
+  const sums = who.map((name) => Rational.sum(totals.filter((_, r) => rows[r].sum === name)));
+  return extremes({ who, totals: sums, texts: format.column(sums), verb: "pays" });
 }
 
 /** Why many pay alike by the nucleolus: those up to a cost share what of it isn't paid yet, and one part more if others

@@ -134,7 +134,7 @@ function oddList(odds, grid, onLower) {
   const items = odds.map(({ cell, sentence }) => {
     return el("li", {}, button(sentence, () => goTo(grid, cell), { class: "fault gentle" }));
   });
-  const asked = odds.length > 1 ? "Are these numbers meant?" : "Is this number meant?";
+  const asked = odds.length > 1 ? "Are these numbers right?" : "Is this number right?";
   return el("div", { class: "note" }, el("p", {}, asked), el("ul", { class: "odds" }, items),
     isLower && el("p", { class: "tools" }, button("Lower them to the cheapest way", onLower, { class: "quiet" })));
 }

@@ -44,7 +44,7 @@ function waysOut({ doubts, mark, proof, isChosen }, setEntry) {
   const { value } = readNumber(odd.typed, BY[how]);
   const others = odd.count > 1 ? ", and all like it" : "";
   return [
-    !proof && way(`Let the ${NAMES[OTHER[mark]]} do so`, OTHER[mark]),
+    !proof && way(`No, the ${NAMES[OTHER[mark]]}`, OTHER[mark]),
     (proof || doubts.length > 1) && way(`Read ${quoted(odd.typed)} as ${typedText(value, mark)}${others}`, BY[how]),
   ];
 }

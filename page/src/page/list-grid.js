@@ -75,7 +75,8 @@ class ListGrid {
   }
 
   cellIn(row, r, column) {
-    const named = column.placeholder && !this.typed.isNamed && `${column.placeholder} ${r + 1}`;
+    const byType = column.key === "name" && (row.type ?? "").trim(); // without airlines each type is one
+    const named = column.placeholder && !this.typed.isNamed && (byType || `${column.placeholder} ${r + 1}`);
     return el("td", { class: column.wide ? "wide" : column.short ? "short" : "" }, cellInput({
       cell: `rows.${r}.${column.key}`, value: row[column.key] ?? "", isNumber: column.number,
       label: `${column.title}, row ${r + 1}`, placeholder: this.isBlank(row) ? "" : named || this.greyOf(column),

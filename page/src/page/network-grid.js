@@ -155,7 +155,7 @@ class NetworkGrid {
       refill(this.said, `${sourceName(this.typed)} is the source.`);
     };
     return [el("b", {}, " Which point is the source? "),
-      names.map((name, k) => button(name, choose(k), { class: "quiet" }))];
+      names.flatMap((name, k) => [button(name, choose(k), { class: "quiet" }), " "])];
   }
 
   removal(k, name) {

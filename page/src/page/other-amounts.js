@@ -70,7 +70,7 @@ function estatesTable(found, { rows, format, setEntry }) {
   const faults = found.filter(({ fault }) => fault).map(({ amount, fault }) => {
     return el("p", { class: "bad" }, amount ? `${format.show(Rational.of(amount))}: ${fault}` : fault);
   });
-  const way = (mark) => button(`Let the ${mark === "." ? "point" : "comma"} do so`, () => setEntry(mark), {
+  const way = (mark) => button(`No, the ${mark === "." ? "point" : "comma"}`, () => setEntry(mark), {
     class: "quiet",
   });
   const notes = found.filter(({ note }) => note).map(({ note, other }) => {

@@ -15,7 +15,7 @@ import { changeBelow, todayTitle } from "./today.js";
 const BRIEF = 8; // rows that are kept on one printed page
 const NARROW = 520;
 const FEW = 3; // landings that are named one by one
-const LONG_EXACT = 26; // characters of a fraction that are shown unfolded
+const LONG_EXACT = 16; // characters of a fraction that are shown unfolded
 
 export function sharesTable(result, settings) {
   const { game, points } = result, { rows, format, proposal } = settings;

@@ -109,7 +109,7 @@ class Explainer {
   level(place) {
     const level = this.levels[place], before = this.settled.players();
     this.settled.addLevel(level);
-    const who = place ? "Each group that is still open" : "Every group but all together";
+    const who = place ? "Each group that is still open" : "Every group except all together";
     const settles = this.settles(before);
     const isAgain = place > 0 && this.levels[place - 1].excess.equals(level.excess);
     const sentences = [...this.worstOff(level, who), isAgain && AGAIN, ...this.why(reducedLevel(level)), settles];
