@@ -114,6 +114,11 @@ many[2 ** 11] = Rational.of(9);
 expect("one of twelve players", oddsOf(many, 12, { isCost: true, nameOf: String }).map(({ mask }) => mask).join(),
   2 ** 11);
 
+const wild = Array.from({ length: 2 ** 6 }, (_, mask) => Rational.of((mask * 37) % 50));
+const general = oddsOf(wild, 6, { isCost: false, nameOf: String });
+expect("many that don't fit are one remark", general.map(({ sentence }) => sentence).join(), /^\d+ groups gain less than/);
+expect("and it is the only one", general.length, 1);
+
 // ---- The core of four players
 
 const worth = [0, 0, 0, 1, 0, 2, 1, 4, 0, 3, 2, 5, 1, 4, 3, 10];

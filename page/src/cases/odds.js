@@ -6,6 +6,7 @@ import { lcm, Rational } from "../exact/rational.js";
 
 const MOST_SPLIT = 10; // players above whom a group is compared with those of one player more or less only
 const MOST_TOLD = 4;
+const MANY = 20; // misfits that no few numbers explain
 const MOST_MISFITS = 20000; // that are looked at
 
 /** The remarks on values by mask (undefined if there is none): {mask, sentence}; `nameOf(mask)` names a group. */
@@ -14,14 +15,23 @@ export function oddsOf(values, n, { isCost, nameOf }) {
   const scale = values.reduce((all, value) => (value ? lcm(all, value.den) : all), 1n);
   const whole = values.map((value) => value && Number(scale === 1n ? value.num : (value.num * scale) / value.den));
   const text = (mask) => shortText(new Rational(BigInt(whole[mask]), scale)), found = [];
-  let left = misfits(whole, isCost, n);
+  const all = misfits(whole, isCost, n);
+  let left = all;
   while (left.length && found.length < MOST_TOLD) {
     const mask = mostOften(left), own = left.filter((groups) => groups.includes(mask));
     const more = own.length > 1 ? ` (${own.length - 1} more such)` : "";
     found.push({ mask, sentence: sentenceOf(mask, own[0], { nameOf, text, isCost }) + more });
     left = left.filter((groups) => !groups.includes(mask));
   }
-  return found;
+  return left.length > MANY && left.length * 2 > all.length ? [inGeneral(all, { isCost, nameOf })] : found;
+}
+
+/** The one remark where no few numbers explain the others: joining costs in many groups. */
+function inGeneral(misfit, { isCost, nameOf }) {
+  const groups = new Set(misfit.map(([group]) => group)), [first] = groups;
+  const what = isCost ? "cost more than parts of theirs apart, or less than a part"
+    : "gain less than parts of theirs apart, or than a part";
+  return { mask: first, sentence: `${groups.size} groups ${what}, the first of them ${nameOf(first)}` };
 }
 
 /** Groups whose numbers don't fit together: [group, part, rest], or [large, small]. */

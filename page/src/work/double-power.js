@@ -5,7 +5,7 @@
 import { Rational } from "../exact/rational.js";
 import { inWhole } from "../cases/votes.js";
 
-const MOST_PAIRS = 4e8; // of sums that are put side by side for all voters
+const MOST_PAIRS = 1.5e8; // of sums that are put side by side for all voters
 
 /** The sums of first votes of all groups of some voters, sorted, by the size and the second votes of the group. */
 function sumsOf(voters) {
