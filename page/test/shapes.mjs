@@ -116,7 +116,8 @@ expect("one of twelve players", oddsOf(many, 12, { isCost: true, nameOf: String 
 
 const wild = Array.from({ length: 2 ** 6 }, (_, mask) => Rational.of((mask * 37) % 50));
 const general = oddsOf(wild, 6, { isCost: false, nameOf: String });
-expect("many that don't fit are one remark", general.map(({ sentence }) => sentence).join(), /^\d+ groups gain less than/);
+expect("many that don't fit are one remark", general.map(({ sentence }) => sentence).join(),
+  /^\d+ groups gain less than/);
 expect("and it is the only one", general.length, 1);
 
 // ---- The core of four players
