@@ -15,7 +15,7 @@ import { changeBelow, todayTitle } from "./today.js";
 const BRIEF = 8; // rows that are kept on one printed page
 const NARROW = 520;
 const FEW = 3; // landings that are named one by one
-const LONG_EXACT = 16; // characters of a fraction that are shown unfolded
+const MOST_DIGITS = 12; // of a fraction that is shown unfolded
 
 export function sharesTable(result, settings) {
   const { game, points } = result, { rows, format, proposal } = settings;
@@ -115,7 +115,7 @@ function shareRow({ row, r }, view) {
 export function shareCell(text, share, count, format, change, kind = "number") {
   const fraction = !format.isExact(share) && fractionText(share);
   const exact = count > 1 ? `${count} × ${format.show(share)}${fraction ? ` (${fraction})` : ""}` : fraction;
-  const isLong = exact && exact.length > LONG_EXACT;
+  const isLong = fraction && fraction.replace(/\D/g, "").length > MOST_DIGITS;
   return el("td", { class: kind }, text, change, exact && (isLong
     ? el("details", { class: "inline exact" }, el("summary", {}, "exact"), el("small", {}, exact))
     : el("small", { class: "exact" }, exact)));
