@@ -12,10 +12,13 @@ const MOST_MISFITS = 20000; // that are looked at
 /** The remarks on values by mask (undefined if there is none): {mask, sentence}; `nameOf(mask)` names a group. */
 export function oddsOf(values, n, { isCost, nameOf }) {
   if (n < 2) return [];
-  const scale = values.reduce((all, value) => (value ? lcm(all, value.den) : all), 1n);
-  const whole = values.map((value) => value && Number(scale === 1n ? value.num : (value.num * scale) / value.den));
+  const isWhole = values.every((value) => !value || value.den === 1n);
+  const scale = isWhole ? 1n : values.reduce((all, value) => (value ? lcm(all, value.den) : all), 1n);
+  const whole = Float64Array.from(values, (value) => {
+    return value ? Number(scale === 1n ? value.num : (value.num * scale) / value.den) : NaN;
+  });
   const text = (mask) => shortText(new Rational(BigInt(whole[mask]), scale)), found = [];
-  const all = misfits(whole, isCost, n);
+  const all = n > MOST_SPLIT ? misfitsOfOne(whole, isCost) : misfits(whole, isCost);
   let left = all;
   while (left.length && found.length < MOST_TOLD) {
     const mask = mostOften(left), own = left.filter((groups) => groups.includes(mask));
@@ -34,20 +37,33 @@ function inGeneral(misfit, { isCost, nameOf }) {
   return { mask: first, sentence: `${groups.size} groups ${what}, the first of them ${nameOf(first)}` };
 }
 
-/** Groups whose numbers don't fit together: [group, part, rest], or [large, small]. */
-function misfits(values, isCost, n) {
+/** Groups whose numbers don't fit together: [group, part, rest], or [large, small]. No number (NaN) fits all. */
+function misfits(values, isCost) {
   const found = [];
   for (let mask = 3; mask < values.length && found.length < MOST_MISFITS; mask++) {
-    if (values[mask] === undefined) continue;
-    const compare = (part) => {
-      const rest = mask & ~part, [own, one, other] = [values[mask], values[part], values[rest]];
-      if (one !== undefined && one > own) found.push([mask, part]);
-      if (n > MOST_SPLIT && other > own) found.push([mask, rest]);
-      if ((n <= MOST_SPLIT && part < rest) || one === undefined || other === undefined) return;
-      if (isCost ? own > one + other : own < one + other) found.push([mask, part, rest]);
-    };
-    if (n <= MOST_SPLIT) for (let part = (mask - 1) & mask; part; part = (part - 1) & mask) compare(part);
-    else for (let bit = 1; bit <= mask; bit *= 2) if (mask & bit && mask !== bit) compare(mask & ~bit);
+    const own = values[mask];
+    for (let part = (mask - 1) & mask; part; part = (part - 1) & mask) {
+      const rest = mask & ~part, one = values[part], both = one + values[rest];
+      if (one > own) found.push([mask, part]);
+      if (part > rest && (isCost ? own > both : own < both)) found.push([mask, part, rest]);
+    }
+  }
+  return found;
+}
+
+/** The same for each group with one of its players and the others. */
+function misfitsOfOne(values, isCost) {
+  const found = [];
+  for (let mask = 3; mask < values.length && found.length < MOST_MISFITS; mask++) {
+    const own = values[mask];
+    for (let left = mask; left; left &= left - 1) {
+      const part = left & -left, rest = mask ^ part;
+      if (!rest) continue;
+      const one = values[part], other = values[rest], both = one + other;
+      if (one > own) found.push([mask, part]);
+      if (other > own) found.push([mask, rest]);
+      if (isCost ? own > both : own < both) found.push([mask, part, rest]);
+    }
   }
   return found;
 }
