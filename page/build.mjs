@@ -88,10 +88,16 @@ function pageOf(own, commit) {
   const scripts = scriptsOf(placesOf(own)), text = (name) => readFileSync(join(SRC, name), "utf8");
   const styles = ["palette.css", "style.css", "answer.css", "picture.css", "narrow.css", "print.css"];
   return text("page.html")
+    .replace("VERSION", version())
     .replaceAll("COMMIT", commit)
     .replaceAll("DIGEST", createHash("sha256").update(unpacked(own)).digest("hex"))
     .replace("/* STYLE */", () => styles.map(text).join("\n"))
     .replace(/\/\* (SHARED|WORKER|PAGE) \*\//g, (_, name) => `"use strict";\n${scripts[name]}`);
+}
+
+/** The version of the project. */
+function version() {
+  return /^VERSION = "(.+)"$/m.exec(readFileSync(join(TOP, "../python/coop/version.py"), "utf8"))[1];
 }
 
 /** The commit that a page names already. */
