@@ -4,6 +4,8 @@ from __future__ import annotations
 import math
 import random
 from collections.abc import Callable, Iterator
+from fractions import Fraction
+from functools import partial
 from typing import Any
 
 LIMIT = 1 << 40
@@ -128,3 +130,74 @@ def larger_games() -> Iterator[tuple[str, Making]]:
     yield "market, offers near 2^40", lambda: {"class": "market", "matrix": offers}
     few = {"class": "table", "excess": "per-head", "players": 8, "worths": generated(8, 1)}
     yield "per head, 8 players", lambda: few
+    yield "airport of 16", lambda: {"class": "airport", "costs": costs[:16]}
+    yield "estate of 16", lambda: {"class": "bankruptcy", "claims": costs[:16], "estate": sum(costs[:16]) // 3}
+    for players in range(11, 16):
+        yield f"square of the mask, {players} players", partial(table, players, lambda mask: mask**2)
+    yield "a sparse table of all coalitions", sparse_table
+    yield "a table of fractions", fractions
+
+
+def members(mask: int) -> list[int]:
+    """The players of a coalition, as documents number them."""
+    return [player + 1 for player in range(mask.bit_length()) if mask >> player & 1]
+
+
+def sparse_table() -> Game:
+    """All coalitions of 16 players as pairs, some with members by name: a document nearly as long as one may be."""
+    names = [chr(ord("a") + player) for player in range(16)]
+    pairs: list[Any] = []
+    for mask in range(1, 1 << 16):
+        group = members(mask)
+        named = [names[player - 1] for player in group] if mask % 32 < 15 else group
+        pairs.append([named, len(group) ** 2 + mask % 3])
+    return {"class": "table", "names": names, "players": 16, "sparse": pairs}
+
+
+def fractions() -> Game:
+    """A table of 16 players with halves, thirds and sixths."""
+    worths = [Fraction(size_of(mask) ** 3, (1, 6, 2, 3)[mask % 4]) for mask in range(1, 1 << 16)]
+    return {"class": "table", "players": 16, "version": 2, "worths": [as_written(worth) for worth in worths]}
+
+
+def as_written(number: Fraction) -> int | str:
+    """A number as documents of version 2 have it."""
+    return number.numerator if number.denominator == 1 else str(number)
+
+
+def level(groups: list[list[int]], total: int, earlier: list[list[int]] | None = None) -> dict[str, Any]:
+    """A level of a certificate whose coalitions, and earlier ones, have the excess 0 and the weight 1."""
+    pairs, more = [[group, 1] for group in groups], [[group, 1] for group in earlier or []]
+    return {"bounds": [], "coalitions": pairs, "earlier": more, "excess": "0", "total": total}
+
+
+def settling(players: int) -> list[dict[str, Any]]:
+    """Levels of which each settles one player more, by that player alone and all others."""
+    everybody = list(range(1, players + 1))
+    # (for the last player, who needs no level, these would not be in mask order)
+    return [level([[player], [other for other in everybody if other != player]], 1) for player in everybody[:-1]]
+
+
+def claim(game: Game, levels: list[dict[str, Any]], mode: str, shares: list[int]) -> dict[str, Any]:
+    """A document to check."""
+    certificate = {"levels": levels, "mode": mode}
+    return {"answer": "nucleolus", "certificate": certificate, "game": game, "shares": shares}
+
+
+def long_claims() -> Iterator[tuple[str, Making]]:
+    """Documents to check with certificates made by hand, by name: long ones, and those of mode players. In each game
+    every excess is 0 at the shares."""
+    draw = random.Random(3)
+    votes = [200, *(draw.randrange(1, 7) for _ in range(31))]
+    nothing, free = [0] * 16, {"class": "airport", "costs": [0] * 16}
+    table_of_nothing: Game = {"class": "table", "players": 16, "worths": [0] * ((1 << 16) - 1)}
+    first_decides: Game = {"class": "voting", "quota": 200, "weights": votes}
+    every = [members(mask) for mask in range(1, (1 << 16) - 1)]
+    once, again = level(every, (1 << 15) - 1), level(every, (1 << 16) - 2, every)
+    yield "five levels of all coalitions", lambda: claim(free, [once] * 5, "span", nothing)
+    yield "three levels, all earlier", lambda: claim(free, [once, again, again], "span", nothing)
+    yield "mode players, votes of 32", lambda: claim(first_decides, settling(32), "players", [1] + [0] * 31)
+    yield "mode players, a table of 16", lambda: claim(table_of_nothing, settling(16), "players", nothing)
+    per_head = {**table_of_nothing, "excess": "per-head"}
+    yield "mode players, a table of 16 per head", lambda: claim(per_head, settling(16), "players", nothing)
+    yield "mode span, 16 per head", lambda: claim({**free, "excess": "per-head"}, settling(16), "span", nothing)

@@ -12,7 +12,7 @@ use Rattle.game_text.specs.declared.command.Command.TheVariants as command
 use Rattle.kohlberg.specs.Certificate.{CertificateData}
 use Rattle.game_text.proofs.Computed.{document_as}
 use Rattle.coop.specs.Judgement.{HasShares}
-use Rattle.coop.specs.Checks.{IsComplete}
+use Rattle.coop.specs.Checks.{IsCheckable}
 use Rattle.coop.specs.Needs.{IsAccepted, HasNeeded}
 
 -- the value that there is keeps to what is said of it
@@ -24,10 +24,10 @@ module _ (bytes : List ℕ) (d : Contents) where
       → IfSome d.shares (λ (x : Allocation). length x.shares ≡ (game_of d.game).players) → HasShares d
   has_shares x given fit = (x, given, holds_of_some _ _ _ given fit)
 
-  is_complete : IsDocument command.Check bytes d
+  is_checkable : IsDocument command.Check bytes d
       → IfSome d.shares (λ (x : Allocation). length x.shares ≡ (game_of d.game).players)
-      → IfSome d.certificate (λ (c : CertificateData). c.players ≡ (game_of d.game).players) → IsComplete d
-  is_complete document fit certified =
+      → IfSome d.certificate (λ (c : CertificateData). c.players ≡ (game_of d.game).players) → IsCheckable d
+  is_checkable document fit certified =
       let says = (document_as command.Check bytes d document).says in
       let family = ap (λ (c : Contents). c.family) says in
       let shares = ap (λ (c : Contents). c.shares) says in
@@ -69,7 +69,7 @@ module _ (bytes : List ℕ) (d : Contents) where
   has_needed command.Propose document fit certified k =
       has_shares _ (ap (λ (c : Contents). c.shares) (document_as command.Propose bytes d document).says) fit
   has_needed command.Core document fit certified k = accepted command.Core document (omega arith) k
-  has_needed command.Check document fit certified k = is_complete document fit certified
+  has_needed command.Check document fit certified k = is_checkable document fit certified
   has_needed command.Shapley document fit certified k = tt
   has_needed command.Bird document fit certified k = tt
   has_needed command.Convex document fit certified k = tt

@@ -1,7 +1,7 @@
 -- The right verdict on the certificate of a document.
 --
 --   HasEvidence       the family, the shares and the certificate that a document gives
---   IsComplete        a document gives them for its players
+--   IsCheckable       a document gives them for its players
 --   IsCheckedAs       the verdict is the right one
 --   Checks            the answer is the right verdict, or that there are too many players
 --   HasLowestExcess   the excess that a verdict carries, where it carries one, is in lowest terms
@@ -28,7 +28,7 @@ pub record HasEvidence (d : Contents) (f : Family) (x : Allocation) (c : Certifi
   pub certificate : d.certificate ≡ Some c
 
 -- a document gives a family, and shares and a certificate for its players
-pub record IsComplete (d : Contents) : Type 0 where
+pub record IsCheckable (d : Contents) : Type 0 where
   pub family : Family
   pub shares : Allocation
   pub certificate : CertificateData

@@ -1,17 +1,18 @@
 -- THE HEADLINE, of every game that was read. Where a nucleolus is printed, it is an imputation; list its excesses over
 -- all coalitions from the greatest on, and those of any other imputation alike: at the first place where the lists
 -- differ, its own is the smaller. An excess is plain or per head, as the document says. The printed certificate meets
--- conditions that stand written in `kohlberg`, that `check` decides without the solver, and that imply all this by
--- themselves. Such an answer comes wherever there is an imputation, but for games of the class market, which `matching`
--- alone answers: for airports and bankruptcies to 64 players with plain excess, for all other games to sixteen with it,
--- and for all games to eight with excess per head.
+-- conditions that are written in Certificates.antt of `definitions`, that `check` decides without the solver, and that
+-- imply all this by themselves. Such an answer comes wherever there is an imputation, unless memory isn't found or a
+-- port fails: for airports and bankruptcies to 64 players with plain excess, for all other games to sixteen with it,
+-- and for all games to eight with excess per head; but for games of the class market, which `matching` alone answers.
 --
 -- "Every other imputation" is every other one in fractions; every other one in real shares, whose order is taken to be
 -- decided, as excluded middle has it; and every other one over any linearly ordered abelian group that comes with a
 -- test of its order and whose numbers have sequences of integers for names.
 --
 -- It is the clause `ends` of `run`: after a status of an answer there is an answer that `Answers` the words and the
--- bytes, and the sink took its line (`Ends` in Outcome.antt). What is below says it from the inside out:
+-- bytes, and the sink took its line (`Ends` in Outcome.antt). That an answer comes is the clause `complete`
+-- (Completeness.antt). What is below says what is right, from the inside out:
 --
 --   IsTaken               the game has no more players than are answered by its measure
 --   IsSolution            the nucleolus of the game of a document, with its certificate, as it is printed
@@ -25,8 +26,8 @@
 --
 -- What is right for the other commands stands in Judgement.antt (`propose`), CoreClaims.antt (`core`), Checks.antt
 -- (`check`), ShapleyClaims.antt (`shapley`), BirdClaims.antt (`bird`), ConvexClaims.antt (`convex`), KernelClaims.antt
--- (`kernel`), MatchingClaims.antt (`matching`) and GeneratorClaims.antt (`gen`); which classes a command serves, in
--- Classes.antt; which certificate is printed for a class with a scheme of its own, in Chosen.antt.
+-- (`kernel`), MatchingClaims.antt (`matching`) and GeneratorClaims.antt (`gen`); which classes a command serves, and
+-- which certificate is printed for a class with a scheme of its own, in Classes.antt.
 --
 -- The game, the shares and the certificate of a document of version 2 are those that it writes, times its scale, and
 -- the line is printed over that scale. One positive factor on all worths and shares changes no comparison

@@ -16,7 +16,7 @@ use Rattle.game_text.specs.declared.command.Command.{Command}
 use Rattle.game_text.specs.declared.command.Command.TheVariants.{Nucleolus, Prenucleolus, Propose, Core, Check}
 use Rattle.game_text.specs.declared.command.Command.TheVariants.{Shapley, Bird, Convex, Kernel, Matching}
 use Rattle.coop.specs.Judgement.{HasShares}
-use Rattle.coop.specs.Checks.{IsComplete}
+use Rattle.coop.specs.Checks.{IsCheckable}
 
 -- no test of a command refused the document of the game, whose tree has no number but integers, is nested at most 8
 -- deep, and is written within the limit
@@ -38,7 +38,7 @@ HasNeeded Nucleolus d = IsAccepted d
 HasNeeded Prenucleolus d = IsAccepted d
 HasNeeded Propose d = HasShares d
 HasNeeded Core d = IsAccepted d
-HasNeeded Check d = IsComplete d
+HasNeeded Check d = IsCheckable d
 HasNeeded Shapley d = ⊤
 HasNeeded Bird d = ⊤
 HasNeeded Convex d = ⊤

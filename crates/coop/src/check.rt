@@ -3,7 +3,7 @@ ghost use Rattle.std.specs.Prelude.{◌≡◌, length, IfOk};
 ghost use Rattle.definitions.specs.Measures.{IsMeasurable};
 ghost use Rattle.game_text.specs.Classes.{game_of, description_in};
 ghost use Rattle.game_text.specs.Readings.{contents_in};
-ghost use Rattle.coop.specs.Checks.{Checks, HasLowestExcess, IsComplete};
+ghost use Rattle.coop.specs.Checks.{Checks, HasLowestExcess, IsCheckable};
 ghost use Rattle.coop.specs.ReadBack.{IsNoNucleolus};
 ghost use Rattle.checker.specs.Meaning.{IsVerdict};
 ghost use Rattle.report.specs.Limits.{IsPrintable};
@@ -23,7 +23,7 @@ use worth_core::{Family, Measure, Shares, Worth};
 /// or that the game has more players than are checked by it.
 #[inline(never)]
 pub(crate) fn check_document(alloc: Global, document: &Document) -> Result<Answer, OutOfMemory>
-    requires { IsComplete (contents_in document.now) }
+    requires { IsCheckable (contents_in document.now) }
     ensures checks { IfOk result (Checks (contents_in document.now)) }
     ensures printable { IfOk result IsPrintable }
     ensures readable { IfOk result IsNoNucleolus }

@@ -18,8 +18,6 @@ mod solve;
 mod status;
 mod stop;
 mod stream;
-#[cfg(test)]
-mod tests;
 mod words;
 
 pub use running::run;

@@ -21,7 +21,7 @@ use Rattle.theorems.proofs.Products.{products}
 
 module _ {C : Type 0} (N : Numbers C) (L : IsOrderedGroup N) where
   -- multiples of the unit are in the order of their factors
-  unit_order : (a b : ℤ) → AtMost N (times N a N.unit) (times N b N.unit) → a ≤ℤ b
+  pub unit_order : (a b : ℤ) → AtMost N (times N a N.unit) (times N b N.unit) → a ≤ℤ b
   unit_order a b h =
       by_lt_z b a
       (λ lt.
@@ -34,7 +34,7 @@ module _ {C : Type 0} (N : Numbers C) (L : IsOrderedGroup N) where
       (L.positive (L.transitive N.unit one N.zero (times-one N L N.unit).1 (added-low N L u one high))))
       (λ le. le)
 
-  total_below-at_most : (n : ℕ) (f h : ℕ → C) → ((i : ℕ) → i < n → AtMost N (f i) (h i))
+  pub total_below-at_most : (n : ℕ) (f h : ℕ → C) → ((i : ℕ) → i < n → AtMost N (f i) (h i))
       → AtMost N (total_below N n f) (total_below N n h)
   total_below-at_most zero f h each = at_most-same N L N.zero
   total_below-at_most (suc n) f h each =

@@ -1,7 +1,6 @@
 //! Bankruptcy games that are made and refused, and their blockers and bounds.
 
-use crate::digits::chosen;
-use crate::listed::{agrees, has_two};
+use crate::has_two::has_two;
 use crate::shares::shares_of;
 use bankruptcy::{BankruptcyFault, BankruptcyGame};
 use coalitions::Coalition;
@@ -103,70 +102,6 @@ fn sixty_four_players_need_no_list_of_coalitions(rt: HostRuntime) -> Result<(), 
     ] {
         let x = shares_but_one(rt.alloc(), numerator)?;
         assert_eq!(rt; blocker_and_bound(&rt, &game, &x), (blocker, bound));
-    }
-    Ok(())
-}
-
-/// Shares that the digits of a number choose.
-fn point_of(alloc: Global, point: usize, n: usize, den: i128) -> Result<Shares, Fail> {
-    let num = chosen(alloc, &[-1, 0, 2], point, n)?;
-    Ok(Shares::new(num, den).ok_or("not shares")?)
-}
-
-/// Compares a game of `n` players at shares over 1 and over 2.
-fn compare(
-    rt: &impl Abort,
-    alloc: Global,
-    game: &BankruptcyGame,
-    point: usize,
-    n: usize,
-) -> Result<(), Fail> {
-    for &den in &[1, 2] {
-        let x = point_of(alloc, point, n, den)?;
-        assert!(rt; agrees(game, &x), "{game:?} at {x:?}");
-    }
-    Ok(())
-}
-
-/// The game of an estate and the claims that the digits of a number choose; none where there is none, or where the
-/// claims of more than three players don't ascend.
-fn chosen_game(
-    alloc: Global,
-    estate: i64,
-    list: usize,
-    n: usize,
-) -> Result<Option<BankruptcyGame>, Fail> {
-    let claims = chosen(alloc, &[0, 1, 2, 3], list, n)?;
-    if n > 3 && !claims.is_sorted() {
-        return Ok(None);
-    }
-    Ok(BankruptcyGame::new(alloc, estate, claims).ok())
-}
-
-// Up to three players with every list of claims from 0 to 3, and four and five with the ascending ones; of the points
-// of five players every seventh.
-#[test]
-fn own_bodies_answer_as_those_that_list_coalitions(rt: HostRuntime) -> Result<(), Fail> {
-    for &(n, lists, points) in &[
-        (1, 4, 3),
-        (2, 16, 9),
-        (3, 64, 27),
-        (4, 256, 81),
-        (5, 1024, 243),
-    ] {
-        for list in 0..lists {
-            for estate in 0..16 {
-                let Some(game) = chosen_game(rt.alloc(), estate, list, n)? else {
-                    continue;
-                };
-                for point in 0..points {
-                    if n == 5 && point % 7 != 0 {
-                        continue;
-                    }
-                    compare(&rt, rt.alloc(), &game, point, n)?;
-                }
-            }
-        }
     }
     Ok(())
 }

@@ -1,6 +1,6 @@
 //! Markets that are refused and markets that are solved, with prices and worths worked by hand, and a market of
 //! scattered numbers.
-ghost use Rattle.std.specs.Prelude.{◌+◌, ◌^◌, ◌<◌, length, unsigned_abs, MatchOption};
+ghost use Rattle.std.specs.Prelude.{◌<◌};
 
 use crate::rows::matrix_of;
 use big_assignment::{MarketFault, MarketGame, Solution};
@@ -175,116 +175,6 @@ fn worths_are_the_greatest_values(rt: HostRuntime) -> Result<(), Fail> {
     let worths = worths_of_rows(rt.alloc(), &[&[5, 8], &[7, 6]])?;
     let wanted = [0, 0, 0, 0, 0, 5, 7, 7, 0, 8, 6, 8, 0, 8, 7, 15];
     assert_eq!(rt; worths.as_slice(), wanted.as_slice());
-    Ok(())
-}
-
-/// A matrix of 32 rows and columns with numbers from 0 to below 2^40, by a linear congruence modulo 2^64.
-fn scattered(alloc: Global, seed: u64) -> Result<Vec<Vec<i64>>, AllocError> {
-    let mut state = seed;
-    let mut matrix = Vec::new(alloc);
-    for _ in 0..32 {
-        let mut row = Vec::new(alloc);
-        for _ in 0..32 {
-            state = state
-                .wrapping_mul(6364136223846793005)
-                .wrapping_add(1442695040888963407);
-            row.push((state / 16777216) as i64)?;
-        }
-        matrix.push(row)?;
-    }
-    Ok(matrix)
-}
-
-/// A player's share, none for who is no player.
-fn share_of(x: &Shares, k: usize) -> Option<i128>
-    ensures { MatchOption result (Unit {0}) (λ z. unsigned_abs z < 2 ^ 110) }
-{
-    if k < x.players() as usize {
-        Some(x.num(k as u32))
-    } else {
-        None
-    }
-}
-
-/// Whether a player and row `i`'s seller `j` get no less than `entry` together.
-fn are_content(x: &Shares, buyers: usize, i: usize, j: usize, entry: i64) -> bool
-    requires { buyers + j < 100 }
-{
-    match (share_of(x, i), share_of(x, buyers + j)) {
-        (Some(buyer), Some(seller)) => buyer + seller >= i128::from(entry),
-        _ => false,
-    }
-}
-
-/// Whether no player gets less than nothing, and no buyer and seller less than they are worth together: then no
-/// coalition blocks, since what a matching of its members is worth is a sum over pairs.
-fn is_stable(x: &Shares, matrix: &[Vec<i64>]) -> bool
-    requires { length matrix.now < 50 }
-{
-    for k in 0..x.players() {
-        if x.num(k) < 0 {
-            return false;
-        }
-    }
-    for i in 0..matrix.len() {
-        for j in 0..matrix[i].len().min(50) {
-            if !are_content(x, matrix.len(), i, j, matrix[i][j]) {
-                return false;
-            }
-        }
-    }
-    true
-}
-
-/// The sum of all shares.
-fn total_of(x: &Shares) -> i128 {
-    let mut sum: i128 = 0;
-    for k in 0..x.players() {
-        sum = sum.wrapping_add(x.num(k));
-    }
-    sum
-}
-
-/// Whether an end of the core of a market of 32 buyers and 32 sellers adds to the value of all, and no pair blocks.
-fn end_is_stable(x: &Shares, value: i64, matrix: &[Vec<i64>]) -> bool {
-    x.den() == 1
-        && x.players() == 64
-        && total_of(x) == i128::from(value)
-        && matrix.len() == 32
-        && is_stable(x, matrix)
-}
-
-/// Whether the shares are the same.
-fn are_same(x: &Shares, y: &Shares) -> bool {
-    if x.players() != y.players() {
-        return false;
-    }
-    for k in 0..x.players() {
-        if x.num(k) != y.num(k) {
-            return false;
-        }
-    }
-    true
-}
-
-/// The number of pairs of a market of scattered numbers, whether both ends of the core are stable, and whether they are
-/// the same.
-fn ends_of(alloc: Global, seed: u64) -> Result<(usize, bool, bool, bool), Fail> {
-    let matrix = scattered(alloc, seed)?;
-    let solution = solution_of(alloc, scattered(alloc, seed)?)?;
-    Ok((
-        solution.pairs.len(),
-        end_is_stable(&solution.buyers_best, solution.value, &matrix),
-        end_is_stable(&solution.sellers_best, solution.value, &matrix),
-        are_same(&solution.buyers_best, &solution.sellers_best),
-    ))
-}
-
-#[test]
-fn no_pair_blocks_the_ends_of_a_market_of_scattered_numbers(rt: HostRuntime) -> Result<(), Fail> {
-    for &seed in &[1, 1971] {
-        assert_eq!(rt; ends_of(rt.alloc(), seed)?, (32, true, true, false));
-    }
     Ok(())
 }
 

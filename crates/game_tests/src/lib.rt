@@ -14,15 +14,13 @@ mod coalitions_tests;
 #[cfg(test)]
 mod definitions_tests;
 #[cfg(test)]
-mod digits;
-#[cfg(test)]
 mod fracs;
 #[cfg(test)]
 mod fractions_tests;
 #[cfg(test)]
 mod greatest_games_tests;
 #[cfg(test)]
-mod listed;
+mod has_two;
 #[cfg(test)]
 mod matrices_tests;
 #[cfg(test)]

@@ -1,7 +1,6 @@
 //! Voting games that are made and refused, their blockers and bounds, and their Shapley values.
 
-use crate::digits::chosen;
-use crate::listed::{agrees, has_two};
+use crate::has_two::has_two;
 use crate::shares::shares_of;
 use coalitions::Coalition;
 use std::alloc::Global;
@@ -188,57 +187,6 @@ fn thirty_two_like_players_share_alike(rt: HostRuntime) -> Result<(), Fail> {
     assert!(rt; x.players() == 32);
     for i in 0..32 {
         assert_eq!(rt; x.num(i), 144_403_552_893_600 / 32);
-    }
-    Ok(())
-}
-
-/// Shares that the digits of a number choose.
-fn point_of(alloc: Global, point: usize, n: usize) -> Result<Shares, Fail> {
-    let num = chosen(alloc, &[-1, 0, 2], point, n)?;
-    Ok(Shares::new(num, 2).ok_or("not shares")?)
-}
-
-/// Compares a game of `n` players at some shares.
-fn compare(
-    rt: &impl Abort,
-    alloc: Global,
-    game: &VotingGame,
-    point: usize,
-    n: usize,
-) -> Result<(), Fail> {
-    let x = point_of(alloc, point, n)?;
-    assert!(rt; agrees(game, &x), "{game:?} at {x:?}");
-    Ok(())
-}
-
-/// The game of a quota and the weights that the digits of a number choose, where they make one.
-fn chosen_game(
-    alloc: Global,
-    quota: i64,
-    list: usize,
-    n: usize,
-) -> Result<Option<VotingGame>, Fail> {
-    let weights = chosen(alloc, &[0, 1, 2], list, n)?;
-    Ok(VotingGame::new(alloc, quota, weights).ok())
-}
-
-// One to three players with every list of weights from 0 to 2; of the points of three players every fifth.
-#[test]
-fn own_bodies_answer_as_those_that_list_coalitions(rt: HostRuntime) -> Result<(), Fail> {
-    for &(n, lists, points) in &[(1, 3, 3), (2, 9, 9), (3, 27, 27)] {
-        for list in 0..lists {
-            for quota in 1..7 {
-                let Some(game) = chosen_game(rt.alloc(), quota, list, n)? else {
-                    continue;
-                };
-                for point in 0..points {
-                    if n == 3 && point % 5 != 0 {
-                        continue;
-                    }
-                    compare(&rt, rt.alloc(), &game, point, n)?;
-                }
-            }
-        }
     }
     Ok(())
 }

@@ -44,3 +44,5 @@ pub mod Gathered
 pub mod RenumberedCoalitions
 pub mod RenumberingChangesNothing
 pub mod ExchangeChangesNothing
+pub mod ShapleyIsAnonymous
+pub mod ShapleyIsCovariant

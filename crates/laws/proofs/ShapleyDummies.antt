@@ -79,7 +79,7 @@ only-total n i lt =
         ≡ pos 1
     grand_worth_one = rw (has_player-grand_coalition n i lt, has_player-empty i) refl
 
-dummy-total : (g : Game) (i : ℕ) → i < g.players → IsDummy g i
+pub dummy-total : (g : Game) (i : ℕ) → i < g.players → IsDummy g i
     → shapley_total g i ≡ pos (factorial g.players) *ℤ g.worth (singleton i)
 dummy-total g i lt dummy =
     let n = g.players in

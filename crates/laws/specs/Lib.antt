@@ -11,3 +11,4 @@ pub mod SortedLists
 pub mod CommonScales
 pub mod SmallNucleoli
 pub mod Renumbering
+pub mod ShapleyEquivalence

@@ -10,6 +10,7 @@ pub mod common_scales;
 pub mod estates;
 pub mod nucleolus;
 pub mod renumbering;
+pub mod shapley_equivalence;
 pub mod shapley_value;
 pub mod small_nucleoli;
 pub mod sorted_lists;

@@ -1,4 +1,4 @@
-//! Plain slow programs that compute what the definitions say, for the tests of the others.
+//! Plain slow programs that compute what the definitions say.
 #![tactic(auto)]
 
 pub mod blockers;

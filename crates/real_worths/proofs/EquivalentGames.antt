@@ -53,7 +53,7 @@ module _ {C : Type 0} (N : Numbers C) (L : IsOrderedGroup N) (to back : C → C)
 
     -- ---- lists
 
-    abbrev AllTo : List C → List C → Type 0
+    abbrev pub AllTo : List C → List C → Type 0
     AllTo [] [] = Unit {0}
     AllTo [] (b ∷ k) = ⊥
     AllTo (a ∷ l) [] = ⊥
@@ -115,7 +115,7 @@ module _ {C : Type 0} (N : Numbers C) (L : IsOrderedGroup N) (to back : C → C)
           lesser_to (sorted_by N l) (sorted_by N k) (sorted_by N m) (sorted_by N p) first second before.1,
         )
 
-    mapped_to : (f h : ℕ → C) (a k : ℕ) → ((s : ℕ) → Equal N (h s) (to (f s)))
+    pub mapped_to : (f h : ℕ → C) (a k : ℕ) → ((s : ℕ) → Equal N (h s) (to (f s)))
         → AllTo (map f (range_with_len a k)) (map h (range_with_len a k))
     mapped_to f h a zero each = tt
     mapped_to f h a (suc k) each = (each a, mapped_to f h (a + 1) k each)

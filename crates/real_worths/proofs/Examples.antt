@@ -24,6 +24,7 @@ use Rattle.real_worths.proofs.Moves.{minus_minus}
 use Rattle.real_worths.proofs.WhoAddsNoLess.{adds_gets_no_less}
 use Rattle.real_worths.proofs.Joined.{off}
 use Rattle.real_worths.proofs.RealsCanHalve.{can_halve}
+use Rattle.real_worths.proofs.UnbeatenIsNucleolus.{to_unbeaten, from_unbeaten}
 
 -- ---- doubling
 
@@ -122,6 +123,15 @@ module _ {C : Type 0} (N : Numbers C) (L : IsOrderedGroup N) (c h : C) (half : E
       unblocked (suc (suc (suc zero))) lt = (turn N L (chain N L (both_get h h) half)).0
       unblocked (suc (suc (suc (suc s)))) lt = absurd (omega arith)
 
+  -- twice all for the first, and the second would do better alone
+  no_core_point : ¬ InCoreIn N g (N.plus c c ∷ (N.minus c ∷ []))
+  no_core_point core =
+      some
+      (through N L (neutral_left N L c).1
+      (through N L
+      (L.shifts N.zero (N.minus c) c (through N L (core.2 2 (omega arith)) (second_gets (N.minus c)).0))
+      (through N L (L.commutes (N.minus c) c).0 (L.inverse c).0)))
+
   -- ---- half each comes first
 
   module _ (z : List C) (long : length z ≡ 2) (efficient : Equal N (amount_of N z 3) c)
@@ -207,20 +217,33 @@ module _ {C : Type 0} (N : Numbers C) (L : IsOrderedGroup N) (c h : C) (half : E
 pub two_share : TwoShare
 two_share N c h R half some =
     let L = are_ordered N R in
-    let alike = interchangeable N L c h half some in (
+    let alike = interchangeable N L c h half some in
+    let halves = h ∷ (h ∷ []) in
+    let first = c ∷ (N.zero ∷ []) in
+    let is = half_each N L c h half some in
+    let not : ¬ IsNucleolusIn N Preimputations (two N c) first =
+    λ is. some
+    (adds_gets_no_less N L (can_halve N R) (two N c) Preimputations first is 1 0 (omega arith) (omega arith)
+    (λ s lt a b. (alike s lt b a).0)) in (
       alike,
       no_dummy N L c h half some,
       core_point N L c h half some,
-      half_each N L c h half some,
-      λ is. some
-          (adds_gets_no_less N L (can_halve N R) (two N c) Preimputations (c ∷ (N.zero ∷ [])) is 1 0 (omega arith)
-          (omega arith) (λ s lt a b. (alike s lt b a).0)),
+      no_core_point N L c h half some,
+      is,
+      not,
+      to_unbeaten N L (two N c) Preimputations halves is,
+      λ u. not (from_unbeaten N L (two N c) (can_halve N R) Preimputations first u),
     )
 
 -- ---- who adds no less, and dummies
 
 pub some_add_no_less : SomeAddNoLess
-some_add_no_less N c R some = (adds, λ less. some (less 0 (omega arith) refl refl), dummy)
+some_add_no_less N c R some = (
+  adds,
+  λ less. some (less 0 (omega arith) refl refl),
+  λ alike. some (alike 0 (omega arith) refl refl).1,
+  dummy,
+)
   where
     L : IsOrderedGroup N
     L = are_ordered N R

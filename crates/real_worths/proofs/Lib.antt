@@ -12,3 +12,13 @@ mod LevelsAreEnough
 mod SmallSteps
 mod LevelsAreNeeded
 mod KohlbergTheorem
+mod Halfway
+mod UnbeatenIsNucleolus
+mod Fractions
+mod Rows
+mod LeastUnknown
+mod ExcessRows
+mod Minimax
+mod LeastLists
+mod NucleoliExist
+mod MembersExist

@@ -11,6 +11,7 @@
 --   excess_list_in            the excesses of all proper coalitions
 --   HaveSameIn                two lists give each player the same
 --   IsNucleolusIn             a member whose excesses from the greatest come before those of every other member
+--   IsUnbeatenIn              a member that no other member comes before, as the literature puts it
 --   InCoreIn                  efficient, and no coalition is worth more than its members get
 --   CanHalve N                each number is twice a number, as each real number is
 --   AddsNoLessIn N g i j      player i adds to each coalition without both at least what player j adds
@@ -59,6 +60,13 @@ IsNucleolusIn {C} N family g y =
     InFamilyIn N family g y
     × ((z : List C) → InFamilyIn N family g z → ¬ HaveSameIn N g y z
     → ComesBeforeBy N (sorted_by N (excess_list_in N g y)) (sorted_by N (excess_list_in N g z)))
+
+-- a member before whose excesses from the greatest those of no member come: where the list is least (Schmeidler 1969)
+abbrev pub IsUnbeatenIn : {C : Type 0} → Numbers C → Family → NumberGame C → List C → Type 0
+IsUnbeatenIn {C} N family g y =
+    InFamilyIn N family g y
+    × ((z : List C) → InFamilyIn N family g z
+    → ¬ ComesBeforeBy N (sorted_by N (excess_list_in N g z)) (sorted_by N (excess_list_in N g y)))
 
 abbrev pub InCoreIn : {C : Type 0} → Numbers C → NumberGame C → List C → Type 0
 InCoreIn N g y =

@@ -2,3 +2,5 @@ pub mod Games
 pub mod RealWorths
 pub mod KohlbergTheorem
 pub mod Examples
+pub mod WholeWorths
+pub mod Existence

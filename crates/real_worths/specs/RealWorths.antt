@@ -1,8 +1,8 @@
 -- What the nucleolus promises where worths and shares are real numbers. Each statement is the contract of a function
 -- of this crate.
 --
---   WholeWorthsAgree               where worths are whole numbers, these are the notions of `real_shares`
 --   NucleolusIsUnique              two nucleoli of one game and family have the same shares (Schmeidler 1969)
+--   UnbeatenIsNucleolus            a member that no other comes before is the nucleolus, and only that one
 --   NucleolusIsInCore              where some shares are in the core, the nucleolus is, and so is the prenucleolus
 --   WithACoreBothAreOne            and they are one
 --   WhoAddsNoLessGetsNoLess        who adds no less than another everywhere gets no less
@@ -11,31 +11,30 @@
 --   RealsCanHalve                  each real number is twice a real number
 --   IsUnitChange                   an additive change of all numbers that keeps their order, there and back
 --   changed_game, changed_shares   worths and shares in the new unit, and each player's number added
+--   FractionsAreChanges            p / q of each number is such a change, for positive p and q
 --   EquivalentGamesAgree           the nucleolus changes as the worths do (covariance under strategic equivalence)
-use Rattle.std.specs.Prelude.{◌↔◌, ℕ, ◌<◌, List, length, map}
+use Rattle.std.specs.Prelude.{◌↔◌, ℕ, ◌<◌, List, length, map, ℤ, pos, ◌≤ℤ◌}
 use Rattle.std.specs.List.{range_with_len}
 use Rattle.definitions.specs.Coalitions.{singleton}
-use Rattle.definitions.specs.Games.{Game}
 use Rattle.definitions.specs.declared.Family.{Family}
 use Rattle.definitions.specs.declared.Family.TheVariants.{Imputations, Preimputations}
-use Rattle.definitions.specs.declared.Measure.TheVariants.{Plain}
-use Rattle.real_shares.specs.Numbers.{Numbers, AtMost, Equal, total_over}
+use Rattle.real_shares.specs.Numbers.{Numbers, AtMost, Equal, times, total_over}
 use Rattle.real_shares.specs.Reals.{Real, AreReals}
-use Rattle.real_shares.specs.Shares.{number_of, IsNucleolusAmong, InCoreOver}
-use Rattle.real_worths.specs.Games.{NumberGame, whole_worths, HaveSameIn, IsNucleolusIn, InCoreIn, CanHalve}
-use Rattle.real_worths.specs.Games.{AddsNoLessIn, AreInterchangeableIn, IsDummyIn}
-
--- where worths are whole numbers, these are the nucleolus and the core among real shares
-abbrev pub WholeWorthsAgree : Type 0
-WholeWorthsAgree =
-    (N : Numbers Real) (family : Family) (g : Game) (y : List Real) →
-    (IsNucleolusIn N family (whole_worths N g) y ↔ IsNucleolusAmong N family Plain g y)
-    × (InCoreIn N (whole_worths N g) y ↔ InCoreOver N g y)
+use Rattle.real_shares.specs.Shares.{number_of}
+use Rattle.real_worths.specs.Games.{NumberGame, HaveSameIn, IsNucleolusIn, InCoreIn, CanHalve}
+use Rattle.real_worths.specs.Games.{IsUnbeatenIn, AddsNoLessIn, AreInterchangeableIn, IsDummyIn}
 
 abbrev pub NucleolusIsUnique : Type 0
 NucleolusIsUnique =
     (N : Numbers Real) (family : Family) (g : NumberGame Real) (y z : List Real) → AreReals N →
     IsNucleolusIn N family g y → IsNucleolusIn N family g z → HaveSameIn N g y z
+
+-- a member is the nucleolus exactly where no member comes before it: the least list belongs to one member alone
+-- (Schmeidler 1969)
+abbrev pub UnbeatenIsNucleolus : Type 0
+UnbeatenIsNucleolus =
+    (N : Numbers Real) (family : Family) (g : NumberGame Real) (y : List Real) → AreReals N →
+    IsUnbeatenIn N family g y ↔ IsNucleolusIn N family g y
 
 abbrev pub NucleolusIsInCore : Type 0
 NucleolusIsInCore =
@@ -82,6 +81,13 @@ pub record IsUnitChange {C : Type 0} (N : Numbers C) (to back : C → C) : Type 
   pub keeps_back : (a b : C) → AtMost N a b → AtMost N (back a) (back b)
   pub there : (a : C) → Equal N (to (back a)) a
   pub again : (a : C) → Equal N (back (to a)) a
+
+-- p / q of each number, for positive p and q: q times the new number is p times the old one
+abbrev pub FractionsAreChanges : Type 0
+FractionsAreChanges =
+    (N : Numbers Real) (p q : ℤ) → AreReals N → pos 1 ≤ℤ p → pos 1 ≤ℤ q →
+    (to : Real → Real) × (back : Real → Real) × IsUnitChange N to back
+    × ((a : Real) → Equal N (times N q (to a)) (times N p a))
 
 -- the worths in the new unit, each more by the numbers of its members
 abbrev pub changed_game : {C : Type 0} → Numbers C → (C → C) → (ℕ → C) → NumberGame C → NumberGame C

@@ -4,15 +4,18 @@
 //! program needs them.
 #![tactic(auto)]
 
-ghost use Rattle.real_worths.specs.RealWorths.{WholeWorthsAgree, NucleolusIsUnique, NucleolusIsInCore};
+ghost use Rattle.real_worths.specs.RealWorths.{NucleolusIsUnique, UnbeatenIsNucleolus, NucleolusIsInCore};
 ghost use Rattle.real_worths.specs.RealWorths.{WithACoreBothAreOne, WhoAddsNoLessGetsNoLess, AlikePlayersGetAlike};
 ghost use Rattle.real_worths.specs.RealWorths.{DummiesGetTheirWorth, RealsCanHalve, EquivalentGamesAgree};
+ghost use Rattle.real_worths.specs.RealWorths.{FractionsAreChanges};
+ghost use Rattle.real_worths.specs.WholeWorths.{WholeWorthsAgree};
+ghost use Rattle.real_worths.specs.Existence.{NucleoliExist, PrenucleoliExist, ImputationsExist};
 ghost use Rattle.real_worths.specs.KohlbergTheorem.{KohlbergTheorem};
 ghost use Rattle.real_worths.specs.Examples.{TwoShare, DoublingIsAChange, IntegersCantHalve, SomeAddNoLess};
 ghost use Rattle.real_worths.specs.Examples.{SinglesBalance};
 
-/// Where the worths are whole numbers, times the unit, these are the nucleolus and the core among real shares that
-/// other laws speak of.
+/// Where the worths are whole numbers, times the unit, the families, the nucleolus and the core are those among real
+/// shares that other laws speak of, and who adds no less, who is interchangeable and who is a dummy stays the same.
 pub fn whole_worths_agree()
     ensures { WholeWorthsAgree }
 {}
@@ -20,6 +23,27 @@ pub fn whole_worths_agree()
 /// Two nucleoli of one game and family have the same shares.
 pub fn nucleolus_is_unique()
     ensures { NucleolusIsUnique }
+{}
+
+/// A member of the family that no other member comes before is the nucleolus, and the nucleolus is such a member: so
+/// the least list of excesses belongs to one member alone (Schmeidler 1969).
+pub fn unbeaten_is_nucleolus()
+    ensures { UnbeatenIsNucleolus }
+{}
+
+/// Where there is an imputation, one is the nucleolus, and likewise a preimputation the prenucleolus (Schmeidler 1969).
+pub fn nucleoli_exist()
+    ensures { NucleoliExist }
+{}
+
+/// Each game with a player has a prenucleolus.
+pub fn prenucleoli_exist()
+    ensures { PrenucleoliExist }
+{}
+
+/// There is an imputation exactly where the players alone aren't worth more than all together.
+pub fn imputations_exist()
+    ensures { ImputationsExist }
 {}
 
 /// Where the core isn't empty, the nucleolus and the prenucleolus lie in it.
@@ -58,14 +82,19 @@ pub fn equivalent_games_agree()
     ensures { EquivalentGamesAgree }
 {}
 
+/// For positive whole p and q, p / q of each number is a change of the unit.
+pub fn fractions_are_changes()
+    ensures { FractionsAreChanges }
+{}
+
 /// Kohlberg's theorem (Kohlberg 1971; for the prenucleolus Sobolev 1975): shares that add to the worth of all are the
 /// prenucleolus just where, for each coalition, those of at least its excess are balanced.
 pub fn kohlberg()
     ensures { KohlbergTheorem }
 {}
 
-/// Two who together are worth a real number above zero, and alone nothing, get half each; and all for the first is no
-/// nucleolus.
+/// Two who together are worth a real number above zero, and alone nothing, get half each; all for the first is no
+/// nucleolus, and twice all for the first no core point.
 pub fn two_share()
     ensures { TwoShare }
 {}
@@ -80,8 +109,8 @@ pub fn integers_cant_halve()
     ensures { IntegersCantHalve }
 {}
 
-/// Of two players the second alone is worth something: it adds no less than the first, which adds less. Where nobody is
-/// worth anything, the first is a dummy.
+/// Of two players the second alone is worth something: it adds no less than the first, which adds less, so they aren't
+/// interchangeable. Where nobody is worth anything, the first is a dummy.
 pub fn some_add_no_less()
     ensures { SomeAddNoLess }
 {}

@@ -23,5 +23,5 @@ mod Words
 mod WordGames
 mod WordGameShares
 mod SobolevsTheorem
-mod ShapleyIsntSuchARule
+mod ShapleyLacksReducedGames
 mod InTheirOrder

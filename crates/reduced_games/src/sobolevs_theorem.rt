@@ -1,7 +1,7 @@
 //! Which rule has these properties: the prenucleolus alone. Each function's contract is a theorem, and it does nothing
 //! when it runs.
 
-ghost use Rattle.reduced_games.specs.SobolevsTheorem.{SobolevsTheorem, SomeRuleMeetsThem, ShapleyIsntSuchARule};
+ghost use Rattle.reduced_games.specs.SobolevsTheorem.{SobolevsTheorem, SomeRuleMeetsThem, ShapleyLacksReducedGames};
 ghost use Rattle.reduced_games.specs.SobolevsTheorem.{InTheirOrder};
 
 /// Sobolev's theorem (Sobolev 1975), both ways, over games whose worths are whole numbers and rules whose shares are
@@ -16,9 +16,11 @@ pub fn some_rule_meets_them()
     ensures { SomeRuleMeetsThem }
 {}
 
-/// The Shapley value doesn't meet them: it lacks the reduced game property.
-pub fn shapley_isnt_such_a_rule()
-    ensures { ShapleyIsntSuchARule }
+/// Of the four axioms the Shapley value meets three, and lacks the reduced game property: where one has a left glove
+/// and two a right one, and one of the two goes with its share, the Shapley value of what is left gives the others
+/// other shares.
+pub fn shapley_lacks_reduced_games()
+    ensures { ShapleyLacksReducedGames }
 {}
 
 /// What the axioms speak of, in the small: a vote is playable and a game of nobody isn't, and two of three keep their

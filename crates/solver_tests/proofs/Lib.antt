@@ -1,2 +1,1 @@
-mod StartSpan
 mod LevelSpans

@@ -64,32 +64,10 @@ fn costs_of_2_and_4_and_6_have_two_levels(rt: HostRuntime) -> Result<(), Fail> {
     Ok(())
 }
 
-#[test]
-fn players_without_costs_pay_nothing(rt: HostRuntime) -> Result<(), Fail> {
-    const LEVELS: [Row<'static>; 1] = [(
-        (0, 1),
-        &[(0b011, 1), (0b101, 1), (0b110, 1)],
-        &[],
-        &[],
-        2,
-    )];
-    let payments = [(0, 1), (0, 1), (3, 1)];
-    let found = is_solution(rt.alloc(), &[0, 0, 3], &payments, &LEVELS)?;
-    assert_eq!(rt; found, (true, true));
-    Ok(())
-}
-
 /// What players of these costs pay.
 fn shares_of(alloc: Global, costs: &[i64]) -> Result<Shares, Fail> {
     let (shares, _) = solved(alloc, costs)?;
     Ok(shares)
-}
-
-#[test]
-fn equal_costs_of_64_players_are_shared_equally(rt: HostRuntime) -> Result<(), Fail> {
-    let shares = shares_of(rt.alloc(), &[64; 64])?;
-    assert!(rt; pay(&shares, &[(1, 1); 64]));
-    Ok(())
 }
 
 #[test]

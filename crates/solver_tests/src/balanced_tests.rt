@@ -7,7 +7,6 @@ use coalitions::Coalition;
 use std::alloc::Global;
 use std::test::Fail;
 use worth_core::{Shares, Worth};
-use worth_tables::CostGame;
 
 /// The point of the core of a game.
 fn point_of<W: Worth>(rt: &HostRuntime, game: &W) -> Result<Shares, Fail> {
@@ -41,46 +40,9 @@ fn three_pairs_of_a_majority_leave_no_core(rt: HostRuntime) -> Result<(), Fail> 
     Ok(())
 }
 
-#[test]
-fn two_who_are_worth_more_alone_have_none(rt: HostRuntime) -> Result<(), Fail> {
-    let collection = shown_by_table(&rt, 2, &[3, 3, 5])?;
-    let alone = [(Coalition(1), 1), (Coalition(2), 1)];
-    assert_eq!(&rt;
-        (collection.k, collection.weights.as_slice()),
-        (1, alone.as_slice())
-    );
-    Ok(())
-}
-
-/// The collection that shows that the core of the game of these costs is empty.
-fn shown_by_costs(rt: &HostRuntime, players: u32, costs: &[i64]) -> Result<Collection, Fail> {
-    shown_by(rt, &CostGame::new(table(rt, players, costs)?))
-}
-
-#[test]
-fn costs_are_answered_as_worths(rt: HostRuntime) -> Result<(), Fail> {
-    let collection = shown_by_costs(&rt, 3, &[6, 6, 6, 6, 6, 6, 12])?;
-    let pairs = [(Coalition(3), 1), (Coalition(5), 1), (Coalition(6), 1)];
-    assert_eq!(&rt;
-        (collection.k, collection.weights.as_slice()),
-        (2, pairs.as_slice())
-    );
-    Ok(())
-}
-
 /// The point of the core of the game of these worths.
 fn point_of_table(rt: &HostRuntime, players: u32, worths: &[i64]) -> Result<Shares, Fail> {
     point_of(rt, &table(rt, players, worths)?)
-}
-
-#[test]
-fn one_gets_its_worth(rt: HostRuntime) -> Result<(), Fail> {
-    let shares = point_of_table(&rt, 1, &[-5])?;
-    assert_eq!(&rt;
-        (shares.players(), shares.sum_of(Coalition(1)), shares.den()),
-        (1, -5, 1)
-    );
-    Ok(())
 }
 
 #[test]

@@ -2,7 +2,7 @@
 
 use crate::levels::{Row, certificate_of};
 use crate::tables::{ASSIGNMENT, table};
-use checker::{Place, Reason, Verdict, check};
+use checker::{Reason, Verdict, check};
 use coalitions::Coalition;
 use fractions::Frac;
 use kohlberg::{Family, Mode};
@@ -226,114 +226,6 @@ fn players_certify_an_airport_game(rt: HostRuntime) -> Result<(), Fail> {
         Verdict::No(Reason::NotEfficient),
     ];
     compare(&rt, rt.alloc(), &game, Mode::Players, &ON_AIRPORT, &wanted)
-}
-
-/// The verdict where two share 2 and are worth nothing alone, on a level of both alone.
-fn on_two(
-    rt: &HostRuntime,
-    mode: Mode,
-    shares: [i128; 2],
-    excess: i128,
-    weights: [i128; 2],
-    bounds: &[(u32, i128)],
-    total: i128,
-) -> Result<Verdict, Fail> {
-    let pairs = [(of![1], weights[0]), (of![2], weights[1])];
-    let levels: [Row<'_>; 1] = [((excess, 1), &pairs, &[], bounds, total)];
-    let case: Case<'_> = (Family::Imputations, Measure::Plain, (&shares, 1), &levels);
-    let game = table(rt, 2, &[0, 0, 2])?;
-    verdict(rt.alloc(), &game, mode, &case)
-}
-
-const NOT_INDIVIDUAL: Verdict = Verdict::No(Reason::NotIndividual { player: 0 });
-
-const WRONG_EXCESS: Verdict = Verdict::No(Reason::WrongExcess {
-    level: 1,
-    coalition: Coalition(of![1]),
-});
-
-const NO_WEIGHT: Verdict = Verdict::No(Reason::WeightSign {
-    level: 1,
-    place: Place::Coalition(Coalition(of![1])),
-});
-
-const NO_BOUND_WEIGHT: Verdict = Verdict::No(Reason::WeightSign {
-    level: 1,
-    place: Place::Player(0),
-});
-
-const NOT_BALANCED: Verdict = Verdict::No(Reason::Unbalanced {
-    level: 1,
-    player: 0,
-});
-
-const NOT_TIGHT: Verdict = Verdict::No(Reason::BoundNotTight {
-    level: 1,
-    player: 0,
-});
-
-/// The shares of two, the excess, weights, bounds and total of a level of both alone, and the verdict.
-const CONDITIONS: [([i128; 2], i128, [i128; 2], &[(u32, i128)], i128, Verdict); 8] = [
-    ([1, 1], -1, [1, 1], &[], 1, Verdict::Yes),
-    (
-        [1, 2],
-        -1,
-        [1, 1],
-        &[],
-        1,
-        Verdict::No(Reason::NotEfficient),
-    ),
-    ([-1, 3], -1, [1, 1], &[], 1, NOT_INDIVIDUAL),
-    ([1, 1], -2, [1, 1], &[], 1, WRONG_EXCESS),
-    ([1, 1], -1, [0, 1], &[], 1, NO_WEIGHT),
-    ([1, 1], -1, [1, 1], &[(0, 0)], 1, NO_BOUND_WEIGHT),
-    ([1, 1], -1, [2, 1], &[], 1, NOT_BALANCED),
-    ([1, 1], -1, [1, 2], &[(0, 1)], 2, NOT_TIGHT),
-];
-
-#[test]
-fn each_condition_of_a_level_fails_in_both_modes(rt: HostRuntime) -> Result<(), Fail> {
-    for &mode in &[Mode::Players, Mode::Span] {
-        for &(shares, excess, weights, bounds, total, wanted) in &CONDITIONS {
-            let found = on_two(&rt, mode, shares, excess, weights, bounds, total)?;
-            assert_eq!(rt; found, wanted);
-        }
-    }
-    Ok(())
-}
-
-const PAIRS: Row<'static> = (
-    (-2, 1),
-    &[(of![1, 2], 1), (of![1, 3], 1), (of![2, 3], 1)],
-    &[],
-    &[],
-    2,
-);
-
-const SOME_AND_NONE: [Case<'static>; 2] = [
-    (
-        Family::Imputations,
-        Measure::Plain,
-        (&[1, 1, 1], 1),
-        &[PAIRS],
-    ),
-    (Family::Imputations, Measure::Plain, (&[1, 1, 1], 1), &[]),
-];
-
-#[test]
-fn what_is_outside_or_left_is_found_in_both_modes(rt: HostRuntime) -> Result<(), Fail> {
-    let wanted = [
-        Verdict::No(Reason::OutsideAbove {
-            level: 1,
-            excess: Frac::from_int(-1),
-        }),
-        Verdict::No(Reason::NotAll { player: 0 }),
-    ];
-    let game = table(&rt, 3, &[0, 0, 0, 0, 0, 0, 3])?;
-    for &mode in &[Mode::Players, Mode::Span] {
-        compare(&rt, rt.alloc(), &game, mode, &SOME_AND_NONE, &wanted)?;
-    }
-    Ok(())
 }
 
 /// The levels of the nucleolus per head where the first two are worth 6 together, and all three 12.

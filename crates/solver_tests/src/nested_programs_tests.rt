@@ -101,16 +101,49 @@ fn are_levels(levels: &[Level], wanted: &[Masks<'_>]) -> bool {
     true
 }
 
+/// A family, a measure, a number of players, worths, the shares and the levels.
+type Case<'a> = (
+    Family,
+    Measure,
+    u32,
+    &'a [i64],
+    &'a [(i128, i128)],
+    &'a [Masks<'a>],
+);
+
+// Two share what is left, and one gets all; a share below the own worth; a pair per head.
+const CASES: [Case<'static>; 4] = [
+    (
+        Family::Imputations,
+        Measure::Plain,
+        2,
+        &[1, 2, 7],
+        &[(3, 1), (4, 1)],
+        &[((-2, 1), &[1, 2], Some(1))],
+    ),
+    (Family::Imputations, Measure::Plain, 1, &[5], &[(5, 1)], &[]),
+    (
+        Family::Preimputations,
+        Measure::Plain,
+        3,
+        &[0, 0, 4, 0, 0, 0, 0],
+        &[(1, 1), (1, 1), (-2, 1)],
+        &[((2, 1), &[3, 4], Some(1)), ((1, 1), &[5, 6], None)],
+    ),
+    (
+        Family::Imputations,
+        Measure::PerHead,
+        3,
+        &[0, 0, 6, 0, 0, 0, 12],
+        &[(5, 1), (5, 1), (2, 1)],
+        &[((-2, 1), &[3, 4], Some(1)), ((-7, 2), &[5, 6], None)],
+    ),
+];
+
 /// Whether the shares and the levels of a game are these, and the checker says Yes.
-fn has_point(
-    alloc: Global,
-    family: Family,
-    measure: Measure,
-    worths: (u32, &[i64]),
-    shares: &[(i128, i128)],
-    levels: &[Masks<'_>],
-) -> Result<(bool, bool, bool), Fail> {
-    let s = point_by(alloc, family, measure, worths.0, worths.1)?;
+fn is_found(alloc: Global, case: &Case<'_>) -> Result<(bool, bool, bool), Fail> {
+    let &(family, measure, players, worths, shares, levels) = case;
+    let s = point_by(alloc, family, measure, players, worths)?;
     Ok((
         are(&s.shares, shares),
         are_levels(s.certificate.levels(), levels),
@@ -118,42 +151,11 @@ fn has_point(
     ))
 }
 
-/// Whether the shares of a game are these, and the checker says Yes.
-fn has_shares(
-    alloc: Global,
-    family: Family,
-    worths: (u32, &[i64]),
-    shares: &[(i128, i128)],
-) -> Result<(bool, bool), Fail> {
-    let s = point_by(alloc, family, Measure::Plain, worths.0, worths.1)?;
-    Ok((are(&s.shares, shares), is_certified(&s)))
-}
-
 #[test]
-fn two_share_what_is_left(rt: HostRuntime) -> Result<(), Fail> {
-    let found = has_point(
-        rt.alloc(),
-        Family::Imputations,
-        Measure::Plain,
-        (2, &[1, 2, 7]),
-        &[(3, 1), (4, 1)],
-        &[((-2, 1), &[1, 2], Some(1))],
-    )?;
-    assert_eq!(&rt; found, (true, true, true));
-    Ok(())
-}
-
-#[test]
-fn one_gets_all_without_a_level(rt: HostRuntime) -> Result<(), Fail> {
-    let found = has_point(
-        rt.alloc(),
-        Family::Imputations,
-        Measure::Plain,
-        (1, &[5]),
-        &[(5, 1)],
-        &[],
-    )?;
-    assert_eq!(&rt; found, (true, true, true));
+fn points_have_their_levels_and_are_certified(rt: HostRuntime) -> Result<(), Fail> {
+    for case in &CASES {
+        assert_eq!(&rt; is_found(rt.alloc(), case)?, (true, true, true), "{case:?}");
+    }
     Ok(())
 }
 
@@ -170,68 +172,7 @@ fn no_imputation(alloc: Global) -> Result<(i64, i64), Fail> {
 
 #[test]
 fn two_worth_more_alone_have_no_imputation(rt: HostRuntime) -> Result<(), Fail> {
-    let sums = no_imputation(rt.alloc())?;
-    let family = Family::Preimputations;
-    let found = has_shares(rt.alloc(), family, (2, &[3, 3, 5]), &[(5, 2), (5, 2)])?;
-    assert_eq!(&rt; (sums, found), ((6, 5), (true, true)));
-    Ok(())
-}
-
-#[test]
-fn three_of_a_majority_get_a_third(rt: HostRuntime) -> Result<(), Fail> {
-    let worths = (3, [0, 0, 1, 0, 1, 1, 1].as_slice());
-    let found = has_shares(rt.alloc(), Family::Imputations, worths, &[(1, 3); 3])?;
-    assert_eq!(&rt; found, (true, true));
-    Ok(())
-}
-
-#[test]
-fn imputations_bound_what_preimputations_take(rt: HostRuntime) -> Result<(), Fail> {
-    let worths = (3, [0, 0, 4, 0, 0, 0, 0].as_slice());
-    let bounded = has_shares(rt.alloc(), Family::Imputations, worths, &[(0, 1); 3])?;
-    let found = has_point(
-        rt.alloc(),
-        Family::Preimputations,
-        Measure::Plain,
-        worths,
-        &[(1, 1), (1, 1), (-2, 1)],
-        &[((2, 1), &[3, 4], Some(1)), ((1, 1), &[5, 6], None)],
-    )?;
-    assert_eq!(&rt; (bounded, found), ((true, true), (true, true, true)));
-    Ok(())
-}
-
-#[test]
-fn a_pair_that_is_worth_half_gets_more(rt: HostRuntime) -> Result<(), Fail> {
-    let worths = (3, [0, 0, 6, 0, 0, 0, 12].as_slice());
-    let shares = [(9, 2), (9, 2), (3, 1)];
-    let found = has_shares(rt.alloc(), Family::Imputations, worths, &shares)?;
-    assert_eq!(&rt; found, (true, true));
-    Ok(())
-}
-
-// The excesses per head are -2, -2 and -7/2.
-#[test]
-fn a_pair_that_is_worth_half_gets_more_per_head(rt: HostRuntime) -> Result<(), Fail> {
-    let found = has_point(
-        rt.alloc(),
-        Family::Imputations,
-        Measure::PerHead,
-        (3, &[0, 0, 6, 0, 0, 0, 12]),
-        &[(5, 1), (5, 1), (2, 1)],
-        &[((-2, 1), &[3, 4], Some(1)), ((-7, 2), &[5, 6], None)],
-    )?;
-    assert_eq!(&rt; found, (true, true, true));
-    Ok(())
-}
-
-#[test]
-fn ten_share_the_greatest_worth(rt: HostRuntime) -> Result<(), Fail> {
-    let mut worths = vec![in rt.alloc(); 0; 1023]?;
-    worths[1022] = 1099511627775;
-    let shares = [(219902325555, 2); 10];
-    let found = has_shares(rt.alloc(), Family::Imputations, (10, &worths), &shares)?;
-    assert_eq!(&rt; found, (true, true));
+    assert_eq!(&rt; no_imputation(rt.alloc())?, (6, 5));
     Ok(())
 }
 

@@ -67,91 +67,153 @@ fn asked_for_stages(alloc: Global, game: &TableGame, family: Family) -> Result<S
     Ok(Some((stages, entering, rising)))
 }
 
-/// A family, and how often its balanced program is asked, its stages for imputations, and those for preimputations.
-/// These were counted once, and any other choice of columns changes them. By the least number the first seven of ten
-/// players ask the balanced program 1,500 to 60,000 times, and the three last the first stage for preimputations 260 to
-/// 2,600 times.
-type Counts = (Slow, (u64, u64), Stages, Stages);
+/// A family, its number of players, and how often its balanced program is asked, its stages for imputations, and those
+/// for preimputations. These were counted once, and any other choice of columns changes them. By the least number the
+/// first seven of ten players ask the balanced program 1,500 to 60,000 times, and the three last the first stage for
+/// preimputations 260 to 2,600 times.
+type Counts = (Slow, u32, (u64, u64), Stages, Stages);
 
-/// Compares the counts of a family of so many players.
-fn compare(rt: &impl Abort, alloc: Global, players: u32, counts: &Counts) -> Result<(), Fail>
-    requires { players ≤ 16 }
-{
-    let &(family, core, imputations, preimputations) = counts;
-    let game = game_of(alloc, family, players)?;
-    assert!(rt; game.players() == players);
-    let found = (
-        asked_for_core(alloc, &game)?,
-        asked_for_stages(alloc, &game, Family::Imputations)?,
-        asked_for_stages(alloc, &game, Family::Preimputations)?,
-    );
-    assert_eq!(rt; found, (core, imputations, preimputations), "{family:?}");
+/// Compares the counts of families of 1 to 16 players.
+fn compare(rt: &impl Abort, alloc: Global, rows: &[Counts]) -> Result<(), Fail> {
+    for &(family, players, core, imputations, preimputations) in rows {
+        let game = game_of(alloc, family, players)?;
+        assert!(rt; game.players() == players && players <= 16);
+        let found = (
+            asked_for_core(alloc, &game)?,
+            asked_for_stages(alloc, &game, Family::Imputations)?,
+            asked_for_stages(alloc, &game, Family::Preimputations)?,
+        );
+        assert_eq!(rt;
+            found,
+            (core, imputations, preimputations),
+            "{family:?} of {players}"
+        );
+    }
     Ok(())
 }
 
-/// The counts of ten players.
 const OF_TEN: [Counts; 10] = [
-    (Slow::Square, (0, 29), Some((9, 0, 463)), Some((9, 0, 428))),
-    (Slow::Cube, (0, 29), Some((9, 0, 436)), Some((9, 0, 392))),
+    (
+        Slow::Square,
+        10,
+        (0, 29),
+        Some((9, 0, 463)),
+        Some((9, 0, 428)),
+    ),
+    (
+        Slow::Cube,
+        10,
+        (0, 29),
+        Some((9, 0, 436)),
+        Some((9, 0, 392)),
+    ),
     (
         Slow::SquaredSum([1, 2, 3, 5, 8, 13, 21, 34, 55, 89]),
+        10,
         (0, 29),
         Some((9, 0, 450)),
         Some((9, 0, 401)),
     ),
     (
         Slow::SquaredSum([10, 13, 16, 21, 28, 37, 48, 62, 81, 106]),
+        10,
         (0, 29),
         Some((9, 0, 430)),
         Some((9, 0, 355)),
     ),
     (
         Slow::SquaredSum([4, 9, 17, 31, 38, 52, 61, 77, 83, 96]),
+        10,
         (0, 29),
         Some((9, 0, 448)),
         Some((9, 0, 364)),
     ),
     (
         Slow::SquaredSum([1, 2, 3, 4, 5, 6, 7, 8, 9, 10]),
+        10,
         (0, 29),
         Some((9, 0, 440)),
         Some((9, 0, 350)),
     ),
-    (Slow::Line, (0, 31), Some((9, 0, 598)), Some((9, 0, 522))),
-    (Slow::GrayCode, (0, 49), None, Some((9, 0, 501))),
-    (Slow::Root, (0, 27), None, Some((8, 0, 447))),
-    (Slow::Cut, (0, 47), None, Some((9, 0, 604))),
+    (
+        Slow::Line,
+        10,
+        (0, 31),
+        Some((9, 0, 598)),
+        Some((9, 0, 522)),
+    ),
+    (Slow::GrayCode, 10, (0, 49), None, Some((9, 0, 501))),
+    (Slow::Root, 10, (0, 27), None, Some((8, 0, 447))),
+    (Slow::Cut, 10, (0, 47), None, Some((9, 0, 604))),
 ];
 
 #[test]
 fn slow_families_of_ten_take_so_many_steps(rt: HostRuntime) -> Result<(), Fail> {
-    for counts in &OF_TEN {
-        compare(&rt, rt.alloc(), 10, counts)?;
-    }
-    Ok(())
+    compare(&rt, rt.alloc(), &OF_TEN)
 }
 
-/// The counts of sixteen players.
+const SQUARES: [Counts; 5] = [
+    (
+        Slow::Square,
+        11,
+        (0, 42),
+        Some((10, 0, 594)),
+        Some((10, 0, 561)),
+    ),
+    (
+        Slow::Square,
+        12,
+        (0, 56),
+        Some((11, 0, 782)),
+        Some((11, 0, 713)),
+    ),
+    (
+        Slow::Square,
+        13,
+        (0, 74),
+        Some((12, 0, 1021)),
+        Some((12, 0, 941)),
+    ),
+    (
+        Slow::Square,
+        14,
+        (0, 100),
+        Some((13, 0, 1336)),
+        Some((13, 0, 1376)),
+    ),
+    (
+        Slow::Square,
+        15,
+        (0, 142),
+        Some((14, 0, 1857)),
+        Some((14, 0, 2082)),
+    ),
+];
+
+#[test]
+fn the_squares_between_take_so_many_steps(rt: HostRuntime) -> Result<(), Fail> {
+    compare(&rt, rt.alloc(), &SQUARES)
+}
+
 const OF_SIXTEEN: [Counts; 3] = [
     (
         Slow::Square,
+        16,
         (0, 216),
         Some((15, 0, 2702)),
         Some((15, 0, 3362)),
     ),
     (
         Slow::Line,
+        16,
         (0, 118),
         Some((15, 0, 2732)),
         Some((15, 0, 3233)),
     ),
-    (Slow::GrayCode, (0, 55), None, Some((15, 0, 3377))),
+    (Slow::GrayCode, 16, (0, 55), None, Some((15, 0, 3377))),
 ];
 
 #[test]
 fn slow_families_of_sixteen_take_so_many_steps(rt: HostRuntime) -> Result<(), Fail> {
-    for counts in &OF_SIXTEEN {
-        compare(&rt, rt.alloc(), 16, counts)?;
-    }
-    Ok(())
+    compare(&rt, rt.alloc(), &OF_SIXTEEN)
 }

@@ -1,13 +1,11 @@
 //! Shares worked by hand, in both forms.
 
 use crate::shares::are;
-use crate::tables::table;
 use airport::AirportGame;
 use shapley::{ShapleyFault, airport_shapley, shapley};
 use std::alloc::Global;
 use std::test::Fail;
 use worth_core::Worth;
-use worth_tables::{CostGame, TableGame};
 
 /// Whether the Shapley shares are these.
 fn is_shapley<W: Worth>(alloc: Global, game: &W, wanted: &[(i128, i128)]) -> Result<bool, Fail> {
@@ -42,31 +40,6 @@ fn is_shapley_by_steps(
 ) -> Result<bool, Fail> {
     let game = airport(alloc, costs)?;
     is_airport_shapley(alloc, &game, wanted)
-}
-
-#[test]
-fn a_majority_of_three_shares_equally(rt: HostRuntime) -> Result<(), Fail> {
-    let game = table(&rt, 3, &[0, 0, 1, 0, 1, 1, 1])?;
-    assert!(rt; is_shapley(rt.alloc(), &game, &[(1, 3), (1, 3), (1, 3)])?);
-    Ok(())
-}
-
-/// The game of five departments: one costs 6 alone, more than one cost 18, and all cost 20.
-fn departments(alloc: Global) -> Result<CostGame<TableGame>, Fail> {
-    let mut costs = vec![in alloc; 18i64; 31]?;
-    for &single in &[0usize, 1, 3, 7, 15] {
-        costs[single] = 6;
-    }
-    costs[30] = 20;
-    let table = TableGame::new(alloc, 5, costs).ok().ok_or("no game")?;
-    Ok(CostGame::new(table))
-}
-
-#[test]
-fn departments_of_equal_cost_pay_equally(rt: HostRuntime) -> Result<(), Fail> {
-    let game = departments(rt.alloc())?;
-    assert!(rt; is_shapley(rt.alloc(), &game, &[(-4, 1); 5])?);
-    Ok(())
 }
 
 /// Whether the shares of the game of these costs are these in both forms.

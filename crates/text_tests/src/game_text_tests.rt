@@ -28,16 +28,6 @@ fn fault_of(alloc: Global, bytes: &[u8]) -> Option<TextFault> {
     read_document(alloc, bytes, Command::Propose).err()
 }
 
-// Why that many blanks give this command no document.
-pub(crate) fn fault_of_blanks(
-    alloc: Global,
-    command: Command,
-    count: usize,
-) -> Result<Option<TextFault>, Fail> {
-    let bytes = vec![in alloc; b' '; count]?;
-    Ok(read_document(alloc, &bytes, command).err())
-}
-
 // Why this game and these shares give no document.
 fn fault_in(alloc: Global, game: &str, shares: &str) -> Result<Option<TextFault>, Fail> {
     let text = document(alloc, game, shares)?;
@@ -108,31 +98,6 @@ fn other_kinds_keys_and_words_are_refused(rt: HostRuntime) {
     }
 }
 
-#[test]
-fn bytes_are_at_most_2_mib(rt: HostRuntime) -> Result<(), Fail> {
-    for &(count, refusal) in &[(2_097_153, Refusal::TooLong), (2_097_152, Refusal::NotJson)] {
-        let fault = fault_of_blanks(rt.alloc(), Command::Propose, count)?;
-        assert_eq!(rt; fault, Some(TextFault::Refused(refusal)));
-    }
-    Ok(())
-}
-
-#[test]
-fn bytes_are_json(rt: HostRuntime) {
-    for &(bytes, refusal) in &[
-        (b"" as &[u8], Refusal::NotJson),
-        (br#"{"game":{"class":"# as &[u8], Refusal::NotJson),
-        (br#"{"game":{},}"# as &[u8], Refusal::NotJson),
-        (b"\"\xff\"" as &[u8], Refusal::NotJson),
-        (b"[1e999]" as &[u8], Refusal::NotJson),
-    ] {
-        assert_eq!(rt;
-            fault_of(rt.alloc(), bytes),
-            Some(TextFault::Refused(refusal))
-        );
-    }
-}
-
 // Of a key that comes twice the last counts. A newline may stand at the end.
 #[test]
 fn the_last_of_two_equal_keys_counts(rt: HostRuntime) {
@@ -156,14 +121,4 @@ fn the_last_of_two_equal_keys_counts(rt: HostRuntime) {
         let fault = fault_of(rt.alloc(), text.as_bytes());
         assert_eq!(rt; fault, refusal.map(TextFault::Refused), "on {text}");
     }
-}
-
-#[test]
-fn refusals_are_numbered_from_1(rt: HostRuntime) {
-    let numbers = (
-        Refusal::TooLong.number(),
-        Refusal::Certificate.number(),
-        Refusal::Quota.number(),
-    );
-    assert_eq!(rt; numbers, (1, 12, 13));
 }

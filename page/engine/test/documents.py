@@ -15,6 +15,8 @@ OF_SHARES = ("propose", "kernel")
 KINDS = ("table", "airport", "bankruptcy", "tree", "assignment")
 MOST = 2**40 - 1
 SHORT, LONG = 2097152, 8388608
+# Bytes of a document above which no limits of memory are tried.
+LONGEST_LIMITED = 100_000
 
 Game = dict[str, Any]
 
@@ -218,6 +220,15 @@ def at_lengths() -> Iterator[Run]:
     yield Run(["nucleolus"], game[:-1] + b"," + b" " * 7000000)
 
 
+def long_texts() -> Iterator[Run]:
+    """A line of 2 MB, and a document of 8 MB to check, without blanks."""
+    from measured_games import long_claims, sparse_table
+
+    claim = dict(long_claims())["five levels of all coalitions"]()
+    for command, tree in (("prenucleolus", {"game": sparse_table()}), ("check", claim)):
+        yield Run([command], json.dumps(tree, separators=(",", ":")).encode())
+
+
 def with_faults() -> Iterator[Run]:
     """Documents with a fault of a coalition, and with shares that are too fine."""
     for group in ([], [1, 1], [1, "a"], [0], [3], ["a", "a"], [1.5], [[1]], "a"):
@@ -248,7 +259,7 @@ def runs(program: str) -> Iterator[Run]:
     for game in [*games, *(game for game, _ in from_checks.LIMITS), *even_games(), *largest_games()]:
         yield from on_game(program, game)
     yield from spoilt_texts(games, from_checks.change_anything, 500)
-    for source in (odd_texts(), with_faults(), at_lengths(), words_alone()):
+    for source in (odd_texts(), with_faults(), at_lengths(), long_texts(), words_alone()):
         yield from source
 
 
@@ -256,6 +267,8 @@ def runs_for_memory(program: str) -> Iterator[tuple[Run, dict[str, bool]]]:
     """Runs, with whether each request for memory is refused in its turn, or limits rise."""
     for tried in tool("refuse-memory").all_runs(program):
         run = Run(tried.words.split(), tried.text.encode())
-        if not tried.is_greater:
+        if tried.least is None:
             yield run, {"refusing": True}
-        yield run, {"limiting": True}
+        # (longer ones would take minutes)
+        if len(run.document) < LONGEST_LIMITED:
+            yield run, {"limiting": True}

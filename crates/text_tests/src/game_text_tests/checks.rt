@@ -1,14 +1,9 @@
 //! Documents for the commands that find and check a nucleolus.
 use super::certificates::{AIRPORT, expect_check, whole_document};
-use super::fault_of_blanks;
-use coalitions::Coalition;
-use definitions::{Family, Mode};
-use game_text::{Command, Document, Refusal, TextFault, read_document};
-use kohlberg::{Certificate, Level};
+use game_text::{Command, Refusal, TextFault, read_document};
 use std::alloc::Global;
 use std::process::Abort;
 use std::test::Fail;
-use worth_core::Shares;
 
 #[test]
 fn certificates_are_tested_last(rt: HostRuntime) -> Result<(), Fail> {
@@ -206,107 +201,4 @@ fn commands_look_at_what_they_need(rt: HostRuntime) {
             "{command:?} on {text}"
         );
     }
-}
-
-#[test]
-fn documents_to_check_have_at_most_8_mib(rt: HostRuntime) -> Result<(), Fail> {
-    for &(command, count, refusal) in &[
-        (Command::Check, 8_388_609, Refusal::TooLong),
-        (Command::Check, 8_388_608, Refusal::NotJson),
-        (Command::Nucleolus, 2_097_153, Refusal::TooLong),
-        (Command::Nucleolus, 2_097_152, Refusal::NotJson),
-        (Command::Prenucleolus, 2_097_153, Refusal::TooLong),
-        (Command::Core, 2_097_153, Refusal::TooLong),
-        (Command::Core, 2_097_152, Refusal::NotJson),
-        (Command::Shapley, 2_097_153, Refusal::TooLong),
-        (Command::Shapley, 2_097_152, Refusal::NotJson),
-    ] {
-        let fault = fault_of_blanks(rt.alloc(), command, count)?;
-        assert_eq!(rt;
-            fault,
-            Some(TextFault::Refused(refusal)),
-            "{command:?} of {count}"
-        );
-    }
-    Ok(())
-}
-
-const TWO_LEVELS: &str = concat!(
-    r#"{"levels":[{"bounds":[],"coalitions":[[[1],1],[[2,3],1]],"earlier":[],"excess":"-1","total":1},"#,
-    r#"{"bounds":[],"coalitions":[[[1,2],1],[[1,3],1]],"earlier":[[[1],-1]],"excess":"-3/2","total":1}],"#,
-    r#""mode":"players"}"#,
-);
-
-// A document to check the two levels.
-fn certified(alloc: Global) -> Result<Document, Fail> {
-    let answer = r#""prenucleolus""#;
-    let shares = r#"["1","3/2","7/2"]"#;
-    let text = whole_document(alloc, answer, TWO_LEVELS, AIRPORT, shares)?;
-    Ok(read_document(alloc, text.as_bytes(), Command::Check)?)
-}
-
-// The first level, field by field.
-fn expect_first(rt: &impl Abort, first: &Level) {
-    assert_eq!(rt;
-        (
-            first.excess.num(),
-            first.excess.den(),
-            first.total,
-            first.coalitions.as_slice()
-        ),
-        (-1, 1, 1, [(Coalition(1), 1), (Coalition(6), 1)].as_slice())
-    );
-    assert!(rt; first.earlier.is_empty() && first.bounds.is_empty());
-}
-
-// The second level, field by field.
-fn expect_second(rt: &impl Abort, second: &Level) {
-    assert_eq!(rt;
-        (
-            second.excess.num(),
-            second.excess.den(),
-            second.total,
-            second.coalitions.as_slice()
-        ),
-        (-3, 2, 1, [(Coalition(3), 1), (Coalition(5), 1)].as_slice())
-    );
-    assert_eq!(rt;
-        (second.earlier.as_slice(), second.bounds.is_empty()),
-        ([(Coalition(1), -1)].as_slice(), true)
-    );
-}
-
-// The certificate, level by level.
-fn expect_levels(rt: &impl Abort, found: &Certificate) -> Result<(), Fail> {
-    assert_eq!(rt; (found.players(), found.mode()), (3, Mode::Players));
-    let [first, second] = found.levels() else {
-        return Err(Fail::from("not two levels"));
-    };
-    expect_first(rt, first);
-    expect_second(rt, second);
-    Ok(())
-}
-
-// The shares, player by player.
-fn expect_shares(rt: &impl Abort, x: &Shares) {
-    assert!(rt; x.players() == 3);
-    assert_eq!(rt;
-        [x.num(0), x.num(1), x.num(2), x.den()].as_slice(),
-        [-2, -3, -7, 2].as_slice()
-    );
-}
-
-// The document, part by part.
-fn expect_certified(rt: &impl Abort, read: &Document) -> Result<(), Fail> {
-    assert_eq!(rt; read.family, Some(Family::Preimputations));
-    let x = read.shares.as_ref().ok_or("no shares")?;
-    expect_shares(rt, x);
-    let found = read.certificate.as_ref().ok_or("no certificate")?;
-    expect_levels(rt, found)
-}
-
-#[test]
-fn a_certificate_is_read_whole(rt: HostRuntime) -> Result<(), Fail> {
-    let read = certified(rt.alloc())?;
-    expect_certified(&rt, &read)
 }

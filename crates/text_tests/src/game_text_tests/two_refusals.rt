@@ -1,4 +1,4 @@
-//! Documents that two refusals apply to.
+//! Documents that two refusals apply to, one behind the other in their order.
 use super::fault_of;
 use game_text::{Refusal, TextFault};
 
@@ -10,103 +10,7 @@ fn of_two_refusals_the_first_is_given(rt: HostRuntime) {
         (
             Refusal::Shape,
             Refusal::Players,
-            r#"{"game":{"class":"table","players":17,"sparse":[[[1,2],6]],"worths":[1]},"shares":[1,2,3]}"#,
-        ),
-        (
-            Refusal::Shape,
-            Refusal::Players,
-            concat!(
-                r#"{"game":{"class":"airport","costs":[1,1,1,1,1,1,1,1,1,1,1,1,1,1,1,1,1,1,1,1,1,1,1,1,1,1,1,"#,
-                r#"1,1,1,1,1,1,1,1,1,1,1,1,1,1,1,1,1,1,1,1,1,1,1,1,1,1,1,1,1,1,1,1,1,1,1,1,1,1]},"shares":[1,"#,
-                r#"1,1],"prices":[]}"#,
-            ),
-        ),
-        (
-            Refusal::Shape,
-            Refusal::Players,
             r#"{"game":{"class":"airport","cost":[],"costs":[]},"shares":[1]}"#,
-        ),
-        (
-            Refusal::Shape,
-            Refusal::Players,
-            r#"{"game":{"class":"table","players":0,"sparse":[[[1],1,1]]},"shares":["2/4"]}"#,
-        ),
-        (
-            Refusal::Shape,
-            Refusal::Number,
-            concat!(
-                r#"{"game":{"class":"table","players":3,"sparse":[[[1,2],6]],"default":0.5,"worths":[1]},"#,
-                r#""shares":[1,2,3]}"#,
-            ),
-        ),
-        (
-            Refusal::Shape,
-            Refusal::Number,
-            r#"{"game":{"class":"airport","costs":"1"},"shares":["2/4",1,1],"prices":[]}"#,
-        ),
-        (
-            Refusal::Shape,
-            Refusal::Names,
-            concat!(
-                r#"{"game":{"class":"table","players":3,"sparse":[[[1,2],6]],"names":["a","b"],"worths":[1]},"#,
-                r#""shares":[1,2,3]}"#,
-            ),
-        ),
-        (
-            Refusal::Shape,
-            Refusal::Names,
-            r#"{"game":{"class":"airport","costs":"1","names":["a","b","c","d"]},"shares":[1,1,1],"prices":[]}"#,
-        ),
-        (
-            Refusal::Shape,
-            Refusal::Coalition,
-            concat!(
-                r#"{"game":{"class":"table","players":3,"sparse":[[[2,1],6],[[1,2],6]],"worths":[1]},"#,
-                r#""shares":[1,2,3]}"#,
-            ),
-        ),
-        (
-            Refusal::Shape,
-            Refusal::Coalition,
-            r#"{"game":{"class":"cost-table","players":3,"sparse":[[[],6]],"clas":"table"},"shares":[1,2,3]}"#,
-        ),
-        (
-            Refusal::Shape,
-            Refusal::Estate,
-            r#"{"game":{"class":"bankruptcy","claims":[1,2,3],"estate":7,"names":[1]},"shares":[1,2,2]}"#,
-        ),
-        (
-            Refusal::Shape,
-            Refusal::Proposal,
-            r#"{"game":{"class":"table","players":3,"sparse":[[[1,2],6]],"worths":[1]},"shares":[1,2]}"#,
-        ),
-        (
-            Refusal::Shape,
-            Refusal::Proposal,
-            r#"{"game":{"class":"airport","costs":"1"},"shares":[1,1,1,1],"prices":[]}"#,
-        ),
-        (
-            Refusal::Shape,
-            Refusal::TooFine,
-            concat!(
-                r#"{"game":{"class":"table","players":3,"sparse":[[[1,2],6]],"worths":[1]},"#,
-                r#""shares":["1/9223372036854775809",2,3]}"#,
-            ),
-        ),
-        (
-            Refusal::Shape,
-            Refusal::TooFine,
-            r#"{"game":{"class":"airport","costs":"1"},"shares":[1,"1/9223372036854775809",1],"prices":[]}"#,
-        ),
-        (
-            Refusal::Players,
-            Refusal::Number,
-            r#"{"game":{"class":"table","players":17,"sparse":[[[1,2],6]],"default":0.5},"shares":[1,2,3]}"#,
-        ),
-        (
-            Refusal::Players,
-            Refusal::Number,
-            r#"{"game":{"class":"airport","costs":[]},"shares":["2/4",1,1]}"#,
         ),
         (
             Refusal::Players,
@@ -114,160 +18,9 @@ fn of_two_refusals_the_first_is_given(rt: HostRuntime) {
             r#"{"game":{"class":"airport","costs":[]},"shares":["2/4"]}"#,
         ),
         (
-            Refusal::Players,
-            Refusal::Number,
-            r#"{"game":{"class":"table","players":2,"worths":[0.5]},"shares":[1]}"#,
-        ),
-        (
-            Refusal::Players,
-            Refusal::Names,
-            r#"{"game":{"class":"table","players":17,"sparse":[[[1,2],6]],"names":["a","b"]},"shares":[1,2,3]}"#,
-        ),
-        (
-            Refusal::Players,
-            Refusal::Names,
-            concat!(
-                r#"{"game":{"class":"airport","costs":[1,1,1,1,1,1,1,1,1,1,1,1,1,1,1,1,1,1,1,1,1,1,1,1,1,1,1,"#,
-                r#"1,1,1,1,1,1,1,1,1,1,1,1,1,1,1,1,1,1,1,1,1,1,1,1,1,1,1,1,1,1,1,1,1,1,1,1,1,1],"names":["a","#,
-                r#""b","c","d"]},"shares":[1,1,1]}"#,
-            ),
-        ),
-        (
-            Refusal::Players,
-            Refusal::Coalition,
-            r#"{"game":{"class":"table","players":17,"sparse":[[[2,1],6],[[1,2],6]]},"shares":[1,2,3]}"#,
-        ),
-        (
-            Refusal::Players,
-            Refusal::Coalition,
-            r#"{"game":{"class":"cost-table","players":0,"sparse":[[[],6]]},"shares":[1,2,3]}"#,
-        ),
-        (
-            Refusal::Players,
-            Refusal::Estate,
-            r#"{"game":{"class":"bankruptcy","claims":[],"estate":7},"shares":[1,2,2]}"#,
-        ),
-        (
-            Refusal::Players,
-            Refusal::Proposal,
-            r#"{"game":{"class":"table","players":17,"sparse":[[[1,2],6]]},"shares":[1,2]}"#,
-        ),
-        (
-            Refusal::Players,
-            Refusal::Proposal,
-            concat!(
-                r#"{"game":{"class":"airport","costs":[1,1,1,1,1,1,1,1,1,1,1,1,1,1,1,1,1,1,1,1,1,1,1,1,1,1,1,"#,
-                r#"1,1,1,1,1,1,1,1,1,1,1,1,1,1,1,1,1,1,1,1,1,1,1,1,1,1,1,1,1,1,1,1,1,1,1,1,1,1]},"shares":[1,"#,
-                r#"1,1,1]}"#,
-            ),
-        ),
-        (
-            Refusal::Players,
-            Refusal::TooFine,
-            concat!(
-                r#"{"game":{"class":"table","players":17,"sparse":[[[1,2],6]]},"#,
-                r#""shares":["1/9223372036854775809",2,3]}"#,
-            ),
-        ),
-        (
-            Refusal::Players,
-            Refusal::TooFine,
-            r#"{"game":{"class":"airport","costs":[]},"shares":[1,"1/9223372036854775809",1]}"#,
-        ),
-        (
-            Refusal::Number,
-            Refusal::Names,
-            concat!(
-                r#"{"game":{"class":"table","players":3,"sparse":[[[1,2],6]],"default":0.5,"names":["a","#,
-                r#""b"]},"shares":[1,2,3]}"#,
-            ),
-        ),
-        (
-            Refusal::Number,
-            Refusal::Names,
-            r#"{"game":{"class":"airport","costs":[1,2,3],"names":["a","b","c","d"]},"shares":["2/4",1,1]}"#,
-        ),
-        (
             Refusal::Number,
             Refusal::Names,
             r#"{"game":{"class":"airport","costs":[-1],"names":[]},"shares":[1]}"#,
-        ),
-        (
-            Refusal::Number,
-            Refusal::Names,
-            r#"{"game":{"class":"airport","costs":[1],"names":[]},"shares":[1.5,1]}"#,
-        ),
-        (
-            Refusal::Number,
-            Refusal::Coalition,
-            concat!(
-                r#"{"game":{"class":"table","players":3,"sparse":[[[2,1],6],[[1,2],6]],"default":0.5},"#,
-                r#""shares":[1,2,3]}"#,
-            ),
-        ),
-        (
-            Refusal::Number,
-            Refusal::Coalition,
-            r#"{"game":{"class":"cost-table","players":3,"sparse":[[[],1099511627776]]},"shares":[1,2,3]}"#,
-        ),
-        (
-            Refusal::Number,
-            Refusal::Coalition,
-            r#"{"game":{"class":"table","players":3,"sparse":[[[],1.5]]},"shares":[1]}"#,
-        ),
-        (
-            Refusal::Number,
-            Refusal::Estate,
-            r#"{"game":{"class":"bankruptcy","claims":[-1,2,3],"estate":7},"shares":[1,2,2]}"#,
-        ),
-        (
-            Refusal::Number,
-            Refusal::Estate,
-            r#"{"game":{"class":"bankruptcy","claims":[1,2,3.0],"estate":7},"shares":[1,2,2]}"#,
-        ),
-        (
-            Refusal::Number,
-            Refusal::Estate,
-            r#"{"game":{"claims":[1],"class":"bankruptcy","estate":2},"shares":["+1"]}"#,
-        ),
-        (
-            Refusal::Number,
-            Refusal::Proposal,
-            r#"{"game":{"class":"table","players":3,"sparse":[[[1,2],6]],"default":0.5},"shares":[1,2]}"#,
-        ),
-        (
-            Refusal::Number,
-            Refusal::Proposal,
-            r#"{"game":{"class":"airport","costs":[1,2,3]},"shares":["2/4",1,1,1]}"#,
-        ),
-        (
-            Refusal::Number,
-            Refusal::TooFine,
-            concat!(
-                r#"{"game":{"class":"table","players":3,"sparse":[[[1,2],6]],"default":0.5},"#,
-                r#""shares":["1/9223372036854775809",2,3]}"#,
-            ),
-        ),
-        (
-            Refusal::Number,
-            Refusal::TooFine,
-            r#"{"game":{"class":"airport","costs":[1,2,3]},"shares":["2/4","1/9223372036854775809",1]}"#,
-        ),
-        (
-            Refusal::Names,
-            Refusal::Coalition,
-            concat!(
-                r#"{"game":{"class":"table","players":3,"sparse":[[[2,1],6],[[1,2],6]],"names":["a","b"]},"#,
-                r#""shares":[1,2,3]}"#,
-            ),
-        ),
-        (
-            Refusal::Names,
-            Refusal::Coalition,
-            concat!(
-                r#"{"game":{"class":"cost-table","players":3,"sparse":[[[],6]],"names":["a","a","b"]},"#,
-                r#""shares":[1,2,3]}"#,
-            ),
         ),
         (
             Refusal::Names,
@@ -276,54 +29,8 @@ fn of_two_refusals_the_first_is_given(rt: HostRuntime) {
         ),
         (
             Refusal::Names,
-            Refusal::Coalition,
-            r#"{"game":{"class":"table","players":3,"sparse":[[[1,1],1],[["a"],1]]},"shares":[1,2,3]}"#,
-        ),
-        (
-            Refusal::Names,
-            Refusal::Estate,
-            r#"{"game":{"class":"bankruptcy","claims":[1,2,3],"estate":7,"names":["a","b",""]},"shares":[1,2,2]}"#,
-        ),
-        (
-            Refusal::Names,
-            Refusal::Estate,
-            r#"{"game":{"class":"bankruptcy","claims":[1,2,3],"estate":7,"names":[]},"shares":[1,2,2]}"#,
-        ),
-        (
-            Refusal::Names,
             Refusal::Estate,
             r#"{"game":{"claims":[1],"class":"bankruptcy","estate":2,"names":[""]},"shares":[1]}"#,
-        ),
-        (
-            Refusal::Names,
-            Refusal::Proposal,
-            r#"{"game":{"class":"table","players":3,"sparse":[[[1,2],6]],"names":["a","b"]},"shares":[1,2]}"#,
-        ),
-        (
-            Refusal::Names,
-            Refusal::Proposal,
-            r#"{"game":{"class":"airport","costs":[1,2,3],"names":["a","b","c","d"]},"shares":[1,1,1,1]}"#,
-        ),
-        (
-            Refusal::Names,
-            Refusal::TooFine,
-            concat!(
-                r#"{"game":{"class":"table","players":3,"sparse":[[[1,2],6]],"names":["a","b"]},"#,
-                r#""shares":["1/9223372036854775809",2,3]}"#,
-            ),
-        ),
-        (
-            Refusal::Names,
-            Refusal::TooFine,
-            concat!(
-                r#"{"game":{"class":"airport","costs":[1,2,3],"names":["a","b","c","d"]},"shares":[1,"#,
-                r#""1/9223372036854775809",1]}"#,
-            ),
-        ),
-        (
-            Refusal::Coalition,
-            Refusal::Proposal,
-            r#"{"game":{"class":"table","players":3,"sparse":[[[2,1],6],[[1,2],6]]},"shares":[1,2]}"#,
         ),
         (
             Refusal::Coalition,
@@ -331,58 +38,9 @@ fn of_two_refusals_the_first_is_given(rt: HostRuntime) {
             r#"{"game":{"class":"cost-table","players":3,"sparse":[[[],6]]},"shares":[1,2,3,4]}"#,
         ),
         (
-            Refusal::Coalition,
-            Refusal::Proposal,
-            r#"{"game":{"class":"table","players":3,"sparse":[[[1,2],6],[[3,2,1],12],[[2,1],6]]},"shares":[1,2]}"#,
-        ),
-        (
-            Refusal::Coalition,
-            Refusal::TooFine,
-            concat!(
-                r#"{"game":{"class":"table","players":3,"sparse":[[[2,1],6],[[1,2],6]]},"#,
-                r#""shares":["1/9223372036854775809",2,3]}"#,
-            ),
-        ),
-        (
-            Refusal::Coalition,
-            Refusal::TooFine,
-            concat!(
-                r#"{"game":{"class":"cost-table","players":3,"sparse":[[[],6]]},"#,
-                r#""shares":["1/9223372036854775809",2,3]}"#,
-            ),
-        ),
-        (
             Refusal::Estate,
             Refusal::Proposal,
             r#"{"game":{"class":"bankruptcy","claims":[1,2,3],"estate":7},"shares":[1,2]}"#,
-        ),
-        (
-            Refusal::Estate,
-            Refusal::Proposal,
-            r#"{"game":{"claims":[100,200,300],"class":"bankruptcy","estate":601},"shares":[1,2]}"#,
-        ),
-        (
-            Refusal::Estate,
-            Refusal::TooFine,
-            r#"{"game":{"class":"bankruptcy","claims":[1,2,3],"estate":7},"shares":["1/9223372036854775809",2,2]}"#,
-        ),
-        (
-            Refusal::Estate,
-            Refusal::TooFine,
-            concat!(
-                r#"{"game":{"claims":[100,200,300],"class":"bankruptcy","estate":601},"#,
-                r#""shares":["1/9223372036854775809",0,0]}"#,
-            ),
-        ),
-        (
-            Refusal::Proposal,
-            Refusal::TooFine,
-            r#"{"game":{"class":"table","players":3,"sparse":[[[1,2],6]]},"shares":["1/9223372036854775809",2]}"#,
-        ),
-        (
-            Refusal::Proposal,
-            Refusal::TooFine,
-            r#"{"game":{"class":"airport","costs":[1,2,3]},"shares":[1,"1/9223372036854775809",1,1]}"#,
         ),
         (
             Refusal::Proposal,
