@@ -36,6 +36,8 @@ TOOLS = (
     Tool("try-check-anew"),
     Tool("try-scripts"),
     Tool("try-python", uses=("mypy", "flake8")),
+    Tool("try-engines", needs=("node",), uses=("dask", "mpirun", "parallel"), has_program=False, takes_program=False),
+    Tool("fuzz-checkers", needs=("node",), has_program=False, takes_program=False),
     Tool("try-languages", uses=("Rscript", "julia", "cc"), takes_program=False, needs_kit=True),
     Tool("try-schema"),
     Tool("read-examples"),
