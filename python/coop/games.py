@@ -92,9 +92,7 @@ def landings(rows: Iterable[tuple[str, Amount, int]], *, digits: Optional[int] =
     costs: list[Amount] = []
     done: dict[str, int] = {}
     for row in rows:
-        if isinstance(row, str) or not isinstance(row, Sequence) or len(row) != 3:
-            raise BadInput(f"{str(row)[:40]!r} is no row of a name, what a landing needs, and how many landings")
-        name, cost, count = row
+        name, cost, count = parts_of(row)
         if type(count) is not int or count < 1:
             raise BadInput(f"{name}: {count!r} is no number of landings")
         if len(names) + count > MOST_LANDINGS:
@@ -105,6 +103,14 @@ def landings(rows: Iterable[tuple[str, Amount, int]], *, digits: Optional[int] =
         names += [f"{name} {number}" for number in range(first, first + count)]
         costs += [cost] * count
     return airport(costs, names, digits=digits, per_head=per_head)
+
+
+def parts_of(row: Any) -> tuple[str, Amount, int]:
+    """The three parts of a row of landings."""
+    if isinstance(row, str) or not isinstance(row, Sequence) or len(row) != 3:
+        raise BadInput(f"{str(row)[:40]!r} is no row of a name, what a landing needs, and how many landings")
+    name, cost, count = row
+    return name, cost, count
 
 
 def bankruptcy(
