@@ -38,7 +38,7 @@ TOOLS = (
     Tool("try-python", uses=("mypy", "flake8")),
     Tool("try-engines", needs=("node",), uses=("dask", "mpirun", "parallel"), has_program=False, takes_program=False),
     Tool("fuzz-checkers", needs=("node",), has_program=False, takes_program=False),
-    Tool("try-languages", uses=("Rscript", "julia", "cc"), takes_program=False, needs_kit=True),
+    Tool("try-languages", uses=("Rscript", "node", "julia", "cc"), takes_program=False, needs_kit=True),
     Tool("try-schema"),
     Tool("read-examples"),
     Tool("refuse-memory", uses=("cc",), has_folder=False, needs_kit=True),

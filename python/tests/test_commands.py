@@ -312,7 +312,7 @@ class Scripts(unittest.TestCase):
 
     def test_same_game_of_what_is_refused(self) -> None:
         """The program would refuse one of the two, so nobody can say what game was meant."""
-        table = {"class": "table", "players": 2, "sparse": [[[2], 7], [[1, 2], 9]]}
+        table: dict[str, Any] = {"class": "table", "players": 2, "sparse": [[[2], 7], [[1, 2], 9]]}
         slips = [
             ({**AIRPORT, "excess": "perhead"}, AIRPORT, "3 Shape"),
             ({**table, "sparse": [*table["sparse"], [[2], 5]]}, {**table, "sparse": [[[2], 5], [[1, 2], 9]]}, "7 Coal"),
