@@ -87,6 +87,12 @@ class Game:
     def __repr__(self) -> str:
         return f"Game({self.tree!r})" if self.factor == 1 else f"Game({self.tree!r}, {self.factor})"
 
+    def _repr_html_(self) -> str:
+        """What a notebook shows."""
+        from .notebook import of_game
+
+        return of_game(self)
+
     def count_players(self, tree: dict[str, Any]) -> int:
         """The number of players, with the numbers of the game unless it is a table."""
         if self.is_table:
