@@ -7,6 +7,7 @@ from __future__ import annotations
 import html
 import json
 from fractions import Fraction
+from importlib import import_module
 from typing import TYPE_CHECKING, Any, Sequence
 
 from .documents import Document, Point, rule_of, shares_in
@@ -80,8 +81,7 @@ def rows(heading: str, names: Sequence[str], amounts: Sequence[Fraction]) -> str
 
 def series(shares: dict[str, Fraction], name: str, places: Any = None) -> Any:
     """A Series of fractions; or of floats, where it is asked for so many places."""
-    import pandas
-
+    pandas: Any = import_module("pandas")
     exact = list(shares.values())
-    values = exact if places is None else [float(round(share, places)) for share in exact]
+    values: Sequence[Any] = exact if places is None else [float(round(share, places)) for share in exact]
     return pandas.Series(values, index=list(shares), name=name, dtype=object if places is None else float)
