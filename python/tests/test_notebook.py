@@ -109,7 +109,7 @@ class Pandas(unittest.TestCase):
             made.append((values, index, name, dtype))
             return "a series"
 
-        with patch.dict(sys.modules, {"pandas": types.SimpleNamespace(Series=series)}):  # type: ignore[dict-item]
+        with patch.dict(sys.modules, {"pandas": types.SimpleNamespace(Series=series)}):
             answer = coop.shapley(coop.airport({"a": 1, "b": 1, "c": 1}))
             self.assertEqual(answer.to_pandas(), "a series")
             answer.to_pandas(places=2)
