@@ -52,14 +52,17 @@ pub fn core_of<W: Worth>(alloc: Global, game: &W) -> Result<CoreAnswer, CoreFaul
     if game.players() > 16 {
         return Err(CoreFault::TooMany);
     }
-    match found_for(alloc, game) {
+    match core_of_few(alloc, game) {
         Ok(answer) => Ok(answer),
         Err(_) => Err(CoreFault::Memory),
     }
 }
 
-/// What the balanced program says of the core.
-fn found_for<W: Worth>(alloc: Global, game: &W) -> Result<CoreAnswer, OutOfMemory>
+// For the crates above.
+
+/// What `core_of` says of a game that has at most 16 players, as the caller has tested: so want of memory is the only
+/// fault.
+pub fn core_of_few<W: Worth>(alloc: Global, game: &W) -> Result<CoreAnswer, OutOfMemory>
     requires { (W.game game.now).players ≤ 16 }
     ensures { IfOk result (IsFound (W.game game.now)) }
 {

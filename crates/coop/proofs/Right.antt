@@ -1,7 +1,7 @@
 -- The answer is right for the words and the bytes that were left.
 use Rattle.std.proofs.Common.{◌≡◌, ℕ, pos, ◌+◌, ◌<◌, ◌≤◌, List, [], ◌∷◌, ◌++◌}
 use Rattle.std.proofs.Common.{length, true, Option, Some, None}
-use Rattle.std.proofs.Common.{Result, Ok, Err, IfOk, refl, ap, ◌∙◌, append-nil, length-append, arith}
+use Rattle.std.proofs.Common.{refl, ap, ◌∙◌, append-nil, length-append, arith}
 use Rattle.std.specs.Io.KnownBytes.{Consumes, IsAtEnd}
 use Rattle.game_text.specs.Documents.{Contents}
 use Rattle.game_text.specs.Refusals.{IsRefused, IsDocument}
@@ -82,11 +82,6 @@ pub right_of_served : (given : Command) (d : Contents) → serves_class given d.
     → AnswersTo given d a
 right_of_served given d served (Usage Class) h = absurd (no_class given d h)
 right_of_served given d served a h = (served, h)
-
-pub right_where_served : {E : Type 0} (given : Command) (d : Contents) → serves_class given d.game ≡ true
-    → (r : Result Answer E) → IfOk r (Says given d) → IfOk r (AnswersTo given d)
-right_where_served given d served (Ok a) h = right_of_served given d served a h
-right_where_served given d served (Err e) h = tt
 
 -- no document is answered with the usage of words
 no_usage : (given : Command) (d : Contents) → AnswersTo given d (Usage Words) → ⊥

@@ -8,14 +8,14 @@ ghost use Rattle.coop.specs.Classes.{HasFewPlayers, shapley_limit};
 ghost use Rattle.coop.specs.Finding.{IsFoundFor, IsChosenFound};
 ghost use Rattle.coop.specs.CoreClaims.{IsSaidOf};
 
-use crate::core_search::{by_program, core_point};
+use crate::core_search::core_point;
 use crate::limits::{FEW_PER_HEAD, FEW_PLAYERS, MANY_PLAYERS};
 use crate::shapley_values::votes_of;
-use crate::solve::{by_programs, found_point};
-use balanced::CoreAnswer;
+use crate::solve::found_point;
+use balanced::{CoreAnswer, core_of_few};
 use fractions::OutOfMemory;
 use game_text::{Command, Game};
-use nested_programs::Found;
+use nested_programs::{Found, solve_few};
 use shapley::{ShapleyFault, airport_shapley, shapley};
 use std::alloc::Global;
 use worth_core::{Family, Measure, Shares};
@@ -100,11 +100,11 @@ pub(crate) fn found_plainly(
             let solution = talmud::solve(alloc, game)?;
             Ok(found_point(solution))
         }
-        Game::Table(game) => by_programs(alloc, game, family, Measure::Plain),
+        Game::Table(game) => solve_few(alloc, game, family, Measure::Plain),
         Game::Cost(_) | Game::Tree(_) | Game::Assignment(_) | Game::Voting(_) => {
             // Each worth is asked for many times, and only a table keeps them.
             let kept = KeptWorths::new(alloc, game)?;
-            by_programs(alloc, &kept, family, Measure::Plain)
+            solve_few(alloc, &kept, family, Measure::Plain)
         }
         Game::Market(_) => unreachable!(),
     }
@@ -121,7 +121,7 @@ pub(crate) fn said_of(alloc: Global, game: &Game) -> Result<CoreAnswer, OutOfMem
         Game::Tree(game) => Ok(CoreAnswer::Point(game.bird(alloc)?.0)),
         Game::Table(_) | Game::Cost(_) | Game::Assignment(_) | Game::Voting(_) => {
             // Each worth is asked for many times.
-            by_program(alloc, &KeptWorths::new(alloc, game)?)
+            core_of_few(alloc, &KeptWorths::new(alloc, game)?)
         }
         Game::Market(_) => unreachable!(),
     }

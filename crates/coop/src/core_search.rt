@@ -8,14 +8,12 @@ ghost use Rattle.coop.specs.CoreClaims.{IsShown, FindsCore, SaysOfCore};
 ghost use Rattle.coop.specs.Needs.{IsAccepted};
 ghost use Rattle.coop.specs.ReadBack.{IsNoNucleolus};
 ghost use Rattle.balanced_collections.specs.Collections.{ShowsEmpty};
-ghost use Rattle.balanced.specs.Answer.{IsFound};
 ghost use Rattle.report.specs.Limits.{IsPrintable};
 
 use crate::classes::{core_limit, said_of};
 use crate::judge::printed_amount;
-use crate::limits::FEW_PLAYERS;
 use crate::solve::keep_their_limits;
-use balanced::{Collection, CoreAnswer, CoreFault, core_of};
+use balanced::{Collection, CoreAnswer};
 use fractions::OutOfMemory;
 use game_text::Document;
 use kohlberg::Certificate;
@@ -66,18 +64,6 @@ pub(crate) fn core_point(solution: (Shares, Certificate)) -> CoreAnswer
 {
     keep_their_limits(&solution.0, &solution.1);
     CoreAnswer::Point(solution.0)
-}
-
-/// What the balanced program says of a game of few players.
-pub(crate) fn by_program<W: Worth>(alloc: Global, game: &W) -> Result<CoreAnswer, OutOfMemory>
-    requires { (W.game game.now).players ≤ FEW_PLAYERS }
-    ensures { IfOk result (IsFound (W.game game.now)) }
-{
-    match core_of(alloc, game) {
-        Ok(answer) => Ok(answer),
-        Err(CoreFault::Memory) => Err(OutOfMemory),
-        Err(CoreFault::TooMany) => unreachable!(),
-    }
 }
 
 // The collection beside both numbers that it sets against each other, as they are printed.

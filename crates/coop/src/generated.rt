@@ -13,14 +13,13 @@ ghost use Rattle.drawn_games.specs.Imputations.{HasImputations};
 ghost use Rattle.report.specs.Limits.{IsFineIfThere};
 
 use crate::classes::{found_plainly, kept_where_slow};
-use crate::solve::by_programs;
 use checker::{Verdict, check};
 use coalitions::Coalition;
 use coop_gen::generate;
 use fractions::{Frac, OutOfMemory};
 use game_text::{Game, Kind};
 use kohlberg::Certificate;
-use nested_programs::Found;
+use nested_programs::{Found, solve_few};
 use report::Summary;
 use std::alloc::Global;
 use worth_core::{Family, Measure, Shares, Worth, measured_bound};
@@ -59,7 +58,7 @@ fn solved(alloc: Global, game: &Game) -> Result<(Shares, Option<Frac>), OutOfMem
     ensures fine { IfOk result (λ s. IsFineIfThere s.1) }
 {
     if let Some(kept) = kept_where_slow(alloc, game)? {
-        let found = by_programs(alloc, &kept, Family::Imputations, Measure::Plain)?;
+        let found = solve_few(alloc, &kept, Family::Imputations, Measure::Plain)?;
         return Ok(checked(&kept, found));
     }
     let found = found_plainly(alloc, game, Family::Imputations)?;

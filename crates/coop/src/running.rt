@@ -5,7 +5,7 @@ ghost use Rattle.game_text.specs.declared.command.Command.{Command};
 ghost use Rattle.game_text.specs.Classes.{description_in};
 ghost use Rattle.game_text.specs.Readings.{contents_in};
 ghost use Rattle.coop.specs.Classes.{serves_class};
-ghost use Rattle.coop.specs.Headline.{Says, AnswersTo};
+ghost use Rattle.coop.specs.Headline.{Says};
 ghost use Rattle.coop.specs.Needs.{HasNeeded};
 ghost use Rattle.coop.specs.GeneratorRuns.{AsksForGame, EndsMade, IsMadeFor};
 ghost use Rattle.coop.specs.Completeness.{IsComplete};
@@ -139,27 +139,16 @@ fn reply_to_input<S: Source>(alloc: Global, command: Command, source: &mut S) ->
         Err(TextFault::Memory) => return Err(Stop::Memory),
     };
     let scale = document.scale;
-    let Ok(answer) = answer_to_document(alloc, command, &mut document) else {
+    if !serves_class(command, &document.game) {
+        return Ok(Reply {
+            answer: Answer::Usage(UsageKind::Class),
+            scale,
+        });
+    }
+    let Ok(answer) = answer_where_served(alloc, command, &mut document) else {
         return Err(Stop::Memory);
     };
     Ok(Reply { answer, scale })
-}
-
-// The answer to the command on its document.
-fn answer_to_document(
-    alloc: Global,
-    command: Command,
-    document: &mut Document,
-) -> Result<Answer, OutOfMemory>
-    requires { HasNeeded command (contents_in document.old) }
-    ensures right { IfOk result (AnswersTo command (contents_in document.old)) }
-    ensures printable { IfOk result IsPrintable }
-    ensures readable { IfOk result (CanBeRead document.old.scale) }
-{
-    if !serves_class(command, &document.game) {
-        return Ok(Answer::Usage(UsageKind::Class));
-    }
-    answer_where_served(alloc, command, document)
 }
 
 // The answer to the command on its document, whose class it serves. A nucleolus takes the document's tree over. Each

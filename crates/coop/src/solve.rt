@@ -14,11 +14,10 @@ ghost use Rattle.report.specs.Limits.{IsPrintable};
 
 use crate::classes::{found_plainly, nucleolus_limit};
 use crate::judge::printed_worth;
-use crate::limits::{FEW_PER_HEAD, FEW_PLAYERS};
 use fractions::OutOfMemory;
 use game_text::{Document, Game};
 use kohlberg::Certificate;
-use nested_programs::{Found, NestedFault};
+use nested_programs::{Found, solve_few};
 use report::{Answer, UsageKind};
 use std::alloc::Global;
 use worth_core::{Family, Measure, Shares, Worth};
@@ -76,7 +75,7 @@ fn found_for(
 {
     match measure {
         Measure::Plain => found_plainly(alloc, game, family),
-        Measure::PerHead => by_programs(alloc, game, family, measure),
+        Measure::PerHead => solve_few(alloc, game, family, measure),
     }
 }
 
@@ -85,26 +84,6 @@ pub(crate) fn found_point(solution: (Shares, Certificate)) -> Found
     ensures { result ≡ Found.Point solution.0 solution.1 }
 {
     Found::Point(solution.0, solution.1)
-}
-
-/// What the nested programs find for a game of few players. It is called from two functions on one path, which would
-/// each take its great frame if it were inlined.
-#[inline(never)]
-pub(crate) fn by_programs<W: Worth>(
-    alloc: Global,
-    game: &W,
-    family: Family,
-    measure: Measure,
-) -> Result<Found, OutOfMemory>
-    requires few { (W.game game.now).players ≤ FEW_PLAYERS }
-    requires heads { measure ≡ Measure.PerHead → (W.game game.now).players ≤ FEW_PER_HEAD }
-    ensures { IfOk result (IsFoundFor family measure (W.game game.now)) }
-{
-    match nested_programs::solve(alloc, game, family, measure) {
-        Ok(found) => Ok(found),
-        Err(NestedFault::Memory) => Err(OutOfMemory),
-        Err(NestedFault::TooMany) => unreachable!(),
-    }
 }
 
 /// Shares and certificates are within their limits by their types. This does nothing but to call what says so, for the

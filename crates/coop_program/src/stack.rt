@@ -2,7 +2,7 @@
 use std::env::Env;
 
 // About as much as the command that needs the most.
-const DEPTH: usize = 240 * 1024;
+const DEPTH: usize = 228 * 1024;
 
 /// Uses about as much of the stack as the command that was measured to need the most, and gives it back.
 ///

@@ -194,9 +194,6 @@ module _ (ds : List Data) (d : Data) (k m : ℕ) (z : ℤ) (zs : List ℤ) (read
 
 -- ---- all
 
-pub none_read : IsRead [] 1 []
-none_read = record { scale = refl; few = omega arith; worths = refl; numbers = refl }
-
 pub small_read : (ds : List Data) (k : ℕ) (zs : List ℤ) → IsRead ds k zs → list_all is_small zs ≡ true
 small_read ds k zs read = ap (list_all is_small) read.numbers ∙ worths_small k ds read.worths
 

@@ -10,11 +10,6 @@ map_pushed f xs i d ys y h so same =
     ap₂ (λ l z. l ++ z ∷ []) so same
     ∙ sym (ap (map f) (take_more xs i d h) ∙ map-append f (take i xs) (get_or xs i d ∷ []))
 
--- one more item, where the list behind the push has a name
-pub map_grown : {A B : Type 0} (f : A → B) (xs : List A) (i : ℕ) (d : A) (ys zs : List B) (y : B) → i < length xs
-    → ys ≡ map f (take i xs) → zs ≡ ys ++ y ∷ [] → y ≡ f d → d ≡ get_or xs i d → zs ≡ map f (take (i + 1) xs)
-map_grown f xs i d ys zs y h so pushed given at = pushed ∙ map_pushed f xs i d ys y h so (given ∙ ap f at)
-
 -- the last one
 pub map_all : {A B : Type 0} (f : A → B) (xs : List A) (i : ℕ) (ys : List B) → length xs ≤ i
     → ys ≡ map f (take i xs) → ys ≡ map f xs

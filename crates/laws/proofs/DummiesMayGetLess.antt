@@ -4,7 +4,8 @@ use Rattle.std.proofs.Common.{◌≡◌, ℕ, zero, suc, ◌+◌, ◌<◌, Bool,
 use Rattle.std.proofs.Common.{pos, negsuc, ◌+ℤ◌, ◌*ℤ◌, ◌<ℤ◌, int_le, refl, inr, inl, arith, rules}
 use Rattle.std.proofs.lemmas.Int.{ints}
 use Rattle.std.specs.Ordering.{int_eq}
-use Rattle.theorems.proofs.Examples.{from_int_eq, balances}
+use Rattle.theorems.proofs.Forms.{HasForm-from_test}
+use Rattle.theorems.proofs.Certified.{from_int_eq, balances}
 use Rattle.theorems.proofs.Soundness.{IsNucleolus-from_certificate}
 use Rattle.definitions.specs.Classes.{table_worth}
 use Rattle.definitions.specs.Coalitions.{has_player, singleton, weight_at, members}
@@ -135,27 +136,7 @@ certified : Certifies Span Preimputations PerHead beside shared (only_level ∷ 
 certified = (((refl, search rules), refl), (holds, all_fixed))
 
 form : HasForm Span 4 (only_level ∷ [])
-form = record {
-  players = inr (omega arith);
-  few = omega arith;
-  each = (
-    record {
-      fraction = search rules;
-      some = search rules;
-      few = search rules;
-      few_earlier = search rules;
-      proper = search rules;
-      listed = tt;
-      players = tt;
-      ascend = search rules;
-      earlier_ascend = tt;
-      bounds_ascend = tt;
-      small = search rules;
-      total_small = search rules;
-    },
-    tt,
-  );
-}
+form = HasForm-from_test Span 4 (only_level ∷ []) (inr (omega arith)) refl
 
 shared_prenucleolus : IsNucleolus Preimputations PerHead beside shared
 shared_prenucleolus =

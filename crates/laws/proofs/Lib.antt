@@ -10,7 +10,7 @@ pub mod EquivalentGamesAgree
 pub mod Withouts
 mod DummiesGetTheirWorth
 mod DummiesMayGetLess
-mod WhoAddsNoLessGetsNoLess
+pub mod WhoAddsNoLessGetsNoLess
 mod AlikePlayersGetAlike
 pub mod ShapleyValuesExist
 pub mod TotalsAdd

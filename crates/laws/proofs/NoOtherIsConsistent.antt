@@ -19,7 +19,7 @@ use Rattle.theorems.proofs.Products.{products, sorted_products}
 -- ---- the garment
 
 -- of more, neither gets less
-garment_up : (c d a b e f : ℤ) → IsGarment c d a b → IsGarment c d e f → (a +ℤ b) ≤ℤ (e +ℤ f) → (a ≤ℤ e) × (b ≤ℤ f)
+pub garment_up : (c d a b e f : ℤ) → IsGarment c d a b → IsGarment c d e f → (a +ℤ b) ≤ℤ (e +ℤ f) → (a ≤ℤ e) × (b ≤ℤ f)
 garment_up c d a b e f h k le = (omega (arith, ints, clamps), omega (arith, ints, clamps))
 
 unclaimed-scaled : (k s d : ℤ) → pos 0 <ℤ k → unclaimed (k *ℤ s) (k *ℤ d) ≡ k *ℤ unclaimed s d
@@ -40,7 +40,7 @@ unclaimed-scaled k s d some = elim (int_max-cases (s -ℤ d) (pos 0)) [
     max_at_most_zero : (z : ℤ) → z ≤ℤ pos 0 → int_max z (pos 0) ≡ pos 0
     max_at_most_zero z h = omega (arith, ints, clamps)
 
-garment-scaled : (k c d a b : ℤ) → pos 0 <ℤ k → IsGarment c d a b → IsGarment (k *ℤ c) (k *ℤ d) (k *ℤ a) (k *ℤ b)
+pub garment-scaled : (k c d a b : ℤ) → pos 0 <ℤ k → IsGarment c d a b → IsGarment (k *ℤ c) (k *ℤ d) (k *ℤ a) (k *ℤ b)
 garment-scaled k c d a b some h = omega (products, part a d, ap (◌*ℤ◌ k) h, part b c)
   where
     part : (y e : ℤ) → k *ℤ y -ℤ unclaimed (k *ℤ a +ℤ k *ℤ b) (k *ℤ e) ≡ k *ℤ (y -ℤ unclaimed (a +ℤ b) e)
@@ -57,7 +57,7 @@ module _ (n : ℕ) (claim f g : ℕ → ℤ)
     (right : (i j : ℕ) → i < n → j < n → i ≢ j → IsGarment (claim i) (claim j) (g i) (g j))
     (sums : sum_below n g ≤ℤ sum_below n f) where
   -- nobody has less of the one
-  no_less : (i : ℕ) → i < n → f i <ℤ g i → ⊥
+  pub no_less : (i : ℕ) → i < n → f i <ℤ g i → ⊥
   no_less i hi lt = elim (some_greater n f g) [
     | inl found ↦
         let j = found.0 in
@@ -84,7 +84,7 @@ module _ (n : ℕ) (claim f g : ℕ → ℤ)
 -- ---- consistent shares
 
 -- a garment of claims over the denominator of x, over that of y
-garment_over : (claims : List ℕ) (x y : Allocation) (f : ℕ → ℤ) (j l : ℕ) → pos 1 ≤ℤ y.den
+pub garment_over : (claims : List ℕ) (x y : Allocation) (f : ℕ → ℤ) (j l : ℕ) → pos 1 ≤ℤ y.den
     → IsGarment (claimed claims x j) (claimed claims x l) (f j) (f l)
     → IsGarment (x.den *ℤ claimed claims y j) (x.den *ℤ claimed claims y l) (y.den *ℤ f j) (y.den *ℤ f l)
 garment_over claims x y f j l some h =

@@ -1,6 +1,6 @@
 -- What a player adds to a coalition it adds in the renumbered game to the coalition that this one is there, and that
 -- stands as often in front of it: so the sums over all coalitions are the same.
-use Rattle.std.proofs.Common.{◌≡◌, ℕ, zero, suc, ◌+◌, ◌-◌, ◌^◌, ◌<◌, Bool, cond, length, ℤ, pos, ◌-ℤ◌, ◌*ℤ◌, sym, ap}
+use Rattle.std.proofs.Common.{◌≡◌, ℕ, zero, suc, ◌+◌, ◌^◌, ◌<◌, Bool, cond, length, ℤ, pos, ◌-ℤ◌, ◌*ℤ◌, sym, ap}
 use Rattle.std.proofs.Common.{◌∙◌, inl, inr, true, false, refl, arith}
 use Rattle.std.proofs.lemmas.Bool.{false≢true}
 use Rattle.std.proofs.lemmas.List.FromFn.{length-map-range_with_len}
@@ -10,12 +10,11 @@ use Rattle.definitions.proofs.Members.{sum_below-same}
 use Rattle.definitions.proofs.Parts.{has_player-more_same, has_player-more_other, more-lt}
 use Rattle.definitions.proofs.Ring.{linear}
 use Rattle.definitions.specs.Coalitions.{has_player, sum_over}
-use Rattle.definitions.specs.Games.{Game, Allocation, share}
-use Rattle.definitions.specs.Shapley.{shapley_total, factorial, IsShapley}
-use Rattle.definitions.specs.Sums.{sum_below}
+use Rattle.definitions.specs.Games.{share}
+use Rattle.definitions.specs.Shapley.{shapley_total, factorial}
 use Rattle.shapley.specs.Subsets.{orders_with, subset_term}
 use Rattle.shapley.proofs.Orders.{orders_are_subsets}
-use Rattle.laws.specs.Renumbering.{IsRenumbering, renumbered_coalition, renumbered_game, renumbered_shares}
+use Rattle.laws.specs.Renumbering.{IsRenumbering, renumbered_coalition}
 use Rattle.laws.specs.ShapleyEquivalence.{ShapleyIsAnonymous}
 use Rattle.laws.proofs.Gathered.{sum_below-renumbered}
 use Rattle.laws.proofs.RenumberedCoalitions.{coalition_where-within, coalition_where-has, reverse_of, same_below}

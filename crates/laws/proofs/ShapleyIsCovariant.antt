@@ -1,18 +1,17 @@
 -- The total in k times the game, and in the game in which each player brings its number, where all are dummies: so what
 -- they add is the total in both together.
-use Rattle.std.proofs.Common.{◌≡◌, ℕ, ◌+◌, ◌^◌, ◌<◌, false, length, ℤ, pos, ◌+ℤ◌, ◌*ℤ◌, refl, sym, ap, ◌∙◌, arith}
+use Rattle.std.proofs.Common.{◌≡◌, ℕ, ◌<◌, length, ℤ, pos, ◌+ℤ◌, ◌*ℤ◌, refl, sym, ap, ◌∙◌}
 use Rattle.std.proofs.lemmas.List.FromFn.{length-map-range_with_len}
 use Rattle.definitions.proofs.Members.{sum_over-singleton}
 use Rattle.definitions.proofs.Parts.{sum_over-more}
-use Rattle.definitions.proofs.Ring.{linear}
-use Rattle.definitions.specs.Coalitions.{has_player, singleton, sum_over}
-use Rattle.definitions.specs.Games.{Game, Allocation, share, IsAllocation}
+use Rattle.definitions.specs.Coalitions.{sum_over}
+use Rattle.definitions.specs.Games.{Game, share}
 use Rattle.definitions.specs.Players.{IsDummy}
 use Rattle.definitions.specs.Scales.{times}
-use Rattle.definitions.specs.Shapley.{shapley_total, factorial, IsShapley}
+use Rattle.definitions.specs.Shapley.{shapley_total, factorial}
 use Rattle.theorems.proofs.Products.{sorted_products}
 use Rattle.laws.specs.ShapleyEquivalence.{ShapleyIsCovariant}
-use Rattle.laws.specs.StrategicEquivalence.{shifted, scaled_game}
+use Rattle.laws.specs.StrategicEquivalence.{scaled_game}
 use Rattle.laws.proofs.SharesScale.{scaled_shapley}
 use Rattle.laws.proofs.ShapleyDummies.{dummy-total}
 use Rattle.laws.proofs.ShiftsChangeNothing.{share-at}

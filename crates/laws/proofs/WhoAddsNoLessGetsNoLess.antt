@@ -38,7 +38,7 @@ amount-more : (g : Game) (x : Allocation) (r i : ℕ) → IsAllocation g x → i
 amount-more g x r i h hi a = sum_over-more (length x.shares) r i (share x) (rw h.0 hi) a
 
 -- with i in the place of j, a coalition could do better by itself by what j gets more, or by more than that
-excess-other : (g : Game) (x : Allocation) (r i j : ℕ) → AddsNoLess g i j → IsAllocation g x → r < 2 ^ g.players
+pub excess-other : (g : Game) (x : Allocation) (r i j : ℕ) → AddsNoLess g i j → IsAllocation g x → r < 2 ^ g.players
     → i < g.players → j < g.players → has_player r i ≡ false → has_player r j ≡ false
     → (excess g x (r + 2 ^ j) +ℤ (share x j -ℤ share x i)) ≤ℤ excess g x (r + 2 ^ i)
 excess-other g x r i j adds h within hi hj a b =

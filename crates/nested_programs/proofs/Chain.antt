@@ -8,7 +8,7 @@ use Rattle.std.proofs.lemmas.Bool.{false≢true}
 use Rattle.std.proofs.lemmas.Bool.Decides.{nat_tests}
 use Rattle.std.specs.List.{list_any, AllByRecursion}
 use Rattle.std.proofs.lemmas.List.{append_assoc, append-nil, length-append}
-use Rattle.definitions.proofs.Ring.{linear, mul-leℤ, mul_assocℤ, mul-cancelℤ, mul-le_cancelℤ, mul-positiveℤ}
+use Rattle.definitions.proofs.Ring.{linear, mul-leℤ, mul-cancelℤ, mul-le_cancelℤ, mul-positiveℤ}
 use Rattle.definitions.proofs.Ring.{ring_laws}
 use lib.IntN.{*ℤ_comm}
 use Rattle.definitions.proofs.SumsOver.{sum_over-same}
@@ -283,10 +283,6 @@ listed_row P k (l ∷ levels) s h any =
 
 abbrev pub gap : RowMultipliers → RowMultipliers → ℕ → ℤ
 gap m m' i = m'.den *ℤ share_of m i -ℤ m.den *ℤ share_of m' i
-
--- equal ratios stay equal times a divisor
-scaled_ratio : (e d' e' d h : ℤ) → e *ℤ d' ≡ e' *ℤ d → d' *ℤ (e *ℤ h) ≡ d *ℤ (e' *ℤ h)
-scaled_ratio e d' e' d h k = cc (mul_assocℤ d' e h, *ℤ_comm d' e, *ℤ_comm e' d, mul_assocℤ d e' h)
 
 gap_listed : (d d' v x x' e e' h : ℤ) → d *ℤ v ≡ x +ℤ e *ℤ h → d' *ℤ v ≡ x' +ℤ e' *ℤ h → e *ℤ d' ≡ e' *ℤ d
     → d' *ℤ x -ℤ d *ℤ x' ≡ pos 0

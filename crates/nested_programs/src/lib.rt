@@ -18,10 +18,9 @@ ghost use Rattle.std.specs.Prelude.{◌≡◌, ◌≤◌, IfOk, MatchResult};
 ghost use Rattle.definitions.specs.declared.Measure.{Measure};
 ghost use Rattle.nested_programs.specs.Answer.{IsFound, IsFault};
 
-use crate::point::point_of;
-use crate::singles::lacks_imputation;
 pub use found::{Found, NestedFault};
 use kohlberg::Family;
+pub use point::solve_few;
 use std::alloc::Global;
 use worth_core::{Measure, Worth};
 
@@ -47,11 +46,8 @@ pub fn solve<W: Worth>(
     if game.players() > 16 {
         return Err(NestedFault::TooMany);
     }
-    if let Some((singles, total)) = lacks_imputation(game, family) {
-        return Ok(Found::NoImputation { singles, total });
-    }
-    match point_of(alloc, game, family, measure) {
-        Ok((shares, certificate)) => Ok(Found::Point(shares, certificate)),
+    match solve_few(alloc, game, family, measure) {
+        Ok(found) => Ok(found),
         Err(_) => Err(NestedFault::Memory),
     }
 }

@@ -1,11 +1,13 @@
-//! The shares of the last stage, and their certificate.
+//! The shares of the last stage, and their certificate; or that there is no imputation.
 ghost use Rattle.std.specs.Prelude.{◌≡◌, ◌≤◌, [], ◌∷◌, length, pos, IfOk, IfSome, MatchOption};
 ghost use Rattle.definitions.specs.Coalitions.{grand_coalition};
 ghost use Rattle.definitions.specs.declared.Measure.{Measure};
 ghost use Rattle.worth_core.specs.Allocations.{allocation};
-ghost use Rattle.nested_programs.specs.Answer.{HasMember, IsPoint};
+ghost use Rattle.nested_programs.specs.Answer.{IsFound};
 ghost use Rattle.separation.specs.Shares.{IsReadFrom};
 
+use crate::found::Found;
+use crate::singles::lacks_imputation;
 use crate::stages::all_stages;
 use coalitions::Coalition;
 use fractions::OutOfMemory;
@@ -38,21 +40,27 @@ fn shares_of<W: Worth>(
     }
 }
 
-/// The nucleolus or prenucleolus by a measure of a game of at most 16 players whose family has a member, with its
-/// certificate.
-pub(crate) fn point_of<W: Worth>(
+// For the crates above.
+
+/// What `solve` finds of a game that has at most 16 players, per head at most 8, as the caller has tested: so want of
+/// memory is the only fault. It isn't inlined, since callers that call it twice on one path would take its great frame
+/// twice.
+#[inline(never)]
+pub fn solve_few<W: Worth>(
     alloc: Global,
     game: &W,
     family: Family,
     measure: Measure,
-) -> Result<(Shares, Certificate), OutOfMemory>
+) -> Result<Found, OutOfMemory>
     requires few { (W.game game.now).players ≤ 16 }
     requires heads { measure ≡ Measure.PerHead → (W.game game.now).players ≤ 8 }
-    requires member { HasMember family (W.game game.now) }
-    ensures { IfOk result (λ point. IsPoint family measure (W.game game.now) point.0 point.1) }
+    ensures { IfOk result (IsFound family measure (W.game game.now)) }
 {
+    if let Some((singles, total)) = lacks_imputation(game, family) {
+        return Ok(Found::NoImputation { singles, total });
+    }
     let (levels, last) = all_stages(alloc, game, family, measure)?;
     let shares = shares_of(alloc, game, &last)?;
     let certificate = Certificate::new(game.players(), Mode::Span, levels).unwrap();
-    Ok((shares, certificate))
+    Ok(Found::Point(shares, certificate))
 }

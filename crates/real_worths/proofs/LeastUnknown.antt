@@ -1,6 +1,6 @@
 -- Where some point meets rows, one has the least unknown 0, or one not above a bound: the rows without the last unknown
 -- have such a point, and it has room for a number there.
-use Rattle.std.proofs.Common.{◌≡◌, ◌⊎◌, ℕ, zero, suc, List, [], ◌∷◌, ◌++◌, ℤ, pos, neg_ℤ, ◌<ℤ◌}
+use Rattle.std.proofs.Common.{◌≡◌, ◌⊎◌, ℕ, zero, suc, ◌≤◌, List, [], ◌∷◌, ◌++◌, ℤ, pos, neg_ℤ, ◌<ℤ◌}
 use Rattle.std.proofs.Common.{◌≤ℤ◌, refl, sym, ap, subst, inl, inr, arith}
 use Rattle.std.specs.List.{AllByRecursion}
 use Rattle.definitions.proofs.Alls.{all_weaken, all_both, all_with, all_join, all_left, all_right}
@@ -245,6 +245,15 @@ module _ (N : Numbers Real) (R : AreReals N) where
             → Equal N (value N R 1 y v) (N.plus (value N R 0 z0 v) (times N (v.coefficient 0) (y 0)))
         one_unknown v y = back N L (L.associates v.constant N.zero (times N (v.coefficient 0) (y 0)))
 
+    ends_longer : (m : ℕ) (c : Real) (z : ℕ → Real) → 1 ≤ m → Ends z → Ends (longer N R m c z)
+    ends_longer m c z some ends =
+        let kept : Equal N (longer N R m c z 0) (z 0) = equal_path N L (longer N R m c z 0) (z 0)
+        (longer_other N R m c z 0 (λ same. omega arith)) in
+        elim ends [
+          | inl least ↦ inl (λ y hy. through N L kept.0 (least y hy))
+          | inr under ↦ inr (through N L kept.0 under)
+        ]
+
     pub least_unknown : (m : ℕ) (us : List Row) → AllByRecursion (Sound (suc m)) us
         → (z : ℕ → Real) × AllByRecursion (Meets N R (suc m) z) us × Ends z
     least_unknown zero us h = first_unknown us h
@@ -260,12 +269,4 @@ module _ (N : Numbers Real) (R : AreReals N) where
         let k = number_for e (Sound (suc e)) us r z low (all_left (Meets N R e z) r.zs (pairs e r.ps r.ns) found.1)
         (all_right (Meets N R e z) r.zs (pairs e r.ps r.ns) found.1) in
         let c = k.0 in
-        let kept : Equal N (longer N R e c z 0) (z 0) = equal_path N L (longer N R e c z 0) (z 0)
-        (longer_other N R e c z 0 (λ same. omega arith)) in (
-          longer N R e c z,
-          meets_longer e z c us k.1,
-          elim found.2 [
-            | inl least ↦ inl (λ y hy. through N L kept.0 (least y hy))
-            | inr under ↦ inr (through N L kept.0 under)
-          ],
-        )
+        (longer N R e c z, meets_longer e z c us k.1, ends_longer e c z (omega arith) found.2)

@@ -14,7 +14,7 @@ mod LevelsAreNeeded
 mod KohlbergTheorem
 mod Halfway
 mod UnbeatenIsNucleolus
-mod Fractions
+mod OverWhole
 mod Rows
 mod LeastUnknown
 mod ExcessRows
@@ -22,3 +22,5 @@ mod Minimax
 mod LeastLists
 mod NucleoliExist
 mod MembersExist
+mod Factors
+mod OneChange

@@ -16,7 +16,7 @@ use Rattle.real_shares.proofs.Orders.{at_most-same}
 use Rattle.real_shares.proofs.Multiples.{chain, back, through, plus-at_most, left, right, times-keeps}
 use Rattle.real_shares.proofs.Multiples.{times-cancel, times-equal, times-zero}
 use Rattle.real_shares.proofs.RealNumbers.{are_ordered}
-use Rattle.real_worths.proofs.Fractions.{over, over_times, times_near, equal_near, times_plus}
+use Rattle.real_worths.proofs.OverWhole.{over, over_times, times_near, equal_near, times_plus}
 
 -- a coefficient for each unknown, and a constant
 pub record Row : Type 0 where

@@ -11,9 +11,9 @@
 --   RealsCanHalve                  each real number is twice a real number
 --   IsUnitChange                   an additive change of all numbers that keeps their order, there and back
 --   changed_game, changed_shares   worths and shares in the new unit, and each player's number added
---   FractionsAreChanges            p / q of each number is such a change, for positive p and q
+--   FactorsAreChanges              each real factor above zero is such a change
 --   EquivalentGamesAgree           the nucleolus changes as the worths do (covariance under strategic equivalence)
-use Rattle.std.specs.Prelude.{◌↔◌, ℕ, ◌<◌, List, length, map, ℤ, pos, ◌≤ℤ◌}
+use Rattle.std.specs.Prelude.{◌↔◌, ℕ, ◌<◌, List, length, map, pos}
 use Rattle.std.specs.List.{range_with_len}
 use Rattle.definitions.specs.Coalitions.{singleton}
 use Rattle.definitions.specs.declared.Family.{Family}
@@ -82,12 +82,12 @@ pub record IsUnitChange {C : Type 0} (N : Numbers C) (to back : C → C) : Type 
   pub there : (a : C) → Equal N (to (back a)) a
   pub again : (a : C) → Equal N (back (to a)) a
 
--- p / q of each number, for positive p and q: q times the new number is p times the old one
-abbrev pub FractionsAreChanges : Type 0
-FractionsAreChanges =
-    (N : Numbers Real) (p q : ℤ) → AreReals N → pos 1 ≤ℤ p → pos 1 ≤ℤ q →
-    (to : Real → Real) × (back : Real → Real) × IsUnitChange N to back
-    × ((a : Real) → Equal N (times N q (to a)) (times N p a))
+-- a real factor r above zero, so that k times r comes up to the unit: the unit becomes r, and since the change is
+-- additive and keeps the order, each number becomes r times as much
+abbrev pub FactorsAreChanges : Type 0
+FactorsAreChanges =
+    (N : Numbers Real) (r : Real) (k : ℕ) → AreReals N → AtMost N N.unit (times N (pos k) r) →
+    (to : Real → Real) × (back : Real → Real) × IsUnitChange N to back × Equal N (to N.unit) r
 
 -- the worths in the new unit, each more by the numbers of its members
 abbrev pub changed_game : {C : Type 0} → Numbers C → (C → C) → (ℕ → C) → NumberGame C → NumberGame C

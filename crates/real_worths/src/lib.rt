@@ -7,7 +7,7 @@
 ghost use Rattle.real_worths.specs.RealWorths.{NucleolusIsUnique, UnbeatenIsNucleolus, NucleolusIsInCore};
 ghost use Rattle.real_worths.specs.RealWorths.{WithACoreBothAreOne, WhoAddsNoLessGetsNoLess, AlikePlayersGetAlike};
 ghost use Rattle.real_worths.specs.RealWorths.{DummiesGetTheirWorth, RealsCanHalve, EquivalentGamesAgree};
-ghost use Rattle.real_worths.specs.RealWorths.{FractionsAreChanges};
+ghost use Rattle.real_worths.specs.RealWorths.{FactorsAreChanges};
 ghost use Rattle.real_worths.specs.WholeWorths.{WholeWorthsAgree};
 ghost use Rattle.real_worths.specs.Existence.{NucleoliExist, PrenucleoliExist, ImputationsExist};
 ghost use Rattle.real_worths.specs.KohlbergTheorem.{KohlbergTheorem};
@@ -82,9 +82,10 @@ pub fn equivalent_games_agree()
     ensures { EquivalentGamesAgree }
 {}
 
-/// For positive whole p and q, p / q of each number is a change of the unit.
-pub fn fractions_are_changes()
-    ensures { FractionsAreChanges }
+/// Each real factor that isn't below some 1 / k, as each above zero is, is a change of the unit: what a unit becomes is
+/// the factor.
+pub fn factors_are_changes()
+    ensures { FactorsAreChanges }
 {}
 
 /// Kohlberg's theorem (Kohlberg 1971; for the prenucleolus Sobolev 1975): shares that add to the worth of all are the

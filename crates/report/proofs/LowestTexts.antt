@@ -67,7 +67,3 @@ scaled_fits d k f s =
   where
     product_below : (z : ℤ) → pos 1 ≤ℤ z → z ≤ℤ (pos 65536 *ℤ pos (2 ^ 100)) → unsigned_abs z < 2 ^ 127
     product_below z low high = omega (arith, ints, low, high)
-
--- a denominator of shares is within the limit
-pub fine_of_shares : (d : ℤ) → pos 1 ≤ℤ d → d ≤ℤ pos (2 ^ 63) → IsFine d
-fine_of_shares d low high = (low, omega (arith, ints, high))

@@ -1,12 +1,10 @@
 -- The sums of the coalitions of eight players, each from one before it.
 use Rattle.std.proofs.Common.{◌≡◌, ℕ, zero, suc, ◌+◌, ◌-◌, ◌*◌, ◌^◌, ◌<◌, ◌≤◌}
 use Rattle.std.proofs.Common.{Bool, true, false, cond, List, ℤ, pos, ◌+ℤ◌, sym, ap}
-use Rattle.std.proofs.Common.{◌∙◌, arith, nat_lt, slice_index_or, unsigned_abs, to_z, of_z, subst, inl, inr}
-use Rattle.std.proofs.Common.{refl, length, length-set, set, replicate}
-use Rattle.std.proofs.lemmas.List.{get_or_past}
+use Rattle.std.proofs.Common.{◌∙◌, arith, nat_lt, slice_index_or, unsigned_abs, to_z, of_z, subst}
+use Rattle.std.proofs.Common.{length}
 use Rattle.std.proofs.lemmas.Int.{ints}
 use mir.Syntax.{w128}
-use Rattle.definitions.proofs.Cases.{below_or_above, nat_lt-past}
 use Rattle.definitions.proofs.Casts.{cast_kept}
 use Rattle.definitions.proofs.Ring.{linear}
 use Rattle.definitions.specs.Sums.{sum_below}
@@ -19,7 +17,7 @@ use Rattle.separation.specs.declared.tables.NarrowSums.{NarrowSums}
 use Rattle.separation.specs.declared.tables.Sums.{Sums}
 use Rattle.separation.specs.declared.tables.Sums.TheVariants.{Narrow}
 use Rattle.separation.proofs.Valued.{eight-is}
-use Rattle.spans.proofs.EightSums.{last_below_eight, filled_below}
+use Rattle.spans.proofs.EightSums.{last_below_eight}
 use Rattle.spans.specs.Sums.{number_at, IsEightSum}
 
 -- the last player joins
@@ -106,29 +104,6 @@ pub record AreNarrowBelow (num : List ℤ) (n i : ℕ) (numbers : List ℤ) : Ty
   pub len : length numbers ≡ 16
   pub done : (j : ℕ) → j < i
       → (number_at numbers j ≡ player_multiplier num n j) × (unsigned_abs (number_at numbers j) ≤ 2 ^ 56)
-
-pub none_narrow : (num : List ℤ) (n : ℕ) → AreNarrowBelow num n 0 (replicate 16 (pos 0))
-none_narrow num n = record { len = refl; done = λ j lt. absurd (omega arith) }
-
-pub more_narrow : (num : List ℤ) (n i : ℕ) (numbers : List ℤ) (v : ℤ) → i < 16 → v ≡ player_multiplier num n i
-    → unsigned_abs v ≤ 2 ^ 56 → AreNarrowBelow num n i numbers → AreNarrowBelow num n (i + 1) (set numbers i v)
-more_narrow num n i numbers v lt is small before = record {
-  len = length-set numbers i v ∙ before.len;
-  done =
-      filled_below (λ j z. (z ≡ player_multiplier num n j) × (unsigned_abs z ≤ 2 ^ 56)) numbers i v
-      (rw before.len lt) (is, small) before.done;
-}
-
-pub all_narrow : (num : List ℤ) (n i : ℕ) (numbers : List ℤ) → n ≤ 16 → 16 ≤ i → AreNarrowBelow num n i numbers
-    → AreNarrow num n numbers
-all_narrow num n i numbers few end h j = elim (below_or_above j 16) [
-  | inl lt ↦ h.done j (omega arith)
-  | inr le ↦
-      let past = get_or_past numbers j (pos 0) (omega arith) in
-      let none : player_multiplier num n j ≡ pos 0 =
-      ap (λ (b : Bool). cond b (slice_index_or num j (pos 0)) (pos 0)) (nat_lt-past j n (omega arith)) in
-      (past ∙ sym none, rw past (omega arith))
-]
 
 -- sums in 64 bits have room where those of the first eight players are small
 pub narrow_has_room : (t : NarrowSums)

@@ -7,7 +7,7 @@ use coalitions::Coalition;
 use worth_core::Measure;
 
 /// The place of a column among some that stand in a row, from 0.
-pub(crate) type Place = u64;
+pub(crate) type ColumnPlace = u64;
 
 /// What a column has in its level row: what the measure divides the excess of its coalition by.
 pub(crate) fn level_entry(measure: Measure, s: Coalition) -> u32

@@ -8,7 +8,7 @@ ghost use Rattle.separation.specs.Kept.{column_at};
 ghost use Rattle.separation.specs.Making.{earlier_columns, whole_columns, inner_columns};
 ghost use Rattle.separation.specs.Fronts.{IsSmallLevel};
 
-use crate::column::{Column, Place};
+use crate::column::{Column, ColumnPlace};
 use crate::making::{bound, minus, plain, single};
 use coalitions::Coalition;
 use kohlberg::{Family, Level};
@@ -42,7 +42,7 @@ fn whole<W: Worth>(game: &W, id: ColumnId) -> Option<Column>
 }
 
 /// The column at a place among those of the coalitions of level `k`.
-fn of_level<W: Worth>(game: &W, k: u32, pairs: &[(Coalition, i128)], place: Place) -> Column
+fn of_level<W: Worth>(game: &W, k: u32, pairs: &[(Coalition, i128)], place: ColumnPlace) -> Column
     requires within { AllByRecursion (λ c. c.0 < 2 ^ (W.game game.now).players) pairs.now }
     requires place { place < 2 * length pairs.now }
     ensures { Some result ≡ column_at (earlier_columns (W.game game.now) (map (λ c. (c.0, k)) pairs.now)) place }
@@ -56,7 +56,7 @@ fn of_level<W: Worth>(game: &W, k: u32, pairs: &[(Coalition, i128)], place: Plac
 }
 
 /// The column at a place among those of the coalitions of the levels.
-fn earlier<W: Worth>(game: &W, levels: &[Level], place: Place) -> Option<Column>
+fn earlier<W: Worth>(game: &W, levels: &[Level], place: ColumnPlace) -> Option<Column>
     requires few { length levels.now ≤ 14 }
     requires within { AllByRecursion (IsSmallLevel (W.game game.now).players) levels.now }
     ensures { result ≡ column_at (earlier_columns (W.game game.now) (earlier_of 0 levels.now)) place }

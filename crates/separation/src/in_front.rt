@@ -11,7 +11,7 @@ ghost use Rattle.separation.specs.Making.{alone_columns, inner_columns};
 ghost use Rattle.separation.specs.Fronts.{IsSmallLevel};
 ghost use Rattle.separation.specs.Scanned.{game_of, RisesIn, NoneOf, IsFirstOf, NoneInFront, IsFirstInFront};
 
-use crate::column::Place;
+use crate::column::ColumnPlace;
 use crate::front::Front;
 use crate::making::{minus, plain, single};
 use crate::scan::Scan;
@@ -22,7 +22,11 @@ use worth_core::Worth;
 
 /// The place of the first of both columns of a coalition whose cost is above its value. The second is the first one
 /// negated, so one value tells of both.
-fn first_of_both<W: Worth>(scan: &Scan<'_, W>, s: Coalition, level: Option<u32>) -> Option<Place>
+fn first_of_both<W: Worth>(
+    scan: &Scan<'_, W>,
+    s: Coalition,
+    level: Option<u32>,
+) -> Option<ColumnPlace>
     requires within { s < 2 ^ scan.now.program.now.players }
     requires level { ForSome level (λ l. l < scan.now.program.now.levels) }
     ensures { MatchOption result (NoneOf scan.now (both_columns (game_of scan.now) s level))
@@ -46,7 +50,7 @@ fn first_of_level<W: Worth>(
     scan: &Scan<'_, W>,
     k: u32,
     pairs: &[(Coalition, i128)],
-) -> Option<Place>
+) -> Option<ColumnPlace>
     requires level { k < scan.now.program.now.levels }
     requires few { length pairs.now ≤ 65536 }
     requires within { AllByRecursion (λ c. c.0 < 2 ^ scan.now.program.now.players) pairs.now }
@@ -64,7 +68,7 @@ fn first_of_level<W: Worth>(
 }
 
 /// The place of the first such column among those of the coalitions of the levels.
-fn first_of_levels<W: Worth>(scan: &Scan<'_, W>, levels: &[Level]) -> Option<Place>
+fn first_of_levels<W: Worth>(scan: &Scan<'_, W>, levels: &[Level]) -> Option<ColumnPlace>
     requires rows { length levels.now + 1 ≤ scan.now.program.now.levels }
     requires within { AllByRecursion (IsSmallLevel scan.now.program.now.players) levels.now }
     ensures { MatchOption result
@@ -124,7 +128,7 @@ fn first_bound<W: Worth>(scan: &Scan<'_, W>, levels: &[Level]) -> Option<u32>
 }
 
 /// The place of the first such column among those of the players alone, which imputations have.
-fn first_of_players<W: Worth>(scan: &Scan<'_, W>, front: &Front<'_>) -> Option<Place>
+fn first_of_players<W: Worth>(scan: &Scan<'_, W>, front: &Front<'_>) -> Option<ColumnPlace>
     ensures { MatchOption result
         (NoneOf scan.now (alone_columns front.now.family (game_of scan.now) front.now.levels.now))
         (IsFirstOf scan.now (alone_columns front.now.family (game_of scan.now) front.now.levels.now)) }
@@ -142,7 +146,7 @@ fn first_of_players<W: Worth>(scan: &Scan<'_, W>, front: &Front<'_>) -> Option<P
 }
 
 /// The place of the first such column in front of those of a stage's coalitions outside.
-fn first_of_stage<W: Worth>(scan: &Scan<'_, W>, front: &Front<'_>) -> Option<Place>
+fn first_of_stage<W: Worth>(scan: &Scan<'_, W>, front: &Front<'_>) -> Option<ColumnPlace>
     requires { scan.now.program.now.front ≡ Some front.now }
     ensures { MatchOption result
         (NoneOf scan.now (inner_columns front.now.family (game_of scan.now) front.now.levels.now))

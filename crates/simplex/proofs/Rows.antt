@@ -1,5 +1,5 @@
 -- The rows of a lawful program are few, and their numbers fit.
-use Rattle.std.proofs.Common.{◌≡◌, ℕ, ◌+◌, ◌*◌, ◌<◌, ◌≤◌, arith}
+use Rattle.std.proofs.Common.{◌≡◌, ℕ, ◌+◌, ◌<◌, ◌≤◌, arith}
 use mir.Syntax.{w64}
 use mir.Val.{Fits}
 use Rattle.definitions.specs.Programs.{Program}
@@ -14,11 +14,5 @@ within_32 n h = omega arith
 pub place_within_32 : (k n : ℕ) → k < n → n ≤ 31 → k < 32
 place_within_32 k n lt h = omega arith
 
-pub next_within_32 : (n : ℕ) → n ≤ 31 → n + 1 ≤ 32
-next_within_32 n h = omega arith
-
 pub next_fits : (n : ℕ) → n ≤ 31 → Fits w64 (n + 1)
 next_fits n h = omega arith
-
-pub offset_fits : (k n : ℕ) → k < n → n ≤ 31 → Fits w64 (k * 16)
-offset_fits k n lt h = omega arith

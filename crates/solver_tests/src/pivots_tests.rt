@@ -76,8 +76,9 @@ type Counts = (Slow, u32, (u64, u64), Stages, Stages);
 /// Compares the counts of families of 1 to 16 players.
 fn compare(rt: &impl Abort, alloc: Global, rows: &[Counts]) -> Result<(), Fail> {
     for &(family, players, core, imputations, preimputations) in rows {
+        assert!(rt; players <= 16);
         let game = game_of(alloc, family, players)?;
-        assert!(rt; game.players() == players && players <= 16);
+        assert!(rt; game.players() == players);
         let found = (
             asked_for_core(alloc, &game)?,
             asked_for_stages(alloc, &game, Family::Imputations)?,

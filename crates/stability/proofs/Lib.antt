@@ -21,3 +21,5 @@ mod OneKernelPoint
 mod ConvexKernel
 mod GreatestGain
 mod JustifiedObjection
+mod Desirability
+mod SuperadditiveGames

@@ -7,9 +7,12 @@
 --   NucleolusIsInKernel   the nucleolus lies in the kernel
 --   KernelIsntEmpty       where there is an imputation, some shares lie in the kernel
 --   AtACorePoint          at a core point, to lie in the kernel is to lie in the prekernel
-use Rattle.std.specs.Prelude.{◌≡◌, ◌≢◌, ◌↔◌, ℕ, ◌<◌, ℤ, ◌*ℤ◌, ◌<ℤ◌}
+--   WhoAddsNoLessGetsNoLess   at each point of the prekernel or of the kernel, who adds no less than another to each
+--                         coalition without both gets no less (Maschler and Peleg 1966)
+use Rattle.std.specs.Prelude.{◌≡◌, ◌≢◌, ◌⊎◌, ◌↔◌, ℕ, ◌<◌, ℤ, ◌*ℤ◌, ◌<ℤ◌, ◌≤ℤ◌}
 use Rattle.definitions.specs.Coalitions.{singleton}
 use Rattle.definitions.specs.Games.{Game, Allocation, share, InFamily, IsNucleolus, InCore}
+use Rattle.definitions.specs.Players.{AddsNoLess}
 use Rattle.definitions.specs.Prekernel.{IsSurplus, InPrekernel}
 use Rattle.definitions.specs.declared.Family.TheVariants.{Imputations}
 use Rattle.definitions.specs.declared.Measure.TheVariants.{Plain}
@@ -34,3 +37,8 @@ KernelIsntEmpty = (g : Game) (y : Allocation) → InFamily Imputations g y → (
 -- a core point lies in the kernel just where it lies in the prekernel
 abbrev pub AtACorePoint : Type 0
 AtACorePoint = (g : Game) (x : Allocation) → InCore g x → InKernel g x ↔ InPrekernel g x
+
+abbrev pub WhoAddsNoLessGetsNoLess : Type 0
+WhoAddsNoLessGetsNoLess =
+    (g : Game) (x : Allocation) (i j : ℕ) → InPrekernel g x ⊎ InKernel g x → i < g.players → j < g.players →
+    AddsNoLess g i j → share x j ≤ℤ share x i

@@ -4,6 +4,7 @@ pub mod LeastCore
 pub mod ConvexCores
 pub mod Majority
 pub mod ZeroMonotonic
+pub mod Superadditive
 pub mod Subsidies
 pub mod TwoVoters
 pub mod EstateCores

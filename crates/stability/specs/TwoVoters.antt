@@ -4,13 +4,15 @@
 --   both_agree, one_suffices   the two games
 --   halves                     half for each
 --   TwoVoters                  where both have to agree, who joins does no harm, and halves are free of subsidies;
---                              where one suffices, who joins the other does harm. Of three who vote by majority,
---                              that the first takes all isn't free of subsidies
+--                              where one suffices, who joins the other does harm. Both together are joined of each
+--                              alone, and one alone isn't. Of three who vote by majority, that the first takes all
+--                              isn't free of subsidies
 use Rattle.std.specs.Prelude.{[], ◌∷◌, pos}
 use Rattle.definitions.specs.Games.{Game, Allocation}
 use Rattle.laws.specs.ClassGames.{voting_game}
 use Rattle.stability.specs.Majority.{majority, first_takes_all}
 use Rattle.stability.specs.Subsidies.{IsSubsidyFree}
+use Rattle.stability.specs.Superadditive.{IsJoined, IsSuperadditive}
 use Rattle.stability.specs.ZeroMonotonic.{IsZeroMonotonic}
 
 -- two with a vote each, of whom both win together
@@ -27,4 +29,6 @@ halves = record { shares = pos 1 ∷ (pos 1 ∷ []); den = pos 2 }
 abbrev pub TwoVoters : Type 0
 TwoVoters =
     (IsZeroMonotonic both_agree × ¬ IsZeroMonotonic one_suffices)
+    × (IsSuperadditive both_agree × ¬ IsSuperadditive one_suffices)
+    × (IsJoined 2 1 2 3 × ¬ IsJoined 2 1 2 1)
     × (IsSubsidyFree both_agree halves × ¬ IsSubsidyFree majority first_takes_all)

@@ -2,6 +2,7 @@
 //! Peleg and Shapley 1972).
 
 ghost use Rattle.stability.specs.ZeroMonotonic.{ConvexIsZeroMonotonic, KernelIsPrekernel, PrenucleolusIsNucleolus};
+ghost use Rattle.stability.specs.Superadditive.{ConvexIsSuperadditive, SuperadditiveIsZeroMonotonic};
 
 /// In a convex game each player adds to each coalition at least its worth alone.
 pub fn convex_is_zero_monotonic()
@@ -17,4 +18,16 @@ pub fn kernel_is_prekernel()
 /// There the prenucleolus gives nobody less than its worth alone, so it is the nucleolus.
 pub fn prenucleolus_is_nucleolus()
     ensures { PrenucleolusIsNucleolus }
+{}
+
+/// In a convex game two coalitions without a common member are worth no more than all their members together (Shapley
+/// 1971).
+pub fn convex_is_superadditive()
+    ensures { ConvexIsSuperadditive }
+{}
+
+/// If two coalitions without a common member are never worth more than all their members together, each player adds to
+/// each coalition at least its worth alone.
+pub fn superadditive_is_zero_monotonic()
+    ensures { SuperadditiveIsZeroMonotonic }
 {}

@@ -1,6 +1,5 @@
 //! Lines of a nucleolus that no small document has.
 ghost use Rattle.std.specs.Prelude.{IfOk};
-ghost use Rattle.std.specs.List.{AllByRecursion};
 ghost use Rattle.report.specs.Limits.{IsFine};
 
 use coalitions::Coalition;
@@ -44,7 +43,9 @@ fn written(
     let mut levels = Vec::new(alloc);
     levels.push(level)?;
     let x = Shares::new(shares.0.to_vec(alloc)?, 1).ok_or("not shares")?;
-    let certificate = Certificate::new(x.players(), mode, levels).map_err(|_| "malformed")?;
+    let certificate = Certificate::new(x.players(), mode, levels)
+        .ok()
+        .ok_or("malformed")?;
     let answer = Answer::Nucleolus {
         family,
         tree: Value::Null,
@@ -82,7 +83,7 @@ fn bounds_and_the_greatest_weights(rt: HostRuntime) -> Result<(), Fail> {
 fn sixty_four_players(rt: HostRuntime) -> Result<(), Fail> {
     let mut coalitions = Vec::new(rt.alloc());
     for i in 0..64u32 {
-        coalitions.push((Coalition(u64::MAX ^ (1 << (63 - i))), 1i128))?;
+        coalitions.push((Coalition::all(64).without(63 - i), 1i128))?;
     }
     let level = level(rt.alloc(), -1, &coalitions, &[], 63)?;
     let shares: (&[i128], bool) = (&[-1; 64], true);
@@ -97,7 +98,7 @@ fn sixty_four_players(rt: HostRuntime) -> Result<(), Fail> {
         r#"{"answer":"nucleolus","certificate":{"levels":[{"bounds":[],"coalitions":[[[1,2,3,4,"#;
     let end =
         r#"],"earlier":[],"excess":"-1","total":63}],"mode":"players"},"game":null,"shares":["1","#;
-    let text = std::str::from_utf8(&written).map_err(|_| "no UTF-8")?;
+    let text = std::str::from_utf8(&written).ok().ok_or("no UTF-8")?;
     assert!(rt; text.starts_with(start));
     assert!(rt; text.contains(end));
     assert!(rt; text.ends_with(concat!(r#""1","1"]}"#, "\n")));

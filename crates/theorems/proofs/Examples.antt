@@ -1,23 +1,21 @@
 -- The definitions, computed on small games.
-use Rattle.std.proofs.Common.{◌≤◌, ◌≡◌, ℕ, ◌<◌, Bool, true, false, List, [], ◌∷◌, ℤ, pos, negsuc, ◌+ℤ◌, ◌≤ℤ◌, refl}
-use Rattle.std.proofs.Common.{arith, inl, rules, sym, ◌∙◌, slice_index, slice_index_or, int_le, int_lt, not, ◌||◌, ◌*ℤ◌}
-use Rattle.std.proofs.lemmas.Bool.{false≢true}
+use Rattle.std.proofs.Common.{◌≤◌, ◌≡◌, ℕ, Bool, true, List, [], ◌∷◌, ℤ, pos, negsuc, ◌≤ℤ◌, refl}
+use Rattle.std.proofs.Common.{arith, inl, rules, slice_index, slice_index_or, int_le, int_lt, not, ◌||◌, ◌*ℤ◌}
 use Rattle.std.proofs.lemmas.Int.{ints}
 use Rattle.definitions.specs.Order.{sorted}
-use Rattle.definitions.specs.Coalitions.{has_player, singleton, weight_at, splits, members}
-use Rattle.definitions.specs.Games.{Game, Allocation, share, excess, excess_list, Beats, IsChosenBlocker, InFamily}
+use Rattle.definitions.specs.Coalitions.{has_player, weight_at, members}
+use Rattle.definitions.specs.Games.{Game, Allocation, excess, excess_list, Beats, IsChosenBlocker}
 use Rattle.definitions.specs.Games.{IsNucleolus}
-use Rattle.definitions.specs.Certificates.{Level, HasForm, LevelHolds, Certifies, is_free, number_at}
-use Rattle.theorems.proofs.Soundness.{IsNucleolus-from_certificate}
+use Rattle.definitions.specs.Certificates.{Level}
+use Rattle.theorems.proofs.Certified.{IsNucleolus-from_test}
+pub use Rattle.theorems.proofs.Certified.{from_int_eq}
 use Rattle.definitions.specs.declared.Family.TheVariants.{Imputations}
 use Rattle.definitions.specs.declared.Measure.TheVariants.{Plain, PerHead}
-use Rattle.definitions.specs.declared.Mode.TheVariants.{Players}
 use Rattle.std.specs.Ordering.{int_eq}
 use Rattle.definitions.specs.Balanced.{IsBalancedOfExcessWorth}
 use Rattle.definitions.specs.Classes.{table_worth, airport_worth, bankruptcy_worth, plan_cost, Matrix, IsMatching}
 use Rattle.definitions.specs.Classes.{matching_value}
 use Rattle.definitions.specs.Shapley.{shapley_total}
-use Rattle.definitions.proofs.Cases.{from_not}
 use Rattle.definitions.proofs.Splits.{passes_below-at}
 
 -- ---- three players, of whom any two are worth 1
@@ -137,106 +135,13 @@ second_level = record {
   total = pos 1;
 }
 
--- both conditions on all players and all coalitions, as one test
-abbrev pub balances : Level → ℕ → Bool
-balances l i = int_eq (weight_at l.coalitions i +ℤ weight_at l.earlier i +ℤ number_at l.bounds i) l.total
-
-abbrev bounds_outside : List Level → Level → ℕ → Bool
-bounds_outside front l s =
-    not (splits 3 (is_free 3 front) s) || int_le (excess airport fair s *ℤ l.excess_den) (l.excess_num *ℤ fair.den)
-
-pub from_int_eq : (a b : ℤ) → int_eq a b ≡ true → a ≡ b
-from_int_eq a b e = grind (arith, ints)
-
 pub from_either : (b : Bool) (u v : ℤ) → (not b || int_le u v) ≡ true → b ≡ true → u ≤ℤ v
 from_either b u v e h = grind (arith, ints)
 
-first_holds : LevelHolds Players Imputations Plain airport fair [] first_level
-first_holds = record {
-  excesses = (refl, (refl, tt));
-  weights = search rules;
-  bound_weights = tt;
-  balanced = λ i h. from_int_eq _ _ (passes_below-at 3 (balances first_level) refl i h);
-  tight = tt;
-  outside = λ s h out. from_either _ _ _ (passes_below-at 8 (bounds_outside [] first_level) refl s h) out;
-}
-
-second_holds : LevelHolds Players Imputations Plain airport fair (first_level ∷ []) second_level
-second_holds = record {
-  excesses = (refl, (refl, tt));
-  weights = search rules;
-  bound_weights = tt;
-  balanced = λ i h. from_int_eq _ _ (passes_below-at 3 (balances second_level) refl i h);
-  tight = tt;
-  outside =
-      λ s h out. from_either _ _ _ (passes_below-at 8 (bounds_outside (first_level ∷ []) second_level) refl s h)
-      out;
-}
-
--- after both levels no player is free
-none_free : (i : ℕ) → i < 3 → is_free 3 (first_level ∷ (second_level ∷ [])) i ≡ false
-none_free i h = from_not _ (passes_below-at 3 (λ i. not (is_free 3 (first_level ∷ (second_level ∷ [])) i)) refl i h)
-
-fair_imputation : InFamily Imputations airport fair
-fair_imputation = (
-  (refl, search rules),
-  refl,
-  λ i h.
-      let e = passes_below-at 3 (λ i. int_le (fair.den *ℤ airport.worth (singleton i)) (share fair i)) refl i h in
-      omega (arith, ints, e),
-)
-
-fair_certified : Certifies Players Imputations Plain airport fair (first_level ∷ (second_level ∷ []))
-fair_certified = (
-  fair_imputation,
-  (first_holds, (second_holds, λ i j hi hj fi fj. absurd (false≢true (sym (none_free i hi) ∙ fi)))),
-)
-
-fair_form : HasForm Players 3 (first_level ∷ (second_level ∷ []))
-fair_form = record {
-  players = inl refl;
-  few = omega arith;
-  each = (
-    record {
-      fraction = search rules;
-      some = search rules;
-      few = search rules;
-      few_earlier = search rules;
-      proper = search rules;
-      listed = tt;
-      players = tt;
-      ascend = search rules;
-      earlier_ascend = tt;
-      bounds_ascend = tt;
-      small = search rules;
-      total_small = search rules;
-    },
-    (
-      record {
-        fraction = search rules;
-        some = search rules;
-        few = search rules;
-        few_earlier = search rules;
-        proper = search rules;
-        listed = (refl, tt);
-        players = tt;
-        ascend = search rules;
-        earlier_ascend = search rules;
-        bounds_ascend = tt;
-        small = search rules;
-        total_small = search rules;
-      },
-      tt,
-    ),
-  );
-}
-
--- so the payments 1, 3/2, 7/2 are the nucleolus
+-- the payments 1, 3/2, 7/2 are the nucleolus
 pub fair_nucleolus : IsNucleolus Imputations Plain airport fair
 fair_nucleolus =
-    IsNucleolus-from_certificate Players Imputations Plain airport fair (first_level ∷ (second_level ∷ []))
-    (inl refl)
-    fair_form fair_certified
+    IsNucleolus-from_test Imputations Plain airport fair (first_level ∷ (second_level ∷ [])) (inl refl) refl
 
 -- ---- plans, matchings, collections
 

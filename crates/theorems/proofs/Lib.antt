@@ -11,4 +11,6 @@ pub mod Scaled
 mod ScaledLevels
 mod Alike
 mod OneReason
+pub mod Forms
+pub mod Certified
 pub mod Examples

@@ -5,11 +5,17 @@
 --   assignment_players       the number of players
 --   has_assignment_players   there are buyers and sellers, at most 16 together
 --   are_even                 the rows have one length
+--   assignment_rules         the rules of assignment games
 use Rattle.std.specs.Prelude.{◌+◌, ℕ, ℤ, List, length, codes, Bool, ◌&&◌, nat_le}
 use Rattle.serde_json.specs.Data.{Data}
 use Rattle.assignment_games.specs.Assignments.{seller_count}
 use Rattle.json_trees.specs.Trees.{parts_at, first_parts}
 use Rattle.game_text.specs.Classes.MatrixClass.{have_length}
+use Rattle.kinds.specs.declared.refusal.Refusal.TheVariants.{Matrix}
+use Rattle.document_parts.specs.Scales.{matrix_numbers_in}
+use Rattle.document_parts.specs.Numbers.{are_costs}
+use Rattle.game_text.specs.Classes.MatrixClass.{is_matrix_shaped, has_matrix_numbers, rows_of}
+use Rattle.game_text.specs.Classes.Rules.{ClassRules}
 
 -- the sellers: one for each item of the first row
 abbrev pub sellers_at : Data → ℕ
@@ -28,3 +34,16 @@ has_assignment_players game =
 -- each row is as long as the first
 abbrev pub are_even : List (List ℤ) → Bool
 are_even rows = have_length (seller_count rows) rows
+
+-- the rows have one length
+abbrev pub assignment_rules : {D : Type 0} → (List (List ℤ) → D) → ClassRules D
+assignment_rules describe = record {
+  is_shaped = is_matrix_shaped;
+  has_players = has_assignment_players;
+  players = assignment_players;
+  has_numbers = has_matrix_numbers;
+  values = matrix_numbers_in;
+  are_numbers = are_costs;
+  own_test = λ k n game. (Matrix, are_even (rows_of k game));
+  description = λ k n game. describe (rows_of k game);
+}

@@ -6,7 +6,8 @@
 --   bankruptcy_values        the estate, and then the claims
 --   has_bankruptcy_numbers   each number is within its limits
 --   claims_cover             the estate is at most the sum of the claims
-use Rattle.std.specs.Prelude.{ℕ, List, [], ◌∷◌, ◌++◌, length, codes, Bool, ◌&&◌, nat_le, sum}
+--   bankruptcy_rules         the rules of bankruptcy games
+use Rattle.std.specs.Prelude.{ℕ, List, [], ◌∷◌, ◌++◌, length, codes, Bool, ◌&&◌, nat_le, sum, unsigned_abs}
 use Rattle.std.specs.List.{list_all}
 use Rattle.serde_json.specs.Data.{Data}
 use Rattle.serde_json.specs.Find.{get}
@@ -15,6 +16,11 @@ use Rattle.json_trees.specs.Trees.{passes, is_numeric, is_array_of, parts_at}
 use Rattle.document_parts.specs.Version.{has_texts}
 use Rattle.document_parts.specs.Scales.{if_there}
 use Rattle.document_parts.specs.Sizes.{is_cost}
+use Rattle.kinds.specs.declared.refusal.Refusal.TheVariants.{Estate}
+use Rattle.document_parts.specs.Sizes.{is_list_size}
+use Rattle.document_parts.specs.Numbers.{are_costs}
+use Rattle.document_parts.specs.ScaledNumbers.{number_at, costs_at}
+use Rattle.game_text.specs.Classes.Rules.{ClassRules}
 
 abbrev pub bankruptcy_keys : List (List ℕ)
 bankruptcy_keys =
@@ -40,3 +46,20 @@ has_bankruptcy_numbers k game =
 
 abbrev pub claims_cover : ℕ → List ℕ → Bool
 claims_cover estate claims = nat_le estate (sum claims)
+
+-- the estate is at most the sum of the claims
+abbrev pub bankruptcy_rules : {D : Type 0} → (ℕ → List ℕ → D) → ClassRules D
+bankruptcy_rules describe = record {
+  is_shaped = is_bankruptcy_shaped;
+  has_players = λ game. is_list_size (bankruptcy_players game);
+  players = bankruptcy_players;
+  has_numbers = has_bankruptcy_numbers;
+  values = bankruptcy_values;
+  are_numbers = are_costs;
+  own_test = λ k n game. (
+    Estate,
+    claims_cover (unsigned_abs (number_at k (codes "estate") game)) (costs_at k (codes "claims") game),
+  );
+  description = λ k n game.
+      describe (unsigned_abs (number_at k (codes "estate") game)) (costs_at k (codes "claims") game);
+}

@@ -13,7 +13,8 @@
 --   is_worth            a number that times the scale k is below 2^40 in size
 --   has_worth           the number of a pair is such a number
 --   has_table_numbers   each number is within its limits
-use Rattle.std.specs.Prelude.{◌==◌, ◌+◌, ◌^◌, ℕ, ℤ, pos, negsuc, List, [], ◌∷◌}
+--   table_rules         the rules of tables, of worths or of costs
+use Rattle.std.specs.Prelude.{◌==◌, ◌+◌, ◌^◌, ℕ, ℤ, pos, negsuc, List, [], ◌∷◌, unwrap_or}
 use Rattle.std.specs.Prelude.{length, codes}
 use Rattle.std.specs.Prelude.{Bool, false, ◌&&◌, ◌||◌, Option, Some, None, is_some, is_none}
 use Rattle.std.specs.Prelude.{option_and_then, nat_lt, nat_le, if◌then◌else◌}
@@ -25,6 +26,13 @@ use Rattle.json_trees.specs.Trees.{parts, parts_at, passes, passes_if_there, sec
 use Rattle.json_trees.specs.Trees.{is_number, is_numeric, is_array_of, is_pair_of, integer}
 use Rattle.document_parts.specs.ScaledNumbers.{small_number}
 use Rattle.document_parts.specs.Version.{has_texts}
+use Rattle.kinds.specs.declared.refusal.Refusal.TheVariants.{Coalition}
+use Rattle.document_parts.specs.Names.{names_of}
+use Rattle.document_parts.specs.TableNumbers.{masks_by, numbers_by}
+use Rattle.document_parts.specs.Members.{are_coalitions}
+use Rattle.document_parts.specs.Scales.{table_numbers_in}
+use Rattle.document_parts.specs.Numbers.{are_worths}
+use Rattle.game_text.specs.Classes.Rules.{ClassRules}
 
 -- ---- shape
 
@@ -91,3 +99,18 @@ abbrev pub has_table_numbers : ℕ → Data → Bool
 has_table_numbers k game =
     list_all (is_worth k) (parts_at (codes "worths") game) && list_all (has_worth k) (parts_at (codes "sparse") game)
     && passes_if_there (is_worth k) (get (codes "default") game)
+
+-- ---- rules
+
+-- each pair of a sparse table has a coalition, and no two have the same
+abbrev pub table_rules : {D : Type 0} → (ℕ → List ℤ → D) → ClassRules D
+table_rules describe = record {
+  is_shaped = is_table_shaped;
+  has_players = has_table_players;
+  players = λ game. unwrap_or (players_at game) 0;
+  has_numbers = has_table_numbers;
+  values = table_numbers_in;
+  are_numbers = are_worths;
+  own_test = λ k n game. (Coalition, are_coalitions (masks_by n (names_of game) game));
+  description = λ k n game. describe n (numbers_by k (get (codes "sparse") game) n (names_of game) game);
+}

@@ -7,7 +7,8 @@
 --   voting_values        the quota, and then the weights
 --   has_voting_numbers   each number is within its limits
 --   is_quota             the weights sum to at most 1,000, and the quota is from 1 to their sum
-use Rattle.std.specs.Prelude.{ℕ, List, [], ◌∷◌, ◌++◌, length, codes, Bool, ◌&&◌, nat_lt, nat_le}
+--   voting_rules         the rules of voting games
+use Rattle.std.specs.Prelude.{ℕ, List, [], ◌∷◌, ◌++◌, length, codes, Bool, ◌&&◌, nat_lt, nat_le, unsigned_abs}
 use Rattle.std.specs.Prelude.{sum}
 use Rattle.std.specs.List.{list_all}
 use Rattle.serde_json.specs.Data.{Data}
@@ -16,6 +17,11 @@ use Rattle.json_trees.specs.Keys.{has_only_keys}
 use Rattle.json_trees.specs.Trees.{passes, is_number, is_array_of, parts_at}
 use Rattle.document_parts.specs.Scales.{if_there}
 use Rattle.document_parts.specs.Sizes.{is_cost}
+use Rattle.kinds.specs.declared.refusal.Refusal.TheVariants.{Quota}
+use Rattle.document_parts.specs.Sizes.{is_short_list_size}
+use Rattle.document_parts.specs.Numbers.{are_costs}
+use Rattle.document_parts.specs.ScaledNumbers.{number_at, costs_at}
+use Rattle.game_text.specs.Classes.Rules.{ClassRules}
 
 abbrev pub voting_keys : List (List ℕ)
 voting_keys =
@@ -41,3 +47,20 @@ has_voting_numbers game =
 
 abbrev pub is_quota : ℕ → List ℕ → Bool
 is_quota quota weights = nat_le (sum weights) 1000 && nat_lt 0 quota && nat_le quota (sum weights)
+
+-- the weights sum to at most 1,000, and the quota is from 1 to their sum
+abbrev pub voting_rules : {D : Type 0} → (ℕ → List ℕ → D) → ClassRules D
+voting_rules describe = record {
+  is_shaped = is_voting_shaped;
+  has_players = λ game. is_short_list_size (voting_players game);
+  players = voting_players;
+  has_numbers = λ k. has_voting_numbers;
+  values = voting_values;
+  are_numbers = are_costs;
+  own_test = λ k n game. (
+    Quota,
+    is_quota (unsigned_abs (number_at 1 (codes "quota") game)) (costs_at 1 (codes "weights") game),
+  );
+  description = λ k n game.
+      describe (unsigned_abs (number_at 1 (codes "quota") game)) (costs_at 1 (codes "weights") game);
+}

@@ -1,0 +1,12 @@
+mod VetoCores
+mod FurtherClaimants
+mod ARisenClaim
+mod SmallerGroups
+mod CutClaims
+mod AGreaterWhole
+mod OrdersBegin
+mod OnlyConvexGames
+mod ConstantSumGames
+mod MatchedPairs
+mod SidesOfMarkets
+mod MarketLattices

@@ -1,0 +1,40 @@
+-- What the Talmud rule promises where somebody else claims as well, or claims more (Aumann and Maschler 1985; Thomson
+-- 2003). Each law is the contract of a function of this crate.
+--
+--   FurtherClaimantsGiveNobodyMore   of one estate nobody gets more where others claim as well
+--   ARisenClaim                      whose claim rises gets no less, and nobody else gets more
+--   AGreaterWhole                    where all together are worth more, and each other coalition what it was, nobody
+--                                    gets less (aggregate monotonicity: Megiddo 1974)
+use Rattle.std.specs.Prelude.{◌≡◌, ◌≢◌, ℕ, ◌<◌, ◌≤◌, List, length, ◌++◌, ◌*ℤ◌, ◌≤ℤ◌, slice_index}
+use Rattle.definitions.specs.Classes.{bankruptcy_worth}
+use Rattle.definitions.specs.Coalitions.{grand_coalition}
+use Rattle.definitions.specs.Games.{Allocation, share}
+use Rattle.talmud.specs.Rule.{IsTalmud}
+
+-- those who claim as well stand behind the others in the list
+abbrev pub FurtherClaimantsGiveNobodyMore : Type 0
+FurtherClaimantsGiveNobodyMore =
+    (estate : ℕ) (claims further : List ℕ) (x y : Allocation) (i : ℕ) →
+    IsTalmud estate claims x → IsTalmud estate (claims ++ further) y → i < length claims →
+    (share y i *ℤ x.den) ≤ℤ (share x i *ℤ y.den)
+
+-- player i comes to claim more, and the others claim what they claimed
+abbrev pub ARisenClaim : Type 0
+ARisenClaim =
+    (estate : ℕ) (claims risen : List ℕ) (x y : Allocation) (i : ℕ) → i < length claims →
+    length risen ≡ length claims → slice_index claims i ≤ slice_index risen i →
+    ((k : ℕ) → k < length claims → k ≢ i → slice_index risen k ≡ slice_index claims k) →
+    IsTalmud estate claims x → IsTalmud estate risen y →
+    ((share x i *ℤ y.den) ≤ℤ (share y i *ℤ x.den))
+    × ((j : ℕ) → j < length claims → j ≢ i → (share y j *ℤ x.den) ≤ℤ (share x j *ℤ y.den))
+
+-- All claimants are worth the estate together. So where it is greater, and each other coalition is worth what it was,
+-- the claims differ too
+abbrev pub AGreaterWhole : Type 0
+AGreaterWhole =
+    (estate more : ℕ) (claims others : List ℕ) (x y : Allocation) (i : ℕ) → estate ≤ more →
+    length others ≡ length claims →
+    ((s : ℕ) → s < grand_coalition (length claims) →
+    bankruptcy_worth estate claims s ≡ bankruptcy_worth more others s) →
+    IsTalmud estate claims x → IsTalmud more others y → i < length claims →
+    (share x i *ℤ y.den) ≤ℤ (share y i *ℤ x.den)

@@ -1,0 +1,5 @@
+pub mod Vetoes
+pub mod Estates
+pub mod ConvexGames
+pub mod ConstantSums
+pub mod Markets
