@@ -82,6 +82,7 @@ def rows(heading: str, names: Sequence[str], amounts: Sequence[Fraction]) -> str
 def series(shares: dict[str, Fraction], name: str, places: Any = None) -> Any:
     """A Series of fractions; or of floats, where it is asked for so many places."""
     pandas: Any = import_module("pandas")
-    exact = list(shares.values())
-    values: Sequence[Any] = exact if places is None else [float(round(share, places)) for share in exact]
+    values: list[Any] = list(shares.values())
+    if places is not None:
+        values = [float(round(share, places)) for share in values]
     return pandas.Series(values, index=list(shares), name=name, dtype=object if places is None else float)

@@ -78,7 +78,7 @@ class Answers(unittest.TestCase):
             (coop.convex(MAJORITY), "isn't convex"),
             (coop.nucleolus(coop.table([1, 1, 1])), "There is no nucleolus"),
             (coop.propose(FINE, ["1/100000", 1, "1.99999"]), "could do better"),
-            (coop.check(coop.nucleolus(THREE)), "meets all conditions"),
+            (coop.check(coop.prenucleolus(THREE)), "meets all conditions"),
         ]
         for answer, sentence in answers:
             found = self.shown(answer)
