@@ -14,12 +14,20 @@ const top = resolve(process.argv[2]);
 const load = (path) => import(pathToFileURL(join(top, "page", path)).href);
 const { Engine } = await load("engine/host.js");
 const { moduleIn } = await load("engine/inside.js");
+const { parseJson } = await load("src/exact/json.js");
 const { checkAnew } = await load("src/check/check-anew.js");
 const { slipsOf } = await load("src/tell/slips.js");
 const { lookAtLine } = await load("src/work/lines.js");
 const page = fs.readFileSync(join(top, "page", "coop.html"), "latin1");
 const engine = new Engine(new WebAssembly.Module(moduleIn(page)));
 const strict = new TextDecoder("utf-8", { fatal: true, ignoreBOM: true });
+
+/** What the page's work asks the program, which stands in the page alone. */
+function ask(word, document) {
+  const { status, line } = engine.run([word], new TextEncoder().encode(document));
+  const tree = status > 3 ? {} : parseJson(new TextDecoder().decode(line));
+  return { status, tree, refusal: status > 1 ? { sentence: `refused, ${status}`, place: "" } : undefined };
+}
 
 function tried(call) {
   try {
@@ -49,8 +57,8 @@ function answer({ command, bytes, agreed }) {
   if (text === null) return found;
   if (agreed === undefined) {
     found.slips = tried(() => ({ count: slipsOf(text, command).length }));
-    found.look = tried(() => (lookAtLine({ line: text, agreed: "" }), {}));
-  } else found.same = tried(() => ({ isYes: lookAtLine({ line: text, agreed }).same?.isYes ?? null }));
+    found.look = tried(() => (lookAtLine({ line: text, agreed: "" }, ask), {}));
+  } else found.same = tried(() => ({ isYes: lookAtLine({ line: text, agreed }, ask).same?.isYes ?? null }));
   return found;
 }
 
