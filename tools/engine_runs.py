@@ -15,6 +15,7 @@ import tempfile
 import time
 from collections.abc import Callable, Iterator
 from concurrent.futures import ProcessPoolExecutor
+from importlib import import_module
 from typing import Any
 
 TOP = os.path.realpath(os.path.join(os.path.dirname(os.path.abspath(__file__)), ".."))
@@ -54,22 +55,21 @@ def here() -> None:
 def pool() -> None:
     """By a process pool, which is broken with its process."""
     with ProcessPoolExecutor(2, multiprocessing.get_context("spawn")) as executor:
-        rows(executor, lambda: os.kill(next(iter(executor._processes)), signal.SIGKILL))  # type: ignore[attr-defined]
+        rows(executor, lambda: os.kill(next(iter(executor._processes)), signal.SIGKILL))
 
 
 def dask() -> None:
     """By a local cluster of dask, whose nanny begins a killed worker again."""
-    from distributed import Client, LocalCluster
-
-    with LocalCluster(n_workers=2, threads_per_worker=1, dashboard_address=None) as cluster, Client(cluster) as client:
+    distributed: Any = import_module("distributed")
+    cluster = distributed.LocalCluster(n_workers=2, threads_per_worker=1, dashboard_address=None)
+    with cluster, distributed.Client(cluster) as client:
         numbers = list(client.run(os.getpid).values())
         rows(client.get_executor(pure=False), lambda: os.kill(numbers[0], signal.SIGKILL))
 
 
 def dask_by_tcp() -> None:
     """By two workers of dask that were begun by hand; one is killed, and nobody begins it again."""
-    from distributed import Client
-
+    distributed: Any = import_module("distributed")
     module = [sys.executable, "-m", "distributed.cli.dask_scheduler", "--host", "127.0.0.1", "--port", "0"]
     file = os.path.join(tempfile.gettempdir(), f"coop-scheduler-{os.getpid()}.json")
     begun = [subprocess.Popen([*module, "--no-dashboard", "--scheduler-file", file], stderr=subprocess.DEVNULL)]
@@ -78,7 +78,7 @@ def dask_by_tcp() -> None:
         while not os.path.exists(file):
             time.sleep(0.2)
         begun += [subprocess.Popen([*words, "--scheduler-file", file], stderr=subprocess.DEVNULL) for _ in range(2)]
-        with Client(scheduler_file=file) as client:
+        with distributed.Client(scheduler_file=file) as client:
             client.wait_for_workers(2)
             rows(client.get_executor(pure=False), begun[1].kill)
     finally:

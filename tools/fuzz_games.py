@@ -9,8 +9,8 @@ from typing import Any, Union
 CLASSES = ["table", "cost-table", "airport", "bankruptcy", "tree", "assignment", "voting"]
 NAMES = [
     "ann", "bob", "cem", "dan", "ü", "ёж", "e\u0301", "é", "1", "2", "", "x" * 64, "x" * 65, "ü" * 32, "ü" * 33,
-    "a\nb", "\u202eabc", "\u200b", "A", "a", "__proto__", "constructor", "toString", "\U0001f600", "\x00", "\ufeff", "-0", '"',
-    "\\",
+    "a\nb", "\u202eabc", "\u200b", "A", "a", "__proto__", "constructor", "toString", "\U0001f600", "\x00", "\ufeff",
+    "-0", '"', "\\",
 ]
 
 Tree = dict[str, Any]

@@ -33,7 +33,8 @@ class Node:
         self.process.stdin.flush()
         line = self.process.stdout.readline()
         if not line:
-            raise SystemExit(f"{os.path.basename(sys.argv[0])}: the process of Node ended at {command} of {data[:300]!r}")
+            tool = os.path.basename(sys.argv[0])
+            raise SystemExit(f"{tool}: the process of Node ended at {command} of {data[:300]!r}")
         found: dict[str, Any] = json.loads(line)
         return found
 
