@@ -13,10 +13,11 @@ import { existsSync, readFileSync, writeFileSync } from "node:fs";
 import { dirname, join, resolve } from "node:path";
 import { fileURLToPath } from "node:url";
 import { packed, packedIn, unpacked } from "./engine/inside.js";
+import { squeeze } from "./squeeze.mjs";
 
 const TOP = dirname(fileURLToPath(import.meta.url));
 const SRC = join(TOP, "src");
-const MOST = 1_200_000; // bytes of the page
+const MOST = 800_000; // bytes of the page
 
 /** What stands in the place of "/* NAME *\/" in a module, as the text of a string or as code. */
 function placesOf(own) {
@@ -62,21 +63,9 @@ function nameOf(path) {
   return names.get(path);
 }
 
-/** Code without what is for the readers of its sources alone: comments in lines of their own, indentation, and empty
- * lines. Where a template runs over lines, blanks may be text: these lines stay as they are. */
-function bare(code) {
-  const lines = code.replace(/^ *\/\*\*[\s\S]*?\*\/\n/gm, "").replace(/^ *\/\/.*\n/gm, "").split("\n");
-  let isOpen = false; // whether a template runs over the end of the line before
-  return lines.flatMap((line) => {
-    const isText = isOpen, bared = isText ? line : line.trimStart();
-    if (line.split("`").length % 2 === 0) isOpen = !isOpen;
-    return isText || bared ? [bared] : [];
-  }).join("\n");
-}
-
 function moduleOf(path, places, importing) {
   const exported = [];
-  let code = bare(readFileSync(path, "utf8"));
+  let code = readFileSync(path, "utf8");
   code = code.replace(/^import \{([^}]*)\} from "([^"]+)";$/gm, (_, names, from) => {
     return `const {${names.replace(/ as /g, ": ")}} = ${importing(resolve(dirname(path), from))};`;
   });
@@ -85,7 +74,7 @@ function moduleOf(path, places, importing) {
     return `${what} ${name}`;
   });
   if (/^(import|export)\b/m.test(code)) throw new Error(`${path} has an import or an export of another form`);
-  code = code.replace(/\/\* ([A-Z]+) \*\//g, (whole, name) => places[name]?.() ?? whole);
+  code = squeeze(code).replace(/\/\* ([A-Z]+) \*\//g, (whole, name) => places[name]?.() ?? whole);
   return `const ${nameOf(path)} = (() => {\n${code}\nreturn { ${exported.join(", ")} };\n})();`;
 }
 
@@ -99,10 +88,16 @@ function pageOf(own, commit) {
   const scripts = scriptsOf(placesOf(own)), text = (name) => readFileSync(join(SRC, name), "utf8");
   const styles = ["palette.css", "style.css", "answer.css", "picture.css", "narrow.css", "print.css"];
   return text("page.html")
+    .replace("VERSION", version())
     .replaceAll("COMMIT", commit)
     .replaceAll("DIGEST", createHash("sha256").update(unpacked(own)).digest("hex"))
     .replace("/* STYLE */", () => styles.map(text).join("\n"))
     .replace(/\/\* (SHARED|WORKER|PAGE) \*\//g, (_, name) => `"use strict";\n${scripts[name]}`);
+}
+
+/** The version of the project. */
+function version() {
+  return /^VERSION = "(.+)"$/m.exec(readFileSync(join(TOP, "../python/coop/version.py"), "utf8"))[1];
 }
 
 /** The commit that a page names already. */

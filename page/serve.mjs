@@ -15,9 +15,9 @@
 // line says why. The first answer comes before any request, has the status 0 and no line, and says that the module is
 // there.
 //
-// The process ends with 0 if the input ends between two requests, 2 if the options are none of the above, 5 if the input
-// ends within a request, has one that is too long, or can't be read, 6 if an answer can't be written, and 70 if a file
-// of the page is missing or the module can't be compiled. SIGINT doesn't end it, unless --lines is there.
+// The process ends with 0 if the input ends between two requests, 2 if the options are none of the above, 5 if the
+// input ends within a request, has one that is too long, or can't be read, 6 if an answer can't be written, and 70 if a
+// file of the page is missing or the module can't be compiled. SIGINT doesn't end it, unless --lines is there.
 const MOST_WORDS = 64 * 1024;
 const CHUNK = 64 * 1024;
 const HEAD = 8; // bytes of the two numbers
@@ -96,7 +96,9 @@ function requestOf(input, { MOST, READ_FAULT, PortFault }) {
   const head = input.take(HEAD);
   if (head === null && input.left === 0) return null;
   const [words, document] = head ? [head.readUInt32LE(0), head.readUInt32LE(4)] : [0, 0];
-  if (words > MOST_WORDS || document > MOST) throw new PortFault(READ_FAULT, `a request of ${words} and ${document} bytes`);
+  if (words > MOST_WORDS || document > MOST) {
+    throw new PortFault(READ_FAULT, `a request of ${words} and ${document} bytes`);
+  }
   const all = head && input.take(words + document);
   if (!all) throw new PortFault(READ_FAULT, "the input ends within a request");
   const typed = all.subarray(0, words).toString("utf8");

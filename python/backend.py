@@ -21,7 +21,9 @@ FIRST_DAY = (1980, 1, 1, 0, 0, 0)  # the same bytes at each build
 
 
 DATA = {
-    "page": ("coop.html", "coop.mjs", "serve.mjs", "package.json", "engine/host.js", "engine/inside.js", "engine/ports.js"),
+    "page": (
+        "coop.html", "coop.mjs", "serve.mjs", "package.json", "engine/host.js", "engine/inside.js", "engine/ports.js",
+    ),
     "scripts": ("check-anew",),
 }
 """What a package has beside its modules, by the folders of the repository."""

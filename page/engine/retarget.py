@@ -22,7 +22,7 @@ EXPORT = "coop_run"
 LAYOUT = "e-m:e-p:64:64-p10:8:8-p20:8:8-i64:64-i128:128-n32:64-S128-ni:1:10:20"
 TRIPLE = "wasm64-unknown-unknown"
 CPU = "lime1"
-# Bytes; `docs/page.md` has what was measured.
+# Bytes; `docs/architecture.md` has what was measured.
 STACK = 1048576
 HEAP = ("rattle_alloc", "rattle_realloc", "rattle_dealloc")
 # LLVM makes these anew for any target.

@@ -164,10 +164,10 @@ export const assumed = [
   ["a list that is refused stays where it is, with its line", "costs", async (page, expect) => {
     await useList(page, "Sales;8\nOps;7\nSales+Opps;9");
     await told(page, MESSAGE, /^Line 3: There is no line for “Opps” alone\. Nothing was taken\.$/);
-    expect("open", await page.run("document.querySelector('details.inline').open"), true);
+    expect("open", await page.run("document.querySelector('.more-tools details').open"), true);
     await page.fill("details.inline textarea", "group;cost\nSales;8\nOps;7\n\nOps;9");
     await page.click("Use this list");
-    await told(page, MESSAGE, /^Line 5: Ops stands twice/);
+    await told(page, MESSAGE, /^Line 5: Ops occurs twice/);
     expect("the answer stays", await page.text(".lead"), /together 12.00/);
     const isBeside = await page.run(`document.querySelector("${MESSAGE}").getBoundingClientRect().bottom
       <= document.querySelector(".groups").getBoundingClientRect().top`);
@@ -175,7 +175,7 @@ export const assumed = [
     await page.fill("details.inline textarea", "Sales;8\nOps;7\nSales+Ops;9");
     await page.click("Use this list");
     await told(page, MESSAGE, /^Read: 2 players/);
-    expect("closed", await page.run("document.querySelector('details.inline').open"), false);
+    expect("closed", await page.run("document.querySelector('.more-tools details').open"), false);
   }],
 
   ["who bears a saving, who leaves, and why one pays more", "costs", async (page, expect) => {

@@ -109,7 +109,10 @@ class Page {
       width: wide, height: high, deviceScaleFactor: isPhone ? 2 : 1, mobile: isPhone,
     });
     await this.send("Emulation.setEmulatedMedia", {
-      media: print ? "print" : "", features: [{ name: "prefers-color-scheme", value: dark ? "dark" : "light" }],
+      media: print ? "print" : "", features: [
+        { name: "prefers-color-scheme", value: dark ? "dark" : "light" },
+        { name: "hover", value: isPhone ? "none" : "hover" },
+      ],
     });
   }
 
@@ -162,6 +165,14 @@ class Page {
       const found = all.find((one) => one.textContent.includes(${JSON.stringify(text)}) && one.offsetParent !== null);
       if (!found) throw new Error("no button " + ${JSON.stringify(text)});
       found.click();
+    })()`);
+  }
+
+  /** Chooses a value of a list. */
+  choose(cell, value) {
+    return this.run(`(() => {
+      const choice = document.querySelector('[data-cell="${cell}"]');
+      choice.value = ${JSON.stringify(value)}; choice.dispatchEvent(new Event("change", { bubbles: true }));
     })()`);
   }
 

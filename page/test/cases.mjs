@@ -75,7 +75,7 @@ export const casesTyped = [
     }
     expect("rounded", lines.some(([, , text]) => text === "3.34"), true);
     const first = /What each airline pays for all its rows is rounded first, and then the rows, so that they add/;
-    expect("and told", await page.text("#answer .moved"), first);
+    expect("and told", await page.run("document.querySelector('#why .moved').textContent"), first);
   }],
 
   ["64 landings, and more", "runway", async (page, expect) => {
@@ -146,8 +146,8 @@ export const tables = [
   }],
 
   ["who has a stronger hold, and who joins late", "gains", async (page, expect) => {
-    const holds = /stronger hold on another\?\s+No\s+Yes, for example pianist on singer, by 2.50/;
-    expect("holds", await page.text(".shares tfoot"), holds);
+    const holds = /stronger hold on another\?\s+–?\s*Nucleolus: No\s+–?\s*Shapley shares: Yes, for example pianist on /;
+    expect("holds", await page.text(".holds"), holds);
     expect("convex", await page.text("#why"), /The more have joined, the more \(no less\) each adds/);
     await page.type("numbers.7", "100");
     await settle(page);
@@ -156,7 +156,7 @@ export const tables = [
   }],
 
   ["per head", "gains", async (page, expect) => {
-    await page.click("per head");
+    await page.choose("measure", "per-head");
     await settle(page);
     expect("told", await page.text("#why"), /counted per member/);
     expect("document", await page.run("document.querySelector('.made pre').textContent"), /"excess":"per-head"/);
@@ -168,7 +168,7 @@ export const tables = [
       "numbers.7": "2",
     });
     await settle(page);
-    const notice = /there is no nucleolus[\s\S]*some group does better by itself/;
+    const notice = /there is no nucleolus[\s\S]*some group could do better by itself/;
     expect("notice", await page.text("#answer .notice"), notice);
     expect("column", await page.text(".shares thead"), /Prenucleolus/);
   }],
@@ -223,7 +223,8 @@ export const tables = [
 
   ["a vector of another program, in both orders", "gains", async (page, expect) => {
     for (const [order, wanted] of [["size", /4.50, .*4.50 .*3.00/], ["mask", /2.00, .*2.00 .*8.00/]]) {
-      if (!(await page.run("document.querySelector('details.inline').open"))) await page.click("Paste a whole list");
+      const isOpen = await page.run("document.querySelector('.more-tools details').open");
+      if (!isOpen) await page.click("Paste a whole list");
       await page.fill("details.inline textarea", "0\n0\n0\n6\n2\n2\n12");
       await page.run(`document.querySelector("details.inline select").value = "${order}"`);
       await page.click("Use this list");
@@ -252,7 +253,7 @@ export const otherCases = [
     await page.click("Fill in the cheapest ways");
     await page.until(READY);
     expect("ways", await page.text(".lead"), /pays 0.00, .*pays 5.50 .*pays 6.50/);
-    expect("what was filled", await page.text(".no-link"), /Place 2 – Place 3 7/);
+    expect("what was filled", await page.run("document.querySelector('.named').textContent"), /Place 2 – Place 3 7/);
     await typeAll(page, { "links.0-2": "", "links.0-3": "", "links.2-3": "", without: "20" });
     await page.click("Fill it in");
     await settle(page);

@@ -30,8 +30,9 @@ const PER_HEAD = '{"answer":"nucleolus","certificate":{"levels":[{"bounds":[],"c
 
 async function perHead(page, expect) {
   const text = await give(page, PER_HEAD);
-  expect("the headline", text, /The shares are the nucleolus per head of the game in the line. See that/);
-  expect("what the line says", text, /of an estate of 200.00 the nucleolus per head of 3 players/);
+  expect("the headline", text,
+    /The shares are the nucleolus per head of the game in the line, an estate of 200.00. See that/);
+  expect("what the line says", text, /the nucleolus per head of an estate of 200.00, for 3 players/);
   expect("claims beside", text, /Who gets\s+Claim\s+By the line\s+A\s+100.00\s+33.34/);
   expect("rounding", text, /Rounded so that they add up/);
   await page.click("What a yes means");
@@ -80,7 +81,7 @@ async function unread(page, expect, line, agreed) {
   await page.until("document.querySelectorAll('#verify .word.good').length === 3");
   expect("mended", await page.text("#verify .lead"), /Yes: these shares are the nucleolus of the agreed game/);
   const twice = await give(page, line.replace('"costs"', '"costs":[1,1,1],"costs"'), agreed);
-  expect("a key twice", twice, /^Don’t take this line: a key stands twice in it/);
+  expect("a key twice", twice, /^Don’t take this line: a key occurs twice in it/);
 }
 
 async function bare(page, expect, line, agreed) {
@@ -106,7 +107,7 @@ async function openedLine(page, expect, line) {
   await page.fill("#document textarea", line.replace('"3/2","7/2"', '"2","3"'));
   await page.until(READY);
   const notes = await page.text("#case-body");
-  expect("told", notes, /the line’s own shares are right is said at the end/);
+  expect("told", notes, /“Check an answer” says whether the line’s own shares are right/);
   expect("other shares", notes, /by the nucleolus medium pays 2. The page finds other shares/);
   await page.until("document.querySelectorAll('#verify .word.bad').length === 2");
   expect("checked", await page.text("#verify .lead"), /No: this line doesn’t show/);
@@ -132,7 +133,7 @@ async function sumOfOthers(page, expect) {
   await page.click("No, it counts");
   await settle(page);
   const told = await page.text("#case .faults");
-  expect("told", told, /Name 4 is “Summe”. Is it the sum[\s\S]*“Summe”, claims just what all above it claim together/);
+  expect("told", told, /Name 4 is “Summe”. Is it the sum[\s\S]*“Summe”, claims exactly what all rows above it/);
 }
 
 async function allOnPaper(page, expect) {
@@ -147,7 +148,7 @@ async function allOnPaper(page, expect) {
   await page.run("document.body.dataset.print = 'all'; dispatchEvent(new Event('beforeprint'))");
   await page.look({ wide: 800, print: true });
   expect("the amounts", await shown(page, ".found table"), true);
-  expect("its field", await shown(page, ".paper-part"), false);
+  expect("its field", await shown(page, "#paper"), false);
   expect("heading and unit", await page.text("#paper-head"), /In re Adler – .*\n+All amounts are in EUR/);
 }
 
@@ -216,7 +217,7 @@ async function leaving(page, expect) {
   await page.until("document.querySelector('.found table')");
   const found = await page.text(".found");
   expect("a percentage", found, /together\s+12.00\s+18.00\s+\+6.00/);
-  expect("who would leave", found, /Can a group do better by itself\?\s+No\s+Yes: /);
+  expect("who would leave", found, /Could a group do better by itself\?\s+No\s+Yes: /);
 }
 
 export function checks(top) {

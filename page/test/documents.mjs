@@ -24,8 +24,8 @@ const REFUSED = [
   ["4 a worth too few", game('"class":"table","players":2,"worths":[1,2]'), /have 3 groups, and worths has 2 items/],
   ["5 a decimal", game('"class":"airport","costs":[2,4.5,6]'), /4.5 is no whole number[\s\S]*game.costs, item 2/],
   ["5 not lowest", game('"version":2,"class":"airport","costs":["6/4"]'), /isn’t in lowest terms; write "3\/2"/],
-  ["6 names alike", game('"class":"airport","costs":[2,4],"names":["a","a"]'), /“a” stands twice[\s\S]*item 2/],
-  ["7 a group twice", game('"class":"table","players":2,"sparse":[[[1],1],[[1],2]]'), /stands at item 1 already/],
+  ["6 names alike", game('"class":"airport","costs":[2,4],"names":["a","a"]'), /“a” occurs twice[\s\S]*item 2/],
+  ["7 a group twice", game('"class":"table","players":2,"sparse":[[[1],1],[[1],2]]'), /is at item 1 already/],
   ["8 the estate", game('"class":"bankruptcy","claims":[1,1],"estate":3'), /claims add to less[\s\S]*game.estate/],
   ["9 a direction", game('"class":"tree","matrix":[[0,5,8],[5,0,3],[9,3,0]]'), /both directions[\s\S]*row 3, item 1/],
   ["11 too fine", airport('"answer":"nucleolus"', tooFine), /denominator of all shares[\s\S]*shares, item 2/],
@@ -151,7 +151,7 @@ async function lawyer(page, expect, line, agreed) {
   await put(page, 1, agreed.replace('"costs"', '"costs":[1],"costs"'));
   await page.until("document.querySelector('#verify .answers .notice')");
   await put(page, 0, line);
-  expect("a key twice", await said(page), /In the agreed file a key stands twice: costs/);
+  expect("a key twice", await said(page), /In the agreed file a key occurs twice: costs/);
 }
 
 async function tooLong(page, expect) {

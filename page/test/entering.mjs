@@ -8,7 +8,7 @@ const MESSAGE = "#case .note[role=status]";
 const message = (page) => page.text(MESSAGE);
 
 async function useList(page, text, order = "size") {
-  if (!(await page.run("document.querySelector('details.inline').open"))) await page.click("Paste a whole list");
+  if (!(await page.run("document.querySelector('.more-tools details').open"))) await page.click("Paste a whole list");
   await page.fill("details.inline textarea", text);
   await page.run(`document.querySelector("details.inline select").value = "${order}"`);
   await page.click("Use this list");
@@ -29,16 +29,16 @@ const marks = [
     await useList(page, "0.1754\n3.922\n1.5\n26.4614\n12.125\n8\n40");
     await settle(page);
     expect("read", await made(page), /"1961\/500"[\s\S]*"97\/8"|3\.922/);
-    const read = /^“3.922” is read as 3.9220, with decimals: “0.1754” shows that the point stands in front of decimals/;
+    const read = /^“3.922” is read as 3.9220, with decimals: “0.1754” shows that the point comes before decimals/;
     expect("and said", await notes(page), read);
     await useList(page, "3.922\n1.234\n5\n6\n7\n8\n40.000");
     await settle(page);
     expect("told", await notes(page), /“3.922” is read as 3.9220, with decimals[\s\S]*So are the 3 numbers/);
     const before = await made(page);
-    await page.click("Let the comma do so");
+    await page.click("No, the comma");
     await settle(page);
     expect("by the other", await notes(page), /“3.922” is read as the whole number 3922/);
-    await page.click("Let the point do so");
+    await page.click("No, the point");
     await settle(page);
     expect("and back", await made(page), before);
   }],
@@ -90,8 +90,8 @@ marks.push(["numbers beside a file are read by its own mark", "estate", async (p
   await told(page, ".lead", /together 300\u202f000\.00/);
   await settle(page);
   await workOut(page, "120.000 240.000");
-  await told(page, ".found", /“120.000” is read as 120: the point stands in front of decimals/);
-  await page.click("Let the comma do so");
+  await told(page, ".found", /“120.000” is read as 120: the point comes before decimals/);
+  await page.click("No, the comma");
   await told(page, ".found thead", /120\u202f000\.00\s+240\u202f000\.00/);
   await openText(page, `{"coop-page":1,"document":${estateOf(280000)},"entry":".","mark":","}`);
   await told(page, ".lead", /together 280\u202f000,00/);

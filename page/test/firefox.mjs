@@ -101,7 +101,7 @@ async function faultOf(firefox, url, id, folder) {
   await firefox.send("WebDriver:Navigate", { url: "about:blank" });
   await firefox.send("WebDriver:Navigate", { url: `${url}#${id}` });
   for (let k = 0; k < 400 && !(await firefox.run(READY)); k++) await pause(100);
-  const words = await firefox.run("document.querySelector('#evidence .words')?.innerText ?? ''");
+  const words = await firefox.run("document.querySelector('#evidence .words')?.textContent ?? ''");
   const over = await firefox.run("document.documentElement.scrollWidth - document.documentElement.clientWidth");
   if (folder) {
     const { value } = await firefox.send("WebDriver:TakeScreenshot", { full: true });
@@ -117,7 +117,7 @@ async function faultOfWays(firefox, url) {
   await firefox.send("WebDriver:Navigate", { url });
   await firefox.run("document.querySelectorAll('.card')[1].click()");
   const there = await firefox.run("location.hash");
-  await firefox.run("document.querySelector('#case [data-home]').click()");
+  await firefox.run("document.querySelector('nav [data-home]').click()");
   const [hash, view] = await firefox.run("[location.hash, document.body.dataset.view]");
   return there === "#estate" && !hash && view === "start" ? "" : `ways: ${there}, ${hash}, ${view}`;
 }

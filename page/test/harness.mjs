@@ -10,6 +10,8 @@ export const READY = "!document.getElementById('answer').hidden"
   + " && !document.querySelector('#evidence:not([hidden]) .word.busy')"
   + " && !document.querySelector('#busy button')";
 
+const UNFOLD = "for (const part of document.querySelectorAll('.part')) part.open = true";
+
 export class Harness {
   /** On a busy machine all may take longer by `slack`. */
   constructor(url, only = "", slack = 1) {
@@ -38,6 +40,7 @@ export class Harness {
     const page = await this.opened(this.url + (id ? `#${id}` : ""), look, name);
     if (!page) return;
     try {
+      await page.run(UNFOLD); // what is folded has no text for those who look
       if (id && !["document", "verify"].includes(id)) await page.until(READY);
       await play(page, this.expect(name));
     } catch (fault) {

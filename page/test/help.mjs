@@ -11,6 +11,7 @@ import { missingText } from "../src/page/questions.js";
 import { compare } from "../src/work/compare.js";
 import { costsOfNetwork, fillLinks } from "../src/work/networks.js";
 import { fillSplits } from "../src/work/splits.js";
+import { tryPowers } from "./powers.mjs";
 import { tryRunways } from "./runways.mjs";
 
 let state = 5, tried = 0, faults = 0;
@@ -181,6 +182,7 @@ for (const [n, wanted] of MISSING) {
 expect("nothing of an estate", missingText({ kind: "bankruptcy", n: 40 }), false);
 
 tryRunways(expect, draw);
+tryPowers(expect, draw);
 for (let k = 0; k < 40; k++) {
   tryRunway();
   tryNetwork(1 + (k % 4));

@@ -46,9 +46,9 @@ const numbers = [
     expect("no answer before", await isHidden(page), true);
     await page.click("5000 landings");
     await told(page, "#answer-body", /These are 5,000 landings/);
-    expect("and told", await noted(page, /“5.000” is read as the whole number 5000/), /the comma stands in front/);
+    expect("and told", await noted(page, /“5.000” is read as the whole number 5000/), /the comma comes before/);
     await page.type("rows.0.count", "1.234");
-    await page.click("Let the point do so");
+    await page.click("No, the point");
     await told(page, "#answer-body", /These are 1,234 landings/);
   }],
 
@@ -94,7 +94,7 @@ const numbers = [
     await settle(page);
     const text = await made(page);
     await page.click("All cases");
-    await page.click("Open or paste a document");
+    await page.click("Open a saved case");
     await page.fill("#document textarea", text);
     await page.until("location.hash === '#runway' && document.querySelector('.made pre')");
     await settle(page);
@@ -210,7 +210,7 @@ const beyond = [
     expect("on paper", await sheetOf(page), /Pays today.*Albatros, DH830020.5020.0020.36\+0.36 \(\+1.8\s%\)/);
     await page.run("dispatchEvent(new Event('afterprint'))");
     expect("why no case", await page.text(".made"), /This case can’t be saved: .* which takes 64 landings/);
-    const list = await saved(page, "Save the list (CSV)", "case");
+    const list = await saved(page, "Save the list (CSV)", "files");
     expect("a list", list, /^Airline;Type;Landings;A landing needs alone\r\nAlbatros;DH8;300;20,5\r\n/);
     const calculated = await page.text(".beyond .lines");
     await pasted(page, list);
@@ -239,9 +239,10 @@ const beyond = [
       await settle(page);
     };
     await showBy(".");
-    expect("commas", await saved(page, "Save the table (CSV)"), /^,Nucleolus[^]*\r\n"Albatros, DH8",\d+\.\d\d,/);
+    const byPoint = await saved(page, "Save the table (CSV)", "files");
+    expect("commas", byPoint, /^,Nucleolus[^]*\r\n"Albatros, DH8",\d+\.\d\d,/);
     await showBy(",");
-    const file = await saved(page, "Save the table (CSV)");
+    const file = await saved(page, "Save the table (CSV)", "files");
     expect("semicolons", file, /^;Nucleolus[^]*\r\nAlbatros, DH8;\d+,\d\d;/);
     expect("airlines", file, /\r\n\r\nAirline;Landings;Nucleolus;Shapley shares\r\nAlbatros;5;28,03;22,56\r\n/);
   }],

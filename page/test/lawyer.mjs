@@ -25,7 +25,7 @@ async function propose(page) {
 async function cents(page, expect) {
   await sixClaims(page);
   const rule = /all are rounded down, and each unit of the last place[^.]*lost most by that, among equals to the upper/;
-  expect("the rule", await page.text("#answer .moved"), rule);
+  expect("the rule", await page.run("document.querySelector('#why .moved').textContent"), rule);
   expect("as the cents went", await page.text(".lead"), /Adler Bau gets 80.074.88, .* Dupont gets 15.575.62/);
   expect("the claims together", await page.text(".shares .sum .context"), /^259.501.00$/);
   const hint = await page.run("document.querySelector('.other .hint').textContent");
@@ -37,7 +37,8 @@ async function cents(page, expect) {
   const where = /project’s repository, at the commit named below[^.]*give you its address/;
   expect("where the page is", sheet, where);
   expect("by typing", sheet, /simply type the numbers into that page: the answer has to be the same/);
-  expect("handing on", await page.text("#evidence .steps"), /the project’s repository, at the commit named at the end/);
+  const steps = await page.text("#evidence .steps");
+  expect("handing on", steps, /the project’s repository, at the commit under “About this page”/);
 }
 
 async function besideNucleolus(page, expect) {
@@ -49,7 +50,7 @@ async function besideNucleolus(page, expect) {
   const column = await page.run(`${cells}.map((td) => td.textContent).join()`);
   const wanted = "−12\u202f599.88,+2925.37,−1074.87,+6249.38,+1000.00,+3500.00,0.00";
   expect("more and less", column, wanted);
-  expect("the first pair alone", await page.text(".shares .verdict:last-child"), /Yes, for example \S+/);
+  expect("the first pair alone", await page.text(".holds"), /Yes, for example \S+/);
 }
 
 /** Tab leads from a claim to the button that removes its row; what it removes can be had back. */

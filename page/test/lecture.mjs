@@ -28,9 +28,10 @@ export const lecture = [
     await type(page, { "numbers.5": "1", "numbers.6": "1", "numbers.7": "1" });
     await page.until("/one point in grey/.test(document.querySelector('.triangle')?.innerText)");
     await settle(page);
-    expect("no other is promised", await page.text(".shares thead"), /A core point\s+one, often of many; no proposal/);
+    expect("no other is promised", await page.run("document.querySelector('.shares thead').textContent"),
+      /A core pointone of many; proposes nothing/);
     const why = await page.text("#why");
-    expect("some of the groups", why, /Among those with just that:/);
+    expect("some of the groups", why, /Among those with exactly that:/);
     expect("the same number", why, /That is the number of the level before: a level names groups enough/);
     expect("apart", await page.run(OVERLAPS), "");
   }],
@@ -38,7 +39,7 @@ export const lecture = [
   ["the answer is hidden from the class, and from paper", "costs", async (page, expect) => {
     await page.type("proposal.0", "4");
     await page.click("Hide the answer");
-    expect("told", await page.text("#answer"), /The answer is hidden: the case alone is shown, and printed/);
+    expect("told", await page.text("#answer"), /The answer is hidden: only the case is shown and printed/);
     const parts = "['answer', 'why-body', 'evidence-body', 'said'].map((id) => document.getElementById(id))";
     expect("nowhere", /3.88|Nucleolus/.test(await page.run(`${parts}.map((one) => one.textContent).join()`)), false);
     expect("nor the reasons", await page.run("document.getElementById('why').hidden"), true);
@@ -91,6 +92,6 @@ export const lecture = [
   }],
 
   ["what a group may build by itself", "network", async (page, expect) => {
-    expect("told", await page.text("#case-body"), /A group by itself may use the links between its own places/);
+    expect("told", await page.text("#case-body"), /A group by itself uses only links between its own places/);
   }],
 ];

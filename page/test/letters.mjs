@@ -79,17 +79,17 @@ async function agreedFileOnPaper(page, expect, line, agreed) {
   await page.click("Open the agreed game, with the reasons");
   await page.until("document.querySelector('[data-cell=\"rows.2.cost\"]')?.value === '6'");
   await page.until(READY);
-  const named = new RegExp(`agreed.json: its SHA-256 is ${digest}`);
+  const named = new RegExp(`agreed.json\\. Its SHA-256 is ${digest}`);
   expect("the agreed file", await page.run(PAPER), named);
-  const ofFile = /That is of the file, and not of the box below, in which the same numbers stand as this page/;
+  const ofFile = /That is the SHA-256 of the file\. The box below has the same numbers as this page writes them/;
   expect("of what the sum is", await page.run(PAPER), ofFile);
   expect("and on the screen", await page.text("#evidence .steps"), new RegExp(`agreed.json[^.]*SHA-256 ${digest}`));
   await page.run("dispatchEvent(new Event('afterprint'))");
   await page.type("rows.2.cost", "7");
   await settle(page);
-  const own = /a file of its own, runway-game.json: its SHA-256 is [0-9a-f]{64}\. Numbers were changed since agreed/;
+  const own = /file that this page writes, runway-game.json\. Its SHA-256 is [0-9a-f]{64}\. Numbers were changed since/;
   await page.until(`${own}.test(${PAPER})`);
-  const ofText = /That is of the file: of the text in the box below, with an end of line behind it/;
+  const ofText = /That is the SHA-256 of the text in the box below, with a line end after it/;
   expect("of its own file", await page.run(PAPER), ofText);
   const [shownSum, box] = await page.run("['digest', 'document'].map((part) => "
     + "document.querySelector('#sheet .' + part).textContent)");
@@ -109,7 +109,11 @@ async function marksThatContradict(page, expect) {
     await page.click("Clear all");
     await page.paste('[data-cell="rows.0.name"]', claims);
     await page.type("estate", estate);
-    const note = await noted(page, new RegExp(`“${estate}”`));
+    const asked = await noted(page, new RegExp(`“${estate}” would be ${short}, with decimals\\. Or are these whole`));
+    expect("it is asked, and why", asked, /^“62.000.25” shows which mark comes before decimals/);
+    await page.until("document.getElementById('answer').hidden");
+    await page.click("with decimals");
+    const note = await noted(page, new RegExp(`“${estate}” is read`));
     expect("which was read", note, new RegExp(`“${estate}” is read as ${short}, with decimals`));
     expect("and which otherwise", note, /“95.000” \(and 3 like it\) is read as the whole number 95000/);
     expect("why", note, new RegExp(proof));

@@ -8,8 +8,9 @@ import { ruleFile, ruleName } from "../src/tell/rule-names.js";
 import { ruleOf } from "../src/tell/rules.js";
 import { Namer } from "../src/tell/words.js";
 import { Rational } from "../src/exact/rational.js";
-import { lookAtLine } from "../src/work/lines.js";
+import { isOfGame, lookAtLine } from "../src/work/lines.js";
 import { amountsIn } from "../src/work/others.js";
+import { ask } from "./program.mjs";
 
 let tried = 0, faults = 0;
 
@@ -26,16 +27,18 @@ const names = '"names":["Adler","Brandt","Chopra"]';
 const estate = (rest) => `{"game":{"class":"bankruptcy",${rest}}}`;
 const agreed = estate(`"estate":200,"claims":[100,200,300],${names}`);
 
+const REFUSED = /^Nobody can say: the program refuses the agreed file\. /;
+
 /** The line, the agreed file, whether it is the same, and the sentence with the places. */
 const SAME = [
   ["entry for entry", agreed, agreed, true, /entry for entry/],
   ["spaces", agreed.replaceAll(",", ", "), agreed, true, /entry for entry/],
   ["version 2", agreed.replace('"class"', '"version":2,"class"'), agreed, true, /written differently \(version\)/],
   ["the measure", agreed.replace('"class"', '"excess":"plain","class"'), agreed, true, /differently \(excess\)/],
-  ["decimals", agreed, agreed.replace("200,", "200.00,"), true, /written differently/],
-  ["an exponent", agreed, agreed.replace(":200", ":2e2"), true, /written differently/],
-  ["numbers in quotes", agreed, agreed.replace("[100", '["100"'), true, /written differently/],
-  ["a half", agreed.replace("[100", '["201/2"'), agreed.replace("[100", "[100.5"), true, /written differently/],
+  ["decimals", agreed, agreed.replace("200,", "200.00,"), null, REFUSED],
+  ["an exponent", agreed, agreed.replace(":200", ":2e2"), null, REFUSED],
+  ["numbers in quotes", agreed, agreed.replace("[100", '["100"'), null, REFUSED],
+  ["a half", agreed.replace("[100", '["201/2"'), agreed.replace("[100", "[100.5"), null, REFUSED],
   ["the game alone", agreed, agreed.slice(8, -1), true, /the game alone, without/],
   ["another order", agreed, estate('"estate":200,"claims":[300,100,200],"names":["Chopra","Adler","Brandt"]'), true,
     /same names and numbers, in another order/],
@@ -55,27 +58,70 @@ const SAME = [
   ["no names", agreed.replace(`,${names}`, ""), agreed, false, /The names: the line has none/],
   ["a text that is none", agreed, "Adler;100", null, /Nobody can say: the agreed file can’t be read/],
   ["no game", agreed, "{}", null, /the agreed file has no game/],
-  ["a key twice", agreed, agreed.replace('"claims"', '"claims":[1],"claims"'), null, /a key stands twice: claims/],
-  ["nonsense", agreed, '{"game":{"class":{},"names":[[]],"excess":{}}}', null, /hasn’t the form of a game/],
+  ["a key twice", agreed, agreed.replace('"claims"', '"claims":[1],"claims"'), null, /a key occurs twice: claims/],
+  ["nonsense", agreed, '{"game":{"class":{},"names":[[]],"excess":{}}}', null, /doesn’t have the form of a game/],
 ];
 
 for (const [name, line, file, isYes, wanted] of SAME) {
-  const { same } = lookAtLine({ line, agreed: file });
+  const { same } = lookAtLine({ line, agreed: file }, ask);
   expect(name, same.isYes, isYes);
   expect(`${name}, told`, [same.sentence, ...(same.items ?? [])].join("\n"), wanted);
 }
 
 const links = (cost) => `{"game":{"class":"tree","matrix":[[0,5,8],[5,0,${cost}],[8,${cost},0]]}}`;
-expect("a link once", lookAtLine({ line: links(3), agreed: links(4) }).same.sentence,
+expect("a link once", lookAtLine({ line: links(3), agreed: links(4) }, ask).same.sentence,
   /^No. The link from player 1 to player 2: the line has 3, the agreed file 4.$/);
+
+// ---- Games that only look the same
+
+const costs = (rest) => `{"game":{"class":"cost-table","players":3,"names":["Ann","Bob","Cem"],${rest}}}`;
+const some = '"sparse":[[["Ann"],100],[["Bob"],100],[["Cem"],100],[["Ann","Bob"],150],[["Ann","Bob","Cem"],210]]';
+const turned = '"class":"cost-table","players":3,"names":["Bob","Ann","Cem"],';
+const [dear, cheap] = [160, 115].map((rest) => costs(`"default":${rest},${some}`));
+const oneWay = '{"game":{"class":"tree","matrix":[[0,5,8],[5,0,3],[8,4,0]]}}', both = '"worths":[1,1,1,1,1,1,90]';
+const network = (names, matrix) => `{"game":{"class":"tree","names":${JSON.stringify(names)},"matrix":${matrix}}}`;
+const twice = '{"game":{"class":"table","players":2,"sparse":[[[2],7],[[1,2],9],[[2],5]]}}';
+
+/** Games of which one is refused, or which differ where neither lists anything. */
+for (const [name, line, file, isYes, wanted] of [
+  ["another default", cheap, dear, false, /^No. Every group that isn’t listed: the line has 115, the agreed file 160/],
+  ["a default and none", costs(some), dear, false, /the line has 0, the agreed file 160/],
+  ["none and a default", dear, costs(some), false, /the line has 160, the agreed file 0/],
+  ["another default, in another order", cheap.replace(/"class".*?"Cem"\],/, turned), dear, false, /isn’t listed/],
+  ["the default itself", dear, dear.replace('"default":160,', '"default":160, '), true, /entry for entry/],
+  ["a default that no group takes", costs('"worths":[1,1,1,1,1,1,2]'),
+    costs('"default":7,"sparse":[[[1],1],[[2],1],[[3],1],[[1,2],1],[[1,3],1],[[2,3],1],[[1,2,3],2]]'), true, /same/],
+  ["a network in another order", network(["a", "b", "c"], "[[0,1,2,3],[1,0,4,5],[2,4,0,6],[3,5,6,0]]"),
+    network(["c", "a", "b"], "[[0,3,1,2],[3,0,5,6],[1,5,0,4],[2,6,4,0]]"), true, /in another order/],
+  ["and with another link", network(["a", "b", "c"], "[[0,1,2,3],[1,0,4,5],[2,4,0,6],[3,5,6,0]]"),
+    network(["c", "a", "b"], "[[0,3,1,2],[3,0,5,7],[1,5,0,4],[2,7,4,0]]"), false, /The link from b to c/],
+  ["a link of two costs", links(3), oneWay, null, REFUSED],
+  ["sparse and worths", costs(some), costs(`${some},${both}`), null, REFUSED],
+  ["a measure that isn’t there", dear, dear.replace('"class"', '"excess":"perhead","class"'), null, REFUSED],
+  ["a group twice", '{"game":{"class":"table","players":2,"worths":[0,5,9]}}', twice, null, REFUSED],
+  ["a player twice in a group", '{"game":{"class":"table","players":2,"worths":[0,5,9]}}',
+    '{"game":{"class":"table","players":2,"sparse":[[[2,2],5],[[1,2],9]]}}', null, REFUSED],
+  ["a line that is refused", oneWay, links(3), null, /^Nobody can say: the program refuses the line\. /],
+  ["both differ, and one is refused", dear, cheap.replace('"default"', '"excess":"perhead","default"'), null,
+    /they differ at:[\s\S]*how a group’s loss counts[\s\S]*isn’t listed/i],
+]) {
+  const { same } = lookAtLine({ line, agreed: file }, ask);
+  expect(name, same.isYes, isYes);
+  expect(`${name}, told`, [same.sentence, ...(same.items ?? [])].join("\n"), wanted);
+}
+expect("and no check of it", isOfGame({ line: cheap, agreed: "", text: dear }, ask), false);
+expect("nor by the agreed file", isOfGame({ line: cheap, agreed: dear.replace(/"sparse"/, '"sparsed":1,"sparse"'),
+  text: dear }, ask), false);
+
 const table = (rest) => `{"game":{"class":"table","players":3,"names":["a","b","c"],${rest}}}`;
 const byName = table('"sparse":[[["a","b"],4],[["a","b","c"],6]]'), byMask = table('"worths":[0,0,4,0,0,0,6]');
-expect("a table by names and by masks", lookAtLine({ line: byName, agreed: byMask }).same.isYes, true);
-expect("a group by its names", lookAtLine({ line: byName, agreed: byMask.replace("4", "5") }).same.sentence,
+expect("a table by names and by masks", lookAtLine({ line: byName, agreed: byMask }, ask).same.isYes, true);
+expect("a group by its names", lookAtLine({ line: byName, agreed: byMask.replace("4", "5") }, ask).same.sentence,
   /^No. The group a \+ b: the line has 4, the agreed file 5.$/);
 const many = `{"game":{"class":"airport","costs":[${Array.from({ length: 30 }, (_, k) => k)}]}}`;
 const others = `{"game":{"class":"airport","costs":[${Array.from({ length: 30 }, (_, k) => k + 1)}]}}`;
-expect("ten places, and how many more", lookAtLine({ line: many, agreed: others }).same.items.join(), /20 more places/);
+expect("ten places, and how many more", lookAtLine({ line: many, agreed: others }, ask).same.items.join(),
+  /20 more places/);
 
 // ---- Names
 
@@ -99,7 +145,7 @@ const plain = '{"a":"one two","b":[1,2]}', read = (text) => mended(text) ?? "";
 for (const [name, text, told] of [
   ["a mark in front", `\ufeff${plain}`, /nobody sees/],
   ["an answer", `> ${plain.replace(",", ",\n> ")}`, /begin with “>”/],
-  ["a letter around it", `Dear all,\n${plain}\nYours`, /in front of the first \{[\s\S]*behind the last \}/],
+  ["a letter around it", `Dear all,\n${plain}\nYours`, /before the first \{[\s\S]*after the last \}/],
   ["broken lines", plain.replace("tw", "t\nw"), /broken into lines/],
   ["packed", plain.replaceAll(",", "=2C").replace("one", "o=\nne"), /quoted-printable/],
   ["quote marks", plain.replace(/"(\w)/g, "“$1").replace(/"/g, "”"), /typographic/],

@@ -185,7 +185,7 @@ async function savedPicture(page, expect) {
     const made = URL.createObjectURL;
     URL.createObjectURL = (blob) => (kept = blob, made.call(URL, blob));
     HTMLAnchorElement.prototype.click = () => 0;
-    document.querySelector(".triangle .save").click();
+    [...document.querySelectorAll(".save")].at(-1).click();
     URL.createObjectURL = made;
     return kept.text();
   })()`);

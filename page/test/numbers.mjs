@@ -1,5 +1,5 @@
 // Numbers and lists as people type them, or other programs give them: what they are read as.
-import { readNumber, typedText } from "../src/exact/decimals.js";
+import { cellNumber, readNumber, typedText } from "../src/exact/decimals.js";
 import { runway } from "../src/cases/lists.js";
 import { cellsOf, columnsFor, headingsOf, pastedText } from "../src/cases/pasting.js";
 import { tableOf } from "../src/cases/tables.js";
@@ -20,6 +20,15 @@ const CASES = [
   ["12 %", ".", null], ["0,500", ",", "1/2"], ["1.2.3", ".", null], ["--1", ".", null],
   ["1,234,56", ".", null], ["12.345.67", ",", null], ["007", ".", "7"], ["1\u00a0234", ".", "1234"],
   ["1,5/2", ".", null], [".", ".", null], ["-", ".", null],
+  ["12.000,50 EUR", ".", "24001/2"], ["USD 1,234.50", ".", "2469/2"], ["12 XYZ", ".", null], ["EUR", ".", null],
+  ["12,34,567", ".", "1234567"], ["12,34,567.50", ",", "2469135/2"], ["12,34,56", ".", null], ["2*3", ".", null],
+];
+
+/** What a cell may work out. */
+const WORKED = [
+  ["27400*1.12", "30688"], ["4*2.5 + 0.25", "41/4"], ["=2+3", "5"], ["2 × 3 + 4 × 5", "26"], ["1e5", "100000"],
+  ["1e+5", "100000"], ["2.5E+3", "2500"], ["27400*x", null], ["3+", null], ["*3", null], ["5 3 2", null],
+  ["1/3*3", "1"], ["12.50", "25/2"],
 ];
 
 let faults = 0;
@@ -28,6 +37,13 @@ for (const [text, mark, wanted] of CASES) {
   if (found === wanted) continue;
   faults += 1;
   console.log(`${JSON.stringify(text)} with ${mark} is read as ${found ?? fault}, and not ${wanted}`);
+}
+
+for (const [text, wanted] of WORKED) {
+  const { value } = cellNumber(text, "."), found = value ? String(value) : null;
+  if (found === wanted) continue;
+  faults += 1;
+  console.log(`a cell with ${JSON.stringify(text)} is read as ${found}, and not ${wanted}`);
 }
 
 // what is written for a value is read as that value by either mark
@@ -103,6 +119,6 @@ for (const [text, wanted, told] of PASTED) {
   console.log(`${JSON.stringify(text)}: headings ${JSON.stringify(found)}, and it is told: ${said}`);
 }
 
-const tried = CASES.length + VALUES.length + LISTS.length + PASTED.length;
+const tried = CASES.length + WORKED.length + VALUES.length + LISTS.length + PASTED.length;
 console.log(`${tried} numbers and lists as people type them, ${faults} faults`);
 process.exit(faults || !CASES.length ? 1 : 0);

@@ -42,7 +42,7 @@ const openFile = (page, name, text) => page.run(`(() => {
 })()`);
 
 const FINE = "1e-05\n0.94786536\n2\n3.123456\n4\n5\n6.5";
-const TIMES = /All numbers stand here times 100\u202f000\u202f000, [\s\S]*divide them by 100\u202f000\u202f000/;
+const TIMES = /All numbers are here times 100\u202f000\u202f000, [\s\S]*divide them by 100\u202f000\u202f000/;
 
 const coarser = [
   ["numbers times a power of ten are told wherever they go", "gains", async (page, expect) => {
@@ -69,7 +69,7 @@ const coarser = [
   ["a file whose name tells what was done to its numbers", "document", async (page, expect) => {
     const text = '{"game":{"class":"table","players":2,"worths":[100,200,650]}}';
     await openFile(page, "gains-times-100 (1).json", text);
-    await told(page, "#case-body", /All numbers stand here times 100, [\s\S]*divide them by 100\./);
+    await told(page, "#case-body", /All numbers are here times 100, [\s\S]*divide them by 100\./);
     await page.run("location.hash = '#document'");
     await openFile(page, "gains-rounded.json", text);
     await told(page, "#case-body", /Numbers were rounded to four decimals here, each by at most 0\.000050/);
@@ -96,7 +96,7 @@ const coarser = [
     expect("by how much", await page.text(".shares .verdict"), /by 0\.00007/);
     expect("files", await savedNames(page), /gains-rounded\.json/);
     expect("on paper", await sheetOf(page), near);
-    const holds = /Save the document \(rounded numbers\)[^]*holds the rounded numbers alone.*another name nobody/;
+    const holds = /Save the document \(rounded numbers\)[^]*holds only the rounded numbers.*another name nobody/;
     expect("at the button", await page.text(".made"), holds);
     const lines = /\r\n\r\nShares beside the exact ones are rounded to decimals,2\r\nThe numbers .* to decimals,4\r\n$/;
     expect("in the table's file", await savedTable(page), lines);
@@ -119,9 +119,8 @@ const empty = [
     await settle(page);
     const box = await page.text("#answer .notice");
     expect("groups are parted by semicolons", box, /Take all but Dora and Fink; .*; and all .*: they hold/);
-    const body = await page.text("#answer-body");
-    expect("no other prenucleolus", body, /The prenucleolus is the same as the nucleolus here\./);
-    expect("the box", await sheetOf(page), /Whatever the division, some group does better by itself/);
+    expect("no other prenucleolus", await page.text("#why"), /The prenucleolus is the same as the nucleolus here\./);
+    expect("the box", await sheetOf(page), /Whatever the division, some group could do better by itself/);
     expect("its own line", await sheetOf(page), /Nucleolus: a group does better by itself: .*, by \d/);
     await page.run("document.querySelector('[data-cell=\"paper.withProposal\"]').click()");
     const sheet = await sheetOf(page);
@@ -149,14 +148,14 @@ const excesses = [
   ["the excesses of all columns, side by side", "gains", async (page, expect) => {
     await useList(page, pairsOfSix());
     await settle(page);
-    await page.click("The excesses by all columns, side by side");
+    await page.click("Group by group: what each could gain by leaving");
     await told(page, ".excesses", /8 of 62 places/);
     const heads = await page.text(".excesses thead");
     expect("heads", heads, /Place\s+Nucleolus\s+by whom\s+Shapley shares\s+by whom/);
     await page.click("All 62 places");
     await page.until("document.querySelectorAll('.excesses tbody tr').length === 62");
     await page.type("numbers.1", "3");
-    const marked = /Marked is where a list differs .*: Shapley shares at place \d+ and Prenucleolus at place/;
+    const marked = /A mark shows where a list first differs .*: Shapley shares at place \d+ and Prenucleolus at place/;
     await told(page, ".excesses", marked);
     await settle(page);
     expect("open, all", await page.run("document.querySelectorAll('.excesses tbody tr').length"), 62);
@@ -170,8 +169,8 @@ const excesses = [
   }],
 
   ["the excesses of a proposal, beside those of the columns", "gains", async (page, expect) => {
-    await page.click("The excesses by all columns, side by side");
-    await told(page, ".excesses", /Marked is where a list differs/);
+    await page.click("Group by group: what each could gain by leaving");
+    await told(page, ".excesses", /A mark shows where a list first differs/);
     expect("without one", /Your proposal/.test(await page.text(".excesses")), false);
     for (const [r, text] of ["40", "40", "40"].entries()) await page.type(`proposal.${r}`, text);
     await told(page, ".excesses thead", /Your proposal\s+by whom/);
@@ -216,16 +215,16 @@ const kept = [
     await page.type("links.0-1", "3.1234567");
     await noted(page, /too fine/);
     await page.click("All times a power of ten");
-    await told(page, "#case-body", /All numbers stand here times 10\u202f000\u202f000/);
+    await told(page, "#case-body", /All numbers are here times 10\u202f000\u202f000/);
     await settle(page);
     await page.click("A link that can’t be built");
     await page.click("make a table of costs of it");
     await page.until("location.hash === '#costs' && document.querySelector('[data-cell=\"numbers.7\"]')");
-    await told(page, "#case-body", /All numbers stand here times 10\u202f000\u202f000/);
+    await told(page, "#case-body", /All numbers are here times 10\u202f000\u202f000/);
   }],
 
   ["excesses of a runway are those of its rows", "runway", async (page, expect) => {
-    await page.click("The excesses by all columns, side by side");
+    await page.click("Group by group: what each could gain by leaving");
     await told(page, ".excesses", /8 of \d+ places/);
     expect("by rows", await page.text(".excesses tbody"), /all but Aer \(1 of 3 landings\)/);
   }],

@@ -8,9 +8,11 @@ import { assumed } from "./assumed.mjs";
 import { bothWays } from "./both-ways.mjs";
 import { casesTyped, otherCases, tables } from "./cases.mjs";
 import { checks } from "./checks.mjs";
+import { desk } from "./desk.mjs";
 import { checking, documents } from "./documents.mjs";
 import { entering } from "./entering.mjs";
 import { failing } from "./failing.mjs";
+import { figures } from "./figures.mjs";
 import { Harness } from "./harness.mjs";
 import { landings } from "./landings.mjs";
 import { lawyer } from "./lawyer.mjs";
@@ -20,6 +22,7 @@ import { access, large, looks } from "./looks.mjs";
 import { monkey } from "./monkey.mjs";
 import { precise } from "./precise.mjs";
 import { saying } from "./saying.mjs";
+import { users } from "./users.mjs";
 
 const words = process.argv.slice(2), [page, top] = words.map((word) => resolve(word));
 const option = (name, byDefault) => (words.includes(name) ? words[words.indexOf(name) + 1] : byDefault);
@@ -28,6 +31,9 @@ const slack = Number(option("--slack", "1")), told = [];
 const harness = new Harness(pathToFileURL(page).href, option("--only", ""), slack);
 const program = resolve(option("--program", join(top, "crates", "coop_program", "out", "coop_program")));
 harness.add(large(slack, told));
+harness.add(desk);
+harness.add(users);
+harness.add(figures);
 for (const some of [entering, assumed, saying, lecture, landings, bothWays, casesTyped, tables, otherCases,
   documents(top, program), checking(top), checks(top), letters(top), lawyer(top), failing(page, top), looks, access,
   precise]) {

@@ -15,16 +15,17 @@ async function savedNames(page) {
 
 export const saying = [
   ["per head is said wherever the rule is named", "gains", async (page, expect) => {
-    await page.click("per head");
+    await page.choose("measure", "per-head");
     await settle(page);
-    expect("column", await page.text(".shares thead"), /Nucleolus per head\s+treats those worst off best, per member/);
+    const column = /Nucleolus per head\s+best for those who gain least, per member/;
+    expect("column", await page.text(".shares thead"), column);
     expect("pictures", await page.run("document.querySelector('.bars svg').textContent"), /Nucleolus per head/);
     expect("triangle", await page.run("document.querySelector('.triangle svg').textContent"), /Nucleolus per head/);
     expect("files", await savedNames(page), /gains-nucleolus-per-head\.json/);
     expect("in a sentence", await page.text(".lead"), /By the nucleolus per head/);
-    await page.run("document.querySelector('.shares + * ~ .meanings, .meanings').open = true");
-    expect("meaning", await page.text("#answer .meanings"), /The nucleolus per head counts[\s\S]*Grotte 1970/);
-    expect("no false sentence", /; the nucleolus is, wherever/.test(await page.text("#answer .meanings")), false);
+    await page.run("document.querySelector('#why .meanings').open = true");
+    expect("meaning", await page.text("#why .meanings"), /The nucleolus per head counts[\s\S]*Grotte 1970/);
+    expect("no false sentence", /; the nucleolus is, wherever/.test(await page.text("#why .meanings")), false);
     expect("proposal", await page.text(".fill"), /nucleolus per head, rounded/);
     const sheet = await sheetOf(page);
     expect("paper", sheet, /Why: the nucleolus per head[\s\S]*one nucleolus per head \(Grotte 1970\)/);
@@ -37,7 +38,8 @@ export const saying = [
     await page.until("document.querySelector('#verify .lead')");
     const checked = /The shares are the nucleolus per head of the game in the line/;
     expect("checked", await page.text("#verify .lead"), checked);
-    expect("and its line", await page.text("#verify .answers"), /The line says: the nucleolus per head of 3 players/);
+    expect("and its line", await page.text("#verify .answers"),
+      /What the line says: the nucleolus per head, for 3 players/);
   }],
 
   ["a proposal that the page fills in is whole", "gains", async (page, expect) => {
@@ -61,7 +63,7 @@ export const saying = [
     for (const r of [0, 1, 2]) await page.type(`rows.${r}.count`, "1");
     for (const [r, text] of ["2/3", "5/3", "11/3"].entries()) await page.type(`proposal.${r}`, text);
     await settle(page);
-    expect("told", await page.text(".same-as"), "Your proposal is just what stands under “Shapley shares”.");
+    expect("told", await page.text(".same-as"), "Your proposal is exactly the column “Shapley shares”.");
     await page.until("document.querySelector('.comparison')");
     await page.click("Your proposal beside the nucleolus");
     const told = /Of all divisions in which nobody pays more than alone the nucleolus has the least list: at the first/;
@@ -72,13 +74,14 @@ export const saying = [
     for (const [r, text] of ["100", "200", "300"].entries()) await page.type(`rows.${r}.claim`, text);
     await page.type("estate", "100");
     await settle(page);
-    expect("told", await page.text("#answer .moved"), /Rounded so that they add up[\s\S]*small print/);
+    const told = await page.run("document.querySelector('#why .moved').textContent");
+    expect("told", told, /Rounded so that they add up[\s\S]*small print/);
     expect("on paper", await sheetOf(page), /Rounded so that they add up/);
     expect("decimals beside a fraction", await page.text("#why"), /but at most 100\/3 \(about 33.33\)/);
     await page.run("dispatchEvent(new Event('afterprint'))");
     await page.type("estate", "300");
     await settle(page);
-    expect("not where none is", await page.run("document.querySelector('#answer .moved')"), null);
+    expect("not where none is", await page.run("document.querySelector('#why .moved')"), null);
   }],
 
   ["changes of an overrun are those of the numbers shown", "runway", async (page, expect) => {
@@ -118,7 +121,7 @@ export const saying = [
     const changes = /3.88\s+−0.12 \(−3.0\s%\)[\s\S]*4.00\s+−1.00 \(−20.0\s%\)/;
     expect("money and per cent", await page.text(".shares tbody"), changes);
     expect("together", await page.text(".shares .sum"), /13.00\s+12.00\s+−1.00 \(−7.7\s%\)/);
-    expect("told", await page.text("#answer-body"), /no file has a place for it, so it isn’t saved/);
+    expect("told", await page.text("#own-body"), /It isn’t saved/);
     expect("the same game", await page.run("document.querySelector('.made pre').textContent"), before);
     expect("on paper", await sheetOf(page), /Pays todayChange[\s\S]*Sales[\s\S]*4.00−0.12 \(−3.0\s%\)/);
     await page.run("dispatchEvent(new Event('afterprint'))");
@@ -139,10 +142,12 @@ export const saying = [
       await settle(page);
       expect(`of ${whole}`, await page.text(".shares tbody"), wanted);
     }
-    await page.click("Which rule is monotonic when the whole grows");
-    expect("the example", await page.text("#answer-body"), told);
-    for (const part of ["#answer-body", "#verify"]) {
-      await page.click("The words, each in a sentence", `document.querySelector('${part}')`);
+    await page.click("Which rule gives nobody less when the whole grows");
+    expect("the example", await page.text("#why-body"), told);
+    for (const part of ["#why-body", "#verify"]) {
+      if (part === "#verify") await page.run("location.hash = '#verify'");
+      await page.until(`document.querySelector("${part}").offsetParent !== null`);
+      await page.click("The words of the field, each in a sentence", `document.querySelector('${part}')`);
       const said = await page.text(part);
       expect("words that aren't told", WORDS.filter((word) => !said.includes(`${word}: `)).join(), "");
     }
@@ -166,7 +171,7 @@ saying.push(
     await page.until("document.querySelector('.found table')");
     const found = await page.text(".found");
     expect("told", found, /no division satisfies all groups: by any rule some group would pay less by itself/);
-    expect("by each rule", found, /Can a group do better by itself\?\s+No\s+Yes: .*\s+(No|Yes: .*)\s+Yes: /);
+    expect("by each rule", found, /Could a group do better by itself\?\s+No\s+Yes: .*\s+(No|Yes: .*)\s+Yes: /);
   }],
 
   ["the prenucleolus, where it is another than the nucleolus", "document", async (page, expect) => {

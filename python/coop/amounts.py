@@ -8,6 +8,7 @@ import re
 from decimal import Decimal
 from fractions import Fraction
 from math import gcd
+from operator import index
 from typing import Iterable, Optional, Union
 
 from .errors import BadInput
@@ -16,13 +17,15 @@ Amount = Union[int, str, Fraction, Decimal, float]
 """What may be given for a number: "12", "12.50", "1e-05" and "25/2" are texts of numbers."""
 
 MOST_SCALE, LIMIT = 65536, 2**40
+MOST_DIGITS, MOST_BITS = 40, 4096
 NUMBER = re.compile(r"-?([0-9]{1,40}(\.[0-9]{1,40})?([eE][-+]?[0-9]{1,2})?|[0-9]{1,40}/0*[1-9][0-9]{0,39})")
 
 
 def fraction_of(value: Amount, digits: Optional[int] = None) -> Fraction:
     """The exact value. With a number of digits it is rounded to so many decimals, and floats are taken too."""
-    if isinstance(value, bool) or not isinstance(value, (int, str, Fraction, Decimal, float)):
-        raise BadInput(f"{str(value)[:40]!r} is no number")
+    value = plain(value)
+    if digits is not None and (type(digits) is not int or not 0 <= digits <= MOST_DIGITS):
+        raise BadInput(f"{digits!r} is no number of digits, from 0 to {MOST_DIGITS}")
     if isinstance(value, float) and digits is None:
         raise BadInput(f"{value!r} is a float: name a number of digits to round to, or give a text, {str(value)!r}")
     if isinstance(value, str) and not NUMBER.fullmatch(value.strip()):
@@ -31,10 +34,29 @@ def fraction_of(value: Amount, digits: Optional[int] = None) -> Fraction:
         exact = Fraction(value.strip() if isinstance(value, str) else value)
     except (ValueError, OverflowError):
         raise BadInput(f"{value!r} is no number") from None
+    if max(exact.numerator.bit_length(), exact.denominator.bit_length()) > MOST_BITS:
+        raise BadInput(f"a number has more than {MOST_BITS} bits")
     if isinstance(value, Decimal) and digits is None and has_digits_of_a_float(value, exact):
         told = f"Decimal({str(value)[:24]}..) has all the digits of the float {float(value)!r}"
         raise BadInput(f"{told}: make it of a text, Decimal({str(float(value))!r}), or name a number of digits")
     return exact if digits is None else Fraction(round(exact * 10**digits), 10**digits)
+
+
+def plain(value: Amount) -> Amount:
+    """The number, of a class that is known here. Those of NumPy are integers by their `__index__`."""
+    if isinstance(value, (str, Fraction, float)) or type(value) is int:
+        return value
+    if isinstance(value, Decimal):
+        exponent = value.as_tuple().exponent
+        if isinstance(exponent, int) and not -MOST_BITS < exponent < MOST_BITS:
+            raise BadInput(f"a number has the exponent {exponent}")
+        return value
+    try:
+        if not isinstance(value, bool):
+            return index(value)
+    except TypeError:
+        pass
+    raise BadInput(f"{str(value)[:40]!r} is no number")
 
 
 def has_digits_of_a_float(value: Decimal, exact: Fraction) -> bool:
@@ -43,8 +65,14 @@ def has_digits_of_a_float(value: Decimal, exact: Fraction) -> bool:
 
 
 def fractions_of(values: Iterable[Amount], digits: Optional[int] = None) -> list[Fraction]:
-    """The exact values of a list."""
-    return [fraction_of(value, digits) for value in values]
+    """The exact values of a list. A text is none, though it has letters one after the other."""
+    if isinstance(values, (str, bytes)):
+        raise BadInput(f"{values[:40]!r} is a text, and no list of numbers")
+    try:
+        items = list(values)
+    except TypeError:
+        raise BadInput(f"{str(values)[:40]!r} is no list of numbers") from None
+    return [fraction_of(value, digits) for value in items]
 
 
 def written(value: Fraction) -> Union[int, str]:

@@ -8,7 +8,7 @@ from __future__ import annotations
 import json
 from dataclasses import dataclass, field
 from fractions import Fraction
-from typing import Any, Callable
+from typing import Any, Callable, Optional
 
 from .game import Game
 
@@ -28,9 +28,27 @@ class Answer:
         """Whether it is the positive answer."""
         return self.status == 0
 
+    def _repr_html_(self) -> str:
+        """What a notebook shows."""
+        from .notebook import of_answer
+
+        return of_answer(self)
+
+
+class Sharing:
+    """An answer that has shares."""
+
+    shares: Shares
+
+    def to_pandas(self, places: Optional[int] = None) -> Any:
+        """The shares as a Series of pandas: fractions, or floats of so many places."""
+        from .notebook import series
+
+        return series(self.shares, type(self).__name__.lower(), places)
+
 
 @dataclass(frozen=True)
-class Nucleolus(Answer):
+class Nucleolus(Answer, Sharing):
     """The nucleolus or the prenucleolus; `certificate` shows it, and `line` is what `check` reads."""
 
     rule: str
@@ -85,7 +103,7 @@ class NotEfficient(Answer):
 
 
 @dataclass(frozen=True)
-class CorePoint(Answer):
+class CorePoint(Answer, Sharing):
     """A point of the core, of often many."""
 
     shares: Shares
@@ -103,14 +121,14 @@ class EmptyCore(Answer):
 
 
 @dataclass(frozen=True)
-class Shapley(Answer):
+class Shapley(Answer, Sharing):
     """The Shapley shares."""
 
     shares: Shares
 
 
 @dataclass(frozen=True)
-class Bird(Answer):
+class Bird(Answer, Sharing):
     """Bird's shares, and the links in the order in which they are built: the connected end ("0" is the source), the new
     player, and the cost, which the new player pays."""
 

@@ -9,7 +9,7 @@ from . import answers
 from .amounts import Amount, fractions_of, written
 from .answers import Answer
 from .errors import BadInput, Fault, NoAnswer, NoMemory, Refused, Usage
-from .game import Game
+from .game import Game, encoded
 from .program import Program, find
 
 Chosen = Union[None, str, Program]
@@ -91,7 +91,7 @@ def check(line: Union[str, bytes, answers.Nucleolus], program: Chosen = None) ->
     if isinstance(line, answers.Nucleolus):
         document, game = line.line.encode(), line.game
     else:
-        document = line if isinstance(line, bytes) else line.encode()
+        document = line if isinstance(line, bytes) else encoded(line, "the line")
         game = game_of(document)
     return cast("Union[answers.Yes, answers.No]", answered("check", document, game, program))
 

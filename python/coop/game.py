@@ -25,7 +25,15 @@ KINDS = {
 LISTS = {"airport": "costs", "bankruptcy": "claims", "voting": "weights"}
 SINGLE = {"bankruptcy": "estate", "voting": "quota"}
 MOST_IN_A_TABLE = 16
-FRACTION = re.compile("-?[0-9]{1,39}(/0*[1-9][0-9]{0,38})?")
+FRACTION = re.compile("-?[0-9]{1,39}(/[1-9][0-9]{0,38})?")
+
+
+def encoded(text: str, what: str) -> bytes:
+    """The bytes of a text, which has no half of a character."""
+    try:
+        return text.encode()
+    except UnicodeEncodeError:
+        raise BadInput(f"{what} has half of a character, as \\ud800") from None
 
 
 def number(tree: Any, what: str) -> Fraction:
@@ -78,6 +86,12 @@ class Game:
 
     def __repr__(self) -> str:
         return f"Game({self.tree!r})" if self.factor == 1 else f"Game({self.tree!r}, {self.factor})"
+
+    def _repr_html_(self) -> str:
+        """What a notebook shows."""
+        from .notebook import of_game
+
+        return of_game(self)
 
     def count_players(self, tree: dict[str, Any]) -> int:
         """The number of players, with the numbers of the game unless it is a table."""
@@ -192,4 +206,5 @@ class Game:
 
     def document(self, **others: Any) -> bytes:
         """The bytes of a document of this game, with other keys beside it, as `shares`."""
-        return json.dumps({"game": self.tree, **others}, ensure_ascii=False, separators=(",", ":")).encode()
+        text = json.dumps({"game": self.tree, **others}, ensure_ascii=False, separators=(",", ":"))
+        return encoded(text, "a name")

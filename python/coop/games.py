@@ -7,11 +7,12 @@ denominator above 65,536 is multiplied by it (`Game.factor`), and what the calls
 from __future__ import annotations
 
 from fractions import Fraction
+from operator import index
 from typing import Any, Callable, Iterable, Mapping, Optional, Sequence, Union
 
 from .amounts import Amount, factor_for, fraction_of, fractions_of, written
 from .errors import BadInput
-from .game import MOST_IN_A_TABLE, Game
+from .game import MOST_IN_A_TABLE, Game, encoded
 from .masks import by_mask, mask_of, members
 from .vectors import in_mask_order
 
@@ -20,6 +21,7 @@ Group = Union[str, int, Iterable[Union[str, int]]]
 Table = Union[Mapping[Any, Amount], Sequence[Amount]]
 Rows = Sequence[Sequence[Amount]]
 MOST_NAME = 64  # bytes
+MOST_LANDINGS = 64
 
 
 def table(
@@ -89,17 +91,26 @@ def landings(rows: Iterable[tuple[str, Amount, int]], *, digits: Optional[int] =
     names: list[str] = []
     costs: list[Amount] = []
     done: dict[str, int] = {}
-    for name, cost, count in rows:
+    for row in rows:
+        name, cost, count = parts_of(row)
         if type(count) is not int or count < 1:
             raise BadInput(f"{name}: {count!r} is no number of landings")
+        if len(names) + count > MOST_LANDINGS:
+            way = "coop.runways works out more, by both rules (docs/examples.md)"
+            raise BadInput(f"more than {MOST_LANDINGS} landings: an airport has at most {MOST_LANDINGS} players; {way}")
         first = done.get(name, 0) + 1
         done[name] = first + count - 1
         names += [f"{name} {number}" for number in range(first, first + count)]
         costs += [cost] * count
-        if len(names) > 64:
-            way = "coop.runways works out more, by both rules (docs/examples.md)"
-            raise BadInput(f"more than 64 landings: an airport has at most 64 players; {way}")
     return airport(costs, names, digits=digits, per_head=per_head)
+
+
+def parts_of(row: Any) -> tuple[str, Amount, int]:
+    """The three parts of a row of landings."""
+    if isinstance(row, str) or not isinstance(row, Sequence) or len(row) != 3:
+        raise BadInput(f"{str(row)[:40]!r} is no row of a name, what a landing needs, and how many landings")
+    name, cost, count = row
+    return name, cost, count
 
 
 def bankruptcy(
@@ -187,13 +198,22 @@ def rows_of(matrix: Rows, digits: Optional[int]) -> list[list[Fraction]]:
 
 def checked_names(names: Sequence[str]) -> list[str]:
     """The names, each a text of 1 to 64 bytes that stands once."""
+    names = listed_names(names)
     for name in names:
-        if not isinstance(name, str) or not 1 <= len(name.encode("utf-8", "replace")) <= MOST_NAME:
+        if not isinstance(name, str) or not 1 <= len(encoded(name, "a name")) <= MOST_NAME:
             told = f"is no name of 1 to {MOST_NAME} bytes; letters beyond ASCII have several"
             raise BadInput(f"{str(name)[:80]!r} {told}")
     if len(set(names)) < len(names):
-        raise BadInput(f"the name {next(name for name in names if list(names).count(name) > 1)!r} stands twice")
-    return list(names)
+        raise BadInput(f"the name {next(name for name in names if names.count(name) > 1)!r} stands twice")
+    return names
+
+
+def listed_names(names: Iterable[str]) -> list[str]:
+    """Names as a list; of a text its letters."""
+    try:
+        return list(names)
+    except TypeError:
+        raise BadInput(f"{str(names)[:40]!r} is no list of names") from None
 
 
 def made(
@@ -251,6 +271,7 @@ def listed(
             raise BadInput("a vector has no default")
         vector = in_mask_order(fractions_of(amounts, digits), order)
         players = len(vector).bit_length()
+        names = names if names is None else listed_names(names)
         if names is not None and len(names) != players:
             raise BadInput(f"{len(names)} names for {players} players")
         return made(kind, {"players": players, "worths": vector}, names, per_head, digits)
@@ -268,9 +289,17 @@ def members_of(group: Any) -> list[Union[str, int]]:
     """The members of a group as it is written."""
     if isinstance(group, str):
         return [member.strip() for member in group.split("+")] if group else []
-    if isinstance(group, int):
-        return [group]
-    return list(group)
+    if not isinstance(group, Iterable):
+        group = [group]
+    return [member if isinstance(member, str) else number_of(member) for member in group]
+
+
+def number_of(member: Any) -> int:
+    """The number of a player, which may be one of NumPy."""
+    try:
+        return index(member)
+    except TypeError:
+        raise BadInput(f"{str(member)[:40]!r} is no player: a group has names, or numbers from 1") from None
 
 
 def by_groups(
@@ -283,10 +312,12 @@ def by_groups(
 ) -> Game:
     """A table from groups and their numbers."""
     everyone = list(dict.fromkeys(member for group, _ in groups for member in group))
+    names = names if names is None else listed_names(names)
     numbered = names is None and all(type(member) is int for member in everyone)
-    players: list[Any] = list(range(1, max(everyone, default=0) + 1)) if numbered else list(names or map(str, everyone))
-    if not 1 <= len(players) <= MOST_IN_A_TABLE:
-        raise BadInput(f"{len(players)} players: a table has 1 to {MOST_IN_A_TABLE}")
+    count = max(everyone, default=0) if numbered else len(names or everyone)
+    if not 1 <= count <= MOST_IN_A_TABLE:
+        raise BadInput(f"{count} players: a table has 1 to {MOST_IN_A_TABLE}")
+    players: list[Any] = list(range(1, count + 1)) if numbered else list(names or map(str, everyone))
     found: dict[int, Fraction] = {}
     for group, amount in groups:
         mask = mask_of(player_of(member, players) for member in group)

@@ -6,7 +6,7 @@ from typing import Iterable, Sequence
 
 from .game import Game
 from .masks import is_alone, members
-from .names import safe
+from .names import apart
 
 
 def listed(parts: Sequence[str]) -> str:
@@ -36,7 +36,7 @@ class Namer:
 
     def __init__(self, game: Game):
         self.n, self.everyone, self.named = game.n, game.everyone, game.named
-        names = [safe(name) for name in game.names]
+        names = [apart(name) for name in game.names]
         self.names = names if game.named else [f"player {name}" for name in names]
 
     def players(self, some: Iterable[int], most: int = 12) -> str:

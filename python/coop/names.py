@@ -22,11 +22,15 @@ UNSEEN = frozenset(
         0x2029,
         0x3164,
         0xFFA0,
+        0x2065,
+        0x2800,  # a blank of Braille
         *range(0x180B, 0x1810),
         *range(0xFE00, 0xFE10),
+        *range(0xFFF0, 0xFFF9),
     ]
-    + list(range(0xE0100, 0xE01F0))
+    + list(range(0xE0000, 0xE1000))
 )
+ISOLATE, END_OF_ISOLATE = "\u2068", "\u2069"
 
 
 # Letters that look like Latin ones, each above its twin; of 1, I, l and | the twin is l, and of 0 it is O.
@@ -47,6 +51,17 @@ def safe(text: str) -> str:
     if text.isascii() and text.isprintable() and "\\" not in text:
         return text
     return "".join(escape(letter) for letter in text)
+
+
+def is_from_the_right(text: str) -> bool:
+    """Whether letters of a text are written from the right, as Hebrew and Arabic ones."""
+    return not text.isascii() and any(unicodedata.bidirectional(letter) in ("R", "AL") for letter in text)
+
+
+def apart(text: str) -> str:
+    """A safe text for people, kept apart from the numbers beside it where it is written from the right: else a terminal
+    moves them."""
+    return f"{ISOLATE}{safe(text)}{END_OF_ISOLATE}" if is_from_the_right(text) else safe(text)
 
 
 def escape(letter: str) -> str:

@@ -2,9 +2,9 @@
 
 A program is anything with `run`: words and the bytes of a document to a status and the bytes of the line. Here are
 two, a command of the system and the C library; `server` has a third. The first that is found is taken, in this order:
-what is named as an argument; the environment's `COOP`, a command; its `COOP_LIBRARY`, the C library; `coop` on the path;
-the built program of the repository in which this package stands; by Node, the module in the page, which an installed
-package has too; and `bin/coop` of the repository, which builds the program where the kit is.
+what is named as an argument; the environment's `COOP`, a command; its `COOP_LIBRARY`, the C library; `coop` on the
+path; the built program of the repository in which this package stands; by Node, the module in the page, which an
+installed package has too; and `bin/coop` of the repository, which builds the program where the kit is.
 """
 from __future__ import annotations
 

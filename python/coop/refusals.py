@@ -101,15 +101,15 @@ def numbers(game: Any) -> int:
             value.denominator <= MOST_SCALE,
             Refusal.Number,
             place,
-            f"the denominator {value.denominator} is above {MOST_SCALE:,}",
+            lambda: f"the denominator {value.denominator} is above {MOST_SCALE:,}",
         )
         scale = lcm(scale, value.denominator)
-        sentence = f"with it the common denominator is {scale}, above {MOST_SCALE:,}: give fewer decimals"
-        need(scale <= MOST_SCALE, Refusal.Number, place, sentence)
+        too_great = f"with it the common denominator is {scale}, above {MOST_SCALE:,}: give fewer decimals"
+        need(scale <= MOST_SCALE, Refusal.Number, place, too_great)
     for place, value in values:
         times = f", times the common denominator {scale}," if scale > 1 else ""
-        need(abs(value * scale) < LIMIT, Refusal.Number, place, f"{value}{times} is 2^40 or more in size")
-        need(value >= 0 or game["class"] in TABLES, Refusal.Number, place, f"{value} is below 0")
+        need(abs(value * scale) < LIMIT, Refusal.Number, place, lambda: f"{value}{times} is 2^40 or more in size")
+        need(value >= 0 or game["class"] in TABLES, Refusal.Number, place, lambda: f"{value} is below 0")
     return scale
 
 
@@ -150,9 +150,10 @@ def fraction(tree: str, place: str, most: Optional[int] = None) -> Fraction:
     else with fewer decimals."""
     if FRACTION.fullmatch(tree):
         value = Fraction(tree)
-        need(str(value) == tree, Refusal.Number, place, f"{brief(tree)} isn't in lowest terms: write {written(value)}")
+        if str(value) != tree:
+            raise Found(Refusal.Number, place, f"{brief(tree)} isn't in lowest terms: write {written(value)}")
         fits = -(2**127) <= value.numerator < 2**127 and value.denominator < 2**127
-        need(fits, Refusal.Number, place, f"{brief(tree)} is longer than 128 bits")
+        need(fits, Refusal.Number, place, lambda: f"{brief(tree)} is longer than 128 bits")
         return value
     raise Found(Refusal.Number, place, f"{brief(tree)} is no fraction text{hint_on(guessed(tree), most)}")
 
@@ -217,7 +218,7 @@ def names(game: Any, players: int) -> None:
     for i, item in enumerate(game.get("sparse", [])):
         for j, member in enumerate(item[0]):
             known = type(member) is not str or member in found
-            need(known, Refusal.Names, f"$.game.sparse[{i}][0][{j}]", f"{brief(member)} isn't among the names")
+            need(known, Refusal.Names, f"$.game.sparse[{i}][0][{j}]", lambda: f"{brief(member)} isn't among the names")
 
 
 def coalitions(game: Any, players: int) -> None:
@@ -229,11 +230,13 @@ def coalitions(game: Any, players: int) -> None:
         for member in coalition:
             player = game["names"].index(member) + 1 if type(member) is str else member
             fits = type(player) is int and 1 <= player <= players
-            need(fits, Refusal.Coalition, place, f"{brief(player)} is no player: they count from 1 to {players}")
-            need(player not in ids, Refusal.Coalition, place, f"{brief(member)} stands twice in {brief(coalition)}")
+            if not fits:
+                raise Found(Refusal.Coalition, place, f"{brief(player)} is no player: they count from 1 to {players}")
+            if player in ids:
+                raise Found(Refusal.Coalition, place, f"{brief(member)} stands twice in {brief(coalition)}")
             ids.append(player)
         first = seen.setdefault(frozenset(ids), i)
-        need(first == i, Refusal.Coalition, place, f"{brief(coalition)} stands in item {first + 1} already")
+        need(first == i, Refusal.Coalition, place, lambda: f"{brief(coalition)} stands in item {first + 1} already")
 
 
 # ---- What a class asks
@@ -269,9 +272,13 @@ def matrix(rows: Any, is_tree: bool) -> None:
             not Fraction(row[i]),
             Refusal.Matrix,
             f"$.game.matrix[{i}][{i}]",
-            f"{brief(row[i])} from a point to itself, and not 0",
+            lambda: f"{brief(row[i])} from a point to itself, and not 0",
         )
         for j in range(i):
             same = Fraction(row[j]) == Fraction(rows[j][i])
-            sentence = f"{brief(row[j])}, and {brief(rows[j][i])} the other way"
-            need(same, Refusal.Matrix, f"$.game.matrix[{i}][{j}]", sentence)
+            need(
+                same,
+                Refusal.Matrix,
+                f"$.game.matrix[{i}][{j}]",
+                lambda: f"{brief(row[j])}, and {brief(rows[j][i])} the other way",
+            )

@@ -101,7 +101,7 @@ def table(game: Game, point: Point, style: Style) -> str:
     rows = [f"<tr><th></th><th>{amount}</th><th>exactly</th><th>{alone}</th></tr>"]
     for i, name in enumerate(game.names):
         last = game.amounts[i] if estate else game.alone(i)
-        cells = text(name), numbers[i], str(point.shares[i]), plain(last)
+        cells = f"<bdi>{text(name)}</bdi>", numbers[i], str(point.shares[i]), plain(last)
         rows.append("<tr>" + "".join(f"<td>{cell}</td>" for cell in cells) + "</tr>")
     total = str(sum(point.shares, Fraction(0)))
     claimed = plain(sum(game.amounts, Fraction(0))) if estate else ""

@@ -10,12 +10,13 @@ from fractions import Fraction
 from typing import Any, Iterator, NamedTuple, Optional, Sequence
 
 from .amounts import written
-from .documents import read_documents
+from .documents import object_of, parse, read_text
 from .errors import BadInput
 from .game import KINDS, LISTS, SINGLE, Game
 from .groups import Namer
 from .masks import members
 from .names import looks, safe, shown
+from .slips import MOST_TO_CHECK, slip_in
 from .variants import parts_of
 
 SPELLINGS = {"version", "excess", "players", "worths", "sparse", "default"}  # which may differ where the game doesn't
@@ -32,13 +33,18 @@ class Difference(NamedTuple):
 
 
 def game_of(path: str) -> Game:
-    """The game of the one document of a file, which has no byte order mark."""
-    documents = read_documents([path], may_be_marked=False)
-    if len(documents) != 1:
-        raise BadInput(f"{path} has {len(documents)} documents, and not one")
-    if "game" not in documents[0].tree:
-        raise BadInput(f"{documents[0].where} has no game")
-    return Game(documents[0].tree["game"])
+    """The game of the one document of a file, which has no byte order mark, and which the program wouldn't refuse."""
+    text, where = read_text(path, may_be_marked=False)
+    trees = parse(text, where)
+    if len(trees) != 1:
+        raise BadInput(f"{path} has {len(trees)} documents, and not one")
+    tree = object_of(trees[0], where)
+    if "game" not in tree:
+        raise BadInput(f"{where} has no game")
+    slip = slip_in(text.encode(), most=MOST_TO_CHECK)
+    if slip:
+        raise BadInput(f"{where}: the program refuses it, {slip.number} {slip.name}, at {slip}")
+    return Game(tree["game"])
 
 
 # ---- As they are written

@@ -80,15 +80,15 @@ def word(tree: Any, words: Sequence[Any], place: str) -> None:
 def items(tree: Any, place: str, test: Callable[[Any, str], None]) -> None:
     """The value is an array, and each item passes the test."""
     hint = ": an array in the order of the players" if type(tree) is dict else ""
-    need(type(tree) is list, Refusal.Shape, place, f"{brief(tree)} is no array{hint}")
+    need(type(tree) is list, Refusal.Shape, place, lambda: f"{brief(tree)} is no array{hint}")
     for i, item in enumerate(tree):
         test(item, f"{place}[{i}]")
 
 
 def pair(tree: Any, place: str, hint: str = "") -> None:
     """The value is an array of two."""
-    need(type(tree) is list, Refusal.Shape, place, f"{brief(tree)} is no pair{hint}")
-    need(len(tree) == 2, Refusal.Shape, place, f"{brief(tree)} has {len(tree)} parts, and not two{hint}")
+    need(type(tree) is list, Refusal.Shape, place, lambda: f"{brief(tree)} is no pair{hint}")
+    need(len(tree) == 2, Refusal.Shape, place, lambda: f"{brief(tree)} has {len(tree)} parts, and not two{hint}")
 
 
 def share(tree: Any, place: str) -> None:
@@ -104,14 +104,14 @@ def share(tree: Any, place: str) -> None:
 def number(tree: Any, place: str) -> None:
     """A number without quotes."""
     hint = ": leave out the quotes" if type(tree) is str else ""
-    need(is_number(tree), Refusal.Shape, place, f"{brief(tree)} is no number{hint}")
+    need(is_number(tree), Refusal.Shape, place, lambda: f"{brief(tree)} is no number{hint}")
 
 
 def amount_of_version_1(tree: Any, place: str) -> None:
     """A number of a game without fractions."""
     hint = ': leave out the quotes, or for fractions put "version":2 into the game' if type(tree) is str else ""
     hint = ": a link that doesn't exist needs a number too" if tree is None and ".matrix" in place else hint
-    need(is_number(tree), Refusal.Shape, place, f"{brief(tree)} is no number{hint}")
+    need(is_number(tree), Refusal.Shape, place, lambda: f"{brief(tree)} is no number{hint}")
 
 
 def amount_of_version_2(tree: Any, place: str) -> None:
@@ -120,13 +120,13 @@ def amount_of_version_2(tree: Any, place: str) -> None:
         is_number(tree) or type(tree) is str,
         Refusal.Shape,
         place,
-        f"{brief(tree)} is no number, and no text of a fraction",
+        lambda: f"{brief(tree)} is no number, and no text of a fraction",
     )
 
 
 def text(tree: Any, place: str) -> None:
     """A text."""
-    need(type(tree) is str, Refusal.Shape, place, f"{brief(tree)} is no text")
+    need(type(tree) is str, Refusal.Shape, place, lambda: f"{brief(tree)} is no text")
 
 
 def member(tree: Any, place: str) -> None:
@@ -135,7 +135,7 @@ def member(tree: Any, place: str) -> None:
         is_number(tree) or type(tree) is str,
         Refusal.Shape,
         place,
-        f"{brief(tree)} is no number of a player, and no name",
+        lambda: f"{brief(tree)} is no number of a player, and no name",
     )
 
 
@@ -193,7 +193,7 @@ def listed(tree: Any, place: str, amount: Callable[[Any, str], None]) -> None:
         type(tree[0]) is list,
         Refusal.Shape,
         f"{place}[0]",
-        f'{brief(tree[0])} is no coalition: write [["Ann","Bob"],6]',
+        lambda: f'{brief(tree[0])} is no coalition: write [["Ann","Bob"],6]',
     )
     items(tree[0], f"{place}[0]", member)
     amount(tree[1], f"{place}[1]")

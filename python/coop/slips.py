@@ -10,7 +10,7 @@ import json
 import re
 from dataclasses import dataclass, replace
 from enum import IntEnum
-from typing import Any, Iterator, Optional
+from typing import Any, Callable, Iterator, Optional, Union
 
 from .names import visible
 from .places import in_words
@@ -55,7 +55,7 @@ COMMANDS = (
 NEEDS = {"propose": SHARES, "kernel": SHARES, "check": ALL}
 """What the document of a command needs, where that isn't the game alone."""
 
-STRING = re.compile(r'"(?:[^"\\]|\\.)*"', re.DOTALL)
+STRING = re.compile(r'"[^"\\]*(?:\\.[^"\\]*)*"', re.DOTALL)
 
 
 @dataclass(frozen=True)
@@ -84,20 +84,22 @@ class Found(Exception):
         self.slip = Slip(refusal.value, place, sentence)
 
 
-def need(fact: object, refusal: Refusal, place: str, sentence: str) -> None:
-    """Ends with a slip where the fact doesn't hold."""
+def need(fact: object, refusal: Refusal, place: str, sentence: Union[str, Callable[[], str]]) -> None:
+    """Ends with a slip where the fact doesn't hold. Of what stands in a document many times the sentence is made when
+    it is needed."""
     if not fact:
-        raise Found(refusal, place, sentence)
+        raise Found(refusal, place, sentence if isinstance(sentence, str) else sentence())
 
 
-def slip_in(data: bytes, command: str = "nucleolus") -> Optional[Slip]:
-    """The first slip for a command in the bytes of a document; None where there is none."""
+def slip_in(data: bytes, command: str = "nucleolus", most: Optional[int] = None) -> Optional[Slip]:
+    """The first slip for a command in the bytes of a document; None where there is none. It may have as many bytes as
+    the command takes, unless another number is named."""
     from .refusals import refuse
     from .shapes import require_shape
 
     needs, tree = NEEDS.get(command, GAME), None
     try:
-        most = MOST_TO_CHECK if command == "check" else MOST_BYTES
+        most = most or (MOST_TO_CHECK if command == "check" else MOST_BYTES)
         need(
             len(data) <= most,
             Refusal.TooLong,
@@ -128,7 +130,10 @@ class Repeated:
 
 
 def repeated(data: bytes) -> Optional[Repeated]:
-    """The first object of a document in which a key stands twice; None where each stands once, or it is no JSON."""
+    """The first object of a document in which a key stands twice; None where each stands once, or it is no JSON, or it
+    is longer than any document."""
+    if len(data) > MOST_TO_CHECK:
+        return None
     found: list[tuple[dict[str, Any], str]] = []
 
     def made(pairs: list[tuple[str, Any]]) -> dict[str, Any]:

@@ -9,7 +9,7 @@ from typing import Callable, Collection, NamedTuple, Optional, Sequence
 from .cells import PLAIN, Cells, csv_text
 from .documents import Point
 from .errors import BadInput
-from .names import safe
+from .names import END_OF_ISOLATE, ISOLATE, is_from_the_right, safe
 from .styles import Style, decimal, rounded, steps_of
 
 DECIMALS = 2
@@ -30,11 +30,6 @@ class Line(NamedTuple):
 def width(text: str) -> int:
     """How many columns a text takes in a terminal."""
     return sum(2 if unicodedata.east_asian_width(c) in "WF" else not unicodedata.combining(c) for c in text)
-
-
-def padded(text: str, columns: int) -> str:
-    """The text with blanks behind it."""
-    return text + " " * (columns - width(text))
 
 
 def longest(texts: Sequence[str]) -> int:
@@ -114,7 +109,8 @@ def aligned(columns: Sequence[Sequence[str]], left: Collection[int] = (0,)) -> s
         cells = []
         for k, (cell, column) in enumerate(zip(row, columns)):
             blanks = " " * (longest(column) - width(cell))
-            cells.append(cell + blanks if k in left else blanks + cell)
+            shown = f"{ISOLATE}{cell}{END_OF_ISOLATE}" if is_from_the_right(cell) else cell
+            cells.append(shown + blanks if k in left else blanks + shown)
         lines.append("  ".join(cells).rstrip() + "\n")
     return "".join(lines)
 

@@ -47,6 +47,20 @@ class Calls(unittest.TestCase):
         self.assertEqual(empty.collection, ((("1", "2"), 1), (("1", "3"), 1), (("2", "3"), 1)))
         self.assertEqual((empty.k, empty.value, empty.against), (2, 3, 2))
 
+    def test_the_least_core(self) -> None:
+        self.assertEqual(coop.least_core(MAJORITY), Fraction(1, 3))
+        self.assertEqual(coop.least_core(AIRPORT), -1)
+        self.assertEqual(coop.least_core(coop.airport(["0.00002", 4, 6])), Fraction(-1, 100000))  # over the factor
+        with self.assertRaisesRegex(coop.BadInput, "one player"):
+            coop.least_core(coop.airport([1]))
+
+    def test_floats_as_shares(self) -> None:
+        self.assertIsInstance(coop.propose(AIRPORT, [1.0, 1.5, 3.499999], digits=2), answers.InCore)
+        shares = {"heavy": 3.5, "light": 1.0, "medium": 1.5}
+        self.assertIsInstance(coop.kernel(AIRPORT, shares, digits=1), answers.InPrekernel)
+        with self.assertRaisesRegex(coop.BadInput, "name a number of digits"):
+            coop.propose(AIRPORT, [1.0, 1.5, 3.5])
+
     def test_proposals(self) -> None:
         blocked = coop.propose(AIRPORT, {"light": 3, "heavy": 2, "medium": 1})
         assert isinstance(blocked, answers.Blocked)
@@ -162,7 +176,7 @@ class Statuses(unittest.TestCase):
             (5, "", coop.Fault, "reading failed"),
             (6, '{"answ', coop.Fault, "writing failed"),
             (7, "", coop.NoMemory, "no memory"),
-            (70, "", coop.Fault, "couldn't build"),
+            (70, "", coop.Fault, "couldn't answer"),
             (-9, "", coop.Fault, "status -9"),
             (2, "usage: cat", coop.Fault, "status 2"),
             (0, "no line", coop.Fault, "isn't one of coop"),

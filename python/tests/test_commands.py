@@ -10,6 +10,7 @@ import unittest
 from fractions import Fraction
 from typing import Any
 
+from coop import BadInput, Game
 from coop.program import TOP
 
 from .asking import needs_program
@@ -308,6 +309,31 @@ class Scripts(unittest.TestCase):
             self.refused(script("same-game", line, twice), "without one")
             self.assertEqual(script("shares", line, twice)[0], 0)
             self.refused(script("same-game", line), "AGREED")
+
+    def test_same_game_of_what_is_refused(self) -> None:
+        """The program would refuse one of the two, so nobody can say what game was meant."""
+        table: dict[str, Any] = {"class": "table", "players": 2, "sparse": [[[2], 7], [[1, 2], 9]]}
+        slips = [
+            ({**AIRPORT, "excess": "perhead"}, AIRPORT, "3 Shape"),
+            ({**table, "sparse": [*table["sparse"], [[2], 5]]}, {**table, "sparse": [[[2], 5], [[1, 2], 9]]}, "7 Coal"),
+            ({**table, "sparse": [[[1, 1], 5]]}, {**table, "sparse": [[[1], 5]]}, "7 Coalition"),
+        ]
+        with tempfile.TemporaryDirectory() as folder:
+            path = os.path.join(folder, "agreed")
+            for wrong, right, told in slips:
+                for one, other in ((wrong, right), (right, wrong)):
+                    with open(path, "w", encoding="utf-8") as file:
+                        json.dump({"game": one}, file)
+                    found = script("same-game", "-", path, text=json.dumps({"game": other}))
+                    self.refused(found, f"the program refuses it, {told}")
+
+    def test_a_share_of_many_zeros(self) -> None:
+        """It is no fraction, and no traceback with the status of a no."""
+        spoilt = json.dumps({**solved(), "shares": ["1/" + "0" * 5000 + "7", "1", "1"]})
+        for words in (("check-anew",), ("shares",), ("explain",)):
+            self.refused(script(*words, text=spoilt), "")
+        with self.assertRaises(BadInput):
+            Game({"class": "airport", "costs": ["1/" + "0" * 5000 + "7"], "version": 2})
 
     def test_slip(self) -> None:
         slip = '{"game":{"class":"airport","cost":[2,4,6]}}'

@@ -1,6 +1,7 @@
 """Many games by an executor: in order, with what it loses, mixes up or never gives."""
 import multiprocessing
 import pickle
+import time
 import unittest
 from concurrent.futures import Future, ProcessPoolExecutor, ThreadPoolExecutor
 from fractions import Fraction
@@ -94,8 +95,10 @@ class Losses(unittest.TestCase):
             list(self.rows(Mixing()))
 
     def test_never(self) -> None:
+        begun = time.monotonic()
         with self.assertRaisesRegex(coop.Lost, "games 1 to 4 .* more than 0.1 s"):
             list(self.rows(Silent(), seconds=0.1))
+        self.assertLess(time.monotonic() - begun, 4)
 
     def test_closed(self) -> None:
         pool = ThreadPoolExecutor(1)
@@ -107,7 +110,7 @@ class Losses(unittest.TestCase):
         drawn: list[int] = []
 
         def games() -> Iterator[coop.Game]:
-            while True:
+            while len(drawn) < 5000:
                 drawn.append(1)
                 yield coop.airport([1, 2])
 

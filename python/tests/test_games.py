@@ -107,6 +107,46 @@ class Constructors(unittest.TestCase):
             with self.assertRaisesRegex(BadInput, sentence):
                 make()
 
+    def test_hostile_input(self) -> None:
+        """What ran long, took gigabytes or ended with another exception."""
+        long: Any = Fraction(10**5000 + 1, 10**5000)
+        cases: list[tuple[str, Callable[..., object], Any]] = [
+            ("1000000000 players", coop.table, {10**9: 1}),
+            ("more than 64 landings", coop.landings, [("a", 1, 10**9)]),
+            ("the exponent 9999999", coop.airport, [Decimal("1E+9999999")]),
+            ("the exponent -9999999", coop.airport, [Decimal("1E-9999999")]),
+            ("more than 4096 bits", coop.airport, [long]),
+            ("no player", coop.table, {None: 1}),
+            ("no player", coop.table, {1.5: 1}),
+            ("no row", coop.landings, [("a", 1)]),
+            ("is a text", coop.airport, "12"),
+            ("is a text", lambda shares: coop.propose(coop.airport([1, 2]), shares), "11"),
+            ("no list of numbers", coop.airport, 5),
+            ("half of a character", lambda names: coop.airport([1], names), ["\ud800"]),
+            ("half of a character", coop.check, "\ud800"),
+            ("half of a character", lambda tree: coop.Game(tree).document(), {
+                "class": "airport", "costs": [1], "names": ["\ud800"]
+            }),
+        ]
+        digits: list[Any] = [10**7, -1, 2.5, "2", float("nan"), True]
+        cases += [("no number of digits", lambda some: coop.airport([1], digits=some), some) for some in digits]
+        for sentence, call, given in cases:
+            with self.assertRaisesRegex(BadInput, sentence):
+                call(given)
+        self.assertEqual(coop.airport([1, 2], iter("ab")).names, ["a", "b"])  # type: ignore[arg-type]
+
+    def test_integers_of_others(self) -> None:
+        """As those of NumPy, which are integers by their `__index__`."""
+
+        class Seven:
+            def __index__(self) -> int:
+                return 7
+
+        seven: Any = Seven()
+        self.expect(coop.airport([seven, 8]), {"class": "airport", "costs": [7, 8]})
+        self.assertEqual(coop.table({(1,): 0, (2,): seven, (1, 2): 9}).worth(2), 7)
+        self.assertEqual(coop.table({seven: 1}, default=0).n, 7)
+
 
 if __name__ == "__main__":
     unittest.main()

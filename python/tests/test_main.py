@@ -17,7 +17,8 @@ def ended(words: list[str], document: bytes = b"", **settings: str) -> tuple[int
     """How the command ends: the status, the line, and what it says beside it."""
     environment = {**os.environ, "PYTHONPATH": os.path.join(TOP, "python"), **settings}
     words = [sys.executable, "-m", "coop", *words]
-    done = subprocess.run(words, input=document, env=environment, cwd="/", stdout=subprocess.PIPE, stderr=subprocess.PIPE)
+    pipe = subprocess.PIPE
+    done = subprocess.run(words, input=document, env=environment, cwd="/", stdout=pipe, stderr=pipe)
     return done.returncode, done.stdout, done.stderr
 
 

@@ -1,7 +1,10 @@
 """Names that try to forge."""
 import unittest
 
-from coop.names import alike, looks, safe, visible, warning
+import coop
+from coop.names import alike, apart, looks, safe, visible, warning
+from coop.sentences import Teller
+from coop.tables import aligned
 
 CAPITALS = "2 names differ in capitals alone: HARTMANN KG, Hartmann KG"
 ZERO_WIDTH, OVERRIDE, ESCAPE = "\u200b", "\u202e", "\x1b"
@@ -56,6 +59,21 @@ class Names(unittest.TestCase):
         self.assertIn("Adler, Adler\\u200b", warning(["Adler", f"Adler{ZERO_WIDTH}"]) or "")
         self.assertIn("escapes in A\\u000aB", warning(["A\nB", "C"]) or "")
         self.assertIn("2 names look alike", warning(["A", "A "]) or "")
+
+    def test_what_takes_no_room(self) -> None:
+        for letter in "\u2800\u2065\ufff0\ufff8\U000e0000\U000e0fff":
+            self.assertIn("2 names look alike", warning(["Ann", f"Ann{letter}"]) or "", hex(ord(letter)))
+            self.assertIn("\\", safe(letter))
+
+    def test_names_from_the_right(self) -> None:
+        """Else a terminal or a browser moves the numbers beside them."""
+        names = ["\u05d0\u05d1", "Ann"]
+        inside = f"\u2068{names[0]}\u2069"
+        self.assertEqual([apart(name) for name in names], [inside, "Ann"])
+        self.assertEqual(aligned([names, ["1", "10"]]), f"{inside}    1\nAnn  10\n")
+        game = coop.airport([1, 2], names)
+        line = {"answer": "blocked", "coalition": [1], "excess": "1"}
+        self.assertIn(f"{inside} alone", Teller(game).told(line))
 
 
 if __name__ == "__main__":

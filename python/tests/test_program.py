@@ -1,6 +1,7 @@
 """Where the program is found, and how it is run."""
 import ctypes
 import os
+import pickle
 import subprocess
 import sys
 import tempfile
@@ -69,6 +70,14 @@ class Finding(unittest.TestCase):
         self.assertIs(find(program), program)
         with self.assertRaises(NotFound):
             Library("/nowhere/libcoop.so")
+
+    def test_pickled(self) -> None:
+        """A program goes to the processes of an executor by what names it."""
+        self.assertEqual(pickle.loads(pickle.dumps(Command(["node", "x"]))).command, ["node", "x"])
+        library = Library.__new__(Library)
+        library.path, library.ctypes = "/nowhere/libcoop.so", ctypes  # which can't be pickled
+        with self.assertRaisesRegex(NotFound, "/nowhere/libcoop.so"):
+            pickle.loads(pickle.dumps(library))
 
 
 class Calling(unittest.TestCase):

@@ -304,7 +304,7 @@ class Reasons(unittest.TestCase):
 
     def test_shares_that_werent_judged(self) -> None:
         blocked = {"answer": "blocked", "coalition": [1], "excess": "1"}
-        good = [
+        good: list[tuple[dict[str, Any], list[Any]]] = [
             (blocked, [3, 1, 2]),
             ({"answer": "core"}, [1, "3/2", "7/2"]),
             ({"answer": "not efficient", "sum": "7", "total": "6"}, [1, 2, 4]),

@@ -10,8 +10,6 @@ mod checker_tests;
 #[cfg(test)]
 mod convexity_tests;
 #[cfg(test)]
-mod counted;
-#[cfg(test)]
 mod determinants_tests;
 #[cfg(test)]
 mod fronts;
@@ -25,8 +23,6 @@ mod kohlberg_tests;
 mod levels;
 #[cfg(test)]
 mod nested_programs_tests;
-#[cfg(test)]
-mod pivots_tests;
 #[cfg(test)]
 mod separation_columns_tests;
 #[cfg(test)]

@@ -12,14 +12,26 @@ const TESTS = {
   filled: isObject, coarse: (one) => isObject(one) && Object.keys(one).every((key) => coarseOf(one)?.[key]),
   decimals: (one) => typeof one === "bigint" && one >= 0n && one <= 6n, mark: isMark, entry: isMark,
   heading: isText, unit: isText, source: isText, proposal: (one) => Array.isArray(one) && one.every(isText),
+  kept: isKept,
 };
 
+/** An answer that was kept to compare: the rows, their shares by each rule, and the cells that have changed since. */
+function isKept(one) {
+  const isShare = (text) => typeof text === "string" && /^-?\d{1,400}(\/[1-9]\d{0,400})?$/.test(text);
+  const { names, sums = names, shares, cells = {} } = isObject(one) ? one : {};
+  const isList = (list, is) => Array.isArray(list) && list.length === names.length && list.every(is);
+  return Array.isArray(names) && names.every((name) => typeof name === "string") && isList(sums, isText)
+    && isObject(shares) && Object.values(shares).every((list) => isList(list, isShare)) && isObject(cells)
+    && Object.values(cells).every(isText);
+}
+
 /** The file of a case: `text` is its document, `mark` that of what is shown, `entry` that of the cells. */
-export function caseText({ typed, text, texts, places, mark, entry, paper: { heading, unit } }) {
+export function caseText({ typed, text, texts, places, mark, entry, kept: pin, paper: { heading, unit } }) {
   const proposal = texts.some(Boolean) ? texts : undefined;
   const { coarse, source } = typed;
   const settings = { filled: filledTree(typed), coarse, decimals: places, mark, entry, heading, unit, source };
-  const kept = Object.entries({ ...settings, proposal }).filter(([, one]) => one !== undefined && one !== "");
+  const all = Object.entries({ ...settings, proposal, kept: pin });
+  const kept = all.filter(([, one]) => one !== undefined && one !== "");
   return `{"${WORD}":${VERSION},\n"document":${text}${kept.map(([key, one]) => {
     return `,\n"${key}":${writeJson(one)}`;
   }).join("")}}\n`;
@@ -40,7 +52,7 @@ export function isCaseFile(tree) {
 
 /** What is wrong with the form of a case: {sentence, place}; null where nothing is. */
 export function faultOfCase(tree) {
-  if (tree[WORD] > VERSION) {
+  if (typeof tree[WORD] === "bigint" && tree[WORD] > VERSION) {
     return { sentence: "A later version of this page has saved this case. Its document can be opened by itself.",
       place: WORD };
   }

@@ -9,13 +9,15 @@ import { askOfSum, isEmpty } from "./sum-row.js";
 // words in the headings of columns, in English, German and French
 const COST = /cost|need|price|fee|charge|amount|kosten|preis|betrag|gebühr|bedarf|co[uû]t|prix|montant|\p{Sc}/iu;
 const heads = (words) => new RegExp(`^(?!.*(${COST.source})).*(${words})`, "iu"); // and no word of a cost
+const CREDITOR = /creditor|claimant|lender|party|name|gläubiger|créancier/iu;
+const CLAIM = /claim(?!ant)|amount|owed|debt|due\b|forderung|betrag|schuld|créance|montant|\p{Sc}/iu;
 const MOST_LANDINGS = 64;
 
 export const runway = {
   id: "runway",
   classes: ["airport"],
   title: "A runway",
-  teaser: "Each needs a part of it. It costs what the most demanding needs.",
+  teaser: "Each user needs a part of it. It costs what the most demanding user needs.",
   unit: "landing",
   columns: [
     {
@@ -30,8 +32,7 @@ export const runway = {
     },
   ],
   ofFour: ["name", "type", "count", "cost"], // what four columns without headings are
-  help: "One row for each airline and kind of landing. The cost is what a runway just for this landing would cost. "
-    + "A player is a landing, so who lands more often counts more often.",
+  help: "One row for each airline and type, with the cost of a runway for such a landing only. Each landing counts.",
   most: 500,
   example: () => ({
     rows: [
@@ -67,14 +68,16 @@ export const runway = {
 
 /** The rows that aren't empty, and have a cost and a number of landings: {airline, type, cost, count}. */
 function readLandings(state, reading) {
-  const kept = [];
+  const kept = [], hasNames = state.rows.some(({ name = "" }) => name.trim());
   state.rows.forEach((row, r) => {
     if (isEmpty(row)) return;
     const text = (key) => (row[key] ?? "").trim().normalize("NFC");
     if (!text("name") && state.isNamed) reading.open(`rows.${r}.name`);
     const cost = reading.number(`rows.${r}.cost`, row.cost, "The cost");
     const count = reading.whole(`rows.${r}.count`, row.count, "The number of landings", 1, 999999999);
-    if (cost && count) kept.push({ airline: text("name") || `Airline ${r + 1}`, type: text("type"), cost, count });
+    const byType = !hasNames && text("type"); // without airlines each type is one
+    const airline = byType || text("name") || `Airline ${r + 1}`, own = { airline, type: byType ? "" : text("type") };
+    if (cost && count) kept.push({ ...own, cost, count });
   });
   return kept;
 }
@@ -83,14 +86,14 @@ export const estate = {
   id: "estate",
   classes: ["bankruptcy"],
   title: "An estate or a bankruptcy",
-  teaser: "There is less than all claim together.",
+  teaser: "The claims add up to more than there is.",
   unit: "claim",
-  single: { key: "estate", title: "The estate", help: "What there is to divide." },
+  single: { key: "estate", title: "The estate", help: "what there is to divide" },
   columns: [
-    { key: "name", title: "Who claims", wide: true, placeholder: "Claimant" },
-    { key: "claim", title: "Claim", number: true },
+    { key: "name", title: "Who claims", wide: true, placeholder: "Claimant", heads: CREDITOR },
+    { key: "claim", title: "Claim", number: true, heads: CLAIM },
   ],
-  help: "One row for each claim.",
+  help: "One row for each claim. If some claims go first, take them off the estate and leave them out.",
   most: 64,
   example: () => ({
     estate: "2000",
@@ -132,8 +135,8 @@ export const estate = {
 function sumRow(names, values) {
   const last = values.length - 1, above = Rational.sum(values.slice(0, last));
   if (last < 2 || above.isZero() || !values[last].equals(above)) return [];
-  return [`The last row, “${shownName(names[last])}”, claims just what all above it claim together. Is it their sum? `
-    + "Then remove it: it counts as a claim."];
+  return [`The last row, “${shownName(names[last])}”, claims exactly what all rows above it claim together. Is it `
+    + "their sum? If so, remove it: it counts as a claim."];
 }
 
 /** Names and numbers of the rows that aren't empty. */

@@ -2,19 +2,19 @@
 import { typedText } from "../exact/decimals.js";
 import { withEscapes } from "../game/names.js";
 import { rowsOf } from "./lists.js";
+import { detoursOf } from "./detours.js";
 import { Reading } from "./reading.js";
 
 export const network = {
   id: "network",
   classes: ["tree"],
   title: "A network of links",
-  teaser: "All have to be joined to one source: pipes, cables, roads.",
+  teaser: "Pipes, cables or roads join everybody to one source.",
   unit: "place",
   isNetwork: true,
   most: 16,
-  help: "What a link between each two places would cost. A group by itself may use the links between its own places "
-    + "and the source alone, and costs its cheapest network of these. A link that can’t be built needs a number too, "
-    + "which decides much: leave it empty, and see below.",
+  help: "What would each link cost? A group by itself uses only links between its own places and the source. If a link "
+    + "can’t be built, leave it empty. Paste a matrix, or a list of from, to and cost.",
   example: () => ({
     names: ["Harbour", "Mill", "Farm", "Chapel"],
     links: linksOf([["9.99", "10.25", "12", "14"], ["1.05", "3.50", "8"], ["6", "2"], ["5"]]),
@@ -24,14 +24,19 @@ export const network = {
   read(state, mark) {
     const reading = new Reading(mark), n = state.names.length;
     const names = reading.names(state.names.map((typed, i) => ({ typed, cell: `names.${i}` })), "Place");
-    const matrix = Array.from({ length: n + 1 }, () => Array(n + 1).fill(0n));
+    const matrix = Array.from({ length: n + 1 }, () => Array(n + 1).fill(0n)), costs = new Map();
     for (let i = 0; i <= n; i++) {
       for (let j = i + 1; j <= n; j++) {
         const value = reading.number(`links.${i}-${j}`, state.links[`${i}-${j}`] ?? "", "The cost of this link");
         if (value) matrix[i][j] = matrix[j][i] = value.toDocument();
+        costs.set(`${i}-${j}`, value);
       }
     }
     reading.close();
+    const cost = (i, j) => costs.get(i < j ? `${i}-${j}` : `${j}-${i}`);
+    const nameOf = (i) => (i ? names[i - 1] : sourceName(state));
+    reading.odds = detoursOf({ filled: state.filled, n, cost, nameOf, mark });
+    reading.isOpen = Boolean(state.isSourceOpen); // which point is the source has to be said first
     return {
       reading,
       rows: rowsOf(names),
@@ -59,12 +64,12 @@ export const market = {
   id: "market",
   classes: ["market", "assignment"],
   title: "Buyers and sellers",
-  teaser: "Each buys one thing, each sells one. Who trades with whom, at which price?",
+  teaser: "Each buys one thing or sells one. Who trades with whom, and at which price?",
   unit: "trader",
   isMarket: true,
   most: 32,
-  help: "What each buyer and seller gain together if they trade: what it is worth to the buyer, less what it is worth "
-    + "to the seller; 0 where that is less than nothing.",
+  help: "What do each buyer and seller gain together if they trade? It is the worth to the buyer less the worth to the "
+    + "seller, or 0 if that is negative.",
   example: () => ({
     buyers: ["Ann", "Ben", "Cem"],
     sellers: ["house", "flat"],

@@ -7,7 +7,8 @@ export const SPOILT = /^\W*\d|^#[A-Z]|^n\/?an?$/i;
 /** Of a spreadsheet (tabs), or of a file with semicolons or commas. Quotes may surround a cell. A comma parts cells
  * only where there is no tab and no semicolon. */
 export function cellsOf(text) {
-  const lines = text.replace(/\r\n?/g, "\n").trimEnd().split("\n");
+  const lines = text.replace(/\r\n?/g, "\n").split("\n");
+  while (lines.length > 1 && !lines.at(-1).trim()) lines.pop(); // empty lines, and no cell of the last one
   const by = text.includes("\t") ? "\t" : text.includes(";") ? ";" : hasCommaColumns(lines) ? "," : "\t";
   return lines.map((line) => splitLine(line, by).map((cell) => cell.trim()));
 }
@@ -60,7 +61,9 @@ export function headingsOf(rows, from, mark) {
 export function columnsFor(columns, headings, { rows = [], mark = ".", ofFour = [] } = {}) {
   const wide = Math.max(headings?.length ?? 0, ...rows.map(lastOf)), all = Array.from({ length: wide }, (_, c) => c);
   const below = (c) => rows.slice(headings ? 1 : 0).map((row) => row[c]).filter(Boolean);
-  const named = all.map((c) => columns.find(({ heads }) => headings && heads?.test(headings[c])));
+  const isTitle = (text, title) => text?.toLowerCase() === title.toLowerCase();
+  const named = all.map((c) => headings && (columns.find(({ title }) => isTitle(headings[c], title))
+    ?? columns.find(({ heads }) => heads?.test(headings[c]))));
   const found = named.map((column, c) => (column && named.indexOf(column) === c ? column : undefined));
   const isFour = wide === 4 && columns.length === ofFour.length && isNumeric(below(3), mark);
   const order = isFour ? ofFour.map((key) => columns.find((column) => column.key === key)) : columns;

@@ -1,6 +1,6 @@
 // Reads what a person typed into the cells of a case, and keeps what is wrong, cell by cell.
 import { lcm } from "../exact/rational.js";
-import { countText, readNumber } from "../exact/decimals.js";
+import { cellNumber, countText, readNumber, shortText } from "../exact/decimals.js";
 import { remarksOf, withEscapes } from "../game/names.js";
 
 const MOST_SCALE = 65536n;
@@ -17,7 +17,10 @@ export class Reading {
     this.doubts = new Map(); // of numbers that the decimal mark decides, by how they were read: the first, and how many
     this.shown = new Map(); // marks that stand in front of decimals beyond doubt, each with a text that shows it
     this.asked = null; // a row that may be the sum of the others: {r, name}
+    this.mixed = null; // a number that would have decimals, though it hardly looks so: {typed, proof, count, value}
+    this.isUneven = false; // whether some number shows its mark by other than three decimals
     this.either = null; // a whole number that is one by both marks, as 5.000: {typed, ways}, each [value, mark]
+    this.isOpen = false; // whether the grid itself has a question
     this.notes = []; // what was changed for the program, and what is remarkable
     this.numbers = [];
     this.texts = new Map();
@@ -25,7 +28,12 @@ export class Reading {
 
   /** What a text is read as. Tables have many cells with the same text, so it is kept. */
   known(typed) {
-    if (!this.texts.has(typed)) this.texts.set(typed, readNumber(typed, this.mark));
+    if (!this.texts.has(typed)) {
+      const found = cellNumber(typed, this.mark), { value, by, isWorkedOut } = found;
+      if (by && !new RegExp(`\\${by}\\d{3}\\D*$`).test(typed)) this.isUneven = true;
+      if (isWorkedOut) this.notes.push(`“${withEscapes(typed.trim())}” is worked out: ${shortText(value)}.`);
+      this.texts.set(typed, found);
+    }
     return this.texts.get(typed);
   }
 
@@ -61,6 +69,15 @@ export class Reading {
     const known = this.doubts.get(how) ?? { how, typed, value: String(value), count: 0 };
     this.doubts.set(how, known);
     known.count += 1;
+    if (/0\D*$/.test(typed)) known.isRound = true;
+  }
+
+  /** Where numbers as 90,000 would be read with decimals, and others show the mark by other than three of them, or show
+   * both marks, it is asked what they are, unless the user said it. */
+  askOfMixed(isMarked) {
+    const odd = this.doubts.get("decimals"), [proof] = this.shown.values(), isClash = this.shown.size > 1;
+    if (isMarked || !odd || !proof || !(isClash || (odd.isRound && this.isUneven))) return;
+    this.mixed = { ...odd, proof, whole: String(readNumber(odd.typed, "").value) };
   }
 
   /** The one mark that all other numbers show; null where none does, or both stand there. */
@@ -75,7 +92,7 @@ export class Reading {
     if (fault === "is empty") return this.open(cell);
     if (doubt) this.doubt(doubt, typed, value);
     if (doubt && !this.either) this.either = eitherOf(typed);
-    const shown = doubt && !isWhole ? OTHER[/[.,]/.exec(typed)[0]] : by;
+    const shown = doubt ? this.markOfWhole(typed, isWhole) : by;
     if (shown && !this.shown.has(shown)) this.shown.set(shown, typed);
     if (!isWhole) return this.fault(cell, `${what} is a whole number.`);
     const number = value.toNumber();
@@ -83,7 +100,14 @@ export class Reading {
     return this.fault(cell, `${what} is from ${low} to ${countText(high)}.`);
   }
 
-  /** Where a whole number is one by both marks, no other number shows which stands in front of decimals, and the user
+  /** The mark that a whole number shows, by which alone it is whole; none if it is whole by both. */
+  markOfWhole(typed, isWhole) {
+    if (!isWhole) return OTHER[/[.,]/.exec(typed)[0]];
+    const other = OTHER[this.mark] && readNumber(typed, OTHER[this.mark]).value;
+    return other && !other.isWhole() ? this.mark : undefined;
+  }
+
+  /** Where a whole number is one by both marks, no other number shows which comes before decimals, and the user
    * hasn't said it (`isMarked`), it is asked. */
   askOfEither({ isMarked }) {
     if (isMarked || this.settles() !== null || this.mark.length !== 1) this.either = null;
@@ -96,7 +120,7 @@ export class Reading {
     for (const { typed, cell } of isNamed ? cells : []) if (!typed.trim()) this.open(cell);
     names.forEach((name, i) => {
       if (bytesOf(name) > 64) this.fault(cells[i].cell, "A name has at most 64 letters (32 with accents).");
-      if (first.has(name)) this.fault(cells[i].cell, `The name “${withEscapes(name)}” stands twice.`);
+      if (first.has(name)) this.fault(cells[i].cell, `The name “${withEscapes(name)}” occurs twice.`);
       else first.set(name, i);
     });
     this.remark(names);
@@ -134,7 +158,8 @@ export class Reading {
   }
 
   isRight() {
-    return !this.count && !this.empty.count && !this.asked && !this.either && !this.isPaused;
+    return !this.isOpen && !this.count && !this.empty.count && !this.asked && !this.either && !this.mixed
+      && !this.isPaused;
   }
 }
 

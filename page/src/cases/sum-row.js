@@ -1,21 +1,24 @@
-// A last row that is the sum of the others comes with many sheets. It is nobody, and must not count before that is
-// settled.
+// A row that is the sum of others comes with many sheets. It is nobody, and must not count before that is settled.
 import { Rational } from "../exact/rational.js";
 import { isSumWord } from "../game/names.js";
 
 export const isEmpty = (row) => Object.values(row).every((text) => !text.trim());
 
-/** Asks of the last row, where it is named as a sum, or stands without a name below names, and a number of it is the
- * sum of those above, or the greatest. `keys` are the columns of numbers. Whether it was asked. */
+/** Asks of a row that is named as a sum, or of the last one, if it has no name below names and a number of it is the
+ * sum of those above, or the greatest. `keys` are the columns of numbers; `state.notSums` are the names of which it was
+ * said already, or true for all. Whether it was asked. */
 export function askOfSum(reading, state, keys) {
   const kept = state.rows.map((row, r) => ({ row, r })).filter(({ row }) => !isEmpty(row)), last = kept.at(-1);
   if (kept.length < 2) return false;
-  const name = last.row.name.trim(), above = kept.slice(0, -1).map(({ row }) => row);
-  const isAsked = name ? isSumWord(name) && state.notSum !== name
-    : Boolean(state.isNamed) && keys.some((key) => isAbove(reading, last.row[key], above.map((row) => row[key])));
+  const nameOf = ({ row }) => row.name.trim(), { notSums = [] } = state;
+  const named = kept.filter((one) => isSumWord(nameOf(one)) && notSums !== true && !notSums.includes(nameOf(one)));
+  const above = kept.slice(0, -1).map(({ row }) => row);
+  const isAsked = named.length > 0 || (!nameOf(last) && Boolean(state.isNamed)
+    && keys.some((key) => isAbove(reading, last.row[key], above.map((row) => row[key]))));
   if (!isAsked) return false;
   reading.notes = reading.notes.filter((note) => !note.includes("Is it the sum of the others?")); // it is asked instead
-  reading.asked = { r: last.r, name };
+  const { r } = named.at(-1) ?? last;
+  reading.asked = { r, name: state.rows[r].name.trim(), isLast: r === last.r };
   return true;
 }
 

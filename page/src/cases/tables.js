@@ -3,6 +3,7 @@ import { readNumber, typedText } from "../exact/decimals.js";
 import { maskOf, masksBySize, membersOf } from "../game/groups.js";
 import { withEscapes } from "../game/names.js";
 import { rowsOf } from "./lists.js";
+import { oddsOf } from "./odds.js";
 import { cellsOf, ROW_NUMBERS, withoutRowNumbers } from "./pasting.js";
 import { Reading } from "./reading.js";
 import { headingOf, manyBelow, numbersIn, vectorOf } from "./vectors.js";
@@ -38,7 +39,9 @@ function tableCase(settings) {
         values[mask] = reading.number(`numbers.${mask}`, state.numbers[mask] ?? "", settings.what, settled);
       }
       reading.close();
-      const rows = rowsOf(names);
+      const rows = rowsOf(names), given = values.map((value) => value ?? undefined);
+      reading.odds = oddsOf(given, n, { isCost: settings.isCost, nameOf: (mask) => groupLabel(names, mask) })
+        .map(({ mask, sentence }) => ({ cell: `numbers.${mask}`, sentence, mask }));
       if (!reading.isRight()) return { reading, rows, tree: {} };
       const item = (mask) => [membersOf(mask).map((i) => names[i]), values[mask].toDocument()];
       const numbers = n <= MOST_BY_NAME
@@ -59,10 +62,10 @@ export const costs = tableCase({
   id: "costs",
   classes: ["cost-table"],
   title: "Costs of each group",
-  teaser: "What would each group of partners have to spend without the others?",
+  teaser: "Partners share a cost. What would each group spend without the others?",
   what: "The cost",
   isCost: true,
-  help: "What each group would cost by itself. Every group is listed, so none can be forgotten.",
+  help: "What would each group cost by itself?",
   example: () => exampleOf(["Sales", "Ops", "Legal"], [8, 7.5, 6, 10, 10, 10.25, 12]),
 });
 
@@ -70,9 +73,9 @@ export const gains = tableCase({
   id: "gains",
   classes: ["table"],
   title: "Gains of each group",
-  teaser: "What could each group earn or save without the others?",
+  teaser: "Partners earn or save together. What could each group do without the others?",
   what: "The gain",
-  help: "What each group could gain by itself. Every group is listed, so none can be forgotten.",
+  help: "What could each group gain by itself?",
   example: () => exampleOf(["singer", "pianist", "drummer"], [20, 30, 0, 80, 50, 65, 120]),
 });
 
@@ -192,8 +195,8 @@ function placedList(read, names) {
     const stranger = members.find((member) => !places.has(member)), group = withEscapes(members.join(" + "));
     if (stranger !== undefined) return { fault: `${line}There is no line for “${withEscapes(stranger)}” alone.` };
     const mask = maskOf(members.map((member) => places.get(member)));
-    if (membersOf(mask).length < members.length) return { fault: `${line}${group}: a member stands twice.` };
-    if (numbers[mask] !== "") return { fault: `${line}${group} stands twice.` };
+    if (membersOf(mask).length < members.length) return { fault: `${line}${group}: a member occurs twice.` };
+    if (numbers[mask] !== "") return { fault: `${line}${group} occurs twice.` };
     numbers[mask] = number;
   }
   return { state: { names, numbers } };

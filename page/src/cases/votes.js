@@ -1,32 +1,35 @@
 // Votes: by one quota, which is a game of its own class, or by two at once, which is a table of who wins.
-import { gcd, Rational } from "../exact/rational.js";
-import { readNumber, typedText } from "../exact/decimals.js";
+import { gcd, lcm, Rational } from "../exact/rational.js";
+import { readNumber, shortText, typedText } from "../exact/decimals.js";
 import { membersOf } from "../game/groups.js";
 import { withEscapes } from "../game/names.js";
 import { readList } from "./lists.js";
+import { askOfSum } from "./sum-row.js";
 
-const MOST_IN_TABLE = 16;
+const MOST = 32, MOST_IN_TABLE = 16;
 const MOST_VOTES = 1000n;
+const VOTER = /voter|state|party|member|country|holder|owner|name|staat|land|partei|mitglied|aktion|état|pays|parti/iu;
+const VOTES = /vote|seat|share|weight|stimme|sitz|anteil|voix|siège|part\b|population|bevölkerung/iu;
 
 export const votes = {
   id: "votes",
   classes: ["voting"],
   title: "Votes",
-  teaser: "Who has how much power, where one quota decides, or two?",
+  teaser: "How much power does each voter have, with one quota or two?",
   unit: "voter",
   isVote: true,
   places: 3,
   single: {
     key: "quota", title: "Votes needed",
-    help: "A motion passes with at least so many, or with such a part of all votes: 60 %.",
+    help: "The least number that is enough, or a percentage of all votes, such as 60 %.",
   },
   columns: [
-    { key: "name", title: "Who votes", wide: true, placeholder: "Voter" },
-    { key: "votes", title: "Votes", number: true },
+    { key: "name", title: "Who votes", wide: true, placeholder: "Voter", heads: VOTER },
+    { key: "votes", title: "Votes", number: true, heads: VOTES },
   ],
   second: {
-    single: { key: "secondQuota", title: "Needed of the second", help: "A motion passes where it reaches both." },
-    column: { key: "second", title: "Second votes", number: true, fallback: "1" },
+    single: { key: "secondQuota", title: "Needed of the second", help: "A motion has to reach both." },
+    column: { key: "second", title: "Second votes", number: true, grey: "1" },
   },
   help: "One row for each voter, party or shareholder.",
   most: 32,
@@ -41,15 +44,15 @@ export const votes = {
     const isDouble = state.secondQuota !== undefined;
     const rows = state.rows.map(({ name, votes }) => ({ name, votes }));
     const list = readList({ rows }, mark, "votes", "The number of votes", "Voter"), { reading, names } = list;
+    askOfSum(reading, state, ["votes"]);
     const ballots = [readBallot(reading, state.quota, "quota", "The quota", list)];
     if (isDouble) ballots.push(readSecond(reading, state, mark, names));
-    reading.close();
-    const most = isDouble ? MOST_IN_TABLE : 32;
-    if (names.length > most) {
-      const what = isDouble ? "with two quotas the program takes 16" : "the program takes 32";
-      reading.fault(list.cells.at(-1), `These are ${names.length} voters, and ${what}.`);
+    if (!isDouble) reading.close();
+    if (names.length > MOST) {
+      reading.fault(list.cells.at(-1), `These are ${names.length} voters, and at most ${MOST} are taken.`);
     }
     if (!reading.isRight()) return { ...list, tree: {} };
+    if (isDouble && names.length > MOST_IN_TABLE) return { ...list, tree: null, ballots, isBeyond: true };
     const tree = isDouble ? tableOfWins(names, ballots) : votingGame(reading, list, ballots[0]);
     return { ...list, tree, ballots };
   },
@@ -63,57 +66,73 @@ export const votes = {
 };
 
 /** The least number of votes that reaches a quota in per cent of all votes; null for another text. */
-function partOf(typed, all, mark) {
+function partOf(typed, all, mark, isWhole) {
   const [, percent] = /^(.*)%\s*$/.exec(typed ?? "") ?? [];
   const { value } = percent === undefined ? {} : readNumber(percent.trim(), mark);
-  return value ? Rational.of(-all.times(value).over(Rational.of(-100)).floor()) : null;
+  const part = value && all.times(value).over(Rational.of(100));
+  return part && isWhole ? Rational.of(-part.negated().floor()) : part ?? null;
 }
 
-/** The quota of some votes, which are whole numbers. */
-function readBallot(reading, typed, cell, what, { values, cells }) {
-  const all = Rational.sum(values), part = partOf(typed, all, reading.mark);
-  const quota = part ?? reading.number(cell, typed, what);
-  if (part) reading.notes.push(`${what}: ${withEscapes(typed.trim())} of ${all} votes, so at least ${part}.`);
-  values.forEach((value, i) => value.isWhole() || reading.fault(cells[i], "Votes are whole numbers."));
+/** The quota of some votes. With decimals it may have some, too. */
+function readBallot(reading, typed, cell, what, { values }) {
+  const all = Rational.sum(values), isWhole = values.every((value) => value.isWhole());
+  const part = partOf(typed, all, reading.mark, isWhole), quota = part ?? reading.number(cell, typed, what);
+  if (part) {
+    const [told, least] = [all, part].map(shortText);
+    reading.notes.push(`${what}: ${withEscapes(typed.trim())} of ${told} votes, so at least ${least}.`);
+  }
   if (!quota) return { values };
-  if (!quota.isWhole()) reading.fault(cell, `${what} is a whole number: the least number of votes that is enough.`);
-  else if (quota.num < 1n || all.less(quota)) reading.fault(cell, `${what} is from 1 to ${all}, the votes of all.`);
+  if (isWhole && !quota.isWhole()) {
+    reading.fault(cell, `${what} is a whole number: the least number of votes that is enough.`);
+  } else if (quota.isZero() || quota.isNegative() || all.less(quota)) {
+    const least = isWhole ? `from 1 to ${all}` : `above 0, and at most ${shortText(all)}`;
+    reading.fault(cell, `${what} is ${least}, the votes of all.`);
+  }
   return { votes: values, quota };
 }
 
-/** The second votes, in the rows that have a name or votes; an empty cell is 1. */
+/** A ballot in whole numbers. */
+export function inWhole({ votes, quota }) {
+  const scale = Rational.of([...votes, quota].reduce((all, { den }) => lcm(all, den), 1n));
+  return { votes: votes.map((one) => one.times(scale).num), quota: quota.times(scale).num };
+}
+
+/** The second votes, in the rows that have a name or votes. As long as all are empty each counts as 1; once one is
+ * typed, the others are asked for. */
 function readSecond(reading, state, mark, names) {
   const kept = state.rows.map((row, r) => ({ row, r })).filter(({ row }) => row.name.trim() || row.votes.trim());
-  const values = [], cells = [];
+  const isAny = kept.some(({ row }) => row.second?.trim()), values = [], cells = [];
   for (const { row, r } of kept.slice(0, names.length)) {
     cells.push(`rows.${r}.second`);
-    const typed = row.second?.trim() || "1";
+    const typed = isAny ? row.second ?? "" : "1";
     values.push(reading.number(cells.at(-1), typed, "The second number of votes") ?? Rational.of(0));
   }
+  if (!isAny) reading.notes.push("No second votes are typed, so each voter has one.");
   return readBallot(reading, state.secondQuota, "secondQuota", "The second quota", { values, cells });
 }
 
-function votingGame(reading, { names, values, cells }, { quota }) {
-  const all = Rational.sum(values).num;
-  const common = values.reduce((divisor, value) => gcd(divisor, value.num), quota.num) || 1n;
+function votingGame(reading, { names, cells }, ballot) {
+  const { votes, quota } = inWhole(ballot), all = votes.reduce((sum, one) => sum + one, 0n);
+  const common = votes.reduce(gcd, quota) || 1n;
   // votes alone decide which sums are reached, so the quota is rounded up where only the votes have a common divisor
-  const ofVotes = values.reduce((divisor, value) => gcd(divisor, value.num), 0n) || 1n;
-  const by = all > MOST_VOTES ? ofVotes : 1n;
+  const ofVotes = votes.reduce(gcd, 0n) || 1n, by = all > MOST_VOTES ? ofVotes : 1n;
   if (all / by > MOST_VOTES) {
-    reading.fault(cells.at(-1), `The votes add to ${all}, and the program takes 1,000. They have no common divisor `
-      + "that helps. To 16 voters choose two quotas, with a second one that all reach: then any votes do.");
+    reading.fault(cells.at(-1),
+      `The votes add to ${shortText(Rational.sum(ballot.votes))}, and the program takes 1,000. `
+      + "They have no common divisor that helps. Choose two quotas, with a second one that all reach: then any "
+      + "votes do.");
   }
   if (by > 1n) {
     const rounded = common === by ? "" : ", rounded up";
     reading.notes.push(`All votes are divided by ${by}, and the quota with them${rounded}: `
       + "which groups win stays the same.");
   }
-  return { class: "voting", names, quota: (quota.num + by - 1n) / by, weights: values.map((value) => value.num / by) };
+  return { class: "voting", names, quota: (quota + by - 1n) / by, weights: votes.map((one) => one / by) };
 }
 
 /** A table with 1 for each group that reaches all quotas, and else 0. */
 function tableOfWins(names, ballots) {
-  const counted = ballots.map(({ votes, quota }) => ({ votes: votes.map(({ num }) => num), quota: quota.num }));
+  const counted = ballots.map(inWhole);
   const wins = (mask) => counted.every(({ votes, quota }) => {
     return membersOf(mask).reduce((sum, i) => sum + votes[i], 0n) >= quota;
   });

@@ -8,15 +8,21 @@ import { figure } from "./figure.js";
 const MOST_ROWS = 12; // of landings that have a bar each
 
 /** `rows` are {label, players}: players of a row have equal shares, and the bar is that of one of them. */
-export function barsPicture(game, rows, points, { show, wide }) {
+export function barsPicture(game, rows, points, { show, column, wide }) {
   const first = rows.map(({ players: [i] }) => i);
   const alone = first.map((i) => game.alone(i)), added = first.map((i) => game.added(i));
   const values = [ZERO, ...added, ...points.flatMap((point) => first.map((i) => point.shares[i]))];
   const most = Rational.max(values), isFar = most.times(Rational.of(4)).less(Rational.max(alone));
   const low = Rational.min([...values, ...alone]).toNumber();
   const high = isFar ? most.toNumber() * 1.1 : Rational.max([...values, ...alone]).toNumber();
-  const own = game.costs ? "costs alone" : "is worth alone";
+  const own = game.costs ? "costs alone" : game.kind === "bankruptcy" ? "is left if all others are paid in full"
+    : "is worth alone";
   const isSeveral = rows.some(({ players }) => players.length > 1);
+  const isWhole = !isSeveral && rows.length === game.n; // then the numbers are those of the table, which add up
+  const texts = points.map(({ shares }) => {
+    const own = first.map((i) => shares[i]);
+    return isWhole ? column(own) : own.map(show);
+  });
   const within = (value) => (value.toNumber() <= high ? value.toNumber() : null);
   return chart({
     title: game.costs ? "What each pays" : "What each gets",
@@ -30,7 +36,7 @@ export function barsPicture(game, rows, points, { show, wide }) {
     rows: rows.map(({ label, players }, r) => ({
       label, note: players.length > 1 ? `each of ${players.length}` : "", end: high,
       told: `${label}: ${[
-        ...points.map((point) => `${point.title} ${show(point.shares[players[0]])}`),
+        ...points.map((point, k) => `${point.title} ${texts[k][r]}`),
         `${own} ${show(alone[r])}`, `adds ${show(added[r])} to all others`,
       ].join(", ")}`,
       bars: points.map((point) => ({ key: point.key, value: point.shares[players[0]].toNumber() })),

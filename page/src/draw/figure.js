@@ -6,13 +6,19 @@ const PICTURE = "/* PICTURE */";
 
 /** `name` is that of the file, without its ending. */
 export function figure(kind, name, drawn, ...caption) {
-  return el("figure", { class: kind },
-    el("div", { class: "scroll" }, drawn),
-    el("figcaption", { class: "hint" }, ...caption, " ",
-      button("Save this picture", () => download(`${name}.svg`, asFile(drawn), "image/svg+xml"), {
-        class: "quiet save screen",
-        "aria-label": `Save this picture, ${drawn.getAttribute("aria-label").split(".")[0]}`,
-      })));
+  const element = el("figure", { class: kind }, el("div", { class: "scroll" }, drawn),
+    caption.some(Boolean) && el("figcaption", { class: "hint" }, ...caption));
+  element.save = () => download(`${name}.svg`, asFile(drawn), "image/svg+xml");
+  return element;
+}
+
+/** A button for each picture in some elements, which saves it. */
+export function pictureButtons(holders) {
+  const figures = holders.flatMap((holder) => [...holder.querySelectorAll("figure")]).filter(({ save }) => save);
+  return figures.map((one) => {
+    const title = one.querySelector("svg").getAttribute("aria-label").split(".")[0];
+    return button(`Save the picture “${title}”`, () => one.save(), { class: "quiet save" });
+  });
 }
 
 /** The picture as a document of its own: in the light colours, on white. */

@@ -65,8 +65,5 @@ function placed(name, x, y, { isSource, isLeaf, price }) {
 
 export function plan(game, links, settings) {
   return figure("plan", "network", planPicture(game, links, settings),
-    "The number at a place is what it pays by Bird’s shares: the link to the one before. No network costs less. It ",
-    "grows from the source, always by the cheapest next link, which the new place pays (Bird 1976). No group can do ",
-    "better than by ",
-    "these payments.");
+    "The cheapest network. The number at a place is its link to the place before, which it pays by Bird’s shares.");
 }

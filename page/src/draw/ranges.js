@@ -1,7 +1,8 @@
 // Who trades with whom, and the range of the price; and the power of votes.
 import { Rational } from "../exact/rational.js";
-import { decimal, fractionText } from "../exact/decimals.js";
+import { decimal, fractionText, shortText } from "../exact/decimals.js";
 import { el } from "../page/dom.js";
+import { listed } from "../tell/words.js";
 import { tickText } from "./bars.js";
 import { chart } from "./chart.js";
 import { figure } from "./figure.js";
@@ -42,7 +43,11 @@ export function tradesTable(deals, format) {
 export function trades(game, matching, { solution, wide, ...format }) {
   const deals = dealsOf(game, matching, solution), traded = new Set(deals.flatMap(({ pair }) => pair));
   const idle = game.everyone().filter((i) => !traded.has(i)).map((i) => game.shown[i]);
-  return el("div", {}, tradesTable(deals, format),
+  const pairs = deals.length > 6 ? `${deals.length} pairs` : listed(deals.map(({ who }) => who));
+  return el("div", {},
+    deals.length > 0 && el("p", { class: "lead" }, `${pairs} ${deals.length > 1 ? "trade" : "trades"}: together they `
+      + `gain ${format.show(Rational.of(matching.value))}.`),
+    tradesTable(deals, format),
     el("p", { class: "hint" },
       `Together they gain ${format.show(Rational.of(matching.value))}; no other pairs gain more. `,
       "A price is what the seller gets of the gain, above its own value. The ranges say how far each price can go, ",
@@ -71,6 +76,11 @@ export function pricesPicture(deals, price, show, wide) {
 
 // ---- Votes
 
+/** Votes as they are counted: whole, or with decimals. */
+export function votesText(value) {
+  return value.isWhole() ? String(value) : shortText(value);
+}
+
 const HUNDRED = Rational.of(100);
 const NARROW = 520;
 
@@ -82,7 +92,7 @@ function remarkOn(i, share, ballots) {
 }
 
 /** `ballots` have the votes and the quota of each of one or two ballots. */
-export function power(game, shares, { mark, wide }) {
+export function power(game, shares, { mark, wide, kept }) {
   const { ballots, shown } = game, isDouble = ballots.length > 1;
   const hasParts = !isDouble || wide >= NARROW; // the power has to be seen without scrolling
   const parts = ballots.map(({ votes }) => votes.map((own) => own.over(Rational.sum(votes))));
@@ -92,17 +102,20 @@ export function power(game, shares, { mark, wide }) {
     return el("tr", {},
       el("th", { scope: "row" }, shown[i], remark && el("small", {}, remark)),
       ballots.map(({ votes }, b) => [
-        el("td", { class: "number" }, String(votes[i])),
+        el("td", { class: "number" }, votesText(votes[i])),
         hasParts && el("td", { class: "number" }, percent(parts[b][i])),
       ]),
+      kept && el("td", { class: "number kept" }, kept[i] ? percent(kept[i]) : "–"),
       el("td", { class: "number main" }, percent(shares[i]), exact && el("small", {}, exact)));
   });
-  const all = ["Voter", "Votes", "of all", ...(isDouble ? ["Second votes", "of all"] : []), "Power"];
+  const own = isDouble ? ["Second votes", "of all"] : [];
+  const all = ["Voter", "Votes", "of all", ...own, ...(kept ? ["Kept"] : []), "Power"];
   const heads = all.filter((head) => hasParts || head !== "of all");
   const reaches = isDouble ? "reaches both quotas" : "reaches the quota";
   return el("div", {}, tableOf("power", heads, rows),
     el("p", { class: "hint" },
-      `Power: in what part of all orders of joining a voter is the one who ${reaches} (Shapley and Shubik 1954).`),
+      `Power: in what part of all orders of joining a voter is the one who ${reaches} (Shapley and Shubik 1954). `,
+      "This page has no Banzhaf index, and no third condition such as a blocking minority."),
     figure("powers", "power", powerPicture(game, shares, parts, percent, wide)));
 }
 

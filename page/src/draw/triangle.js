@@ -51,7 +51,7 @@ export function trianglePicture(game, points, { wide }) {
 }
 
 /** The points, those at one place together: the mark is that of the last, which lies above the others. */
-function togetherOf(points) {
+export function togetherOf(points) {
   const places = new Map();
   for (const { key, title, shares } of points) {
     const place = shares.join(), { titles = [] } = places.get(place) ?? {};
@@ -160,7 +160,7 @@ function letterAt(letter, x, y) {
 }
 
 /** Each point has its own mark, told from the others without colour. */
-function markOf(key, x, y) {
+export function markOf(key, x, y) {
   const own = { class: "own mark", "data-point": key };
   const at = (pairs) => pairs.map(([a, b]) => `${x + a},${y + b}`).join(" ");
   if (key === "shapley") return svg("rect", { ...own, x: x - 5.5, y: y - 5.5, width: 11, height: 11 });

@@ -11,6 +11,9 @@ const MOST_POWER = 40; // of ten, in a number as 1e-05
 const BLANKS = "[\\s\u00a0\u202f'’_]";
 const PARTED = new RegExp(`\\d${BLANKS}+\\d`), PARTED_BEHIND = new RegExp(`${BLANKS}\\d`);
 const BY_THREE = new RegExp(`^\\D*\\d{1,3}(?:${BLANKS}\\d{3})+(?!\\d)(\\D.*)?$`, "s");
+const MONEY = "(?:EUR|USD|GBP|CHF|JPY|CNY|INR|SEK|NOK|DKK|PLN|CZK|HUF|AUD|CAD|NZD|BRL|MXN|ZAR|TRY|\\p{Sc})";
+const OF_MONEY = new RegExp(`^${MONEY}|${MONEY}$`, "gu");
+const LAKHS = /^-?[1-9]\d?(?:,\d\d)+,\d{3}(\.\d+)?$/; // thousands as in India: 12,34,567
 const SCIENTIFIC = /^(-?)(\d*)(?:([.,])(\d*))?e([+-]?\d{1,3})$/i;
 
 /** Shares in steps of the last place, which add to the rounded sum, or to one that is given: all are rounded down
@@ -32,10 +35,10 @@ export function stepsOf(value, places) {
 }
 
 /** Steps of the last place as a decimal: 1234567 in two places is "12 345.67". */
-export function decimalOf(steps, places, { mark = ".", grouped = true } = {}) {
+export function decimalOf(steps, places, { mark = ".", grouped = true, least = 4 } = {}) {
   const digits = String(steps < 0n ? -steps : steps).padStart(places + 1, "0");
   const whole = digits.slice(0, digits.length - places);
-  const shown = grouped && whole.length > 4 ? whole.replace(/(?=(\d{3})+$)(?!^)/g, NARROW) : whole;
+  const shown = grouped && whole.length > least ? whole.replace(/(?=(\d{3})+$)(?!^)/g, NARROW) : whole;
   return (steps < 0n ? "−" : "") + shown + (places ? mark + digits.slice(-places) : "");
 }
 
@@ -107,7 +110,7 @@ export function typedText(value, by = ".") {
 function joined(typed) {
   const rest = PARTED.test(typed) ? BY_THREE.exec(typed) : [];
   if (!rest || PARTED_BEHIND.test(rest[1] ?? "")) return null;
-  return typed.replace(/[\s\u00a0\u202f'’_]/g, "").replace(/^\p{Sc}|\p{Sc}$/gu, "").replace(/^[−–]/, "-");
+  return typed.replace(/[\s\u00a0\u202f'’_]/g, "").replace(OF_MONEY, "").replace(/^[−–]/, "-");
 }
 
 /** A decimal with a power of ten, as programs print it: 1e-05 is 0.00001. */
@@ -137,10 +140,23 @@ export function readNumber(typed, mark = ".") {
   return marked(text, mark);
 }
 
+/** The number of a cell, in which one may add and multiply, too: "27400*1.12 + 300". `isWorkedOut` says so. */
+export function cellNumber(typed, mark = ".") {
+  if (!/[\d.,)\s][*×+]/.test(typed) || SCIENTIFIC.test(typed.trim())) return readNumber(typed, mark);
+  const terms = typed.trim().replace(/^=/, "").split("+").map((term) => term.split(/[*×]/));
+  const read = terms.map((factors) => factors.map((text) => readNumber(text.trim(), mark)));
+  const all = read.flat(), { fault } = all.find((one) => one.fault) ?? {};
+  if (fault) return { fault: "is no number" };
+  const products = read.map((factors) => factors.reduce((all, { value }) => all.times(value), Rational.of(1)));
+  const { doubt } = all.find((one) => one.doubt) ?? {}, { by } = all.find((one) => one.by) ?? {};
+  return { value: Rational.sum(products), doubt, by, isWorkedOut: true };
+}
+
 function marked(text, mark) {
   const marks = text.replace(/[^.,]/g, "");
   const last = marks.at(-1), other = last === "." ? "," : ".";
   if (!marks) return { value: new Rational(BigInt(text)) };
+  if (LAKHS.test(text)) return { value: withDecimals(...`${text.replaceAll(",", "")}.`.split(".")), by: "." };
   const thousands = (by) => new RegExp(`^-?[1-9]\\d{0,2}(\\${by}\\d{3})+$`);
   if (marks.length > 1 && marks === last.repeat(marks.length)) {
     if (!thousands(last).test(text)) return { fault: "is no number" };

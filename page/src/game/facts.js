@@ -2,7 +2,7 @@
 import { Rational } from "../exact/rational.js";
 import { everyoneOf, maskOf, membersOf } from "./groups.js";
 
-const MOST_GROUPS = 3; // players of whose groups the page knows what each is worth: those of a triangle
+const MOST_GROUPS = 4; // players of whose groups the page knows what each is worth: those of a tetrahedron
 
 /** The facts of a game as a worker can send them. `ballots` are the votes and the quota of each ballot, where the case
  * is a vote. */
@@ -60,7 +60,7 @@ export class Facts {
     return this.adds[i];
   }
 
-  /** What a group of at most three players is worth; a cost is negative. */
+  /** What a group of at most four players is worth; a cost is negative. */
   worth(group) {
     return this.groups[maskOf(group)];
   }

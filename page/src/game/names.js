@@ -4,7 +4,9 @@
 const HIDDEN = /[\p{Cc}\p{Cf}\p{Zl}\p{Zp}\p{Default_Ignorable_Code_Point}\u2800]/gu;
 const RIGHT_TO_LEFT = /[\p{Script=Hebrew}\p{Script=Arabic}\p{Script=Syriac}\p{Script=Thaana}\p{Script=Nko}]/u;
 const [ISOLATE, END_OF_ISOLATE] = ["\u2068", "\u2069"];
-const SUMS = /^(together|all together|sum|total|summe|gesamt|insgesamt|zusammen|somme|suma|totale?)$/i;
+const SUMS = new RegExp("^((all )?together|sum|((grand|sub)[ -]?)?totals?( costs?| amount| claims?| debts?| "
+  + "votes?)?|suma|(zwischen)?summe|gesamt(summe|kosten|betrag)?|insgesamt|zusammen|somme|totale|"
+  + "(sous-)?total( général)?)$", "i");
 
 // letters of other alphabets (Cyrillic, Greek, and some more), each in front of the Latin one that it is taken for
 const TWINS = ""

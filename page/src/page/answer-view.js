@@ -1,17 +1,26 @@
 // The panels below a case: the answer, its settings, the reasons and the evidence.
 import { sourceName } from "../cases/matrices.js";
-import { answerParts } from "./answer.js";
+import { answerParts, morePictures } from "./answer.js";
 import { beyondParts } from "./beyond.js";
+import { beyondPower } from "./beyond-power.js";
+import { labelOfCell } from "./cell-names.js";
+import { comparisonPart } from "./comparison.js";
+import { pictureButtons } from "../draw/figure.js";
 import { button, copy, el, refill } from "./dom.js";
 import { evidenceParts } from "./evidence.js";
+import { excessesPart } from "./excesses.js";
 import { filledLines, filledText, isFilled } from "./filled.js";
 import { formatOf } from "./format.js";
+import { meanings, monotonic, words } from "./meanings.js";
 import { otherAmounts } from "./other-amounts.js";
 import { paperPart } from "./paper.js";
+import { pinnedOf } from "./pinned.js";
+import { proposalTools } from "./proposal-cells.js";
 import { takesPerHead } from "./questions.js";
-import { tablesOf } from "./shares-table.js";
+import { holdsPart, roundingPart, sameText, tablesOf } from "./shares-table.js";
 import { csvButton, tabbed } from "./table-lines.js";
-import { todayOf } from "./today.js";
+import { todayOf, todayTools } from "./today.js";
+import { waitingParts } from "./waiting.js";
 import { fillsAsked, fillsPart } from "./two-fills.js";
 import { whyParts } from "./why.js";
 import { pairPart } from "./why-pair.js";
@@ -19,6 +28,12 @@ import { pairPart } from "./why-pair.js";
 const PLACES = [0, 1, 2, 3, 4, 6];
 const MARKS = [[".", "point"], [",", "comma"]];
 const MEASURES = [["plain", "as a whole"], ["per-head", "per head"]];
+
+const WIDE = 1000; // pixels of the page above which the reasons have pictures beside them
+const PARTS = ["why", "what-if", "evidence", "paper", "files"];
+const BODIES = ["answer-measure", "answer-settings", "answer-body", "own-body", "answer-more", "why-body",
+  "evidence-body", "paper-body", "files-body"];
+const LINKS = { "what-if": "What if", evidence: "Evidence", paper: "On paper", files: "Files" };
 
 const at = (id) => document.getElementById(id);
 
@@ -36,44 +51,136 @@ export class AnswerView {
   /** What was typed for another case is of no use here; `typed` is what was for this one. */
   clear(typed = {}) {
     this.typed = typed;
-    for (const id of ["answer-settings", "answer-body", "answer-more", "why-body", "evidence-body"]) refill(at(id));
+    this.shownMore = this.shownPaper = null;
+    for (const id of BODIES) refill(at(id));
     this.hush();
   }
 
   stale() {
-    at("answer").classList.add("stale");
+    for (const id of ["answer", "parts"]) at(id).classList.add("stale");
   }
 
   show() {
     const { session } = this, { result, isStale } = session;
-    at("answer").classList.toggle("stale", !result || isStale);
+    for (const id of ["answer", "parts"]) at(id).classList.toggle("stale", !result || isStale);
     if (result && isStale) return; // what stands there is of the old cells; the next answer is drawn anew
-    for (const id of ["answer", "why", "evidence"]) {
-      at(id).hidden = !result || (id !== "answer" && Boolean(result.refusal));
-    }
+    this.showPanels(result);
     if (!result) return this.hush();
     if (this.isHidden && !result.refusal) return this.showHidden();
     if (!result.game) return this.showBeyond(result);
-    const { rows } = session.reading, wide = at("answer-body").clientWidth || 640, format = this.format();
+    const view = this.viewOf(result);
+    const measures = !result.refusal && takesPerHead(result.game) && this.measures(result.game);
+    const isAside = result.game.ballots || result.game.isMarket(); // there it is a question that few ask
+    refill(at("answer-settings"), result.refusal ? [] : [isAside && measures, this.settings()]);
+    refill(at("answer-measure"), !isAside && measures);
+    refill(at("answer-body"), answerParts(result, view));
+    this.say();
+    if (result.refusal) return;
+    this.showMore(result, view);
+    this.showWhy(result, view);
+    refill(at("own-body"), this.ownParts(result, view));
+    refill(at("evidence-body"), evidenceParts(result, session, view.filled));
+    if (this.made) this.showFiles(this.made);
+    this.showLinks();
+  }
+
+  /** What all parts of the answer are drawn by. */
+  viewOf(result) {
+    const { session } = this, { rows } = session.reading, wide = at("answer-body").clientWidth || 640;
     const proposal = {
       ...session.proposal,
       set: (r, text) => session.setProposal(Object.assign([...session.texts], { [r]: text })),
       setAll: (texts) => session.setProposal(texts),
     };
-    refill(at("answer-settings"), result.refusal ? [] : this.settings(result));
-    const filled = filledText(session);
-    refill(at("answer-body"), answerParts(result, {
-      rows, format, proposal, wide, filled, today: todayOf(session, rows),
+    return {
+      rows, format: this.format(), proposal, wide, filled: filledText(session), today: todayOf(session, rows),
+      pinned: pinnedOf(session, rows), labelOfCell: (cell) => labelOfCell(cell, session), result,
       remark: filledLines(session, rows), source: sourceName(session.typed),
       coarse: session.typed.coarse, typed: this.typed, ask: (task, what) => session.checker.ask(task, what),
-    }));
-    this.say();
-    if (result.refusal) return;
-    this.showMore(result, rows, format, filled);
-    const why = whyParts(result);
-    refill(at("why-body"), why, why.length > 0 && this.pair);
-    at("why").hidden = !why.length;
-    refill(at("evidence-body"), evidenceParts(result, session, filled));
+    };
+  }
+
+  /** Which parts are there at all. */
+  showPanels(result) {
+    const isWhole = Boolean(result) && !result.refusal;
+    at("answer").hidden = !result;
+    at("waiting").hidden = Boolean(result);
+    for (const id of PARTS) if (id !== "files") at(id).hidden = !isWhole;
+    if (!result) refill(at("next"));
+    this.showPeek(result);
+  }
+
+  /** What is in the place of the answer while there is none; `panel` is that of the case. */
+  showWaiting(reading, { goTo, choices }) {
+    const labelOf = (cell) => labelOfCell(cell, this.session);
+    refill(at("waiting"), waitingParts(reading, { goTo, labelOf, choices }));
+  }
+
+  showWhy(result, { rows, format, filled, ...view }) {
+    const settings = { rows, format, filled, ...view }, { game, points } = result;
+    const why = whyParts(result), hasHolds = points.some(({ hold }) => hold), main = document.querySelector("main");
+    const half = main.clientWidth > WIDE ? 2 : 1, wide = Math.min(900, Math.max(280, main.clientWidth / half - 110));
+    const pictures = morePictures(result, { ...settings, wide }), same = why.length > 0 && sameText(result);
+    const beside = [pictures, why.length > 0 && [holdsPart(result, settings), this.pair]].flat(2).filter(Boolean);
+    refill(at("why-body"),
+      el("div", { class: beside.length ? "halves-of-part" : "" }, el("div", {}, why),
+        beside.length > 0 && el("div", {}, beside)),
+      why.length > 0 && excessesPart(result, settings), same && el("p", { class: "hint" }, same),
+      meanings(points, hasHolds, game), !game.ballots && !game.isMarket() && monotonic(),
+      roundingPart(result, settings), words());
+  }
+
+  /** Another division beside the answer: the user's own, and what each pays today. */
+  ownParts(result, { rows, format, proposal, today, typed }) {
+    const { game, points } = result;
+    if (!proposal.canBe && !today.canBe) return [];
+    const begin = () => {
+      typed.isProposing = true;
+      this.show();
+      const cell = document.querySelector('[data-cell="proposal.0"]');
+      cell?.scrollIntoView({ block: "center" });
+      cell?.focus();
+    };
+    const isOpen = typed.isProposing || proposal.texts?.some(Boolean);
+    return [
+      proposal.canBe && el("h3", {}, "Your own division"),
+      proposal.canBe && el("p", { class: "hint" }, "Put it beside the answer, and see which group could do better by ",
+        "itself."),
+      proposal.canBe && !isOpen && el("p", { class: "tools" }, button("Type your own division", begin)),
+      proposal.canBe && proposalTools(result, { rows, proposal, format }),
+      points.length > 0 && comparisonPart(proposal, points[0], game, { rows, typed }),
+      todayTools(game, today),
+    ];
+  }
+
+  /** The way on from the answer: one step that most want, and the other parts. */
+  showLinks() {
+    const isThere = (id) => !at(id).hidden, first = isThere("why") ? "why" : null;
+    const link = (id, title, kind) => button(title, () => 0, { class: kind, "data-part": id });
+    refill(at("next"), first && link(first, "Why these shares?", "main"),
+      Object.entries(LINKS).filter(([id]) => isThere(id)).map(([id, title]) => link(id, title, "quiet")));
+  }
+
+  /** Above narrow pages' lower edge: what the answer says, as a way to it. */
+  showPeek(result) {
+    const said = result && !this.isHidden ? at("answer-body").querySelector(".lead")?.textContent : "";
+    at("peek").hidden = !result;
+    at("peek").textContent = said || "See the answer";
+  }
+
+  /** Saving: `made` are the case and its document, as the panel of the case has them. */
+  showFiles(made) {
+    this.made = made;
+    const { reading, result, kind } = this.session, hasMade = made.childElementCount > 0;
+    const points = result?.points ?? [], tables = () => tablesOf(this.session.result, {
+      rows: this.session.reading.rows, format: this.format(), coarse: this.session.typed.coarse,
+    });
+    at("files").hidden = !hasMade;
+    if (!hasMade || !reading) return;
+    const isShown = points.length > 0 && !this.isHidden, copied = (event) => copy(tabbed(tables()[0]), event.target);
+    refill(at("files-body"), made, isShown && el("p", { class: "tools" },
+      csvButton(`${kind.id}-answer`, tables, this.format()), button("Copy the table", copied, { class: "quiet" }),
+      pictureButtons([at("answer-body"), at("why-body")])));
   }
 
   /** Hides the answer, with the reasons, the evidence and the check of a line, or shows it again. */
@@ -93,25 +200,30 @@ export class AnswerView {
 
   /** Nothing of the answer stands in the page then. */
   showHidden() {
-    for (const id of ["why", "evidence"]) at(id).hidden = true;
-    for (const id of ["why-body", "evidence-body"]) refill(at(id));
+    for (const id of ["why", "what-if", "evidence"]) at(id).hidden = true;
+    for (const id of ["why-body", "own-body", "answer-more", "evidence-body"]) refill(at(id));
     refill(at("answer-settings"), this.hiding());
-    refill(at("answer-body"), el("p", { class: "hint" }, "The answer is hidden: the case alone is shown, and ",
-      "printed."));
-    if (this.shownMore !== "hidden") refill(at("answer-more"), paperPart(this.session, this.typed));
+    refill(at("answer-measure"));
+    refill(at("answer-body"), el("p", { class: "hint" }, "The answer is hidden: only the case is shown and printed."),
+      el("p", { class: "tools" }, button("Show it", () => this.hide(false))));
     this.shownMore = "hidden";
+    this.showPaper();
+    this.showPeek(null);
+    this.showLinks();
     this.hush();
   }
 
   /** What the page calculates by itself has no reasons and no evidence. */
   showBeyond({ beyond }) {
-    for (const id of ["why", "evidence"]) at(id).hidden = true;
+    for (const id of ["why", "evidence", "what-if"]) at(id).hidden = true;
     refill(at("answer-settings"), this.formats(), this.hiding());
-    const today = todayOf(this.session, beyond.rows);
-    refill(at("answer-body"), beyondParts(beyond, { format: this.format(), today }));
-    const more = at("answer-more"), isKept = this.shownMore === "beyond" && more.childElementCount;
-    if (!isKept) refill(more, paperPart(this.session, this.typed));
-    this.shownMore = "beyond";
+    refill(at("answer-measure"));
+    const today = todayOf(this.session, beyond.rows), format = this.format();
+    const wide = at("answer-body").clientWidth || 640;
+    refill(at("answer-body"), beyond.power ? beyondPower(beyond, { format, wide })
+      : beyondParts(beyond, { format, today }));
+    this.showPaper();
+    this.showLinks();
     this.say();
   }
 
@@ -124,36 +236,36 @@ export class AnswerView {
   say() {
     const text = at("answer-body").querySelector(".lead, .notice, .hint")?.textContent ?? "";
     if (at("said").textContent !== text) at("said").textContent = text;
+    this.showPeek(this.session.result);
+  }
+
+  showPaper() {
+    if (this.shownPaper === this.session.kind && at("paper-body").childElementCount) return;
+    this.shownPaper = this.session.kind;
+    refill(at("paper-body"), paperPart(this.session, this.typed));
   }
 
   /** The parts with fields of their own are kept while answers come, and made anew for another game or other decimals.
    * */
-  showMore(result, rows, format, filled) {
+  showMore(result, { rows, format, filled }) {
     const { session } = this;
     const mark = session.readMark(), isSettled = session.reading.settled !== null;
+    this.showPaper();
     const key = [result.text, format.places, format.mark, filled, mark, isSettled].join("\n");
-    if (this.shownMore === key && at("answer-more").childElementCount) return;
+    if (this.shownMore === key) return;
     this.shownMore = key;
     const settings = {
       rows, format, mark, typed: this.typed, setEntry: isSettled ? null : (other) => session.setEntry(other),
       ask: (task, what) => session.checker.ask(task, what), assumed: (groups) => isFilled(session, groups),
-      fills: fillsAsked(session, mark),
+      fills: fillsAsked(session, mark), network: filledNetwork(session, mark),
     };
     session.pair = "";
     this.pair = pairPart(result, { ...settings, onSaid: (sentence) => { session.pair = sentence; } });
-    refill(at("answer-more"), fillsPart(session, settings), otherAmounts(result, settings),
-      paperPart(this.session, this.typed));
+    refill(at("answer-more"), fillsPart(session, settings), otherAmounts(result, settings));
   }
 
-  settings({ game, points }) {
-    const { session } = this, tables = () => {
-      const { result, reading: { rows }, typed: { coarse } } = session;
-      return tablesOf(result, { rows, format: this.format(), coarse });
-    };
-    const copied = (event) => copy(tabbed(tables()[0]), event.target);
-    return [takesPerHead(game) && this.measures(game), this.formats(),
-      points.length > 0 && [button("Copy the table", copied, { class: "quiet" }),
-        csvButton(`${session.kind.id}-answer`, tables, this.format())], this.hiding()];
+  settings() {
+    return [this.formats(), this.hiding()];
   }
 
   formats() {
@@ -169,12 +281,12 @@ export class AnswerView {
     return [places, mark];
   }
 
+  /** Per head is a rule of its own, so it isn't among the settings of what is shown. */
   measures(game) {
-    const now = game.perHead ? "per-head" : "plain", name = "How a group’s loss is counted";
-    return el("span", { class: "choice", role: "group", "aria-label": name }, "A group’s loss counts",
-      el("span", {}, MEASURES.map(([value, title]) => button(title, () => this.session.setMeasure(value), {
-        "aria-pressed": String(value === now),
-      }))));
+    const now = game.perHead ? "per-head" : "plain";
+    return el("label", {}, "A group’s loss counts ", el("select", {
+      "data-cell": "measure", on: { change: (event) => this.session.setMeasure(event.target.value) },
+    }, MEASURES.map(([value, title]) => el("option", { value, selected: value === now }, title))));
   }
 
   // ---- At work, and faults
@@ -190,11 +302,18 @@ export class AnswerView {
     const sentence = /^(The program|Stopped)/.test(message) ? message
       : "The program failed at this document, which it never should, so there is no answer. Please save the document, "
         + "and send it to its makers.";
-    for (const id of ["answer", "why", "evidence"]) at(id).hidden = id !== "answer";
-    at("answer").classList.remove("stale");
-    for (const id of ["answer-settings", "answer-more"]) refill(at(id));
+    for (const id of ["answer", ...PARTS]) at(id).hidden = id !== "answer";
+    at("waiting").hidden = true;
+    for (const id of ["answer", "parts"]) at(id).classList.remove("stale");
+    for (const id of ["answer-measure", "answer-settings", "answer-more", "next"]) refill(at(id));
     this.shownMore = null;
     refill(at("answer-body"), el("div", { class: "notice bad", role: "alert" }, el("p", {}, sentence),
       button("Try again", () => this.session.changed(0))));
   }
+}
+
+/** A network with ways that the page filled, as it has to be filled anew without a place; undefined for another. */
+function filledNetwork({ kind, typed: { names, links, filled = {}, source } }, mark) {
+  const hasWays = kind.isNetwork && Object.values(filled).includes("way");
+  return hasWays ? structuredClone({ names, links, filled, source, mark }) : undefined;
 }

@@ -1,15 +1,19 @@
 // The answer: who gets or pays what, by several divisions side by side, with pictures.
+import { decimal, decimalOf, stepsOf } from "../exact/decimals.js";
 import { Rational } from "../exact/rational.js";
 import { bars } from "../draw/bars.js";
 import { plan } from "../draw/plan.js";
 import { power, trades } from "../draw/ranges.js";
+import { START, tetrahedron } from "../draw/tetrahedron.js";
 import { triangle } from "../draw/triangle.js";
 import { mayBeOfRounding } from "../cases/coarse.js";
 import { coarseText, dividedText } from "../tell/coarse-text.js";
 import { enumerated, listed, Namer, times } from "../tell/words.js";
 import { beyondParts } from "./beyond.js";
+import { extremes } from "./extremes.js";
 import { el } from "./dom.js";
 import { totalsOf } from "./format.js";
+import { pinnedNote, pinTools } from "./pinned.js";
 import { missingText } from "./questions.js";
 import { sharesTable } from "./shares-table.js";
 import { typesTable } from "./types-table.js";
@@ -24,21 +28,57 @@ export function answerParts(result, settings) {
   const seen = proposal.shares ? [...points, own] : points, { format } = settings;
   const pictured = { ...settings, wide: Math.min(wide, 900) }, missing = missingText(game);
   return [
-    notices(result, format, coarse),
-    coarse && el("p", { class: "note coarse-note" }, coarseText(coarse)),
-    filled && el("p", { class: "note filled-note" }, filled),
+    briefNotice(result),
     ...(game.ballots ? votes(result, pictured) : []),
     result.matching && trades(game, result.matching, { ...format, solution, wide: pictured.wide }),
     solution && !game.ballots && !game.isMarket() && lead(result, solution, settings),
+    solution && !game.ballots && !game.isMarket() && becauseOf(result),
     points.length > 0 && (!game.ballots || solution) && sharesTable(result, settings),
+    notices(result, format, coarse, result.odds),
+    filled && el("p", { class: "note filled-note" }, filled),
+    coarse && el("p", { class: "note coarse-note" }, coarseText(coarse)),
     coarse?.times && seen.map(({ title, shares }) => {
       return el("p", { class: "hint divided" }, dividedText(coarse, title, rows, totalsOf(rows, shares)));
     }),
     missing && el("p", { class: "hint missing" }, missing),
     game.kind === "airport" && typesPart(result, settings),
     result.beyond && beyondParts(result.beyond, settings),
-    ...(solution && !game.ballots ? pictures(result, seen, pictured) : []),
+    ...(solution && !game.ballots ? pictures(result, seen, pictured).slice(0, 1) : []),
   ].filter(Boolean);
+}
+
+/** The pictures for which the answer has no room: those of the reasons. */
+export function morePictures(result, settings) {
+  const { points, game } = result, { proposal, wide } = settings;
+  if (!solutionOf(result) || game.ballots) return [];
+  const own = { key: "proposal", title: "Your proposal", shares: proposal.shares };
+  const seen = proposal.shares ? [...points, own] : points;
+  return pictures(result, seen, { ...settings, wide: Math.min(wide, 900) }).slice(1);
+}
+
+const HUNDRED = Rational.of(100);
+const SPLIT = "One player alone and all the others together gain least by joining. What one gains the other loses, so "
+  + "no division is better for both.";
+const RUNWAY = "No group pays more than a runway of its own would cost, and those that gain least are treated as well "
+  + "as can be (Littlechild’s rule).";
+
+/** One sentence of the reasons: what the rule of the class says, or how those are treated that gain least. */
+function becauseOf({ game, reasons }) {
+  if (!reasons) return el("p", { class: "because hint" }, "Finding the reasons …");
+  const level = reasons.find(({ isLevel }) => isLevel);
+  const said = game.kind === "bankruptcy" ? talmud(game) : game.kind === "airport" ? RUNWAY
+    : !level ? null : /^Levels/.test(level.title) ? SPLIT
+    : `${level.sentences[0].replace(/\.$/, "")}. No division is better for the groups that gain least.`;
+  return said && el("p", { class: "because" }, el("b", {}, "Why: "), said);
+}
+
+/** The Talmud’s rule, by the half of the claims that counts. */
+function talmud({ single, amounts }) {
+  const isSmall = !Rational.sum(amounts).less(single.plus(single));
+  return isSmall ? "The estate is at most half of the claims, so each gets the same, but nobody more than half of the "
+    + "claim (the Talmud’s rule)."
+    : "The estate is more than half of the claims, so each loses the same, but nobody more than half of the claim (the "
+    + "Talmud’s rule).";
 }
 
 function typesPart({ game, points }, { rows, format }) {
@@ -56,18 +96,23 @@ function refused({ sentence, place }) {
     el("p", {}, sentence), place && el("p", { class: "where" }, `Place: ${place}`));
 }
 
-function pictures({ game, bird }, points, { rows, format, wide, remark, source }) {
-  const narrow = points.filter(({ key }) => !["core", "buyers", "sellers"].includes(key));
-  return [
-    bars(game, rows, narrow, { ...format, wide, remark }),
+/** All pictures of an answer, the one that tells most first. */
+function pictures({ game, bird }, points, { rows, format, wide, remark, source, typed }) {
+  const turn = (typed.turn ??= { ...START });
+  const narrow = points.filter(({ key }) => !["core", "buyers", "sellers", "proportion"].includes(key));
+  const drawn = [bars(game, rows, narrow, { ...format, wide, remark }),
     game.n === 3 && triangle(game, points, { wide }),
-    ...(bird ? [el("h3", {}, "The cheapest network"), plan(game, bird.tree, { ...format, wide, source })] : []),
-  ];
+    game.n === 4 && game.groups && tetrahedron(game, points, { wide, view: turn })];
+  return [bird && plan(game, bird.tree, { ...format, wide, source }), ...drawn].filter(Boolean);
 }
 
-function votes({ game, points }, { format, wide }) {
+function votes({ game, points }, { rows, format, wide, pinned, labelOfCell }) {
   const shapley = points.find(({ key }) => key === "shapley"), solution = solutionOf({ points });
-  const parts = [shapley && power(game, shapley.shares, { ...format, wide })];
+  const percents = percentsOf(format), kept = shapley && pinned?.pin ? keptPower(pinned, percents) : undefined;
+  const parts = [shapley && powerLead(game, shapley.shares, format),
+    kept && pinnedNote(pinned, { points: [{ ...shapley, title: "Power" }] }, rows, { format: percents, labelOfCell }),
+    shapley && power(game, shapley.shares, { ...format, wide, kept }),
+    shapley && pinned && el("p", { class: "tools" }, pinTools(pinned))];
   if (solution) {
     parts.push(el("h3", {}, "Dividing a prize of 1 among the voters"),
       el("p", { class: "hint" }, "That is another question than power: a voter may get nothing of the prize and have ",
@@ -76,10 +121,42 @@ function votes({ game, points }, { format, wide }) {
   return parts;
 }
 
+/** How power is shown: in per cent, with one decimal. */
+function percentsOf({ mark }) {
+  const text = (steps) => `${decimalOf(steps, 1, { mark })}\u202f%`;
+  const stepOf = (value) => stepsOf(value.times(HUNDRED), 1);
+  const show = (value) => text(stepsOf(value, 1));
+  return { places: 1, mark, text, show, steps: (values) => values.map(stepOf) };
+}
+
+/** The kept power of each voter, of 1. */
+function keptPower(pinned, percents) {
+  return pinned.kept("shapley", percents)?.values.map((value) => value && value.over(HUNDRED));
+}
+
+/** Who has most power, and who has none. */
+export function powerLead({ shown }, shares, { mark }) {
+  const most = Rational.max(shares), of = (is) => shown.filter((_, i) => is(shares[i]));
+  const strong = of((share) => share.equals(most)), none = of((share) => share.isZero());
+  const part = `${decimal(most.times(Rational.of(100)), 1, { mark })}\u202f%`;
+  const [has, each] = strong.length > 1 ? ["have", " each"] : ["has", ""];
+  const others = none.length > 3 ? `; ${none.length} voters have none` : none.length > 0
+    && `; ${listed(none)} ${none.length > 1 ? "have" : "has"} none`;
+  const who = strong.length > 4 ? `${strong.length} voters` : listed(strong);
+  return el("p", { class: "lead" }, `${who} ${has} most power, ${part}${each}`, others, ".");
+}
+
 // ---- What has to be said first
 
-/** Also on paper. `coarse` is what was done to the numbers. */
-export function notices({ game, noImputation, core }, { apart }, coarse) {
+/** The one notice above the answer: that no division is all right. The whole of it is below the table. */
+function briefNotice({ game, noImputation, core }) {
+  const text = noImputation ? `In every division somebody ${game.costs ? "pays more" : "gets less"} than alone.`
+    : core?.collection ? "Whatever the division, some group could do better by itself." : "";
+  return text && el("p", { class: "ahead" }, text, el("span", { class: "hint" }, " The reason is below the table."));
+}
+
+/** Also on paper. `coarse` is what was done to the numbers; `odds` are remarks on them. */
+export function notices({ game, noImputation, core }, { apart }, coarse, odds = []) {
   const notes = [];
   if (noImputation) {
     const { singles, total } = noImputation, [alone, together] = apart(singles, total);
@@ -90,7 +167,8 @@ export function notices({ game, noImputation, core }, { apart }, coarse) {
     notes.push(`${facts} So in every division somebody ${worse} than alone, and there is no nucleolus. `
       + "The prenucleolus doesn’t ask for that.");
   }
-  if (core?.collection) notes.push(emptyCore(game, core, apart) + roundedCore(core, coarse));
+  if (core?.collection) notes.push(emptyCore(game, core, apart) + roundedCore(core, coarse)
+    + oddCore(core, odds));
   return notes.length > 0 && el("div", { class: "notice" }, notes.map((note) => el("p", {}, note)));
 }
 
@@ -106,8 +184,18 @@ function emptyCore(game, core, apart) {
   const [own, whole] = game.costs
     ? [`cost ${value} by themselves, added`, `cost ${against}, which is more`]
     : [`are worth ${value}, added`, `are worth ${against}, which is less`];
-  return "Whatever the division, some group does better by itself. "
+  return "Whatever the division, some group could do better by itself. "
     + `Take ${enumerated(groups)}: they hold each player ${often} and ${own}. ${all} ${whole}.`;
+}
+
+/** Which of these groups have a number that can hardly be meant: a mistake there may be all the reason. */
+function oddCore({ collection }, odds) {
+  const masks = collection.map(([players]) => players.reduce((mask, player) => mask | (1 << (Number(player) - 1)), 0));
+  const all = masks.reduce((mask, one) => mask | one, 0), found = odds.filter(({ mask }) => {
+    return masks.includes(mask) || mask === all;
+  });
+  const told = found.map(({ sentence }) => sentence).join("; ");
+  return told && ` If that isn’t meant, look at this number first: ${told}.`;
 }
 
 /** That the groups want more than there is may come of rounded numbers, where it is little more. */
@@ -124,10 +212,11 @@ const MOST_LED = 6;
 
 export function lead({ game }, { shares, key, title }, { rows, format }) {
   const who = [...new Set(rows.map((row) => row.sum ?? row.label))];
-  if (who.length > MOST_LED) return null;
   const owns = who.map((name) => rows.filter((row) => (row.sum ?? row.label) === name));
   const totals = owns.map((own) => Rational.sum(totalsOf(own, shares))), texts = format.column(totals);
-  const verb = game.costs ? "pays" : "gets", parts = who.map((name, k) => {
+  const verb = game.costs ? "pays" : "gets";
+  if (who.length > MOST_LED) return extremes({ who, totals, texts, verb });
+  const parts = who.map((name, k) => {
     const landings = owns[k].reduce((count, { players }) => count + players.length, 0);
     return `${name} ${verb} ${texts[k]}${landings > 1 ? ` for ${landings} landings` : ""}`;
   });

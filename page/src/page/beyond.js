@@ -1,6 +1,8 @@
 // Runways of more landings than the program takes: what the page calculates by itself, and that it says so.
 import { Rational } from "../exact/rational.js";
-import { el } from "./dom.js";
+import { typedText } from "../exact/decimals.js";
+import { extremes } from "./extremes.js";
+import { button, el } from "./dom.js";
 import { movedText, withSum } from "./format.js";
 import { linesOf, ownSum, shareCell } from "./shares-table.js";
 import { ownInput } from "./proposal-cells.js";
@@ -8,7 +10,7 @@ import { airlineLines, csvButton, roundingLines, shareLines } from "./table-line
 import { changeBelow, todayTitle, todayTools } from "./today.js";
 import { typeLines, typesTable } from "./types-table.js";
 
-const OURS = "So the page itself calculated what stands here, by a formula, in exact fractions. These numbers do NOT "
+const OURS = "So the page itself calculated these shares, by a formula, in exact fractions. These numbers do NOT "
   + "come from the proved program, and there is no certificate of them.";
 const THEOREMS = {
   nucleolus: "for the nucleolus the theorem payments_are_the_nucleolus (Littlechild’s payments; Littlechild 1974)",
@@ -41,22 +43,73 @@ export function beyondTexts({ isAll, all, points }) {
 
 const COSTS = { costs: true }; // as of a game
 
+/** A number rounded to so many decimals. */
+function roundedTo(value, places) {
+  const unit = new Rational(10n ** BigInt(places));
+  return new Rational(value.times(unit).plus(new Rational(1n, 2n)).floor()).over(unit);
+}
+
 /** The parts of the answer that the page calculates. */
 export function beyondParts(sent, { format, today }) {
   const beyond = read(sent), { isAll, rows, points } = beyond;
   const tables = () => [shareLines(rows, points, format), airlineLines(rows, points, format),
     typeLines(rows, points, format), roundingLines(points, format)];
-  return el("div", { class: "beyond" },
+  return el("div", { class: "beyond" }, isAll && leadOf(beyond, format),
     el("h3", {}, isAll ? "Above 64 landings" : "Shapley shares above 32 landings"),
     el("div", { class: "notice" }, beyondTexts(beyond).map((text) => el("p", {}, text))),
     el("div", { class: "scroll" }, table(beyond, { format, today, own: (row, r) => {
       return ownInput(row, r, today, "today", todayTitle(COSTS));
     } })),
     points.some(({ totals }) => format.isMoved(totals, rows)) && el("p", { class: "hint moved" }, movedText(rows)),
+    isAll && !today.texts && el("p", { class: "tools" }, button("Keep this answer to compare", () => {
+      today.setAll(points[0].totals.map((total) => typedText(roundedTo(total, format.places), format.mark)));
+    }, { class: "quiet" })),
     isAll && todayTools(COSTS, today),
     isAll && typesTable(rows, points, format),
+    isAll && alikeTexts(beyond, format).map((text) => el("p", { class: "alike" }, text)),
+    isAll && feesTexts(beyond, format).map((text) => el("p", { class: "hint" }, text)),
     isAll && el("p", { class: "hint" }, SCALED),
     el("p", { class: "tools" }, csvButton("runway-calculated", tables, format)));
+}
+
+/** Who pays most by the nucleolus, and who least. */
+function leadOf({ rows, points: [{ totals }] }, format) {
+  const who = [...new Set(rows.map(({ sum }) => sum))];
+  const sums = who.map((name) => Rational.sum(totals.filter((_, r) => rows[r].sum === name)));
+  return extremes({ who, totals: sums, texts: format.column(sums), verb: "pays" });
+}
+
+/** Why many pay alike by the nucleolus: those up to a cost share what of it isn't paid yet, and one part more if others
+ * need more. */
+function alikeTexts({ rows, points }, { show }) {
+  const point = points.find(({ key }) => key === "nucleolus"), order = rows.map((_, r) => r);
+  order.sort((one, other) => rows[one].cost.compare(rows[other].cost));
+  const told = [];
+  let paid = new Rational(0n);
+  while (point && order.length) {
+    const [first] = order, own = order.filter((r) => point.each[r].equals(point.each[first])), last = own.at(-1);
+    const count = own.reduce((sum, r) => sum + rows[r].count, 0), isLast = own.length === order.length;
+    const left = rows[last].cost.minus(paid), parts = Rational.of(count + (isLast ? 0 : 1));
+    if (!left.over(parts).equals(point.each[first])) return [];
+    const cost = paid.isZero() ? show(left) : `(${show(rows[last].cost)} − ${show(paid)})`;
+    if (own.length > 1) {
+      told.push(`All up to ${rows[last].label} pay alike: ${cost} / ${isLast ? count : `(${count} + 1)`} = `
+        + `${show(point.each[first])} a landing.`);
+    }
+    paid = paid.plus(point.each[first].times(Rational.of(count)));
+    order.splice(0, own.length);
+  }
+  return told;
+}
+
+/** What fees for a landing, rounded to the decimals that are shown, bring in. */
+function feesTexts({ rows, points }, { places, show, by }) {
+  return points.flatMap(({ title, each, totals }) => {
+    const fees = each.map((share, r) => roundedTo(share, places).times(Rational.of(rows[r].count)));
+    const [sum, whole] = [fees, totals].map((values) => Rational.sum(values)), rest = whole.minus(sum);
+    return rest.isZero() ? [] : [`${title}: at fees with ${places} decimals, all landings pay ${show(sum)}, which is `
+      + `${by(rest.abs())} ${rest.isNegative() ? "more" : "less"} than the cost of ${show(whole)}.`];
+  });
 }
 
 /** `own(row, r)` is what stands in the column of today; where the program answers too, that stands in its own table. */

@@ -2,8 +2,10 @@
 import { fileNames } from "../cases/coarse.js";
 import { withEscapes } from "../game/names.js";
 import { coarseNumbers, coarseText } from "../tell/coarse-text.js";
+import { Rational } from "../exact/rational.js";
+import { countText, typedText } from "../exact/decimals.js";
 import { plural } from "../tell/words.js";
-import { markFaults } from "./cells.js";
+import { markFaults, markOdds } from "./cells.js";
 import { button, cellOf, copy, download, el, refill } from "./dom.js";
 import { doubtNotes } from "./doubts.js";
 import { shown } from "./files.js";
@@ -11,6 +13,8 @@ import { landingsList } from "./landings-list.js";
 import { listGrid } from "./list-grid.js";
 import { marketGrid } from "./market-grid.js";
 import { networkGrid } from "./network-grid.js";
+import { numbered, shortened, withNames } from "../cases/mended-names.js";
+import { markChanged } from "./pinned.js";
 import { tableGrid } from "./table-grid.js";
 
 const MOST_FAULTS = 6;
@@ -26,40 +30,45 @@ export function casePanel(kind, typed, settings) {
   const faults = el("div", { class: "faults", role: "status" }), made = el("div", { class: "made" });
   const coarse = el("div");
   const element = el("div", { class: "case" },
-    el("p", { class: "help" }, kind.help, el("span", { class: "screen" }, " Paste from a spreadsheet into any cell.")),
+    el("p", { class: "help" }, kind.help, el("span", { class: "screen" }, " You can paste from a spreadsheet.")),
     notes.map((note) => el("p", { class: "note" }, note)), coarse, grid, faults,
-    el("p", { class: "tools bottom" },
-      button("Fill in the worked example", () => onReset(kind.example(), "Fill in the worked example"),
-        { class: "quiet" }),
-      button("Clear all", () => onReset(cleared(kind, typed), "Clear all"), { class: "quiet" }), undo),
-    made);
+    el("div", { class: "tools bottom" }, el("details", { class: "inline more-tools" },
+      el("summary", {}, "More for the cells"), grid.more, el("p", { class: "tools" },
+        button("Clear all", () => onReset(cleared(kind, typed), "Clear all"), { class: "quiet" }),
+        button("Fill in the worked example", () => onReset(kind.example(), "Fill in the worked example"),
+          { class: "quiet" }))), undo));
 
   /** Shows what the reading of the cells says. */
   function tell(reading) {
     markFaults(grid, reading.faults);
+    markOdds(grid, oddsOf(reading, typed));
+    markChanged(grid, settings.changed?.());
     refill(coarse, coarseNote(typed, settings));
     refill(faults, reading.notes.map((note) => el("p", { class: "note" }, note)),
       reading.asked && sumQuestion(reading.asked, typed, settings),
-      reading.either ? eitherQuestion(reading.either, settings) : doubtNotes(reading, settings),
-      emptyCells(reading, grid), faultList(reading, grid),
+      reading.mixed && mixedQuestion(reading.mixed, reading, settings),
+      reading.either ? eitherQuestion(reading.either, settings) : !reading.mixed && doubtNotes(reading, settings),
+      emptyCells(reading, kind, grid), faultList(reading, grid), nameHelp(reading, typed, settings),
+      oddList(oddsOf(reading, typed), grid, () => onReset(lowered(typed, reading.odds), "Lower the links", true)),
       reading.isTooFine && finenessHelp(settings));
-    const isBeyond = reading.beyond && !reading.text; // more landings than a document has
+    const isBeyond = reading.beyond?.points && !reading.text; // more landings than a document has
     refill(made, reading.text && documentOf(kind, reading.text, typed, settings),
       isBeyond && landingsList(typed, reading.beyond, reading.settled ?? reading.mark));
   }
 
-  return { element, tell };
+  return { element, tell, made, goTo: (cell) => goTo(grid, cell), choices: () => grid.choices?.() };
 }
 
 /** Asks whether a row is the sum of the others: until that is settled there is no answer. */
-function sumQuestion({ r, name }, typed, { onReset, onChange }) {
+function sumQuestion({ r, name, isLast }, typed, { onReset, onChange }) {
   const without = () => onReset({ ...typed, rows: typed.rows.filter((_, k) => k !== r) }, "Remove the sum", true);
   const keep = () => {
-    typed.notSum = name;
+    typed.notSums = [...(typed.notSums ?? []), name];
     onChange(0);
   };
-  const [which, rest] = name ? [`, “${withEscapes(name)}”.`, " "] : [" has no name.", " Else give it a name. "];
-  const asked = `The last row${which} Is it the sum of the others? It would count as one more.${rest}`;
+  const [which, rest] = name ? [`, “${withEscapes(name)}”.`, " "] : [" has no name.", " If not, give it a name. "];
+  const row = isLast ? "The last row" : `Row ${r + 1}`, others = isLast ? "the others" : "others";
+  const asked = `${row}${which} Is it the sum of ${others}? It would count as one more.${rest}`;
   return el("p", { class: "note" }, asked,
     button("Yes, remove it", without, { class: "quiet" }), name && button("No, it counts", keep, { class: "quiet" }));
 }
@@ -73,6 +82,18 @@ function eitherQuestion({ typed, ways: [[less, one], [more, other]] }, { setEntr
     "other number here shows which. Which is it? ", way(less, one), way(more, other));
 }
 
+/** Asks whether numbers as 90,000 have decimals, though another number shows that they would: until that is settled
+ * there is no answer. */
+function mixedQuestion({ typed, value, whole, proof, count }, { settled, mark }, { setEntry }) {
+  const quoted = (text) => `“${withEscapes(text.trim())}”`, more = count > 1 ? ` and ${count - 1} like it` : "";
+  const way = (text, by) => button(text, () => setEntry(by), { class: "quiet" });
+  const shown = typedText(Rational.of(value), mark);
+  return el("p", { class: "note" },
+    `${quoted(proof)} shows which mark comes before decimals. So ${quoted(typed)}${more} `,
+    `would be ${shown}, with decimals. Or are these whole numbers, as ${countText(whole)}? `,
+    way(`${countText(whole)}, whole`, ""), way(`${shown}, with decimals`, settled ?? ".,"));
+}
+
 /** A vote by two quotas stays one. */
 function cleared(kind, { secondQuota }) {
   return { ...kind.empty(), ...(secondQuota === undefined ? {} : { secondQuota: "" }) };
@@ -84,12 +105,56 @@ function undoButton(before, { onUndo }) {
   return button(title, () => onUndo(before), { class: "quiet" });
 }
 
+/** A way out for names that occur twice, or are too long. */
+function nameHelp({ faults }, typed, { onReset }) {
+  const isTwice = faults.some(({ sentence }) => sentence.includes("occurs twice"));
+  const isLong = faults.some(({ sentence }) => sentence.startsWith("A name has at most"));
+  const way = (title, change) => button(title, () => onReset(withNames(typed, change), title, true),
+    { class: "quiet" });
+  return (isTwice || isLong) && el("p", { class: "tools" },
+    isTwice && way("Number the names that occur twice", numbered), isLong && way("Shorten the long names", shortened));
+}
+
 function faultList({ faults, count }, grid) {
   if (!count) return null;
   const items = faults.slice(0, MOST_FAULTS).map(({ cell, sentence }) => {
-    return el("li", {}, button(sentence, () => cellOf(grid, cell)?.focus(), { class: "fault" }));
+    return el("li", {}, button(sentence, () => goTo(grid, cell), { class: "fault" }));
   });
   return el("ul", {}, items, count > MOST_FAULTS && el("li", {}, `and ${count - MOST_FAULTS} more`));
+}
+
+/** Remarks on numbers that were typed; what the page filled follows them. */
+function oddsOf({ odds = [] }, { filled }) {
+  return odds.filter(({ mask }) => !Array.isArray(filled) || !filled.includes(mask));
+}
+
+function oddList(odds, grid, onLower) {
+  if (!odds.length) return null;
+  const isLower = odds.some(({ lower }) => lower);
+  const items = odds.map(({ cell, sentence }) => {
+    return el("li", {}, button(sentence, () => goTo(grid, cell), { class: "fault gentle" }));
+  });
+  const asked = odds.length > 1 ? "Are these numbers right?" : "Is this number right?";
+  return el("div", { class: "note" }, el("p", {}, asked), el("ul", { class: "odds" }, items),
+    isLower && el("p", { class: "tools" }, button("Lower them to the cheapest way", onLower, { class: "quiet" })));
+}
+
+/** The links with the ways in the place of dearer ones. */
+function lowered(typed, odds) {
+  const links = { ...typed.links }, filled = { ...typed.filled };
+  for (const { cell, lower } of odds) {
+    const key = cell.split(".")[1];
+    [links[key], filled[key]] = [lower, "way"];
+  }
+  return { ...typed, links, filled };
+}
+
+/** Goes to a cell, also to one on another page of the groups. */
+function goTo(grid, cell) {
+  if (!cellOf(grid, cell)) grid.dispatchEvent(new CustomEvent("show-cell", { detail: cell }));
+  const input = cellOf(grid, cell);
+  input?.focus();
+  input?.select?.();
 }
 
 /** Two ways for numbers with too many decimals, as other programs give them. */
@@ -100,30 +165,32 @@ function finenessHelp({ coarsen }) {
     way("All times a power of ten, as whole numbers", "whole"), said);
 }
 
-function emptyCells({ empty: { count, first } }, grid) {
-  const goTo = () => {
-    const input = cellOf(grid, first);
-    if (input) input.focus();
-    else [...grid.querySelectorAll("button")].find(({ textContent }) => textContent === "First empty one")?.click();
-  };
+function emptyCells({ empty: { count, first } }, { isNetwork }, grid) {
+  if (count > 0 && isNetwork && grid.querySelector(".no-link").open) {
+    return el("p", { class: "hint" }, `${plural(count, "cell is", "cells are")} still empty. If such a link can’t be `,
+      "built, choose above what a group without it does.");
+  }
   const said = `${plural(count, "cell is", "cells are")} still empty. Go to the first.`;
-  return count > 0 && button(said, goTo, { class: "fault gentle" });
+  return count > 0 && button(said, () => goTo(grid, first), { class: "fault gentle" });
 }
 
 function documentOf(kind, text, { coarse }, { caseText }) {
   const { game: file } = fileNames(kind.id, coarse), numbers = coarse && coarseNumbers(coarse);
-  return el("div", {}, shown("The document that this makes", text),
+  return el("div", {},
     el("p", { class: "tools" },
-      button("Save the case", () => download(`${kind.id}-case.json`, caseText()), { class: "quiet" }),
+      button("Save the case", () => download(`${kind.id}-case.json`, caseText()), { class: "main" })),
+    el("p", { class: "hint screen" }, "Open it here later and go on: it keeps what the page filled in, the decimal ",
+      "mark, the heading, the unit, your own division, and the answer that you kept to compare."),
+    el("p", { class: "tools" },
       button(`Save the document${numbers ? ` (${numbers})` : ""}`, () => download(file, `${text}\n`), {
         class: "quiet",
       }),
-      button("Copy it", (event) => copy(text, event.target), { class: "quiet" })),
-    el("p", { class: "hint screen" }, "The page opens a case with what was filled in, the decimal mark, heading, unit ",
-      "and your proposal. The program reads the document alone."),
-    coarse && el("p", { class: "note" }, `${coarseText(coarse)} The document holds the ${numbers} alone, and has no `,
-      `place to say so: the file is named ${file}, and this page tells it when it is opened under that name. Under `,
-      "another name nobody can see it. A saved case holds it."));
+      button("Copy it", (event) => copy(text, event.target), { class: "quiet", "aria-label": "Copy the document" })),
+    el("p", { class: "hint screen" }, "The program reads the document. It holds the numbers only."),
+    coarse && el("p", { class: "note" }, `${coarseText(coarse)} The document holds only the ${numbers}, and has no `,
+      `place to say so: the file is named ${file}, and this page says so when it is opened under that name. Under `,
+      "another name nobody can see it. A saved case holds it."),
+    shown("The document that this makes", text));
 }
 
 /** What was done to all numbers, for as long as they are these. */

@@ -58,3 +58,14 @@ export function markFaults(element, faults) {
     }
   }
 }
+
+/** Marks the cells whose numbers can hardly be meant, with the sentence that says why. */
+export function markOdds(element, odds) {
+  const sentences = new Map(odds.map(({ cell, sentence }) => [cell, sentence]));
+  for (const input of element.querySelectorAll("[data-cell]")) {
+    const sentence = sentences.get(input.dataset.cell), isMarked = input.classList.contains("odd");
+    input.classList.toggle("odd", Boolean(sentence));
+    if (sentence) input.title = sentence;
+    else if (isMarked && !input.hasAttribute("aria-invalid")) input.removeAttribute("title");
+  }
+}

@@ -48,7 +48,7 @@ function leavingRow(columns, { by }) {
     ? el("span", { class: "bad" }, `Yes: ${found.who}, by ${by(Rational.of(found.by))}`)
     : el("span", { class: "good" }, "No"));
   return el("tfoot", {}, el("tr", { class: "verdict" },
-    el("th", { scope: "row" }, "Can a group do better by itself?"),
+    el("th", { scope: "row" }, "Could a group do better by itself?"),
     columns.flatMap(({ leaving }) => {
       return [...leaving.map((found) => el("td", { class: "number" }, text(found))), el("td")];
     })));

@@ -6,15 +6,15 @@ import { Helper } from "./helper.js";
 import { digestOf } from "./files.js";
 import { textOfFile, textPlace } from "./text-place.js";
 
-const OF_A_LINE = "This is the game of a line, and all below is worked out anew. Whether the line’s own shares are "
-  + "right is said at the end, under “Check a line that you got”.";
+const OF_A_LINE = "This is the game of a line, and the answer is worked out anew. “Check an answer” says whether the "
+  + "line’s own shares are right.";
 
 const UNKNOWN = "This file doesn’t say which numbers were assumed; a case that the page saved does.";
 
 /** What is said above what was opened: of a line where it is checked, and whether it has other shares than the page
  * finds; of a table that nothing is known of cells that were filled. */
 function notesOf({ other, notes }, isLine, isTable) {
-  const told = other && `The line says of its game: ${other} The page finds other shares, which stand below. `
+  const told = other && `The line says of its game: ${other} The page finds other shares, which it shows here. `
     + "Somebody has changed the line, or it is of another game.";
   return [isLine && OF_A_LINE, told, ...(notes ?? (isTable ? [UNKNOWN] : []))].filter(Boolean);
 }
@@ -27,7 +27,8 @@ export class Documents {
     this.helper = new Helper();
     this.message = document.getElementById("document-message");
     refill(document.getElementById("document-body"), textPlace({
-      title: "A document", hint: "JSON, as {\"game\":{…}}; a line of the program or a saved case does, too.", rows: 8,
+      title: "A document", rows: 8,
+      hint: "A case that this page saved, a document such as {\"game\":{…}}, or a line of the program.",
       onText: (text, from) => this.open(text, { from }),
     }));
   }

@@ -20,8 +20,8 @@ export function doubtNotes({ doubts: found, entry, mark, shown }, { setEntry }) 
     "change places. Each of the two can be read in one way only, so it is read as it shows.");
   if (!doubts.length) return clash;
   const proof = isClash ? undefined : one, isChosen = entry.length !== 1;
-  const why = isChosen ? "as you chose" : `${proof ? `${quoted(proof)} shows that ` : ""}the ${NAMES[mark]} stands in `
-    + "front of decimals";
+  const why = isChosen ? "as you chose" : `${proof ? `${quoted(proof)} shows that ` : ""}the ${NAMES[mark]} comes `
+    + "before decimals";
   const read = listed(doubts.map((doubt) => readAs(doubt, mark, doubts.length)));
   const [{ count }] = doubts, isMany = doubts.length === 1 && count > 1;
   const more = isMany ? ` So are the ${count} numbers here that can be read in two ways.` : "";
@@ -44,7 +44,7 @@ function waysOut({ doubts, mark, proof, isChosen }, setEntry) {
   const { value } = readNumber(odd.typed, BY[how]);
   const others = odd.count > 1 ? ", and all like it" : "";
   return [
-    !proof && way(`Let the ${NAMES[OTHER[mark]]} do so`, OTHER[mark]),
+    !proof && way(`No, the ${NAMES[OTHER[mark]]}`, OTHER[mark]),
     (proof || doubts.length > 1) && way(`Read ${quoted(odd.typed)} as ${typedText(value, mark)}${others}`, BY[how]),
   ];
 }

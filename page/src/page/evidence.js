@@ -3,7 +3,7 @@ import { fileNames } from "../cases/coarse.js";
 import { coarseNumbers, coarseText } from "../tell/coarse-text.js";
 import { failureText } from "../tell/failures.js";
 import { ruleFile } from "../tell/rule-names.js";
-import { el } from "./dom.js";
+import { button, el } from "./dom.js";
 import { fileButtons, fingerprint, shown } from "./files.js";
 import { meaning } from "./trust.js";
 
@@ -49,21 +49,23 @@ export function evidenceParts(result, { kind, typed: { coarse }, file: opened },
   const file = `${names.line}-${ruleFile(answer, game.perHead)}.json`;
   return [
     el("ul", { class: "words", role: "status" }, wordLine(programWord(program, game)), wordLine(anewWord(anew, game))),
-    result.points.length > 1 && el("p", { class: "after" }, `The certificate is of the ${rule} alone. The other `,
-      "columns come from the same program, but carry no evidence with them."),
-    el("h3", {}, "Hand it on"),
+    result.points.length > 1 && el("p", { class: "after" }, `Only the ${rule} has a certificate. The other `,
+      "columns come from the same program, but without evidence.",
+      result.points.some(({ key }) => key === "proportion") && " The page itself calculates “In proportion”."),
+    el("h3", {}, "Send it to others"),
     el("ol", { class: "steps" },
-      el("li", {}, "Agree on the game’s file first, before anyone knows an answer. ",
+      el("li", {}, "Agree on the file of the game first, before anyone knows an answer. ",
         fileButtons(text, names.game), fingerprint(text),
-        opened?.made === result.text && el("p", { class: "hint" }, `The same game stands in ${opened.name}, which was `,
+        opened?.made === result.text && el("p", { class: "hint" }, `The same game is in ${opened.name}, which was `,
           `opened here${opened.digest ? ` and has the SHA-256 ${opened.digest}` : ""}: who agreed on that keeps it.`),
         filled && el("p", { class: "hint" }, `${filled} The file doesn’t say which.`),
         coarse && el("p", { class: "hint" }, `${coarseText(coarse)} The file holds the ${coarseNumbers(coarse)} `,
           "alone: of that it has but its name, and under another name nobody can see it.")),
       el("li", {}, "Send the line: the answer with its evidence. ", fileButtons(line, file)),
-      el("li", {}, "Whoever gets it opens this page and checks below: is it the agreed game, and does the certificate ",
-        "hold? The page shouldn’t come from you, but from the project’s repository, at the commit named at the end of ",
-        "this page. Of that repository you have to give the address.")),
+      el("li", {}, "The others open this page, choose “Check an answer”, and give it both files: is it the agreed ",
+        "game, and does the certificate hold? They should get the page not from you, but from the project’s ",
+        "repository, at the commit under “About this page”. Tell them the address of that repository.")),
+    el("p", { class: "tools" }, button("Check an answer that you received", () => 0, { "data-show": "verify" })),
     shown("The game’s file", result.text), shown("The line with its evidence", line.trim()),
     meaning(answer, game.perHead),
   ];
@@ -72,7 +74,7 @@ export function evidenceParts(result, { kind, typed: { coarse }, file: opened },
 /** What is said where the program prints no certificate. */
 function withoutCertificate({ game, text }, names) {
   const what = game.kind === "voting"
-    ? "Power comes without a certificate: who doubts it works it out anew, by this page or another program."
+    ? "Power comes without a certificate. To check it, work it out again, by this page or another program."
     : "The pairs and prices come without a certificate. To 16 traders the page gives the nucleolus too, with one.";
   return [
     el("p", {}, what),

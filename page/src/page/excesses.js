@@ -31,7 +31,7 @@ export function excessesPart({ game, text, points: solved }, { rows, format, typ
   const details = el("details", { class: "excesses", open: Boolean(memory.isOpen), on: { toggle: () => {
     memory.isOpen = details.open;
     if (details.open) show();
-  } } }, el("summary", {}, "The excesses by all columns, side by side"), found);
+  } } }, el("summary", {}, "Group by group: what each could gain by leaving"), found);
   if (memory.isOpen) show();
   return details;
 }
@@ -54,8 +54,8 @@ function partsOf(found, { game, points, format, asked, onAll }) {
       !format.isExact(value) && el("small", {}, fractionText(value))), el("td", { class: kind.trim() }, group)];
   };
   return [
-    el("p", {}, `What each group could gain by leaving${game.perHead ? ", per member" : ""} (with a minus: what it `,
-      `would lose), the greatest first. ${differsText(points, differs)}`),
+    el("p", {}, `These are the excesses${game.perHead ? ", per member" : ""}: what each group could gain by leaving `,
+      `(with a minus: what it would lose), the greatest first. ${differsText(points, differs)}`),
     el("div", { class: "scroll" }, el("table", { class: "shares small" },
       el("thead", {}, el("tr", {}, el("th", {}, "Place"),
         points.map(({ title }) => [el("th", { class: "number" }, title), el("th", {}, "by whom")]))),
@@ -73,7 +73,7 @@ function partsOf(found, { game, points, format, asked, onAll }) {
 /** At which place each list begins to be another than the first one. */
 function differsText([{ title }, ...others], [, ...differs]) {
   const told = others.map((one, k) => `${one.title} ${differs[k] ? `at place ${differs[k]}` : "nowhere"}`);
-  return `Marked is where a list differs from that of the ${title.toLowerCase()} for the first time: ${listed(told)}.`;
+  return `A mark shows where a list first differs from that of the ${title.toLowerCase()}: ${listed(told)}.`;
 }
 
 /** All places for a spreadsheet: tabs between, plain decimals, and the exact fractions beside them. */

@@ -4,6 +4,11 @@ import { apartTexts, decimalOf, placesOf, roundedSteps, stepsOf } from "../exact
 
 export function formatOf(places, mark) {
   const text = (steps) => decimalOf(steps, places, { mark });
+  // one column parts thousands alike
+  const texts = (all) => {
+    const isLong = all.some((steps) => text(steps) !== decimalOf(steps, places, { mark, grouped: false }));
+    return all.map((steps) => decimalOf(steps, places, { mark, least: isLong ? 3 : 4 }));
+  };
   const stepsIn = (values, rows) => (rows ? stepsOfRows(values, rows, places) : roundedSteps(values, places));
   return {
     places,
@@ -15,7 +20,8 @@ export function formatOf(places, mark) {
     /** By how much: what isn't 0 isn't shown as 0. */
     by: (value) => apartTexts([value, ZERO], places, { mark })[0],
     /** Values as decimals that add up, and their sum as the last; those of rows to what each airline pays, too. */
-    column: (values, rows) => withSum(stepsIn(values, rows)).map(text),
+    column: (values, rows) => texts(withSum(stepsIn(values, rows))),
+    texts,
     steps: stepsIn,
     /** Whether some decimals of a column are moved by a step of the last place, so that all add up. */
     isMoved: (values, rows) => stepsIn(values, rows).some((step, k) => step !== stepsOf(values[k], places)),

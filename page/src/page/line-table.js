@@ -25,11 +25,11 @@ export function lineTable({ answer, shares: texts }, game, format) {
 
 function sentenceOf(answer, game, format) {
   const whole = {
-    bankruptcy: () => `of an estate of ${format.show(game.single)} `,
-    voting: () => `of votes with a quota of ${game.single} `,
+    bankruptcy: () => ` of an estate of ${format.show(game.single)}`,
+    voting: () => ` of votes with a quota of ${game.single}`,
   }[game.kind]?.() ?? "";
   const name = ruleName(answer, game.perHead), the = /^Bird/.test(name) ? "" : "the ";
-  return `The line says: ${whole}${the}${name} of ${plural(game.n, "player")}, and they ${game.costs ? "pay" : "get"}`;
+  return `What the line says: ${the}${name}${whole}, for ${plural(game.n, "player")}.`;
 }
 
 /** What each brings, and its sum where one may add it up. */

@@ -75,18 +75,31 @@ class ListGrid {
   }
 
   cellIn(row, r, column) {
-    const named = column.placeholder && !this.typed.isNamed && `${column.placeholder} ${r + 1}`;
+    const byType = column.key === "name" && (row.type ?? "").trim(); // without airlines each type is one
+    const named = column.placeholder && !this.typed.isNamed && (byType || `${column.placeholder} ${r + 1}`);
     return el("td", { class: column.wide ? "wide" : column.short ? "short" : "" }, cellInput({
       cell: `rows.${r}.${column.key}`, value: row[column.key] ?? "", isNumber: column.number,
-      label: `${column.title}, row ${r + 1}`, placeholder: this.isBlank(row) ? "" : named || "",
+      label: `${column.title}, row ${r + 1}`, placeholder: this.isBlank(row) ? "" : named || this.greyOf(column),
       onInput: (text) => {
         const wasBlank = this.isBlank(row), isLast = r === this.typed.rows.length - 1;
         row[column.key] = text;
         const isGiven = this.begin(row, column, wasBlank);
+        if (column.grey) this.showGrey(column);
         if (wasBlank || isGiven || (this.isBlank(row) && isLast)) this.show();
         this.onChange();
       },
     }));
+  }
+
+  /** What an empty cell counts as, as long as all of its column are empty. */
+  greyOf({ key, grey = "" }) {
+    return this.typed.rows.some((row) => row[key]?.trim()) ? "" : grey;
+  }
+
+  showGrey({ key, grey }) {
+    for (const input of this.body.querySelectorAll(`[data-cell$=".${key}"]`)) {
+      input.placeholder = this.greyOf({ key, grey });
+    }
   }
 
   /** A row that begins gets what its columns begin with, and loses that where nothing else is left in it. Whether such
@@ -123,6 +136,7 @@ class ListGrid {
     const taken = pastedText(rows, headings, targets, columns.slice(first));
     const said = [isNumbered, taken, isCut, ...this.complete(filled, targets)];
     this.said.textContent = withEscapes(said.filter(Boolean).join(" "));
+    this.said.classList.toggle("warn", /left out|first \d+ (cells )?were taken/.test(this.said.textContent));
     this.show();
     this.onChange();
   }

@@ -8,10 +8,11 @@ import { casePanel } from "./case-panel.js";
 import { Documents } from "./documents.js";
 import { el, refill } from "./dom.js";
 import { Paper } from "./paper.js";
+import { changedCells, keptTree, pinOfTree } from "./pinned.js";
 import { Session } from "./session.js";
 import { startCards } from "./start.js";
 import { verifyPanel } from "./verify.js";
-import { showView, viewOfAddress } from "./views.js";
+import { showPart, showView, viewOfAddress, watchAnswer } from "./views.js";
 
 const at = (id) => document.getElementById(id);
 const WAYS = { round: "Round all to four decimals", whole: "All times a power of ten" };
@@ -23,6 +24,8 @@ const session = new Session({
   stale: () => view.stale(),
   read: () => {
     panel.tell(session.reading);
+    view.showFiles(panel.made);
+    view.showWaiting(session.reading, panel);
     verify.beside(session.reading.text ?? null);
   },
   answer: () => view.show(),
@@ -40,6 +43,7 @@ function openCase(kind, typed, { before = null, notes = [], doubt = "", paper, .
   const now = session.kind && nowTyped();
   if (now) kept.set(session.kind, now);
   session.open(kind, typed, { ...settings, doubt });
+  at("desk").classList.remove("wide");
   view.clear(paper);
   panel = casePanel(kind, typed, {
     ...asked(kind), before, notes: doubt ? [doubt, ...notes] : notes,
@@ -47,8 +51,9 @@ function openCase(kind, typed, { before = null, notes = [], doubt = "", paper, .
       isUnsaved = session.isTyped = true;
       session.changed(wait);
     },
+    onWide: (isWide) => at("desk").classList.toggle("wide", isWide),
     onReset: (next, what, isSame = false) => {
-      const { entry, isTyped } = session, marks = isSame ? { entry, isTyped } : {};
+      const { entry, isTyped, pinned } = session, marks = isSame ? { entry, isTyped, pinned } : {};
       openCase(kind, next, { ...marks, before: { what, ...nowTyped() } });
     },
     onUndo: (back) => undo(kind, back),
@@ -68,13 +73,15 @@ function openCase(kind, typed, { before = null, notes = [], doubt = "", paper, .
 /** What a case asks for: marks, workers, and itself as a file. */
 function asked(kind) {
   return {
+    changed: () => session.pinned && changedCells(session.pinned.typed, session.typed),
     mark: () => session.entryMark(), setEntry: (mark) => session.setEntry(mark),
     readList: (what) => session.reader.ask("readList", { ...what, mark: session.entryMark() }),
     readCells: (text) => session.reader.ask("readCells", { text }),
     help: (task, what) => session.reader.ask(task, what),
     caseText: () => {
       const { shown: [[by] = [], other], mark, text } = session.reading;
-      return caseText({ ...nowTyped(), mark: session.mark, entry: by && !other ? by : mark, text });
+      const { pinned } = session, kept = pinned ? keptTree(pinned, session.typed) : undefined;
+      return caseText({ ...nowTyped(), kept, mark: session.mark, entry: by && !other ? by : mark, text });
     },
   };
 }
@@ -104,8 +111,8 @@ async function coarsen(kind, how) {
 
 /** What stands in the cells of the case that is shown. */
 function cellsNow() {
-  const { typed, measure, texts, todays, entry, doubt, file, isTyped } = session;
-  return { typed, measure, texts, todays, entry, doubt, file, isTyped };
+  const { typed, measure, texts, todays, pinned, entry, doubt, file, isTyped } = session;
+  return { typed, measure, texts, todays, pinned, entry, doubt, file, isTyped };
 }
 
 /** The same with the decimals, and what was typed below the answer. */
@@ -113,9 +120,10 @@ function nowTyped() {
   return { ...cellsNow(), places: session.places, paper: view.typed };
 }
 
-/** Shows a part of the page; a case as it was left. */
+/** Shows a part of the page; a case as it was left. What was typed is the game that a line is checked by at first. */
 function show(name) {
-  const kind = caseNamed(name);
+  const kind = caseNamed(name), { isTyped, reading } = session;
+  if (name === "verify") verify.fromCase(isTyped && reading?.text ? { ...reading, title: session.kind.title } : null);
   if (kind && session.kind !== kind) openCase(kind, kept.get(kind)?.typed ?? kind.example(), kept.get(kind));
   else showView(name);
 }
@@ -136,11 +144,15 @@ function tellUnforeseen() {
 }
 
 function listen() {
-  const calm = matchMedia("(prefers-reduced-motion: reduce)").matches;
   for (const home of document.querySelectorAll("[data-home]")) home.addEventListener("click", () => show(""));
-  for (const link of document.querySelectorAll("[data-part]")) {
-    link.addEventListener("click", () => at(link.dataset.part).scrollIntoView({ behavior: calm ? "auto" : "smooth" }));
-  }
+  document.addEventListener("click", (event) => {
+    const link = event.target.closest?.("[data-part], [data-show]");
+    if (!link) return;
+    event.preventDefault();
+    if (link.dataset.part) showPart(link.dataset.part);
+    else show(link.dataset.show);
+  });
+  watchAnswer();
   let width = innerWidth;
   addEventListener("resize", () => {
     if (innerWidth !== width && session.result) view.show();
@@ -160,7 +172,8 @@ function begin() {
   const documents = new Documents({
     mark: () => session.usualMark(), onLine: (text, from) => verify.setLine(text, from),
     onOpen: (kind, typed, settings) => {
-      openCase(kind, typed, { ...settings, isFile: true, before: replaced(kind, "Open a document") });
+      const { kept: tree, ...others } = settings, pinned = tree ? pinOfTree(tree, typed) : null;
+      openCase(kind, typed, { ...others, pinned, isFile: true, before: replaced(kind, "Open a document") });
     },
   });
   verify = verifyPanel({

@@ -1,10 +1,17 @@
 // The grid of a market: what each buyer gains with each seller.
+import { readNumber } from "../exact/decimals.js";
 import { withEscapes } from "../game/names.js";
 import { cellInput, moveByKeys, pasteCells } from "./cells.js";
 import { button, cellOf, el, refill } from "./dom.js";
 
 export function marketGrid(kind, typed, settings) {
   return new MarketGrid(kind, typed, settings).element;
+}
+
+/** Whether a block that is pasted at the first buyer begins with the names of the sellers. */
+function isHeading([heads, ...below]) {
+  const isNumber = (text) => !readNumber(text).fault, sellers = heads.slice(1).filter(Boolean);
+  return sellers.length > 0 && !sellers.some(isNumber) && below.some((row) => row.slice(1).some(isNumber));
 }
 
 class MarketGrid {
@@ -109,10 +116,13 @@ class MarketGrid {
   /** A block of numbers; with names in front or above where it is pasted over a name. */
   fill(cell, rows) {
     const [what, a, b] = cell.split("."), { typed, kind: { most } } = this;
-    const top = what === "sellers" ? -1 : Number(a), left = what === "buyers" ? -1 : Number(what === "values" ? b : a);
+    const isHeaded = what === "buyers" && a === "0" && isHeading(rows);
+    const top = what === "sellers" || isHeaded ? -1 : Number(a);
+    const left = what === "buyers" ? -1 : Number(what === "values" ? b : a);
     const within = (now, needed) => Math.min(most, Math.max(now, needed));
     const width = rows.reduce((wide, row) => Math.max(wide, row.length), 0);
     this.forgetExample(rows, top, left);
+    if (isHeaded) this.resize(within(1, rows.length - 1), within(1, width - 1)); // it has all names
     this.resize(within(typed.buyers.length, top + rows.length), within(typed.sellers.length, left + width));
     rows.slice(0, most + 1).forEach((row, r) => row.slice(0, most + 1).forEach((text, c) => {
       const i = top + r, j = left + c, isBuyer = i >= 0 && i < typed.buyers.length;

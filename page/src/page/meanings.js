@@ -2,51 +2,57 @@
 import { el } from "./dom.js";
 
 const SUBTITLES = {
-  nucleolus: "treats those worst off best",
-  prenucleolus: "the same, of all divisions: some may do worse than alone",
-  shapley: "the mean over all orders of joining",
-  core: "one, often of many; no proposal",
+  nucleolus: "best for those who gain least",
+  prenucleolus: "the same, but some may do worse than alone",
+  shapley: "average over all orders of joining",
+  core: "one of many; proposes nothing",
   bird: "each pays its own link",
-  buyers: "the least prices",
-  sellers: "the greatest prices",
+  proportion: "the same part of each claim",
+  buyers: "the lowest prices",
+  sellers: "the highest prices",
   proposal: "to be judged",
 };
 
+const RULES = { bankruptcy: "the Talmud’s rule", airport: "Littlechild’s rule" };
+
 /** What stands below the title of a column. */
-export function subtitleOf(key, { perHead }) {
-  return key === "nucleolus" && perHead ? "treats those worst off best, per member" : SUBTITLES[key];
+export function subtitleOf(key, { perHead, kind }) {
+  if (key === "nucleolus" && !perHead && RULES[kind]) return RULES[kind];
+  return key === "nucleolus" && perHead ? "best for those who gain least, per member" : SUBTITLES[key];
 }
 
 const MEANINGS = {
-  nucleolus: "The nucleolus looks at the group that gains least by joining, and treats it as well as can be; then at "
-    + "the next, and so on. There is just one. If any division satisfies all groups, this one does (Schmeidler 1969).",
-  prenucleolus: "The prenucleolus is the same, among all divisions of the whole: it doesn’t ask that each does at "
-    + "least as well as alone. Where some division satisfies all groups, the two are the same.",
+  nucleolus: "The nucleolus looks at the group that gains least by joining, and treats it as well as can be. Then it "
+    + "looks at the next group, and so on. There is exactly one nucleolus. If any division satisfies all groups, this "
+    + "one does (Schmeidler 1969).",
+  prenucleolus: "The prenucleolus is the same rule for all divisions of the whole: it doesn’t ask that each does at "
+    + "least as well as alone. If some division satisfies all groups, the two are the same.",
   shapley: "Shapley shares let the players join one by one. Each gets what it adds, on average over all orders. "
     + "No other rule is efficient, symmetric and additive, and gives nothing for nothing (Shapley 1953). Some group "
     + "may do better by itself.",
-  core: "A core point is a division by which no group does better by itself. This is one, often of many, and tells "
-    + "nothing of who deserves what.",
+  core: "A core point is a division by which no group does better by itself. This is one of many, so it says "
+    + "nothing about who deserves what.",
   bird: "Bird’s shares let each place pay the link by which the cheapest network reaches it (Bird 1976).",
-  buyers: "The two ends of the market: the least prices, and the greatest, by which no buyer and seller do better "
+  proportion: "In proportion: each gets the same part of its claim, as insolvency law commonly has it. The page itself "
+    + "calculates this column.",
+  buyers: "The two ends of the market: the lowest and the highest prices by which no buyer and seller do better "
     + "together (Shapley and Shubik 1971).",
 };
 
 const PER_HEAD = {
   nucleolus: "The nucleolus per head counts what a group gains or lacks per member, since a larger group shares it. "
     + "It looks at the group that gains least per member by joining, and treats it as well as can be; then at the "
-    + "next, and so on. There is just one. If any division satisfies all groups, this one does (Grotte 1970).",
+    + "next, and so on. There is exactly one. If any division satisfies all groups, this one does (Grotte 1970).",
   prenucleolus: "The prenucleolus per head is the same, among all divisions of the whole: it doesn’t ask that each "
     + "does at least as well as alone. What a group gains or lacks is counted per member (Grotte 1970).",
 };
 
-const GROUPS = "A group does better by itself where it is worth more than its members get together (or costs less than "
-  + "they pay). Shares by which none does are in the core.";
-const HOLDS = "Of two players one has the stronger hold where the best group with it and without the other has the "
-  + "more to gain by leaving, or the less to lose. The pair that is named is the first one found, in the order of the "
-  + "rows, and needn’t be the one that differs most. Where no two differ, the division is in the prekernel";
-const PLAIN_IS_EVEN = "; the prenucleolus always is, and the nucleolus wherever some division satisfies "
-  + "all groups.";
+const GROUPS = "A group could do better by itself if it is worth more than its members get together (or costs less "
+  + "than they pay). If no group could, the division is in the core.";
+const HOLDS = "Of two players, one has the stronger hold if the best group with it and without the other gains more by "
+  + "leaving, or loses less. The pair that is named is the first in the order of the rows. It need not be the one "
+  + "that differs most. If no two players differ, the division is in the prekernel";
+const PLAIN_IS_EVEN = ". The prenucleolus always is. The nucleolus is if some division satisfies all groups.";
 const PER_HEAD_ISNT = ". That is counted by the group as a whole, so a division per head need not be there.";
 
 const MONOTONIC = [
@@ -54,7 +60,7 @@ const MONOTONIC = [
     + "all get (of costs: bear) an equal part of what comes on top. By the Talmud’s rule of estates nobody gets less. "
     + "By the nucleolus somebody may get less of more (Megiddo 1974), and so by Bird’s shares and by core points.",
   "A small example: of four, 1 and 2 gain 1 together, with a third or without; 1, 3 and 4 gain 2; the other groups "
-    + "nothing. Where all four gain 3, the first gets 7/6 by the nucleolus, and by the Shapley shares. Where they gain "
+    + "nothing. If all four gain 3, the first gets 7/6 by the nucleolus, and by the Shapley shares. If they gain "
     + "4, it gets only 1 by the nucleolus, and 17/12 by the Shapley shares.",
 ];
 
@@ -67,18 +73,18 @@ const WORDS = {
   Prenucleolus: "the same of all divisions of the whole, imputations or not.",
   "Per head": "each excess is divided by the number of the group’s members first.",
   Kernel: "the imputations by which no player has a stronger hold on another, but on one who gets no more than alone.",
-  Convex: "whoever joins adds no less where more have joined (to costs: no more).",
+  Convex: "a player who joins adds no less when more have joined (to costs: no more).",
   "Shapley value": "what each adds, on average over all orders of joining; here the Shapley shares.",
 };
 
 /** Which rule gives nobody less where the whole grows. */
 export function monotonic() {
-  return folded("Which rule is monotonic when the whole grows", MONOTONIC);
+  return folded("Which rule gives nobody less when the whole grows", MONOTONIC);
 }
 
 /** The words of the field, each in a sentence. */
 export function words() {
-  return folded("The words, each in a sentence", Object.entries(WORDS).map(([word, text]) => {
+  return folded("The words of the field, each in a sentence", Object.entries(WORDS).map(([word, text]) => {
     return [el("b", {}, word), `: ${text}`];
   }));
 }

@@ -1,5 +1,6 @@
 // The grid of a network: what a link between each two places costs.
 import { readNumber } from "../exact/decimals.js";
+import { cellsOfNetwork, networkOf, takenText, withoutPlace, withSource } from "../cases/links.js";
 import { sourceName } from "../cases/matrices.js";
 import { withEscapes } from "../game/names.js";
 import { cellInput, moveByKeys, pasteCells } from "./cells.js";
@@ -7,6 +8,8 @@ import { button, cellOf, el, refill } from "./dom.js";
 import { noLinkHelp } from "./no-link.js";
 
 const WAIT = 150; // milliseconds between the last key and filling anew
+const DENSE = 6; // places from which the grid is set in smaller letters
+const WIDE = 29; // rem of a grid that fit into the narrower column
 const REFILL = 60000; // the question waits for what is filled anew
 
 /** `asTable(typed, notes)` opens a table of costs that was made of the network; `help(task, what)` asks a worker. */
@@ -15,13 +18,15 @@ export function networkGrid(kind, typed, settings) {
 }
 
 class NetworkGrid {
-  constructor(kind, typed, { mark, onChange, readCells, help, asTable, remember }) {
-    Object.assign(this, { kind, typed, onChange, remember });
+  constructor(kind, typed, { mark, onChange, onWide, readCells, help, asTable, remember }) {
+    Object.assign(this, { kind, typed, mark, onChange, onWide, remember });
+    this.said = el("p", { class: "note", role: "status" });
     this.holder = el("div", { class: "scroll" });
     this.tools = el("p", { class: "tools" });
     const setLinks = (links, filled) => this.change(() => Object.assign(typed, { links, filled }));
     this.help = noLinkHelp(typed, { mark, help, remember, setLinks, asTable });
-    this.element = el("div", {}, this.holder, this.tools, this.help);
+    this.element = el("div", {}, this.said, this.holder, this.tools, this.help);
+    this.element.choices = () => this.help.choices();
     moveByKeys(this.holder, (cell, step) => {
       const [what, place] = cell.split(".");
       if (what === "source") return "names.0";
@@ -43,8 +48,10 @@ class NetworkGrid {
     const { typed } = this, places = typed.names.map((name, i) => withEscapes(name) || `Place ${i + 1}`);
     const names = [sourceName(typed), ...places];
     const ends = names.slice(0, -1), none = el("td", { class: "tool" });
+    const isDense = ends.length >= DENSE, lengths = Object.values(typed.links).map(({ length }) => length);
+    const digits = Math.max(4, ...lengths);
     const titles = ends.map((name, j) => {
-      return el("th", { scope: "col", class: "number" }, "to ", j ? name : this.sourceInput());
+      return el("th", { scope: "col", class: "number" }, !isDense && "to ", j ? name : this.sourceInput());
     });
     const rows = typed.names.map((name, k) => el("tr", {},
       el("th", { scope: "row" }, this.nameInput(name, k)),
@@ -52,11 +59,29 @@ class NetworkGrid {
         return el("td", {}, j <= k && this.linkInput(j, k + 1, `Link between ${names[k + 1]} and ${other}`));
       }),
       el("td", { class: "tool" }, typed.names.length > 1 && this.removal(k, names[k + 1]))));
-    refill(this.holder, el("table", { class: "grid matrix" },
+    // a wide grid takes more of the desk
+    const source = Math.min(11, Math.max(digits, sourceName(typed).length));
+    this.onWide(isDense && 7 + source * 0.5 + 0.75 + (ends.length - 1) * (digits * 0.49 + 0.75) > WIDE);
+    const style = `--digits: ${digits}; --source: ${source}`;
+    refill(this.holder, el("table", { class: `grid matrix${isDense ? " dense" : ""}`, style },
       el("thead", {}, el("tr", {}, el("th", { scope: "col" }, "A link from"), titles, none)), el("tbody", {}, rows)));
     refill(this.tools, typed.names.length < this.kind.most
       ? button("Add a place", () => this.add(), { class: "quiet" })
-      : el("span", { class: "hint" }, "16 places is the most."));
+      : el("span", { class: "hint" }, "16 places is the most."),
+    this.sourceChoice(names));
+  }
+
+  /** Which point is the source: the others pay. */
+  sourceChoice(names) {
+    const choose = (event) => {
+      this.remember("Choose the source");
+      const next = withSource(this.typed, Number(event.target.value));
+      delete this.typed.isSourceOpen;
+      this.change(() => Object.assign(this.typed, next));
+      refill(this.said, `${sourceName(this.typed)} is the source now.`);
+    };
+    return el("label", { class: "hint" }, "Source ", el("select", { "data-cell": "which", on: { change: choose } },
+      names.map((name, i) => el("option", { value: String(i), selected: i === 0 }, name))));
   }
 
   /** The source is no player: its name is for show, and isn't asked about. */
@@ -100,10 +125,37 @@ class NetworkGrid {
     return undefined;
   }
 
+  /** A whole network takes the place of all cells; a block of numbers goes where it was pasted. */
   pasted(cell, rows) {
+    const { typed } = this, isFirst = ["source", "names.0", "links.0-1"].includes(cell);
+    const found = networkOf(rows, { mark: this.mark(), source: typed.source });
+    const isWhole = found && (isFirst || found.fault || found.shape.includes("list") || found.shape.includes("names"));
+    refill(this.said, isWhole && found.fault && `${found.fault} Nothing was taken.`);
+    if (isWhole && found.fault) return;
     this.remember("Paste");
-    this.change(() => pasteLinks(this.kind, this.typed, cell, rows));
+    if (isWhole) {
+      const cells = cellsOfNetwork(found), isSourceOpen = !found.isSure && found.points.some(Boolean);
+      cells.source ||= found.points[0] === "" && found.points.some(Boolean) ? typed.source ?? "" : cells.source;
+      this.change(() => Object.assign(typed, cells, { filled: {}, isSourceOpen }));
+      refill(this.said, takenText(found, sourceName(typed)), isSourceOpen && this.sourceQuestion());
+      this.said.classList.toggle("warn", found.left.length > 0);
+    } else this.change(() => pasteLinks(this.kind, typed, cell, rows));
+    this.help.openIfEmpty();
     if (Object.values(this.typed.filled ?? {}).includes("way")) this.help.again();
+  }
+
+  /** Asked before there is an answer: nothing that was pasted says which point is the source. */
+  sourceQuestion() {
+    const points = [this.typed.source ?? "", ...this.typed.names];
+    const names = points.map((name, i) => withEscapes(name) || `Point ${i + 1}`);
+    const choose = (k) => () => {
+      if (k) Object.assign(this.typed, withSource(this.typed, k));
+      delete this.typed.isSourceOpen;
+      this.change(() => 0);
+      refill(this.said, `${sourceName(this.typed)} is the source.`);
+    };
+    return [el("b", {}, " Which point is the source? "),
+      names.flatMap((name, k) => [button(name, choose(k), { class: "quiet" }), " "])];
   }
 
   removal(k, name) {
@@ -121,14 +173,7 @@ class NetworkGrid {
   }
 
   remove(k) {
-    const point = k + 1, moved = (i) => (i > point ? i - 1 : i);
-    const without = (entries) => Object.fromEntries(Object.entries(entries).flatMap(([key, value]) => {
-      const [i, j] = key.split("-").map(Number);
-      return i === point || j === point ? [] : [[`${moved(i)}-${moved(j)}`, value]];
-    }));
-    this.typed.links = without(this.typed.links);
-    this.typed.filled = without(this.typed.filled ?? {});
-    this.typed.names.splice(k, 1);
+    Object.assign(this.typed, withoutPlace(this.typed, k));
   }
 }
 

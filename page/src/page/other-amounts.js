@@ -56,7 +56,7 @@ function part({ title, hint, label, key, task, show, placeholder = "" }, { text,
 function estatesPart(view) {
   return part({
     title: "Several amounts side by side", key: "amounts", task: "estates", label: "Amounts",
-    hint: "What each would get of other estates, the claims being the same. Part them by semicolons: "
+    hint: "What would each get from other estates, with the same claims? Put semicolons between them: "
       + "500; 1\u00a0200\u00a0000.",
     show: (found) => estatesTable(found, view),
   }, view);
@@ -70,7 +70,7 @@ function estatesTable(found, { rows, format, setEntry }) {
   const faults = found.filter(({ fault }) => fault).map(({ amount, fault }) => {
     return el("p", { class: "bad" }, amount ? `${format.show(Rational.of(amount))}: ${fault}` : fault);
   });
-  const way = (mark) => button(`Let the ${mark === "." ? "point" : "comma"} do so`, () => setEntry(mark), {
+  const way = (mark) => button(`No, the ${mark === "." ? "point" : "comma"}`, () => setEntry(mark), {
     class: "quiet",
   });
   const notes = found.filter(({ note }) => note).map(({ note, other }) => {
@@ -98,9 +98,9 @@ function overrunPart(view) {
     key: "more", task: "overrun",
     label: costs ? "It costs more by" : "They gain more by",
     placeholder: "37.15 or 10 %",
-    hint: "An amount or a percentage. The whole changes, and what each group could do by itself stays (where "
-      + "that changes too, as a runway’s costs may, change the cells above). Who bears it "
-      + "depends on the rule: so a contract should name the rule for it beforehand.",
+    hint: "An amount or a percentage. Only the whole changes; what each group could do by itself stays. (If that "
+      + "changes too, keep the answer to compare, and change the cells.) Who bears it depends on the rule, so a "
+      + "contract should name the rule beforehand.",
     show: (found) => overrunTable(found, view),
   }, view);
 }
@@ -127,9 +127,9 @@ function sizeOf(change, { by }) {
 function promises(columns, { costs }) {
   const isPerHead = columns.some(({ title }) => title === PER_HEAD);
   return [
-    el("p", { class: "hint" }, "Where nothing but the whole changes, each bears an equal part of it by the Shapley ",
+    el("p", { class: "hint" }, "If only the whole changes, each bears an equal part of it by the Shapley ",
       "shares and the prenucleolus per head, in every case (Young, Okada and Hashimoto 1982). So by these nobody ",
-      costs ? "pays less where the whole costs more. " : "gets less where all together gain more. ",
+      costs ? "pays less when the whole costs more. " : "gets less when all together gain more. ",
       "The nucleolus doesn’t promise that (Megiddo 1974)."),
     isPerHead && el("p", { class: "hint" }, "The prenucleolus per head counts what a group gains per member, and ",
       "looks at all divisions of the whole. The nucleolus per head of the answer looks only at those by which nobody ",

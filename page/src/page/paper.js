@@ -30,14 +30,14 @@ export function paperPart(session, typed) {
       button("Print them", () => printAs(what), { class: "quiet" })]);
     if (count === 1) printAs(what);
   };
-  return el("details", { class: "other paper-part" }, el("summary", {}, "On paper"),
-    el("p", { class: "hint" }, "One page for a council or a court: who, how much, a picture, the reasons, what is ",
-      "agreed on, and how to check it. Or all that stands here, with the amounts that were worked out, and the check ",
-      "of a line, if it is of this case."),
+  return el("div", { class: "paper-part" },
+    el("p", { class: "hint" }, "One page for a board or a court: who, how much, a picture, the reasons, what is ",
+      "agreed on, and how to check it. Or everything on this page, with the amounts that were worked out, and the ",
+      "check of a line if it is of this case."),
     field("heading", "Heading", session.kind.title, true), field("unit", "Unit of money", "", false),
-    el("label", { class: "single" }, own, " With “Your proposal” and the other columns, on the one page too"),
+    el("label", { class: "single" }, own, " Put the other columns on the one page too"),
     el("p", { class: "tools" },
-      button("Print one page", printed("sheet")), button("Print everything", printed("all"))), said);
+      button("Print one page", printed("sheet"), { class: "main" }), button("Print everything", printed("all"))), said);
 }
 
 function printAs(what) {

@@ -21,11 +21,11 @@ export function pasteBox(onList) {
     el("option", { value: "mask" }, "by masks: 1, 2, 1+2, 3, 1+3, 2+3, 1+2+3"));
   const use = (text) => onList(text, order.value, () => { box.open = false; });
   const box = el("details", { class: "inline" }, el("summary", {}, "Paste a whole list"),
-    el("p", { class: "hint" }, "A line for each group: its members with + between, and its number. The players are ",
-      "those with a line of their own. Or numbers alone, a line each, without the group of nobody. ",
+    el("p", { class: "hint" }, "One line for each group: its members with + between them, and its number. The players ",
+      "are those with a line of their own. Or only the numbers, one a line, without the group of nobody. ",
       MANY),
     area,
-    el("p", {}, el("label", {}, "Numbers alone stand ", order)),
-    el("p", {}, button("Use this list", () => use(area.value))));
+    el("p", {}, el("label", {}, "Numbers without groups are in the order ", order)),
+    el("p", {}, button("Use this list", () => use(area.value), { class: "main" })));
   return box;
 }

@@ -71,7 +71,7 @@ function wholeTexts(totals, rows, whole, { places, mark }) {
 
 export function proposalTools(result, { rows, proposal, format }) {
   const fill = (totals) => proposal.setAll(wholeTexts(totals, rows, result.game.whole(), format));
-  return el("p", { class: "tools fill" }, el("span", {}, "Fill your proposal with "),
+  return el("p", { class: "tools fill" }, el("span", {}, "Or fill it with "),
     ways(result, rows).map(({ title, totals }) => button(title, () => fill(totals()), { class: "quiet" })),
     proposal.texts.some(Boolean) && button("clear", () => {
       proposal.setAll([]);

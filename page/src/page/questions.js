@@ -34,7 +34,7 @@ export function takesPerHead(game) {
 /** Asks all that is asked of a game. `read` is what a worker read; `onPart(result)` is called as answers come. */
 export async function askAll(read, { engine, checker, onPart }) {
   const { rows, text, beyond } = read, game = nameByRows(new Facts(read.facts), rows);
-  const result = { game, text, beyond, points: [], checks: {} };
+  const result = { game, text, beyond, points: [], checks: {}, odds: read.odds };
   const ask = async (word, document = read.text) => checked(await engine("solve", { word, document }));
   await askSolution(result, ask);
   if (result.refusal) return onPart(result), result;
@@ -108,6 +108,7 @@ async function askOthers(result, ask) {
     result.bird = (await ask("bird")).tree;
     addPoint(result, "bird", "Bird’s shares", result.bird.shares);
   }
+  if (game.kind === "bankruptcy") addProportion(result);
   if (game.isMarket()) {
     const document = result.text.replace('{"game":{"class":"assignment"', '{"game":{"class":"market"');
     result.matching = (await ask("matching", document)).tree;
@@ -121,6 +122,12 @@ async function askPrenucleolus(result, ask) {
   const { tree } = await ask("prenucleolus"), [{ shares: own }] = result.points;
   if (!tree.shares || tree.shares.every((share, i) => own[i].equals(Rational.of(share)))) return;
   addPoint(result, "prenucleolus", capital(ruleName("prenucleolus", result.game.perHead)), tree.shares);
+}
+
+/** The division in proportion to the claims, for which a court mostly asks: the page's own calculation. */
+function addProportion(result) {
+  const { amounts, single } = result.game, part = single.over(Rational.sum(amounts));
+  addPoint(result, "proportion", "In proportion", amounts.map((claim) => String(claim.times(part))));
 }
 
 function addPoint(result, key, title, shares) {

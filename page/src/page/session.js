@@ -34,10 +34,11 @@ export class Session {
    * and `made`, the document that the page makes of it. What `isFile` has no mark of the case before; its `mark` was
    * chosen. */
   open(kind, typed, { isFile = false, isTyped = isFile, ...settings } = {}) {
-    const { measure = "plain", texts = [], todays = null, doubt = "", file = null } = settings;
+    const { measure = "plain", texts = [], todays = null, pinned = null, doubt = "", file = null } = settings;
     const { places = kind.places ?? 2, mark = isFile ? this.usualMark() : this.mark } = settings;
     const { entry = isFile ? mark : this.own } = settings;
-    Object.assign(this, { kind, typed, measure, texts, todays, entry, doubt, places, mark, isTyped, isFresh: isFile });
+    Object.assign(this, { kind, typed, measure, texts, todays, pinned, entry, doubt, places, mark, isTyped });
+    this.isFresh = isFile;
     this.isChosen = Boolean(settings.mark) || (isFile ? this.chosen !== null : this.isChosen);
     spoken.mark = mark;
     Object.assign(this, { reading: null, result: null, judged: {}, proposal: proposalOf([], [], entry) });
@@ -123,7 +124,8 @@ export class Session {
     const slow = setTimeout(() => isMine() && this.on.busy(true), BUSY), { engine, checker } = this.asking(mine);
     try {
       const { kind, entry: mark, measure } = this, typed = kind.pack?.(this.typed) ?? this.typed;
-      const reading = await engine("readCase", { id: kind.id, typed, mark, measure });
+      const { isMarked } = this.typed;
+      const reading = await engine("readCase", { id: kind.id, typed, mark, measure, isMarked });
       if (!isMine()) return;
       this.reading = this.ofFile(reading);
       if (this.file) this.file.made ??= reading.text;
@@ -184,6 +186,13 @@ export class Session {
     this.on.answer();
     clearTimeout(this.judging);
     this.judging = setTimeout(() => this.judge().catch(this.on.fault), WAIT);
+  }
+
+  /** The answer that is kept to compare; null for none. No answer changes. */
+  setPinned(pinned) {
+    this.pinned = pinned;
+    this.on.read();
+    this.on.answer();
   }
 
   /** What each pays or has today, a text for each row; null where the user doesn't compare. No answer changes. */

@@ -1,47 +1,57 @@
 // The table of the answer: a row for each who pays or gets, a column for each division, and what is asked of them.
 import { Rational } from "../exact/rational.js";
 import { fractionText } from "../exact/decimals.js";
+import { votesText } from "../draw/ranges.js";
 import { listed, Namer, plural } from "../tell/words.js";
-import { againstOf, comparisonPart } from "./comparison.js";
+import { againstOf } from "./comparison.js";
 import { el } from "./dom.js";
-import { excessesPart } from "./excesses.js";
 import { labelOf, movedText, totalsOf, withSum } from "./format.js";
-import { meanings, monotonic, subtitleOf, words } from "./meanings.js";
-import { ownInput, proposalSum, proposalTools } from "./proposal-cells.js";
+import { subtitleOf } from "./meanings.js";
+import { pinnedNote, pinTools, sinceKept } from "./pinned.js";
+import { ownInput, proposalSum } from "./proposal-cells.js";
 import { airlineLines, roundingLines, shareLines } from "./table-lines.js";
-import { changeBelow, todayTitle, todayTools } from "./today.js";
+import { changeBelow, todayTitle } from "./today.js";
 
 const BRIEF = 8; // rows that are kept on one printed page
 const NARROW = 520;
 const FEW = 3; // landings that are named one by one
+const MOST_DIGITS = 12; // of a fraction that is shown unfolded
 
 export function sharesTable(result, settings) {
   const { game, points } = result, { rows, format, proposal } = settings;
   const context = contextOf(game, rows, format);
   const columns = points.map((point) => {
     const steps = format.steps(totalsOf(rows, point.shares), rows);
-    return { ...point, steps, texts: withSum(steps).map(format.text) };
+    return { ...point, steps, texts: format.texts(withSum(steps)) };
   });
   const against = againstOf(points[0], rows, proposal, format), isNarrow = settings.wide < NARROW;
-  const span = columns.length + [proposal.canBe, against, settings.today.texts].filter(Boolean).length;
-  const view = { ...settings, game, context, columns, against, isNarrow, span };
-  const hasHolds = points.some(({ hold }) => hold);
-  const kinds = ["shares", proposal.totals ? "" : "unproposed", rows.length <= BRIEF ? "brief" : ""];
+  const beside = [proposal.canBe, against, settings.today.texts, settings.pinned?.pin].filter(Boolean);
+  const span = columns.length + beside.length;
+  const pinned = game.ballots ? null : settings.pinned; // of votes the power is compared
+  const kept = new Map(columns.map(({ key }) => [key, pinned?.pin && pinned.kept(key, format)]));
+  const view = { ...settings, pinned, kept, game, context, columns, against, isNarrow, span };
+  const isOwn = proposal.texts?.some(Boolean) || settings.typed.isProposing;
+  const kinds = ["shares", isOwn ? "proposing" : "", pinned?.pin ? "comparing" : "",
+    proposal.totals ? "" : "unproposed", rows.length <= BRIEF ? "brief" : ""];
   return el("div", {},
+    pinned && pinnedNote(pinned, result, rows, settings),
     el("div", { class: "scroll" }, el("table", { class: kinds.filter(Boolean).join(" ") },
       headOf(view), el("tbody", {}, linesOf(rows).map((line) => (line.of ? sumRow(line, view) : shareRow(line, view)))),
-      footOf(view, hasHolds))),
-    columns.some(({ shares }) => format.isMoved(totalsOf(rows, shares), rows))
-      && el("p", { class: "hint moved" }, `${movedText(rows)} The exact shares stand in small print.`),
-    sameText(result) && el("p", { class: "hint" }, sameText(result)),
-    proposal.canBe && proposalTools(result, settings),
-    todayTools(game, settings.today),
+      footOf(view))),
     proposal.shares && sameAs(points, proposal.shares),
-    points.length > 0 && comparisonPart(proposal, points[0], game, settings),
-    excessesPart(result, settings),
-    meanings(points, hasHolds, game),
-    !game.ballots && !game.isMarket() && monotonic(),
-    words());
+    el("div", { class: "tools" }, pinned && pinTools(pinned),
+      isMoved(points, rows, format) && el("span", { class: "hint" }, "Rounded so that the shares add up.")));
+}
+
+function isMoved(points, rows, format) {
+  return points.some(({ shares }) => format.isMoved(totalsOf(rows, shares), rows));
+}
+
+/** How the shares were rounded, if some were moved so that all add up; it belongs to the reasons. */
+export function roundingPart({ points }, { rows, format }) {
+  return isMoved(points, rows, format) && el("details", { class: "meanings moved screen" },
+    el("summary", {}, "How the shares are rounded"),
+    el("p", {}, `${movedText(rows)} The exact shares are in small print.`));
 }
 
 /** Why there is no column of the prenucleolus. */
@@ -50,10 +60,10 @@ export function sameText({ hasOneNucleolus, game }) {
 }
 
 /** Which division of the table a proposal is. */
-function sameAs(points, shares) {
+export function sameAs(points, shares) {
   const same = points.filter((point) => point.shares.every((share, i) => share.equals(shares[i])));
   return same.length > 0 && el("p", { class: "same-as" },
-    `Your proposal is just what stands under ${listed(same.map(({ title }) => `“${title}”`))}.`);
+    `Your proposal is exactly the column ${listed(same.map(({ title }) => `“${title}”`))}.`);
 }
 
 /** A row with its name in front; on a narrow page above it, where no number that is scrolled goes behind it. */
@@ -65,26 +75,36 @@ function named({ isNarrow, span }, kind, name, cells) {
   ];
 }
 
-function headOf({ game, context, columns, proposal, today, against, isNarrow }) {
-  const column = ({ key, title }) => el("th", { scope: "col", class: "number", "data-point": key },
+function headOf({ game, context, columns, proposal, today, pinned, against, isNarrow }) {
+  const column = ({ key, title }, k) => el("th", { scope: "col", class: kindOf(key, k), "data-point": key },
     title, el("small", {}, subtitleOf(key, game)));
   return el("thead", {}, el("tr", {},
     !isNarrow && el("th", { scope: "col" }, game.costs ? "Who pays" : "Who gets"),
     context && el("th", { scope: "col", class: "number context" }, context.title),
     today.texts && el("th", { scope: "col", class: "number today" }, todayTitle(game)),
+    pinned?.pin && el("th", { scope: "col", class: "number kept" }, "Kept", el("small", {}, "the answer before")),
     columns.map(column),
     proposal.canBe && el("th", { scope: "col", class: "number proposed", "data-point": "proposal" },
       "Your proposal", el("small", {}, subtitleOf("proposal", game))),
     against && el("th", { scope: "col", class: "number against" }, against.title)));
 }
 
+/** The first column is the answer; a core point is shown with a proposal only, since it proposes nothing. */
+function kindOf(key, k) {
+  return `number${k ? "" : " main"}${key === "core" ? " core-point" : ""}`;
+}
+
 function shareRow({ row, r }, view) {
-  const { game, context, columns, format, proposal, today, against } = view, count = row.players.length;
+  const { game, context, columns, format, proposal, today, pinned, against } = view, count = row.players.length;
+  const kept = (key) => view.kept.get(key)?.values[r];
   return named(view, "", [row.label, count > 1 && el("small", {}, plural(count, "landing"))], [
     context && el("td", { class: "number context" }, context.texts[r]),
     today.texts && el("td", { class: "number today" }, ownInput(row, r, today, "today", todayTitle(game))),
-    columns.map(({ texts, steps, shares }) => {
-      return shareCell(texts[r], shares[row.players[0]], count, format, changeOf(steps[r], r, today, format));
+    pinned?.pin && el("td", { class: "number kept" }, kept(columns[0].key) ? format.show(kept(columns[0].key)) : "–"),
+    columns.map(({ key, texts, steps, shares }, k) => {
+      const changes = [changeOf(steps[r], r, today, format),
+        sinceKept(steps[r], shares[row.players[0]].times(Rational.of(count)), view.kept.get(key), r, format)];
+      return shareCell(texts[r], shares[row.players[0]], count, format, changes, kindOf(key, k));
     }),
     proposal.canBe && el("td", { class: "number proposed" },
       ownInput(row, r, proposal, "proposal", "Your proposal")),
@@ -92,10 +112,13 @@ function shareRow({ row, r }, view) {
   ]);
 }
 
-export function shareCell(text, share, count, format, change) {
+export function shareCell(text, share, count, format, change, kind = "number") {
   const fraction = !format.isExact(share) && fractionText(share);
   const exact = count > 1 ? `${count} × ${format.show(share)}${fraction ? ` (${fraction})` : ""}` : fraction;
-  return el("td", { class: "number" }, text, change, exact && el("small", { class: "exact" }, exact));
+  const isLong = fraction && fraction.replace(/\D/g, "").length > MOST_DIGITS;
+  return el("td", { class: kind }, text, change, exact && (isLong
+    ? el("details", { class: "inline exact" }, el("summary", {}, "exact"), el("small", {}, exact))
+    : el("small", { class: "exact" }, exact)));
 }
 
 /** How much more it is than today, where that was typed. */
@@ -114,15 +137,17 @@ export function linesOf(rows) {
 }
 
 function sumRow({ sum, of }, view) {
-  const { rows, context, columns, format, proposal, today, against } = view;
+  const { rows, context, columns, format, proposal, today, pinned, against } = view;
   const now = today.texts && ownSum(of, today), proposed = proposal.canBe && ownSum(of, proposal);
-  const cells = columns.map(({ shares, steps }) => {
+  const cells = columns.map(({ key, shares, steps }, k) => {
     const exact = Rational.sum(totalsOf(of.map((r) => rows[r]), shares)), shown = withSum(of.map((r) => steps[r]));
-    return shareCell(format.text(shown.at(-1)), exact, 1, format, now && changeBelow(shown.at(-1), now, format));
+    const change = now && changeBelow(shown.at(-1), now, format);
+    return shareCell(format.text(shown.at(-1)), exact, 1, format, change, kindOf(key, k));
   });
   return named(view, "subtotal", `${sum}, together`, [
     context && el("td", { class: "context" }), today.texts && el("td", { class: "number" }, now && format.show(now)),
-    cells, proposal.canBe && el("td", { class: "number proposed" }, proposed && format.show(proposed)),
+    pinned?.pin && el("td", { class: "kept" }), cells,
+    proposal.canBe && el("td", { class: "number proposed" }, proposed && format.show(proposed)),
     against && el("td"),
   ]);
 }
@@ -133,27 +158,39 @@ export function ownSum(of, { values }) {
   return own.every(Boolean) ? Rational.sum(own) : null;
 }
 
-function footOf(view, hasHolds) {
-  const { game, rows, context, columns, format, proposal, today, against } = view, last = rows.length;
+function footOf(view) {
+  const { game, rows, context, columns, format, proposal, today, pinned, against } = view, last = rows.length;
+  const kept = view.kept.get(columns[0].key);
   const sum = named(view, "sum", "together", [
     context && el("td", { class: "number context" }, context.sum),
     today.texts && el("td", { class: "number today" }, today.values[last] ? format.show(today.values[last]) : "–"),
-    columns.map(({ texts, steps }) => {
-      return el("td", { class: "number" }, texts.at(-1), changeOf(withSum(steps).at(-1), last, today, format));
+    pinned?.pin && el("td", { class: "number kept" }, kept && format.show(kept.sum)),
+    columns.map(({ key, texts, steps }, k) => {
+      return el("td", { class: kindOf(key, k) }, texts.at(-1), changeOf(withSum(steps).at(-1), last, today, format));
     }),
     proposal.canBe && el("td", { class: "number proposed" }, proposalSum(game, proposal, format)),
     against && el("td", { class: "number against" }, against.texts.at(-1)),
   ]);
   const asked = (title, told, own) => named(view, "verdict", title, [
-    context && el("td", { class: "context" }), today.texts && el("td"),
-    columns.map((point) => el("td", { class: "number" }, told(point))),
+    context && el("td", { class: "context" }), today.texts && el("td"), pinned?.pin && el("td", { class: "kept" }),
+    columns.map((point, k) => el("td", { class: kindOf(point.key, k) }, told(point))),
     proposal.canBe && el("td", { class: "number proposed", colspan: against ? "2" : false, role: "status" },
       proposal.shares ? told(own) : "–"),
   ]);
   const isJudged = columns.some(({ verdict }) => verdict !== null);
   return el("tfoot", {}, sum,
-    isJudged && asked("Can a group do better by itself?", (one) => verdictText(game, one.verdict, format), proposal),
-    hasHolds && asked("Has one a stronger hold on another?", (one) => holdText(rows, one.hold, format), proposal));
+    isJudged && asked("Could a group do better by itself?", (one) => verdictText(game, one.verdict, format), proposal));
+}
+
+/** Whether one player has a stronger hold on another, a line for each division; null if nothing is known of it. */
+export function holdsPart({ points }, { rows, format, proposal }) {
+  const own = proposal.shares && { title: "Your proposal", hold: proposal.hold };
+  const known = [...points, own].filter((one) => one?.hold);
+  if (!known.length) return null;
+  return el("div", { class: "holds" }, el("h3", {}, "Does one player have a stronger hold on another?"),
+    el("ul", { class: "plain" }, known.map(({ title, hold }) => {
+      return el("li", {}, el("b", {}, `${title}: `), holdText(rows, hold, format));
+    })));
 }
 
 /** What is known of each beside the shares, and its sum where one may add it up. */
@@ -162,8 +199,8 @@ export function contextOf(game, rows, { show, column }) {
   const of = (values, title) => ({ title, texts: rows.map(({ players: [i] }) => show(values[i])) });
   const votes = game.ballots?.[0].votes;
   if (votes) {
-    const texts = rows.map(({ players: [i] }) => String(votes[i]));
-    return { title: "Votes", texts, sum: String(Rational.sum(votes)) };
+    const texts = rows.map(({ players: [i] }) => votesText(votes[i]));
+    return { title: "Votes", texts, sum: votesText(Rational.sum(votes)) };
   }
   if (game.kind === "bankruptcy") {
     const texts = column(rows.map(({ players: [i] }) => game.amounts[i]));

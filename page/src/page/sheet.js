@@ -9,14 +9,17 @@ import { Rational } from "../exact/rational.js";
 import { fileNames } from "../cases/coarse.js";
 import { coarseText, dividedText } from "../tell/coarse-text.js";
 import { ruleFile, sourceOf } from "../tell/rule-names.js";
-import { Namer } from "../tell/words.js";
+import { listed, Namer } from "../tell/words.js";
 import { lead, notices, solutionOf } from "./answer.js";
 import { beyondSheet } from "./beyond.js";
+import { beyondPower } from "./beyond-power.js";
 import { el, refill } from "./dom.js";
 import { knownDigest } from "./files.js";
 import { fitOnPaper } from "./fit.js";
 import { filledLines, filledText, givenText } from "./filled.js";
 import { formatOf, movedText, totalsOf, withSum } from "./format.js";
+import { labelOfCell } from "./cell-names.js";
+import { pinnedOf, pinnedText } from "./pinned.js";
 import { contextOf, ownSum, sameText } from "./shares-table.js";
 import { airlineLines } from "./table-lines.js";
 import { changeText, todayOf, todayTitle } from "./today.js";
@@ -31,18 +34,18 @@ const LONG = 900; // characters of the reasons above which they are, too
 const MOST_TOLD = 800; // characters of the first reason that are printed in full
 const MOST_LEVELS = 1100; // characters of what the levels behind the first settle
 const MOST_DOCUMENT = 420; // characters of the game's document that are printed
+const MOST_SAVING = 8; // rows of whom each saving is named
 const MOST_ALONE = 900; // the same where there is no picture
 
-const OPEN = "Open coop.html from the project’s repository, at the commit named below (whoever sends this has to give "
+const OPEN = "Open coop.html from the project’s repository, at the commit named below (the sender has to give "
   + "you its address)";
 const TYPE_IN = " Or simply type the numbers into that page: the answer has to be the same.";
-const AREA = "The dark area, where there is one: the divisions by which no group does better by itself.";
-const OF_FILE = " That is of the file, and not of the box below, in which the same numbers stand as this page writes "
-  + "them.";
-const OF_TEXT = " That is of the file: of the text in the box below, with an end of line behind it.";
-const POWER = "Power is in what part of all orders of joining a voter is the one by whom the votes suffice (Shapley "
-  + "and Shubik 1954).";
-const PRICES = "By the pairs that gain most together, and the prices at which no other pair does better.";
+const AREA = "The dark area, if there is one, has the divisions by which no group could do better by itself.";
+const OF_FILE = " That is the SHA-256 of the file. The box below has the same numbers as this page writes them.";
+const OF_TEXT = " That is the SHA-256 of the text in the box below, with a line end after it.";
+const POWER = "A voter’s power is the part of all orders of joining in which it is the voter who makes the votes "
+  + "sufficient (Shapley and Shubik 1954).";
+const PRICES = "The pairs are those that gain most together. At these prices no other pair does better.";
 
 /** Fills the sheet with the answer of a session, and gives the number of sheets of paper that it takes; leaves it empty
  * where there is no answer. */
@@ -58,7 +61,8 @@ function fillSheet(sheet, session, typed) {
     const format = formatOf(session.places, session.mark), today = todayOf(session, result.beyond.rows);
     const view = { ...session, ...typed, format, today };
     sheet.className = "tight";
-    refill(sheet, headOf(view), beyondSheet(result.beyond, view));
+    const { beyond } = result;
+    refill(sheet, headOf(view), beyond.power ? beyondPower(beyond, { format, wide: WIDE }) : beyondSheet(beyond, view));
     return;
   }
   if (!result || result.refusal || !result.points.length) {
@@ -66,10 +70,12 @@ function fillSheet(sheet, session, typed) {
     return;
   }
   const { rows } = reading, format = formatOf(session.places, session.mark), today = todayOf(session, rows);
-  const { heading, unit, withProposal } = typed, { coarse } = session.typed;
-  const view = { ...session, heading, unit, withProposal, result, rows, format, today, coarse };
+  const { heading, unit, withProposal } = typed, { coarse } = session.typed, pinned = pinnedOf(session, rows);
+  const labelOf = (cell) => labelOfCell(cell, session);
+  const view = { ...session, heading, unit, withProposal, result, rows, format, today, coarse, pinned,
+    labelOfCell: labelOf };
   const reasons = reasonsOf(view), isLong = rows.length > MANY_ROWS || reasons.textContent.length > LONG;
-  const isTight = isLong || Boolean(withProposal || coarse || result.core?.collection);
+  const isTight = isLong || Boolean(withProposal || coarse || pinned.pin || result.core?.collection);
   sheet.className = isTight ? "tight" : "";
   refill(sheet, headOf(view), notices(result, format, coarse), answerOf(view), pictureOf(view), reasons,
     agreedOf(view), checkOf(view));
@@ -86,7 +92,7 @@ export function dayText() {
 // ---- Who, and how much
 
 function answerOf(view) {
-  const { result, rows, format, unit, today, coarse } = view, { game } = result;
+  const { result, rows, format, unit, today, coarse, pinned } = view, { game } = result;
   const shapley = result.points.find(({ key }) => key === "shapley");
   const point = game.ballots ? shapley : solutionOf(result) ?? result.points[0];
   if (!point) return null;
@@ -97,7 +103,8 @@ function answerOf(view) {
   const context = contextOf(game, rows, format), texts = format.column(totals, rows);
   const hasExact = totals.some((total) => !format.isExact(total)), who = game.costs ? "Who pays" : "Who gets";
   const beside = othersOf(view, point);
-  const others = [...todaysOf(today, format.steps(totals, rows), game, format), ...beside];
+  const steps = format.steps(totals, rows), kept = pinned.pin && !game.ballots ? pinned.kept(point.key, format) : null;
+  const others = [...todaysOf(today, steps, game, format), ...keptsOf(kept, steps, format), ...beside];
   const heads = [game.ballots ? "Who votes" : who, context?.title, title, hasExact ? "exactly" : undefined,
     ...others.flatMap(({ title: name, exact }) => (exact ? [name, "exactly"] : [name]))];
   const line = (r) => el("tr", {},
@@ -118,7 +125,17 @@ function answerOf(view) {
     coarse?.times && [{ title, totals }, ...beside].map((one) => {
       return el("p", { class: "hint" }, dividedText(coarse, one.title, rows, one.totals));
     }),
+    kept && el("p", { class: "hint" }, pinnedText(pinned, { points: [point] }, rows, view)),
     saidOfAll(view, point, beside));
+}
+
+/** What was kept to compare, and how much more the share is now. */
+function keptsOf(kept, steps, format) {
+  if (!kept) return [];
+  const all = [...kept.values, kept.sum];
+  const told = (say) => withSum(steps).map((step, r) => (all[r] ? say(all[r], step) : ""));
+  return [{ title: "Before", texts: told(format.show) },
+    { title: "Change", texts: told((now, step) => changeText(step, now, format)) }];
 }
 
 /** The bill: what each airline pays for all its rows, by the columns that are shown; null where none has several. */
@@ -241,7 +258,25 @@ function powerOf(game, points, { show }) {
 
 // ---- The reasons
 
-function reasonsOf({ result, pair }) {
+/** What each saves, or gets more, against going alone, as the numbers are shown; "" if somebody doesn't, or the class
+ * has no such numbers. */
+function savingsText(game, { shares }, rows, format) {
+  if (!game.own || game.isMarket() || game.kind === "bankruptcy") return "";
+  const totals = totalsOf(rows, shares), alone = totalsOf(rows, game.own),
+    unit = new Rational(10n ** BigInt(format.places));
+  const steps = format.steps(totals, rows), shown = alone.map((value, r) => {
+    const more = value.minus(new Rational(steps[r]).over(unit));
+    return game.costs ? more : more.negated();
+  });
+  if (shown.some((value) => value.isNegative())) return "";
+  const does = game.costs ? "saves" : "gains", sum = format.show(Rational.sum(shown));
+  const told = rows.map(({ label }, r) => `${label} ${does} ${format.show(shown[r])}`);
+  const most = rows[shown.findIndex((value) => value.equals(Rational.max(shown)))].label;
+  return `Against going alone, ${rows.length > MOST_SAVING ? `${most} ${does} most, ${format.show(Rational.max(shown))}`
+    : listed(told)}: together ${sum}.`;
+}
+
+function reasonsOf({ result, pair, rows, format }) {
   const { reasons, answer, rule, game, points } = result;
   if (game.ballots || !reasons) {
     return el("section", {}, el("h2", {}, "How it was found"), el("p", {}, game.ballots ? POWER : PRICES));
@@ -249,14 +284,15 @@ function reasonsOf({ result, pair }) {
   const [principle, next] = reasons, levels = reasons.filter(({ isLevel }) => isLevel).length;
   const sentences = [...principle.sentences, ...(next ? toldOf(next) : [])], behind = levelsBehind(reasons, next);
   if (next?.isLevel && levels > 1 && !behind.length) {
-    sentences.push(`So the first of ${levels} levels; the certificate has them all.`);
+    sentences.push(`That is the first of ${levels} levels. The certificate has all of them.`);
   }
   const isCore = points.find(({ key }) => key === answer)?.verdict?.isCore;
-  return el("section", {}, el("h2", {}, `Why: the ${rule}`),
+  const saved = savingsText(game, points[0], rows, format);
+  return el("section", {}, el("h2", {}, `Why: the ${rule}`), saved && el("p", {}, saved),
     el("p", {}, sentences.join(" ")),
     behind.length > 0 && el("ul", { class: "levels" }, behind.map((text) => el("li", {}, text))),
     el("p", {}, isCore && "By these shares no group does better by itself. ",
-      `No other division meets the principle: there is just one ${rule} (${sourceOf(game.perHead)}).`),
+      `No other division meets the principle: there is exactly one ${rule} (${sourceOf(game.perHead)}).`),
     pair && el("p", {}, pair));
 }
 
@@ -286,10 +322,10 @@ function toldOf({ sentences, items, last = "" }) {
 /** The numbers by the file that was opened, while they are its own; else by that which the page writes of them. */
 function numbersOf({ file, kind, coarse, result: { text } }) {
   const isOpened = file?.made === text, digest = isOpened ? file.digest : knownDigest(`${text}\n`);
-  const sum = el("span", { class: "digest" }, digest ?? "(this browser works out none)");
-  if (isOpened) return [`The numbers of the game, as they stand in ${file.name}: its SHA-256 is `, sum, "."];
+  const sum = el("span", { class: "digest" }, digest ?? "(this browser can’t calculate it)");
+  if (isOpened) return [`The numbers of the game are in the file ${file.name}. Its SHA-256 is `, sum, "."];
   const { game: own } = fileNames(kind.id, coarse);
-  return [`The numbers of the game, as this page writes them in a file of its own, ${own}: its SHA-256 is `, sum, ".",
+  return [`The numbers of the game are in a file that this page writes, ${own}. Its SHA-256 is `, sum, ".",
     file && ` Numbers were changed since ${file.name} was opened.`];
 }
 
@@ -318,11 +354,11 @@ function checkOf({ result: { rule, answer, line, game }, kind, doubt, coarse }) 
   const foot = document.querySelector("footer p").textContent;
   if (doubt) return el("section", {}, el("p", { class: "hint" }, foot));
   const steps = line && !game.ballots
-    ? `${OPEN}, choose “I got an answer and doubt it”, and give it the agreed file and the line with the certificate, `
+    ? `${OPEN}, choose “Check an answer”, and give it the agreed file and the line with the certificate, `
       + `${fileNames(kind.id, coarse).line}-${ruleFile(answer, game.perHead)}.json. `
-      + `Two checkers, apart from each other, say whether these shares are the ${rule} of the agreed game. `
-      + "It goes by hand, too: the page lists the eight conditions under “What a yes means”."
-    : `${OPEN}, choose “Open or paste a document”, and give it the agreed file: it works the answer out anew.`;
+      + `Two independent checkers say whether these shares are the ${rule} of the agreed game. `
+      + "You can check by hand, too: the page lists the eight conditions under “What a yes means”."
+    : `${OPEN}, choose “Open a saved case”, and give it the agreed file: it works the answer out anew.`;
   return el("section", {}, el("h2", {}, "How to check it"), el("p", {}, steps, TYPE_IN),
     el("p", { class: "hint" }, foot));
 }

@@ -24,11 +24,12 @@ function icon(name) {
 }
 
 export function startCards({ onCase, onDocument, onCheck }) {
-  const card = (name, title, teaser, onClick) => el("li", {},
-    el("button", { type: "button", class: "card", on: { click: onClick } },
+  const card = (name, title, teaser, onClick, kind = "card") => el("li", {},
+    el("button", { type: "button", class: kind, on: { click: onClick } },
       icon(name), el("span", { class: "title" }, title), el("span", { class: "teaser" }, teaser)));
   return el("ul", { class: "cards" },
     CASES.map((kind) => card(kind.id, kind.title, kind.teaser, () => onCase(kind))),
-    card("document", "Open or paste a document", "One that this page or the program has made.", onDocument),
-    card("check", "I got an answer and doubt it", "Check a line by two checkers, apart from each other.", onCheck));
+    card("check", "Check an answer", "Somebody sent you shares. Two checkers say whether they are right.", onCheck,
+      "card other-start"),
+    card("document", "Open a saved case", "Or a document, or a line of the program.", onDocument, "card other-start"));
 }

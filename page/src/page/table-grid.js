@@ -9,7 +9,8 @@ import { headingOf, numbersIn } from "../cases/vectors.js";
 import { plural } from "../tell/words.js";
 import { pasteBox } from "./paste-box.js";
 
-const PAGE = 63; // all groups of six players
+const MOST_WHOLE = 6; // players whose groups are all shown
+const PAGE = 42; // groups of more players that are shown at a time
 const WAIT = 150; // milliseconds between the last key and filling anew
 const REFILL = 60000; // the question waits for what is filled anew
 const SIZES = ["", "Alone", "Two together", "Three together", "Four together", "Five together", "Six together"];
@@ -22,11 +23,15 @@ export function tableGrid(kind, typed, settings) {
 class TableGrid {
   constructor(kind, typed, { onChange, readList, readCells, help, mark, remember }) {
     Object.assign(this, { kind, typed, onChange, readList, help, mark, remember });
-    const [players, tools, list] = ["players", "tools", "groups"].map((name) => el("div", { class: name }));
+    const [players, pages, list, fills, tools] = ["players", "pages", "groups", "fills", "tools"].map((name) => {
+      return el("div", { class: name });
+    });
     this.message = el("div", { class: "note", role: "status" });
-    Object.assign(this, { players, tools, list, start: 0, wanted: "" });
-    this.element = el("div", {}, players, tools, this.message, list);
+    Object.assign(this, { players, pages, tools, list, fills, start: 0, wanted: "" });
+    this.element = el("div", {}, players, this.message, pages, list, fills);
+    this.element.more = tools;
     this.order = masksBySize(typed.names.length);
+    this.element.addEventListener("show-cell", ({ detail }) => this.showCell(detail));
     moveByKeys(list, (cell, step) => `numbers.${this.order[this.placeOf(cell) + step]}`);
     pasteCells(list, (cell, rows, text) => this.paste(cell, rows, text), readCells);
     this.show();
@@ -100,8 +105,9 @@ class TableGrid {
   }
 
   showGroups() {
+    this.showFills();
     const bySize = new Map(), { names } = this.typed;
-    for (const mask of this.found().slice(this.start, this.start + PAGE)) {
+    for (const mask of this.found().slice(this.start, this.start + this.page())) {
       const count = membersOf(mask).length;
       bySize.set(count, [...(bySize.get(count) ?? []), mask]);
     }
@@ -130,6 +136,7 @@ class TableGrid {
   /** Numbers that were filled follow those that are typed. */
   typedInto(mask) {
     const { filled = [] } = this.typed;
+    this.showFills();
     this.filling = (this.filling ?? 0) + 1;
     this.typed.filled = filled.filter((other) => other !== mask);
     if (!filled.length) return this.onChange();
@@ -171,15 +178,30 @@ class TableGrid {
   // ---- Tools
 
   showTools() {
-    refill(this.tools, this.order.length > PAGE && this.pager(),
-      button("Copy the list for a spreadsheet", (event) => copy(this.spreadsheet(), event.target), { class: "quiet" }),
-      button(`Fill the empty ones by the ${this.kind.isCost ? "cheapest" : "best"} split`, () => this.fillBy("split"), {
+    refill(this.pages, this.typed.names.length > MOST_WHOLE && this.pager());
+    refill(this.tools,
+      pasteBox((text, order, close) => this.takeList(text, order, close)),
+      button("Copy the list", (event) => copy(this.spreadsheet(), event.target), {
+        class: "quiet", title: "With names, for a spreadsheet",
+      }));
+    this.showFills();
+  }
+
+  /** Ways to fill what is empty, as long as some group is, or was before the page filled it. */
+  showFills() {
+    const { isCost } = this.kind, { numbers, filled = [] } = this.typed;
+    const isEmpty = this.order.some((mask) => !(numbers[mask] ?? "").trim());
+    const asked = isEmpty ? "Nobody knows some of these numbers?" : filled.length ? "Fill them another way?" : "";
+    if (this.fills.dataset.asked === asked) return;
+    this.fills.dataset.asked = asked;
+    refill(this.fills, asked && el("p", { class: "tools" },
+      el("span", { class: "hint" }, asked),
+      button(`Fill the empty ones by the ${isCost ? "cheapest" : "best"} split`, () => this.fillBy("split"), {
         class: "quiet", title: "Each group without a number takes that of its best split into groups that have one",
       }),
-      this.kind.isCost && button("Fill them no dearer than a larger group", () => this.fillBy("larger"), {
+      isCost && button("Fill them no dearer than a larger group", () => this.fillBy("larger"), {
         class: "quiet", title: "The cheapest of the splits of a group, and of the larger groups that hold it",
-      }),
-      pasteBox((text, order, close) => this.takeList(text, order, close)));
+      })));
   }
 
   fillBy(how) {
@@ -209,6 +231,11 @@ class TableGrid {
     if (mine === this.filling) this.say(notes.join(" "), namedGroups(above));
   }
 
+  /** How many groups are shown at a time. */
+  page() {
+    return this.typed.names.length > MOST_WHOLE ? PAGE : this.order.length;
+  }
+
   pager() {
     const masks = this.found(), last = Math.floor(Math.max(0, masks.length - 1) / PAGE) * PAGE;
     const turn = (by) => () => this.go(Math.max(0, Math.min(this.start + by, last)));
@@ -225,7 +252,7 @@ class TableGrid {
       el("label", {}, "Groups with ", find),
       button("‹", turn(-PAGE), { "aria-label": "Groups before", disabled: this.start === 0 }),
       el("span", {}, masks.length ? `${this.start + 1}–${end} of ${all}` : "none"),
-      button("›", turn(PAGE), { "aria-label": "Groups behind", disabled: this.start >= last }),
+      button("›", turn(PAGE), { "aria-label": "Groups after", disabled: this.start >= last }),
       button("First empty one", () => this.firstEmpty(), { class: "quiet" }));
   }
 
@@ -239,8 +266,16 @@ class TableGrid {
     const place = this.order.findIndex((mask) => !(this.typed.numbers[mask] ?? "").trim());
     if (place < 0) return this.say("No group is empty.");
     this.wanted = "";
-    this.go(Math.floor(place / PAGE) * PAGE);
+    this.go(Math.floor(place / this.page()) * this.page());
     return cellOf(this.list, `numbers.${this.order[place]}`)?.focus();
+  }
+
+  /** Turns to the page of a group. */
+  showCell(cell) {
+    const place = this.placeOf(cell);
+    if (!cell.startsWith("numbers.") || place < 0) return;
+    this.wanted = "";
+    this.go(Math.floor(place / this.page()) * this.page());
   }
 
   spreadsheet() {

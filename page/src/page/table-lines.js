@@ -34,7 +34,7 @@ export function roundingLines(points, { places, isExact }, { times, rounded } = 
   return [
     ...(isRounded ? [["Shares beside the exact ones are rounded to decimals", String(places)]] : []),
     ...(rounded ? [["The numbers of the game were rounded to decimals", "4"]] : []),
-    ...(times ? [["All numbers stand here times", times]] : []),
+    ...(times ? [["All numbers are here times", times]] : []),
   ];
 }
 
@@ -55,7 +55,7 @@ export function tabbed(lines) {
 export function csvText(tables, mark) {
   const by = mark === "," ? ";" : ",", isOdd = (text) => text.includes(by) || /["\r\n]/.test(text);
   const cell = (text) => {
-    const safe = plain(text).replace(/^(?=[=+@]|-(?!\d))/, "'");
+    const safe = plain(text).replace(/^(?=[=+@]|-(?!\d+([.,]\d+)?(\/\d+)?$))/, "'");
     return isOdd(safe) ? `"${safe.replace(/"/g, '""')}"` : safe;
   };
   const texts = tables.filter(({ length }) => length).map((lines) => lines.map((line) => line.map(cell).join(by)));

@@ -23,7 +23,8 @@ export async function textOfFile(file) {
 }
 
 /** What is said of where a text is from; nothing of one that was pasted. */
-function fromText({ name, size, given }) {
+function fromText({ name, size, given, ofCase }) {
+  if (ofCase) return `From your case, “${ofCase}”. If another file was agreed on, give that one.`;
   const file = name && `${name}, ${countText(size)} bytes`;
   return [file, given !== undefined && "without what the mail program added"].filter(Boolean).join(", ");
 }

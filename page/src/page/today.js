@@ -38,6 +38,6 @@ export function todayTools({ costs }, { canBe, texts, setAll }) {
   if (!canBe) return null;
   if (!texts) return el("p", { class: "tools" }, button(`Compare with ${what}`, () => setAll([]), { class: "quiet" }));
   return el("p", { class: "tools" }, button(`Without ${what}`, () => setAll(null), { class: "quiet" }),
-    el("span", { class: "hint" }, "Below each share stands how much more or less it is. This column is for the table "
-      + "and for paper: no file has a place for it, so it isn’t saved."));
+    el("span", { class: "hint" }, "Each share shows how much more or less it is. The column is for the table and for "
+      + "paper. It isn’t saved."));
 }

@@ -9,26 +9,33 @@ const MOST_NAMED = 12; // whose shares are others than they should be
 
 const lead = (sentence) => el("p", { class: "lead" }, sentence);
 
+/** Which game it is, beside its name: what is divided, if the class has a number for that. */
+function whichOf(game, format) {
+  if (game?.kind === "bankruptcy") return `, an estate of ${format.show(game.single)}`;
+  return game && game.costs ? `, a cost of ${format.show(game.whole())}` : "";
+}
+
 /** What the words come to, in a sentence; null while they are asked. */
-export function conclusion([same, ...checks], { answer, doubles = [], fault }, game) {
+export function conclusion([same, ...checks], { answer, doubles = [], fault }, game, format) {
   if (fault) return lead("This line can’t be read, so nothing of it is checked.");
   if (checks.some(({ isYes }) => isYes === undefined)) return null;
   if (checks.some(({ isYes }) => !isYes)) return lead("No: this line doesn’t show that its shares are right.");
-  const name = ruleName(answer, game?.perHead);
+  const name = ruleName(answer, game?.perHead), which = whichOf(game, format);
+  const agreed = same.isOfCase ? "the game of your case" : "the agreed game";
   if (doubles.length) {
-    return lead("Don’t take this line: a key stands twice in it, so its text can be read in two ways. By the last of "
-      + `each, its shares are the ${name} of ${same.isYes ? "the agreed game" : "its own game"}.`);
+    return lead("Don’t take this line: a key occurs twice in it, so its text can be read in two ways. By the last of "
+      + `each, its shares are the ${name} of ${same.isYes ? agreed : "its own game"}.`);
   }
-  if (same.isYes) return lead(`Yes: these shares are the ${name} of the agreed game.`);
-  const own = `The shares are the ${name} of the game in the line.`;
-  if (same.isYes === false) return lead(`${own} But that isn’t the agreed game.`);
-  return lead(same.isGiven ? `${own} But nobody can say whether it is the agreed one.`
+  if (same.isYes) return lead(`Yes: these shares are the ${name} of ${agreed}${which}.`);
+  const own = `The shares are the ${name} of the game in the line${which}.`;
+  if (same.isYes === false) return lead(`${own} But that isn’t ${agreed}.`);
+  return lead(same.isGiven ? `${own} But nobody can say whether it is ${same.isOfCase ? agreed : "the agreed one"}.`
     : `${own} See that it is the game you mean.`);
 }
 
 export function twice({ doubles = [] }) {
   return doubles.length > 0 && el("p", { class: "notice" },
-    `In this text a key stands twice: ${doubles.join(", ")}. The last one counts, for the checkers and for what is `,
+    `In this text a key occurs twice: ${doubles.join(", ")}. The last one counts, for the checkers and for what is `,
     "shown here. Don’t go by the text itself, and ask for one in which each key stands once.");
 }
 
@@ -80,7 +87,7 @@ export function unreadable({ fault, help = [], mended }, onMend) {
 /** What is missing in a line without a certificate, and what to ask for. */
 export function bareText({ answer, isRefusal }, game, bare) {
   if (isRefusal) return "This is no answer: the program refused a document, and says why in this line.";
-  const ask = "Ask for the whole line that the program printed, or that this page saved under “Hand it on”.";
+  const ask = "Ask for the whole line that the program printed, or that this page saved under “Send it to others”.";
   const kind = ["nucleolus", "prenucleolus", "shares"].includes(answer) ? ""
     : " Only those of the nucleolus and the prenucleolus have one.";
   const missing = game ? "It has no certificate" : "It has no game and no certificate";

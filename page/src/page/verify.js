@@ -33,6 +33,7 @@ export function verifyPanel({ format, onOpen, onPrint }) {
     element: panel.element,
     setLine: (text, from) => panel.ofLine.setText(text, from),
     beside: (text) => panel.beside(text),
+    fromCase: (own) => panel.fromCase(own),
   };
 }
 
@@ -45,16 +46,25 @@ class VerifyPanel {
     this.apart = el("div", { class: "in-case screen apart", "aria-live": "polite" });
     this.means = el("div", {}, meaning());
     this.ofLine = textPlace({
-      title: "The line to check", hint: "What the program printed, or this page saved: an answer with its certificate.",
+      title: "The line to check",
+      hint: "The answer with its certificate, as the program printed it or this page saved it.",
       onText: (text, from) => this.check({ line: text, from: { ...this.from, ofLine: from } }),
     });
     this.ofGame = textPlace({
       title: "The game that was agreed on",
-      hint: "The file that all agreed on before anyone knew an answer. It may be left out.",
+      hint: "The file that everybody agreed on before anyone knew an answer. You may leave it out.",
       onText: (text, from) => this.check({ agreed: text, from: { ...this.from, ofGame: from } }),
     });
     const places = el("div", { class: "places screen" }, this.ofLine, this.ofGame);
     this.element = el("div", {}, places, this.apart, this.answers, this.means, words());
+  }
+
+  /** Puts the game of the case that was typed, {text, title}, into the place of the agreed one, as long as no other was
+   * given. */
+  fromCase(own) {
+    const { agreed, from: { ofGame } } = this, text = own ? `${own.text}\n` : "";
+    if ((agreed.trim() && !ofGame.ofCase) || ofGame.fault || text === agreed) return;
+    this.ofGame.setText(text, own ? { ofCase: own.title } : {});
   }
 
   /** Says where what was checked isn't the game of the case above, whose document is `text` (null where it has none).
@@ -157,14 +167,19 @@ class VerifyPanel {
   }
 
   sameWord({ same }) {
-    const title = "Is it the agreed game?";
-    return same ? { title, ...same, isGiven: true } : { title, isYes: null, sentence: NO_FILE };
+    const isOfCase = Boolean(this.from.ofGame.ofCase), said = (text) => {
+      return isOfCase ? text.replace(/the agreed file/g, "your case") : text;
+    };
+    const title = isOfCase ? "Is it the game of your case?" : "Is it the agreed game?";
+    if (!same) return { title, isYes: null, sentence: NO_FILE };
+    const { sentence, items = [] } = same;
+    return { ...same, title, isOfCase, sentence: said(sentence), items: items.map(said), isGiven: true };
   }
 
   show(seen, game, found) {
     const same = this.sameWord(seen);
     const words = [same, ...(seen.fault ? [] : [programWord(found.program, game), anewWord(found.anew, game)])];
-    refill(this.answers, conclusion(words, seen, game), twice(seen),
+    refill(this.answers, conclusion(words, seen, game, this.format()), twice(seen),
       seen.fault && unreadable(seen, (text) => this.mend(text)),
       (!seen.fault || same.isGiven) && el("ul", { class: "words" }, words.map(wordLine)),
       disagreement(found), besideRight(seen, game, found.right, this.format()), nameRemarks(seen),

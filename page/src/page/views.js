@@ -13,8 +13,26 @@ export function showView(view) {
   document.body.dataset.view = kind ? "case" : view || "start";
   document.title = kind ? `${kind.title} – coop` : TITLE;
   scrollTo(0, 0);
-  const head = kind ? at("case-title") : at(view || "start").querySelector("h1, h2");
+  const head = kind ? at("case-title") : at(view || "start").querySelector("h1");
   head.focus({ preventScroll: true });
+}
+
+/** Goes to a part of the case's page, and opens it if it is folded. */
+export function showPart(id) {
+  const part = at(id), calm = matchMedia("(prefers-reduced-motion: reduce)").matches;
+  if (part.hidden) return;
+  if (part.tagName === "DETAILS") part.open = true;
+  part.scrollIntoView({ behavior: calm ? "auto" : "smooth", block: "start" });
+  (part.querySelector(":scope > summary") ?? part).focus({ preventScroll: true });
+}
+
+/** On a page of one column: keeps the answer's sentence in sight while the answer itself is out of it. */
+export function watchAnswer() {
+  const peek = at("peek"), answer = at("answer");
+  const seen = new IntersectionObserver(([{ isIntersecting }]) => {
+    peek.classList.toggle("away", isIntersecting);
+  }, { rootMargin: "-60px 0px -60px 0px" });
+  seen.observe(answer);
 }
 
 /** Some browsers let a file have no other address than by its mark. */

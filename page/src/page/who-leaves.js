@@ -14,7 +14,8 @@ export function leavingPart(view) {
     const row = rows.find(({ label }) => label === typed.leaves);
     if (!row) return refill(found);
     try {
-      const answer = await ask("leave", { text, who: row.players }), stay = stayOf(answer, row, rows);
+      const { network } = view, answer = await ask("leave", { text, who: row.players, network });
+      const stay = stayOf(answer, row, rows);
       const byFills = await fillsOfRest(view, row.players, stay, ` of the others without ${row.label}`);
       return typed.leaves === row.label && refill(found, leavingParts(answer, row, stay, byFills, view));
     } catch (fault) {
@@ -29,7 +30,7 @@ export function leavingPart(view) {
   const details = el("details", { class: "other leaves", open: Boolean(typed.open?.leaves), on: {
     toggle: () => { typed.open = { ...typed.open, leaves: details.open }; },
   } }, el("summary", {}, "If one leaves"),
-  el("p", { class: "hint" }, `What each group ${game.costs ? "costs" : "gains"} by itself stays, and the case too.`),
+  el("p", { class: "hint" }, `What would the others ${game.costs ? "pay" : "get"}? The cells stay as they are.`),
   el("p", { class: "tools" }, el("label", {}, el("span", { class: "field" }, "Who leaves? "), choice)), found);
   if (typed.open?.leaves) work();
   return details;
@@ -44,17 +45,33 @@ function stayOf(found, gone, rows) {
 }
 
 function leavingParts(found, { label, players }, stay, byFills, view) {
-  const { game, format, assumed } = view, [verb, cost] = game.costs ? ["pays", "cost"] : ["gets", "gain"];
+  const isAssumed = view.assumed([found.stay, players]), isGone = found.gone !== undefined;
+  const isOther = isGone && found.gone?.rest !== found.rest;
+  const through = el("h4", {}, `If the others may still build through the place of ${label}`);
+  return [
+    isAssumed && el("p", {}, "What the others, or those who leave, have by themselves was filled by the page, and "
+      + "nobody has put a number on it."),
+    byFills && el("p", {}, byFills),
+    isOther && el("p", { class: "note" }, `Some links were filled by ways through the place of ${label}. So it matters `
+      + "whether that place can still be used."),
+    isOther && through, ...sideParts(found, label, stay, view),
+    isOther && el("h4", {}, `If the place of ${label} is gone`),
+    ...(!isOther ? [] : found.gone ? sideParts(found.gone, label, stay, view)
+      : [el("p", {}, "Then some place has no way to the source.")]),
+  ];
+}
+
+/** What the others have without the one who leaves, what that means by each rule, and a table of it. */
+function sideParts(found, label, stay, view) {
+  const { game, format } = view, [verb, cost] = game.costs ? ["pays", "cost"] : ["gets", "gain"];
   const columns = found.rules.map((rule) => changesOf(rule, stay, format));
   const [whole, rest, alone] = [found.whole, found.rest, found.alone].map(Rational.of);
-  const [others, all] = format.apart(rest, whole), adds = format.by(whole.minus(rest));
-  const facts = `Without ${label} the others ${cost} ${others}, and all together ${all}: ${label} adds ${adds}. Alone `
+  const [others, all] = format.apart(rest, whole), adds = whole.minus(rest), size = format.by(adds.abs());
+  const does = !adds.isNegative() ? `adds ${size}` : game.costs ? `saves them ${size}` : `takes ${size} away`;
+  const facts = `Without ${label} the others ${cost} ${others}, and all together ${all}: ${label} ${does}. Alone `
     + `${label} ${cost}s ${format.show(alone)}.`;
-  const isAssumed = assumed([found.stay, players]);
   return [
-    el("p", {}, facts, isAssumed && " What the others, or those who leave, have by themselves was filled by the page, "
-      + "and nobody has put a number on it."),
-    byFills && el("p", {}, byFills),
+    el("p", {}, facts),
     ...columns.map((column) => el("p", {}, ofRule(column, { label, verb, alone, game, format }))),
     changesTable(columns, { rows: stay, game, format }),
   ];

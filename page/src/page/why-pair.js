@@ -57,8 +57,8 @@ function sentencesOf({ alone, holds }, two, { game, solution, format: { show, ap
 /** Equal holds are the reason; where they differ, the weaker has no more than alone. */
 function reasonOf(s, t, x, y, costs) {
   if (s.equals(t)) {
-    return `So neither has a stronger hold on the other, and that is the reason: were any moved from ${x} to ${y} or `
-      + "back, one of these two groups would gain less than both do now.";
+    return `So neither has a stronger hold on the other, and that is the reason: if something were moved from ${x} to `
+      + `${y} or back, one of these two groups would gain less than both do now.`;
   }
   const [strong, weak] = s.less(t) ? [x, y] : [y, x];
   return `So ${strong} has the stronger hold on ${weak}, and the rule would move more, but ${weak} would then `

@@ -13,8 +13,8 @@ export function whyParts({ answer, reasons, matching, convexity }) {
   const isLong = levels.length > MOST_OPEN;
   return [
     ...others.map(article),
-    isLong && el("p", { class: "fold screen" }, `The certificate has ${levels.length} levels. Each says who is worst `,
-      "off of those who are left, and why nobody can do better."),
+    isLong && el("p", { class: "fold screen" }, `The certificate has ${levels.length} levels. Each says who gains `,
+      "least of those who are left, and why no division is better for them."),
     ...levels.map(isLong ? folded : article),
     convexity && article({ title: "Does it matter who joins first?", sentences: [convexity.sentence], items: [] }),
   ];

@@ -18,7 +18,7 @@ export function coarseNumbers({ times, rounded }) {
 
 function timesText(times) {
   const ten = decimalOf(BigInt(times), 0);
-  return `All numbers stand here times ${ten}, so that they are whole, and exact. So are the shares: divide them by `
+  return `All numbers are here times ${ten}, so that they are whole, and exact. So are the shares: divide them by `
     + `${ten}.`;
 }
 

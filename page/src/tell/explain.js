@@ -98,7 +98,7 @@ class Explainer {
   /** How far two groups are above what they are worth, or below their cost. */
   margin(excess) {
     const alone = this.game.costs ? "would cost" : "are worth";
-    if (excess.isZero()) return `Both groups ${this.get} just what they ${alone} by themselves.`;
+    if (excess.isZero()) return `Both groups ${this.get} exactly what they ${alone} by themselves.`;
     const isBetter = excess.isNegative();
     const more = isBetter === this.game.costs ? "less" : "more";
     return `Both groups ${this.get} ${fullText(excess.abs())}${this.perHead} ${more} than by themselves.`;
@@ -109,7 +109,7 @@ class Explainer {
   level(place) {
     const level = this.levels[place], before = this.settled.players();
     this.settled.addLevel(level);
-    const who = place ? "Each group that is still open" : "Every group but all together";
+    const who = place ? "Each group that is still open" : "Every group except all together";
     const settles = this.settles(before);
     const isAgain = place > 0 && this.levels[place - 1].excess.equals(level.excess);
     const sentences = [...this.worstOff(level, who), isAgain && AGAIN, ...this.why(reducedLevel(level)), settles];
@@ -124,14 +124,14 @@ class Explainer {
     if (e.isZero()) {
       return [
         `${who} ${this.gets} at ${this.game.costs ? "most" : "least"} what it ${alone}.`,
-        `Among those with just that: ${groups}.`,
+        `Among those with exactly that: ${groups}.`,
       ];
     }
     const more = `${fullText(e.abs())} ${e.isNegative() === this.game.costs ? "less" : "more"}`;
     const perHead = this.perHead ? `,${this.perHead},` : "";
     return [
       `${who} ${this.gets}${perHead} at ${e.isNegative() ? "least" : "most"} ${more} than it ${alone}.`,
-      `Among those with just ${more}${this.perHead}: ${groups}.`,
+      `Among those with exactly ${more}${this.perHead}: ${groups}.`,
     ];
   }
 
@@ -206,7 +206,7 @@ class Explainer {
     const often = weights.size === 1 ? times(bounds[0][1]) : "by their weights in the certificate";
     const several = ids.length > 1;
     const own = this.game.costs ? "costs alone, and may not pay more" : "is worth alone, and may not get less";
-    const who = several ? `${this.get} just what each ${own}` : `${this.gets} just what it ${own}`;
+    const who = several ? `${this.get} exactly what each ${own}` : `${this.gets} exactly what it ${own}`;
     return `with ${this.namer.players(ids)} added ${often}${several && weights.size === 1 ? " each" : ""}, who ${who}`;
   }
 

@@ -19,7 +19,7 @@ export function failureText(line, game) {
     3: `by these shares what ${group} would gain or lose by leaving (its excess) isn’t what the line states.`,
     4: `a weight ${group ? `of ${group}` : `of the bound of ${player}`} is below 1.`,
     5: `the weights at ${player} don’t add to the level’s total.`,
-    6: `${player} is said to ${costs ? "pay" : "get"} just what it ${costs ? "costs" : "is worth"} alone, `
+    6: `${player} is said to ${costs ? "pay" : "get"} exactly what it ${costs ? "costs" : "is worth"} alone, `
       + "and that isn’t so (or has no place here).",
     7: `a group that is still open is worse off than the level says${excess}.`,
     8: `Behind the last level the share of ${player} isn’t settled.`,

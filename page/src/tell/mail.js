@@ -9,13 +9,13 @@ const COPY = "Copy it from the first { to the last }, or choose the file that wa
 
 /** Each thing that mail programs do to a text, as a pattern and in words. */
 const DONE = [
-  [/^[\ufeff\u200b\u200e\u200f\u2060]/, "In front of it stands a mark that nobody sees (a byte order mark, or a "
+  [/^[\ufeff\u200b\u200e\u200f\u2060]/, "Before it is a mark that nobody sees (a byte order mark, or a "
     + "blank without width)."],
-  [/\}\s*\{"(answer|game|refused|usage)"/, "More than one line stands in it: give one at a time."],
+  [/\}\s*\{"(answer|game|refused|usage)"/, "It has more than one line: give one at a time."],
   [/^\s*>/m, "Its lines begin with “>”, as in the answer to a mail."],
   [/=3D|=\r?\n/, "It is written as mail programs pack texts (“quoted-printable”), with “=” at the ends of lines."],
-  [/^\s*[^{\s>\ufeff\u200b]/, "Other words stand in front of the first {."],
-  [/\}[^{}]*[^\s{}][^{}]*$/, "Other words stand behind the last }."],
+  [/^\s*[^{\s>\ufeff\u200b]/, "Other words come before the first {."],
+  [/\}[^{}]*[^\s{}][^{}]*$/, "Other words come after the last }."],
   [/[\u201c\u201d\u201e]\s*[:,\]}]/, "It has typographic quote marks (“ ”) where plain ones (\") belong."],
   [/[^,{}[\]:\s"]\r?\n[^\s]/, "It was broken into lines in the middle of a word."],
 ];

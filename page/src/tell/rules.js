@@ -42,9 +42,9 @@ function runwayRule(game, shares, namer) {
     title: "The rule (Littlechild 1974)",
     sentences: [
       "Put the landings in the order of what they need.",
-      "At each step take the cost of a runway for them, less what those before pay.",
-      "Split it in equal parts: one for each who pays now, and one that is saved.",
-      "Those pay now for whom this part is least.",
+      "At each step take the cost of a runway for them, less what the earlier ones pay.",
+      "Split it into equal parts: one for each landing that pays now, and one that is saved.",
+      "Those landings pay now for which this part is least.",
     ],
     items: steps.map((step, k) => runwayStep(game, namer, step, steps[k - 1])),
   };
@@ -54,12 +54,13 @@ function runwayStep(game, namer, { who, part, done, paid }, before) {
   const end = done + who.length, isLast = end === game.n, several = who.length > 1;
   const cost = game.amounts[who.at(-1)], left = cost.minus(paid), count = partsUpTo(done, end, game.n);
   const sentences = [`${runway(done, end, game.n)} costs ${shortText(cost)}.`];
-  const those = done === 1 ? "The one before pays" : `The ${done} before pay`;
+  const those = done === 1 ? "The earlier one pays" : `The ${done} earlier ones pay`;
   if (done) sentences.push(`${those} ${shortText(paid)}, so ${shortText(left)} is left.`);
   if (isLast) sentences.push(several ? "They share it equally." : "The last pays it.");
   else if (count === 2) sentences.push("Half of it is paid, and half is saved.");
   else sentences.push(`Each pays one of ${count} parts, and one part is saved.`);
-  const more = before && before.part.less(part) ? `, ${fullText(part.minus(before.part))} more than those before` : "";
+  const more = before && before.part.less(part) ? `, ${fullText(part.minus(before.part))} more than the earlier ones`
+    : "";
   return {
     label: `${namer.players(who)} ${several ? "pay" : "pays"} ${fullText(part)}${several ? " each" : ""}${more}.`,
     text: sentences.join(" "),
@@ -70,7 +71,8 @@ function runway(done, end, players) {
   if (end === players) return "The runway for all";
   if (end === 1) return "Its own runway";
   if (!done) return `A runway for these ${end}`;
-  return `A runway for ${end - done === 1 ? "it" : "them"} and ${done === 1 ? "the one" : `the ${done}`} before`;
+  const earlier = done === 1 ? "earlier one" : `${done} earlier ones`;
+  return `A runway for ${end - done === 1 ? "it" : "them"} and the ${earlier}`;
 }
 
 // ---- An estate

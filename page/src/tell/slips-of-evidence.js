@@ -27,7 +27,7 @@ function shareIsRead(share, place, add) {
   if (share instanceof Inexact) {
     add(5, `${share.text.slice(0, 30)} is no whole number. Write a fraction as a text, "25/2".`, place);
   } else if (typeof share !== "string") {
-    add(3, `${withEscapes(writeJson(share).slice(0, 30))} stands where a share has to be.`, place);
+    add(3, `${withEscapes(writeJson(share).slice(0, 30))} is where a share belongs.`, place);
   } else {
     const slip = fractionSlip(share);
     if (slip) add(5, slip, place);
@@ -94,7 +94,7 @@ class LevelReader {
     if (!coalitions.length) this.form("A level has at least one coalition.", `${place}, coalitions`);
     earlier.forEach((mask, k) => {
       const where = `${place}, earlier, item ${k + 1}`;
-      if (mask !== null && !listed.has(mask)) this.form("This coalition stands in no level in front.", where);
+      if (mask !== null && !listed.has(mask)) this.form("No earlier level lists this coalition.", where);
     });
     for (const mask of coalitions) listed.add(mask);
     return undefined;

@@ -17,7 +17,13 @@ export function numberSlips(tree, form, add) {
     else if (key in tree) add(3, `${key} is an array.`, `game.${key}`);
   }
   for (const key of ["estate", "default", "quota"]) if (key in tree) reader.read(tree[key], `game.${key}`);
-  if (Array.isArray(tree.matrix)) tree.matrix.forEach((row, i) => list(row, `game.matrix, row ${i + 1}`));
+  if (Array.isArray(tree.matrix)) {
+    tree.matrix.forEach((row, i) => {
+      const path = `game.matrix, row ${i + 1}`;
+      if (Array.isArray(row)) list(row, path);
+      else add(3, "A row is an array.", path);
+    });
+  }
   if (Array.isArray(tree.sparse)) sparseSlips(tree, reader, add);
   else if ("sparse" in tree) add(3, "sparse is an array of pairs.", "game.sparse");
   if (reader.isFine && !form.isVote) {
@@ -44,13 +50,13 @@ class NumberReader {
     }
     if (typeof item === "string") return this.fraction(item, place);
     const shown = withEscapes(writeJson(item).slice(0, 30));
-    return this.add(3, `${shown} stands where a number has to be.`, place);
+    return this.add(3, `${shown} is where a number belongs.`, place);
   }
 
   fraction(item, place) {
     const shown = withEscapes(item.slice(0, 30));
     if (!this.hasFractions) {
-      return this.add(3, `“${shown}” stands in quotes; fractions need "version":2 in the game.`, place);
+      return this.add(3, `“${shown}” is in quotes. Fractions need "version":2 in the game.`, place);
     }
     const slip = fractionSlip(item);
     if (slip) return this.add(5, slip, place);
@@ -89,9 +95,9 @@ function sparseSlips(tree, reader, add) {
     reader.read(item[1], place);
     const members = item[0].map((member) => memberOf(member, tree, place, add));
     if (!members.length) add(7, "A group has no member.", place);
-    if (new Set(members).size < members.length) add(7, "A player stands twice in a group.", place);
+    if (new Set(members).size < members.length) add(7, "A player occurs twice in a group.", place);
     const key = [...members].sort().join();
-    if (seen.has(key)) add(7, `The group stands at item ${seen.get(key)} already.`, place);
+    if (seen.has(key)) add(7, `The group is at item ${seen.get(key)} already.`, place);
     else seen.set(key, i + 1);
     return undefined;
   });
@@ -103,8 +109,12 @@ function memberOf(member, { names, players }, place, add) {
     if (i < 0) add(6, `“${withEscapes(member.slice(0, 64))}” isn’t among the names.`, place);
     return i + 1;
   }
-  if (typeof member !== "bigint") add(3, "A member is a number or a name.", place);
-  else if (member < 1n || member > players) add(7, `There is no player ${member}.`, place);
+  if (typeof member !== "bigint") {
+    add(3, "A member is a number or a name.", place);
+    return NaN;
+  }
+  const most = typeof players === "bigint" ? players : 16n;
+  if (member < 1n || member > most) add(7, `There is no player ${member}.`, place);
   return Number(member);
 }
 

@@ -134,7 +134,7 @@ function nameSlips({ names }, n, add) {
     const place = `game.names, item ${i + 1}`, shown = withEscapes(name.slice(0, 20));
     if (!name) add(6, "A name is empty.", place);
     if (bytesOf(name) > 64) add(6, `The name “${shown}…” is longer than 64 bytes.`, place);
-    if (names.indexOf(name) < i) add(6, `The name “${withEscapes(name)}” stands twice.`, place);
+    if (names.indexOf(name) < i) add(6, `The name “${withEscapes(name)}” occurs twice.`, place);
   });
 }
 

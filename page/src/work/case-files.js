@@ -40,7 +40,7 @@ function treeOf(text) {
 function openCase(tree, spoken) {
   const fault = faultOfCase(tree);
   if (fault) return { refusal: fault };
-  const { entry = spoken, mark = spoken, decimals, heading, unit, source, proposal = [] } = tree;
+  const { entry = spoken, mark = spoken, decimals, heading, unit, source, proposal = [], kept } = tree;
   const found = withMark(openDocument({ text: writeJson(tree.document), mark }), entry);
   if (found.refusal) {
     const { sentence, place } = found.refusal;
@@ -55,7 +55,7 @@ function openCase(tree, spoken) {
     more: {
       ...(isFollowing ? filled : {}), ...(source && kind.isNetwork ? { source } : {}), coarse: coarseOf(tree.coarse),
     },
-    settings: { entry, mark, places: decimals && Number(decimals), paper: { heading, unit } },
+    settings: { entry, mark, places: decimals && Number(decimals), paper: { heading, unit }, kept },
     notes: [OF_A_CASE, ...(isFollowing ? [] : [NOT_FOLLOWING])],
   };
 }

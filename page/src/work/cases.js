@@ -11,21 +11,29 @@ import { withEscapes } from "../game/names.js";
 import { ruleName } from "../tell/rule-names.js";
 import { slipsOf } from "../tell/slips.js";
 import { answer } from "./answers.js";
+import { powerBeyond } from "./double-power.js";
 import { beyondProgram } from "./runways.js";
 
 const MOST_PER_HEAD = 8;
+const TOO_MANY = "With so many different second votes the page counts the power of up to 16 voters only.";
 const ANSWERS = ["nucleolus", "prenucleolus", "shapley"];
 const MOST_BYTES = 2097152;
 
 /** What the cells say: the rows of the answer, what is wrong, and, where nothing is, the document and its facts. */
-export function readCase({ id, typed, mark, measure }) {
-  const { reading, rows, tree, ballots, landings } = readByOneMark(caseNamed(id), typed, mark);
-  const { faults, count, empty, notes, asked, either, isTooFine = false } = reading;
+export function readCase({ id, typed, mark, measure, isMarked = typed.isMarked }) {
+  const { reading, rows, tree, ballots, landings, isBeyond } = readByOneMark(caseNamed(id), typed, mark);
+  reading.askOfMixed(isMarked);
+  const power = isBeyond && reading.isRight() ? powerBeyond(ballots, rows) : null;
+  if (isBeyond && !power) reading.pause(TOO_MANY);
+  const { faults, count, empty, notes, asked, either, mixed, isTooFine = false, odds = [] } = reading;
   const read = {
-    rows, faults, count, empty, notes, asked, either, isTooFine, isRight: reading.isRight(), ...marksOf(reading),
+    rows, faults, count, empty, notes, asked, either, mixed, isTooFine,
+    isAsking: Boolean(asked || either || mixed || reading.isOpen), odds,
+    isRight: reading.isRight(), ...marksOf(reading),
   };
   if (!read.isRight) return read;
   if (landings) read.beyond = beyondProgram(landings, rows);
+  if (power) read.beyond = power;
   if (!tree) return read; // the program takes no such game
   const players = rows.reduce((sum, row) => sum + row.players.length, 0), isMeasured = measure === "per-head";
   const { class: name, ...others } = tree, canBe = players <= MOST_PER_HEAD && name !== "market";
@@ -74,7 +82,7 @@ export function openDocument({ text, mark }) {
   if (status > 1 && Number(said.number) !== 10) return { refusal: slip?.number === refusal.number ? slip : refusal };
   const game = new Game(tree.game), kind = caseOfClass(game.kind), typed = kind.fromGame(game);
   const isProposal = Array.isArray(tree.shares) && !("answer" in tree) && tree.shares.length === game.n;
-  typed.notSum = typed.rows?.at?.(-1)?.name; // a document's players are players, whatever their names
+  typed.notSums = true; // a document's players are players, whatever their names
   const { rows } = kind.read(typed, ".");
   return {
     id: kind.id, typed: kind.pack?.(typed) ?? typed, measure: game.perHead ? "per-head" : "plain",

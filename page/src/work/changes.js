@@ -2,10 +2,13 @@
 import { parseJson, writeJson } from "../exact/json.js";
 import { Rational } from "../exact/rational.js";
 import { caseNamed } from "../cases/cases.js";
+import { withoutPlace } from "../cases/links.js";
+import { network as networks } from "../cases/matrices.js";
 import { Game } from "../game/game.js";
 import { maskOf, membersOf, without } from "../game/groups.js";
 import { Namer } from "../tell/words.js";
 import { answer, solutionOf } from "./answers.js";
+import { fillLinks } from "./networks.js";
 import { fillSplits } from "./splits.js";
 
 const MOST_PER_HEAD = 8;
@@ -78,10 +81,29 @@ function restOf(game, stay, amounts = amountsOf(game)) {
   return { ...sideOf(game, rest), n: stay.length, shown: stay.map((i) => game.shown[i]) };
 }
 
-/** What those who stay pay or get where `who` leave, by each rule; `own` is what those who leave paid or got. */
-export function leave({ text, who }) {
+/** What those who stay pay or get if `who` leave, by each rule; `own` is what those who leave paid or got. Of a
+ * `network` with ways that the page filled, `gone` is the same if nobody may build through their places: null if some
+ * place then has no way. */
+export function leave({ text, who, network }) {
   const game = new Game(parseJson(text).game), stay = without(game.n, who), amounts = amountsOf(game);
-  const small = restOf(game, stay, amounts);
+  const found = leaving(game, amounts, { who, stay, small: restOf(game, stay, amounts) });
+  if (!network) return found;
+  const other = networkWithout(network, who), shown = stay.map((i) => game.shown[i]);
+  const small = other && { ...sideOf(other, amountsOf(other)), shown };
+  return { ...found, gone: small && leaving(game, amounts, { who, stay, small }) };
+}
+
+/** The game of a network without some places, with the ways filled anew; null if some place has no way. */
+function networkWithout({ mark, ...typed }, who) {
+  const isWay = (key) => typed.filled[key] === "way";
+  const links = Object.fromEntries(Object.entries(typed.links).filter(([key]) => !isWay(key)));
+  const rest = [...who].sort((i, j) => j - i).reduce(withoutPlace, { ...typed, links });
+  const { links: all = {} } = fillLinks({ ...rest, mark });
+  const { reading, tree } = networks.read({ ...rest, links: all }, mark);
+  return reading.isRight() ? new Game(tree) : null;
+}
+
+function leaving(game, amounts, { who, stay, small }) {
   const rules = byEachRule([sideOf(game, amounts), small]).map(({ before, ...rule }) => {
     const own = Rational.sum(who.map((i) => Rational.of(before[i])));
     return { ...rule, own: String(own), before: stay.map((i) => before[i]) };

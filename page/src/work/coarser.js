@@ -1,6 +1,6 @@
 // Numbers that are too fine for a document: all rounded to four decimals, or all times a power of ten.
 import { Rational, ZERO } from "../exact/rational.js";
-import { decimalOf, placesOf, readNumber, stepsOf, typedText } from "../exact/decimals.js";
+import { cellNumber, decimalOf, placesOf, stepsOf, typedText } from "../exact/decimals.js";
 import { caseNamed } from "../cases/cases.js";
 
 const PLACES = 4;
@@ -12,11 +12,11 @@ const MOST_POWER = 12;
 export function coarser({ id, typed: sent, mark, how }) {
   const kind = caseNamed(id), typed = kind.unpack?.(sent) ?? sent, texts = [];
   mapNumbers(kind, typed, (text) => (texts.push(text), text));
-  const values = texts.map((text) => readNumber(text, mark).value).filter(Boolean);
+  const values = texts.map((text) => cellNumber(text, mark).value).filter(Boolean);
   const { change, coarse, fault } = how === "round" ? rounding(values, mark) : scaling(values, mark);
   if (fault) return { fault };
   const changed = mapNumbers(kind, typed, (text) => {
-    const { value } = readNumber(text, mark);
+    const { value } = cellNumber(text, mark);
     return value ? change(value, text) : text;
   });
   return { typed: kind.pack?.(changed) ?? changed, coarse };

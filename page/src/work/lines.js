@@ -6,12 +6,15 @@ import { Game } from "../game/game.js";
 import { remarksOf, withEscapes } from "../game/names.js";
 import { mended, unreadable } from "../tell/mail.js";
 import { refusalText } from "../tell/refusals.js";
+import { answer } from "./answers.js";
+import { bothRead } from "./both-read.js";
 import { sameGame } from "./same-game.js";
 
-/** What the page sees in a line before anybody checks it, and whether the agreed file has its game, if there is one. */
-export function lookAtLine({ line, agreed }) {
+/** What the page sees in a line before anybody checks it, and whether the agreed file has its game, if there is one.
+ * `ask(word, document)` asks the program. */
+export function lookAtLine({ line, agreed }, ask = answer) {
   const seen = lineOf(line), other = agreed.trim() ? gameFileOf(agreed) : null;
-  const same = other && sameGame(seen, other), file = other && aboutFile(other);
+  const same = other && bothRead(sameGame(seen, other), seen, other, ask), file = other && aboutFile(other);
   if (seen.fault) return { fault: seen.fault, ...(seen.isText ? helpOf(line) : {}), same, file };
   const { tree, game, shares, doubles } = seen;
   const hasCertificate = tree.certificate !== undefined;
@@ -26,9 +29,15 @@ export function lookAtLine({ line, agreed }) {
 }
 
 /** Whether what was checked is the game of a document: the line's own, or the agreed one. */
-export function isOfGame({ line, agreed, text }) {
+export function isOfGame({ line, agreed, text }, ask = answer) {
   const document = gameFileOf(text), checked = [lineOf(line), ...(agreed.trim() ? [gameFileOf(agreed)] : [])];
-  return checked.some((seen) => sameGame(seen, document).isYes === true);
+  return checked.some((seen) => bothRead(sameGame(seen, document), seen, document, ask).isYes === true);
+}
+
+/** Whether the program reads two files of games, and they are of the same game. */
+export function areOfOneGame(one, other, ask = answer) {
+  const [mine, theirs] = [one, other].map(gameFileOf);
+  return bothRead(sameGame(mine, theirs), mine, theirs, ask).isYes === true;
 }
 
 function helpOf(line) {
@@ -77,7 +86,8 @@ function partsOf(tree) {
 
 /** The game of a tree that nobody has tested yet; null where it isn’t one. */
 function gameOf(tree) {
-  if (tree.players > 16n || tree.matrix?.length > 33 || tree.matrix?.[0]?.length > 33) return null;
+  const isLarge = "players" in tree && !(typeof tree.players === "bigint" && tree.players <= 16n);
+  if (isLarge || tree.matrix?.length > 33 || tree.matrix?.[0]?.length > 33) return null;
   try {
     const game = new Game(tree), areNames = (names) => names.every((name) => typeof name === "string");
     if (game.kind === "assignment" && game.n > 16) return null;

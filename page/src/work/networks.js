@@ -1,15 +1,16 @@
 // Help for links that don't exist: the ways through the others, or a table of what each group's cheapest network costs.
 import { lcm, Rational } from "../exact/rational.js";
-import { readNumber, shortText, typedText } from "../exact/decimals.js";
+import { cellNumber, shortText, typedText } from "../exact/decimals.js";
 import { sourceName } from "../cases/matrices.js";
 import { withEscapes } from "../game/names.js";
+import { plural } from "../tell/words.js";
 
 /** The costs that were typed, by "i-j", those of empty cells being null; or a fault in words. */
 function linksOf({ names, links, mark }) {
   const n = names.length, costs = new Map();
   for (let i = 0; i <= n; i++) {
     for (let j = i + 1; j <= n; j++) {
-      const text = links[`${i}-${j}`] ?? "", { value, fault } = readNumber(text, mark);
+      const text = links[`${i}-${j}`] ?? "", { value, fault } = cellNumber(text, mark);
       if (text.trim() && (fault || value.isNegative())) return { fault: "Mend the numbers that are marked first." };
       costs.set(`${i}-${j}`, value ?? null);
     }
@@ -51,16 +52,15 @@ export function fillLinks({ names, links, source, mark, only = null }) {
       }
     }
   }
-  return { links: filled, ways: made, notes: notesOf(told, lacking) };
+  return { links: filled, ways: made, told, notes: notesOf(told, lacking) };
 }
 
 function notesOf(told, lacking) {
   const notes = [];
   if (told.length) {
-    notes.push(`Filled by the cheapest way through the others: ${told.join("; ")}. `
-      + "Where several of a group’s ways share a stretch, this counts the stretch more than once, and rewards the "
-      + "place that it leads through. Then make a table of costs. These links are marked, and follow when another "
-      + "number changes.");
+    notes.push(`${plural(told.length, "link was", "links were")} filled by the cheapest way through the others. `
+      + "They are marked, and follow when another number changes. If several detours of a group share a stretch, the "
+      + "stretch counts more than once, and the place that it leads through is rewarded. Then make a table of costs.");
   }
   if (lacking.length) notes.push(`No way leads there: ${lacking.join("; ")}.`);
   return notes.length ? notes : ["No link is empty."];

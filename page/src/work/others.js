@@ -34,7 +34,7 @@ function amountIn(text, mark, { isOne, isSettled }) {
   if (fault) return { fault: `“${shown}” ${fault}.` };
   const other = mark === "." ? "comma" : "point", own = mark === "." ? "point" : "comma";
   if (doubt && !isSettled) {
-    return { value, note: `“${shown}” is read as ${shortText(value)}: the ${own} stands in front of decimals, and the `
+    return { value, note: `“${shown}” is read as ${shortText(value)}: the ${own} comes before decimals, and the `
       + `${other} between thousands.`, other: mark === "." ? "," : "." };
   }
   const note = isOne && `This is read as one amount, ${shortText(value)}. Part several by semicolons.`;

@@ -12,6 +12,8 @@ const LISTS = { airport: "costs", bankruptcy: "claims", voting: "weights" };
 const SINGLES = { bankruptcy: ["estate", "the estate"], voting: ["quota", "the quota"] };
 const MEASURES = { plain: "“as a whole”", "per-head": "“per head”" };
 
+const UNALIKE = "Nobody can say: entry for entry no difference is found, but some group is worth otherwise.";
+
 const isList = (kind) => Object.hasOwn(LISTS, kind);
 
 /** Whether the line is of the agreed game: {isYes, sentence, items}; `isYes` is null where nobody can say. */
@@ -23,7 +25,7 @@ export function sameGame(line, agreed) {
   if (!isObject(line.tree.game)) return unsaid("Nobody can say: the line has no game in it.");
   if (agreed.doubles.length) {
     const keys = agreed.doubles.map((key) => withEscapes(key.slice(0, 60))).join(", ");
-    return unsaid(`In the agreed file a key stands twice: ${keys}. Nobody can say which one was agreed on.`);
+    return unsaid(`In the agreed file a key occurs twice: ${keys}. Nobody can say which one was agreed on.`);
   }
   const found = told(line, agreed);
   const bare = agreed.isBare ? " (The agreed file is the game alone, without {\"game\":…} around it.)" : "";
@@ -34,7 +36,7 @@ function told(line, agreed) {
   try {
     return verdict(line, agreed);
   } catch {
-    return { isYes: null, sentence: "Nobody can say: one of the two games hasn’t the form of a game." };
+    return { isYes: null, sentence: "Nobody can say: one of the two games doesn’t have the form of a game." };
   }
 }
 
@@ -42,8 +44,9 @@ function verdict(line, agreed) {
   const [mine, other] = [line.tree.game, agreed.tree.game], yes = (sentence) => ({ isYes: true, sentence });
   const path = firstDifference(mine, other);
   if (!path) return yes("Yes: the two games are the same, entry for entry.");
-  const { isReordered, items } = differences(mine, other), where = path.filter((key) => typeof key === "string");
-  if (!items.length && isReordered) return yes("Yes: they have the same names and numbers, in another order.");
+  const { order, items } = differences(mine, other), where = path.filter((key) => typeof key === "string");
+  if (!items.length && isOtherwise(line.game, agreed.game, order)) return { isYes: null, sentence: UNALIKE };
+  if (!items.length && order) return yes("Yes: they have the same names and numbers, in another order.");
   if (!items.length) {
     return yes(`Yes: they are written differently (${withEscapes(where.join(", "))}), but each name and each number `
       + "is the same.");
@@ -59,6 +62,18 @@ function verdict(line, agreed) {
 function firstOf(items) {
   const more = items.length - MOST_TOLD, count = more === 1 ? "one" : more.toLocaleString("en");
   return more > 0 ? [...items.slice(0, MOST_TOLD), `and ${count} more ${more === 1 ? "place" : "places"}.`] : items;
+}
+
+/** Whether some group is worth otherwise in one of two games of few players, in which the same entries were found. */
+function isOtherwise(one, other, order) {
+  if (!one || !other || one.n > MOST_COMPARED) return false;
+  const place = (i) => (order ? order[i] : i), everyone = one.everyone();
+  if (one.n !== other.n || one.costs !== other.costs || one.perHead !== other.perHead) return true;
+  for (let mask = 1; mask < 2 ** one.n; mask++) {
+    const group = everyone.filter((i) => (mask >> i) & 1), theirs = group.map(place).sort((i, j) => i - j);
+    if (!one.worth(group).equals(other.worth(theirs))) return true;
+  }
+  return false;
 }
 
 /** Whether two games of few players have the same names, measure and worths. */
@@ -77,7 +92,7 @@ function areWorthTheSame(one, other) {
 
 // ---- Where two games differ
 
-/** Each place where the games differ, in words, and whether the names stand in another order. */
+/** Each place where the games differ, in words, and the other order in which the names stand, if they do. */
 function differences(line, agreed) {
   const [mine, unordered] = [line, agreed].map(viewOf), order = orderOf(mine, unordered);
   const other = order ? reordered(unordered, order) : unordered, items = [];
@@ -97,7 +112,15 @@ function differences(line, agreed) {
   for (const [key, value] of other.values) {
     if (!mine.values.has(key) && value !== mine.byDefault) tell(placeOf(mine, key), mine.byDefault, value);
   }
-  return { items, isReordered: Boolean(order) };
+  if (mine.byDefault !== other.byDefault && groupsOf(mine, other) < 2 ** mine.n - 1) {
+    tell("every group that isn’t listed", mine.byDefault, other.byDefault);
+  }
+  return { items, order };
+}
+
+/** How many groups one of the two games lists. */
+function groupsOf(mine, other) {
+  return new Set([...mine.values.keys(), ...other.values.keys()]).size;
 }
 
 function nameDifferences(mine, other, tell) {
@@ -195,9 +218,11 @@ function reordered(view, order) {
     if (view.rows !== undefined) {
       const [i, j] = key.split("-").map(Number), point = (k) => (k ? back.get(k - 1) + 1 : 0);
       values.set(columns ? `${back.get(i)}-${back.get(j + columns) - columns}` : `${point(i)}-${point(j)}`, value);
+      if (!columns && !view.values.has(`${j}-${i}`)) values.set(`${point(j)}-${point(i)}`, value); // it was told once
     } else if (isList(view.kind)) values.set(String(back.get(Number(key))), value);
     else values.set(String(membersOf(Number(key)).reduce((mask, j) => mask + 2 ** back.get(j), 0)), value);
   }
+  if (view.kind === "tree") inOneDirection(values);
   return { ...view, values, names: order.map((j) => view.names[j]) };
 }
 

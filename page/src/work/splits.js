@@ -1,6 +1,6 @@
 // Groups that nobody has put a number on: what they cost, or are worth, by their best split into groups that have one.
 import { lcm, Rational } from "../exact/rational.js";
-import { readNumber, typedText } from "../exact/decimals.js";
+import { cellNumber, typedText } from "../exact/decimals.js";
 import { groupLabel, packed, unpacked } from "../cases/tables.js";
 import { plural } from "../tell/words.js";
 
@@ -54,7 +54,7 @@ function abovesOf(values, fresh, { names, texts }) {
 function scaledValues(numbers, mark) {
   const known = new Map(), read = numbers.map((text, mask) => {
     if (!mask || !text.trim()) return null;
-    if (!known.has(text)) known.set(text, readNumber(text, mark));
+    if (!known.has(text)) known.set(text, cellNumber(text, mark));
     return known.get(text);
   });
   if (read.some((one) => one?.fault)) return { fault: "Mend the numbers that are marked first." };
@@ -90,7 +90,7 @@ function notesOf({ count, lacking, hasWhole, above, costs, how }) {
     const way = `its ${split} into groups that have a number${isLarger ? ", or a larger group that holds it" : ""}`;
     notes.push(`${plural(count, "group was", "groups were")} filled, each by ${way}. They are marked, and follow when `
       + "another number changes. "
-      + `That says: together they would ${cost} no ${less} than ${isLarger ? "so" : "apart"}. Where a group could, the `
+      + `That says: together they would ${cost} no ${less} than ${isLarger ? "so" : "apart"}. If a group could, the `
       + "shares may change, those of the nucleolus too.");
   }
   if (above) {

@@ -1,0 +1,247 @@
+// A network that was pasted, in any of the shapes in which people have one: a square, a triangle, or a list of links.
+// What is read is points, links between them, and which point is the source; or a fault in words.
+import { readNumber } from "../exact/decimals.js";
+import { isSumWord, withEscapes } from "../game/names.js";
+import { plural } from "../tell/words.js";
+import { SPOILT } from "./pasting.js";
+
+const MOST_POINTS = 17; // the source and 16 places
+const NONE = /^([-–—.x×∞]|n\/?a|#n\/?a|#?nv|none|null|inf|infinity|kein(e|er)?|aucun(e)?)?$/i; // no such link
+const SOURCE = new RegExp("\\b(source|reservoir|plant|water ?works?|works|supply|supplier|hub|root|depot|origin|"
+  + "(sub|power|pump(ing)?) ?station|station|well|spring|tank|tower|server|exchange|head ?end|quelle|[a-zäöü]*werk|"
+  + "zentrale|speicher|pumpwerk|réservoir|centrale|usine|château d’eau|château d'eau)\\b", "iu");
+const HEADS = [
+  /^(from|von|de|start|begin|source|node ?1|point ?1|end ?1|place ?1|a|i|tail)\b/iu,
+  /^(to|nach|bis|à|vers|target|node ?2|point ?2|end ?2|place ?2|b|j|head)\b/iu,
+  /cost|price|amount|kosten|preis|betrag|co[uû]t|prix|montant|\p{Sc}/iu,
+];
+const LIKE_COST = /weight|length|distance|value|gewicht|länge|longueur|valeur/iu; // where no heading names a cost
+
+const isNone = (text = "") => NONE.test(text.trim());
+const clean = (text) => text.normalize("NFC").trim();
+
+/** Tells numbers, names and missing links apart, by a decimal mark. */
+function judgeOf(mark) {
+  const isNumber = (text = "") => text !== "" && !readNumber(text, mark).fault;
+  const isName = (text = "") => !isNone(text) && !isNumber(text) && !SPOILT.test(text);
+  const valueOf = (text) => readNumber(text, mark).value;
+  const isZero = (text) => isNumber(text) && valueOf(text).isZero();
+  const isSame = (one, other) => one === other || (isNumber(one) && isNumber(other)
+    && valueOf(one).equals(valueOf(other)));
+  return { isNumber, isName, isZero, isSame };
+}
+
+/** Rows of the same length, without columns at the end that are empty. */
+function padded(rows) {
+  const wide = rows.reduce((most, row) => Math.max(most, row.findLastIndex(Boolean) + 1), 0);
+  return rows.map((row) => Array.from({ length: wide }, (_, c) => clean(row[c] ?? "")));
+}
+
+/** What a pasted block says of a whole network: {points, source, links, said}, `links` by "i-j" of the points; {fault}
+ * if it contradicts itself; null if it is a block of numbers for the cells where it was pasted. */
+export function networkOf(pasted, { mark = ".", source = "" } = {}) {
+  const rows = padded(pasted), judge = judgeOf(mark);
+  if (rows.length < 2) return null;
+  const found = listOf(rows, judge) ?? labelledOf(rows, judge) ?? namedOf(rows, judge) ?? squareOf(rows, judge);
+  if (!found || found.fault) return found;
+  const { points, shape, left = [] } = found, twice = points.find((name, i) => name && points.indexOf(name) < i);
+  if (twice) return { fault: `“${withEscapes(twice)}” is there twice.` };
+  if (points.length > MOST_POINTS) {
+    return { fault: `These are ${points.length} points. A network has at most 16 places and the source.` };
+  }
+  const { links, fault } = joined(found, judge);
+  if (fault) return { fault };
+  return { points, links, shape, left, ...sourceOf(points, found, source) };
+}
+
+/** The source: the point that has its name already, or a name that says so, or else the first. */
+function sourceOf(points, { isFirst }, named) {
+  const lower = (text) => clean(text).toLowerCase();
+  const own = points.findIndex((name) => name && lower(name) === lower(named));
+  if (own >= 0) return { source: own, isSure: true };
+  const saying = points.map((name, i) => (SOURCE.test(name) ? i : -1)).filter((i) => i >= 0);
+  if (saying.length === 1) return { source: saying[0], isSure: true };
+  return { source: 0, isSure: Boolean(isFirst) };
+}
+
+// ---- One number for each link
+
+/** The links of entries [i, j, text]. Two halves that say the same are one; one half of zeros says nothing. */
+function joined({ entries, points }, judge) {
+  const nameOf = (i) => withEscapes(points[i]) || `Point ${i + 1}`, links = {};
+  const given = entries.filter(([, , text]) => !isNone(text));
+  const own = given.find(([i, j, text]) => i === j && !judge.isZero(text));
+  if (own) return { fault: `${nameOf(own[0])} has a link to itself, of ${withEscapes(own[2])}.` };
+  const real = given.filter(([i, j]) => i !== j);
+  const halves = [real.filter(([i, j]) => i < j), real.filter(([i, j]) => i > j)];
+  const isEmpty = halves.map((half) => half.every(([, , text]) => judge.isZero(text)));
+  const kept = isEmpty[0] === isEmpty[1] ? real : halves[isEmpty[0] ? 1 : 0];
+  for (const [i, j, text] of kept) {
+    const key = i < j ? `${i}-${j}` : `${j}-${i}`, before = links[key];
+    if (before !== undefined && !judge.isSame(before, text)) {
+      return { fault: `${nameOf(Math.min(i, j))} – ${nameOf(Math.max(i, j))} has two costs: ${withEscapes(before)} and `
+        + `${withEscapes(text)}.` };
+    }
+    links[key] ??= text;
+  }
+  return { links };
+}
+
+// ---- Shapes
+
+/** A list: a link a row, with its two ends and its cost, with headings or without. */
+function listOf(rows, judge) {
+  const isHeading = !rows[0].some(judge.isNumber) && rows.length > 1, wide = rows[0].length;
+  const given = rows.slice(isHeading ? 1 : 0).filter((row) => row.some(Boolean)), below = withoutSum(given, judge);
+  if (wide < 3 || !below.length) return null;
+  const columns = rows[0].map((_, c) => c), all = (c, is) => below.every((row) => is(row[c]));
+  const headOf = (head) => (isHeading ? columns.find((c) => head.test(rows[0][c])) : undefined);
+  const headed = HEADS.map(headOf);
+  headed[2] ??= headOf(LIKE_COST);
+  const isHeaded = headed.every((c) => c !== undefined) && new Set(headed).size === 3;
+  const names = columns.filter((c) => all(c, judge.isName));
+  const costs = columns.filter((c) => !names.includes(c) && all(c, (text) => judge.isNumber(text) || isNone(text))
+    && below.some((row) => judge.isNumber(row[c])));
+  const isPlain = names.length === 2 && costs.length > 0 && (wide === 3 || costs.length <= 2);
+  if (!isHeaded && !isPlain) return null;
+  const priced = costs.filter((c) => !below.every((row, k) => Number(row[c]) === k + 1)); // and no row numbers
+  if (!isHeaded && priced.length > 1) return { fault: "Two columns are numbers. Give the cost’s a heading: Cost." };
+  const [from, to, cost] = isHeaded ? headed : [...names, priced[0] ?? costs[0]];
+  const loose = below.find((row) => isNone(row[from]) || isNone(row[to]));
+  if (loose) return { fault: `In “${withEscapes(loose.filter(Boolean).join("; "))}” a link has one end only.` };
+  const points = [...new Set(below.flatMap((row) => [row[from], row[to]]))], place = (name) => points.indexOf(name);
+  const entries = below.map((row) => [place(row[from]), place(row[to]), row[cost]]).map(([i, j, text]) => {
+    return i < j ? [i, j, text] : [j, i, text];
+  });
+  const left = wide > 3 && isHeading ? columns.filter((c) => ![from, to, cost].includes(c)).map((c) => rows[0][c]) : [];
+  const lost = below.length < given.length ? [`“${given.at(-1).filter(Boolean).join("; ")}”, a sum`] : [];
+  return { points, entries, shape: "a list of from, to, cost", left: [...left, ...lost] };
+}
+
+/** The rows of a list without the last one, if it is named as a sum, or has a number and one end at most. */
+function withoutSum(rows, { isNumber, isName }) {
+  const last = rows.at(-1) ?? [], hasNumber = last.some(isNumber), names = last.filter(isName);
+  return rows.length > 1 && hasNumber && (names.length < 2 || isSumWord(last.find(Boolean))) ? rows.slice(0, -1) : rows;
+}
+
+/** A block with names above and before, without a row and a column of sums: {rows, left}. */
+function withoutSums([heads, ...below], { isName }) {
+  const isSum = (name = "") => isName(name) && isSumWord(name);
+  const columns = heads.map((name, c) => c === 0 || !isSum(name));
+  const rows = [heads, ...below.filter(([name]) => !isSum(name))];
+  const left = [...new Set([...heads.slice(1), ...below.map(([name]) => name)].filter(isSum))];
+  return { rows: rows.map((row) => row.filter((_, c) => columns[c])), left: left.map((name) => `“${name}”, a sum`) };
+}
+
+/** Names above and names before each row: what they share says how the block is to be read. */
+function labelledOf(given, { isNumber, isName, isZero }) {
+  const { rows: [heads, ...below], left } = withoutSums(given, { isName });
+  const columns = heads.slice(1), lines = below.filter((row) => row.some(Boolean)), names = lines.map(([name]) => name);
+  const isCounted = heads[0] === "" && String(columns) === String(names)
+    && columns.every((text, k) => Number(text) === Number(columns[0]) + k) && ["0", "1"].includes(columns[0]);
+  const isLabelled = columns.length > 0 && (columns.every(isName) || isCounted);
+  const isNamed = names.every(isName) || isCounted;
+  if (!isLabelled || !isNamed || !lines.some((row) => row.slice(1).some(isNumber))) return null;
+  const first = names.includes(columns[0]) ? [...names, ...columns] : [...columns, ...names];
+  for (const some of [columns, names]) {
+    const twice = some.find((name, i) => some.indexOf(name) < i);
+    if (twice) return { fault: `“${withEscapes(twice)}” is there twice.` };
+  }
+  const points = [...new Set(first)], entries = lines.flatMap(([name, ...texts]) => texts.map((text, c) => {
+    return [points.indexOf(name), points.indexOf(columns[c]), text];
+  }));
+  const isSquare = points.length === names.length && points.length === columns.length;
+  const isHalf = [(i, j) => i < j, (i, j) => i > j].some((is) => {
+    return entries.every(([i, j, text]) => !is(i, j) || isNone(text) || isZero(text));
+  });
+  return { points, entries, shape: `a ${isHalf ? "triangle" : "square"} with names`, left, isFirst: !isSquare };
+}
+
+/** Names before each row alone: a square, or a triangle whose first row is the source’s. */
+function namedOf(rows, judge) {
+  const isHeading = rows[0][0] !== "" && rows[0].slice(1).every((text) => judge.isName(text) || !text)
+    && rows[0].slice(1).some(Boolean);
+  const lines = rows.slice(isHeading ? 1 : 0), points = lines.map(([name]) => name);
+  if (!points.every(judge.isName) || isHeading) return null;
+  const block = lines.map((row) => row.slice(1)), n = points.length;
+  return blockOf(block, n, points, judge);
+}
+
+/** Numbers alone: a square. Its points have no names. */
+function squareOf(rows, judge) {
+  const isNamed = !rows[0].some(judge.isNumber) && rows[0].every(judge.isName);
+  const block = isNamed ? rows.slice(1) : rows, n = rows[0].length;
+  if (!block.flat().some(judge.isNumber) || block.flat().some(judge.isName)) return null;
+  const square = block.length === n - 1 ? [...block, Array(n).fill("")] : block;
+  if (square.length !== n || n < 2 || !isHollow(square, judge)) return null;
+  return squareWith(square, isNamed ? rows[0] : Array(n).fill(""));
+}
+
+const isHollow = (block, { isZero }) => block.every((row, k) => isNone(row[k]) || isZero(row[k]));
+
+function squareWith(block, points) {
+  const entries = block.flatMap((row, i) => row.map((text, j) => [i, j, text])).filter(([, j]) => j < points.length);
+  return { points, entries, shape: "a square" };
+}
+
+/** A block of `n` rows with the names of its points. */
+function blockOf(block, n, points, judge) {
+  const wide = block[0].length;
+  const isOpen = (is) => block.every((row, i) => row.every((text, c) => is(i, c) || isNone(text)));
+  const entriesBy = (place) => block.flatMap((row, i) => row.map((text, c) => [i, place(i, c), text]))
+    .filter(([, j, text]) => j < n || !isNone(text));
+  if (wide === n && isHollow(block, judge)) return squareWith(block, points);
+  if (wide <= n - 1 && isOpen((i, c) => c < i)) {
+    return { points, entries: entriesBy((_, c) => c), shape: "a lower triangle", isFirst: true };
+  }
+  if (wide === n - 1 && isOpen((i, c) => c >= i)) {
+    return { points, entries: entriesBy((_, c) => c + 1), shape: "an upper triangle", isFirst: true };
+  }
+  if (wide === n - 1 && isOpen((i, c) => c < n - 1 - i)) {
+    return { points, entries: entriesBy((i, c) => i + 1 + c), shape: "an upper triangle", isFirst: true };
+  }
+  if (wide === n && isOpen((i, c) => c <= i)) { // the page's own: the source has no row
+    const entries = block.flatMap((row, i) => row.map((text, c) => [i + 1, c, text]));
+    return { points: ["", ...points], entries, shape: "a triangle", isFirst: true };
+  }
+  return null;
+}
+
+// ---- What the page makes of it
+
+/** The cells: the source, the names of the places in their order, and the links by the page's own keys. */
+export function cellsOfNetwork({ points, links, source }, k = source) {
+  const order = [k, ...points.map((_, i) => i).filter((i) => i !== k)], place = new Map(order.map((i, at) => [i, at]));
+  const moved = Object.entries(links).map(([key, text]) => {
+    const [i, j] = key.split("-").map((end) => place.get(Number(end))).sort((a, b) => a - b);
+    return [`${i}-${j}`, text];
+  });
+  return { source: points[k], names: order.slice(1).map((i) => points[i]), links: Object.fromEntries(moved) };
+}
+
+/** The same network with another source: place `k` (from 1) becomes it, and the old one the first place. */
+export function withSource({ names, source = "", links, filled = {} }, k) {
+  const points = [source, ...names], move = (some) => cellsOfNetwork({ points, links: some, source: k }).links;
+  const { names: others } = cellsOfNetwork({ points, links, source: k });
+  return { source: points[k], names: others, links: move(links), filled: move(filled) };
+}
+
+/** The network without place `k` (from 0): no link of it stays, and no way that was filled through it is taken back. */
+export function withoutPlace({ names, links, filled = {}, ...others }, k) {
+  const moved = (i) => (i > k + 1 ? i - 1 : i), kept = (entries) => {
+    const own = Object.entries(entries).map(([key, value]) => [key.split("-").map(Number), value]);
+    const left = own.filter(([ends]) => !ends.includes(k + 1));
+    return Object.fromEntries(left.map(([ends, value]) => [ends.map(moved).join("-"), value]));
+  };
+  return { ...others, names: names.filter((_, i) => i !== k), links: kept(links), filled: kept(filled) };
+}
+
+/** What was taken, in a sentence or two. */
+export function takenText({ points, links, shape, left = [], source, isSure }, named = "") {
+  const all = (points.length * (points.length - 1)) / 2, count = Object.keys(links).length;
+  const name = withEscapes(points[source]) || named || "the first point";
+  return `Taken as ${shape}: ${plural(points.length, "point")}, ${plural(count, "link")}`
+    + `${count < all ? ` of ${all} that could be` : ""}${isSure ? `, source: ${name}` : ""}.`
+    + (left.length ? ` Left out: ${left.map(withEscapes).join(", ")}.` : "")
+    + (isSure ? "" : " Nothing says which point is the source.");
+}

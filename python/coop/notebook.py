@@ -1,0 +1,88 @@
+"""What notebooks show of a game and of an answer, as HTML; and shares as a Series of pandas.
+
+An answer with shares is a table and a picture; every other is told in the sentences of `reasons`.
+"""
+from __future__ import annotations
+
+import html
+import json
+from fractions import Fraction
+from importlib import import_module
+from typing import TYPE_CHECKING, Any, Sequence
+
+from .documents import Document, Point, rule_of, shares_in
+from .game import KINDS, LISTS, TABLES, Game
+from .names import apart
+from .over import divided
+from .pictures import picture
+from .reasons import reasons
+from .report import paragraph, table, text
+from .styles import EXACT, Style
+
+if TYPE_CHECKING:
+    from .answers import Answer
+
+MOST_DRAWN = 12  # players of a picture
+MOST_GROUPS = 31  # rows of a table of groups
+MOST_ROWS = 64
+AMOUNTS = {"airport": "needs alone", "bankruptcy": "claims", "voting": "votes"}
+
+
+def of_answer(answer: Answer) -> str:
+    """An answer as HTML."""
+    tree, game = divided(json.loads(answer.line), answer.game.factor), told(answer.game)
+    points = [Point(rule_of(name, game), shares, game) for name, shares in shares_in(Document("", tree))]
+    if points:
+        return "\n".join(map(with_table, points)) + drawn(game, points)
+    has_game = tree["answer"] not in ("yes", "no")
+    document = answer.game.document() if has_game else None
+    sentences = reasons(answer.line.encode(), document, EXACT, over=answer.game.factor if has_game else 1)[0]
+    return "\n".join(map(paragraph, sentences.strip().split("\n\n")))
+
+
+def told(game: Game) -> Game:
+    """A game with its numbers as they were given."""
+    return game if game.factor == 1 else Game(divided({"game": game.tree}, game.factor)["game"])
+
+
+def with_table(point: Point) -> str:
+    """The shares of a point below its name: decimals that add up, and fractions."""
+    assert point.game is not None
+    return f"<p><strong>{text(point.name)}</strong></p>\n{table(point.game, point, Style(2))}"
+
+
+def drawn(game: Game, points: Sequence[Point]) -> str:
+    """A picture of some points, where their game is small."""
+    if game.n > MOST_DRAWN or game.kind == "market":
+        return ""
+    return "\n" + picture(points, title=game.title(), style=EXACT)
+
+
+def of_game(game: Game) -> str:
+    """A game as HTML: its class, and its numbers where they are few."""
+    exact = told(game)
+    measure = ", excess per head" * exact.per_head
+    title = f"<p><strong>{html.escape(KINDS[exact.kind].capitalize())}</strong>, {exact.n} players{measure}</p>"
+    if exact.kind in TABLES and exact.everyone <= MOST_GROUPS:
+        groups = sorted(range(1, exact.everyone + 1), key=lambda group: (bin(group).count("1"), group))
+        names = [" + ".join(exact.names[i] for i in range(exact.n) if group >> i & 1) for group in groups]
+        return title + rows("costs" if exact.costs else "is worth", names, [exact.amounts[group] for group in groups])
+    if exact.kind in LISTS and exact.n <= MOST_ROWS:
+        return title + rows(AMOUNTS[exact.kind], exact.names, exact.amounts)
+    return title
+
+
+def rows(heading: str, names: Sequence[str], amounts: Sequence[Fraction]) -> str:
+    """A table of names and amounts."""
+    cells = zip((html.escape(apart(name)) for name in names), amounts)
+    body = "\n".join(f"<tr><td>{name}</td><td>{amount}</td></tr>" for name, amount in cells)
+    return f"\n<table>\n<tr><th></th><th>{heading}</th></tr>\n{body}\n</table>"
+
+
+def series(shares: dict[str, Fraction], name: str, places: Any = None) -> Any:
+    """A Series of fractions; or of floats, where it is asked for so many places."""
+    pandas: Any = import_module("pandas")
+    values: list[Any] = list(shares.values())
+    if places is not None:
+        values = [float(round(share, places)) for share in values]
+    return pandas.Series(values, index=list(shares), name=name, dtype=object if places is None else float)
