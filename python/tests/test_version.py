@@ -7,7 +7,7 @@ import coop
 from coop.program import TOP
 from coop.version import VERSION
 
-REPEATED = {"CITATION.cff": r"^version: (.*)$", "docs/citing.md": r"YEAR, version (.*?), commit"}
+REPEATED = {"CITATION.cff": r"^version: (.*)$", "docs/definitions.md": r"YEAR, version (.*?), commit"}
 """Where the number is repeated, and behind which words."""
 
 
