@@ -5,11 +5,11 @@ import { votes } from "../src/cases/votes.js";
 import { powerBeyond } from "../src/work/double-power.js";
 import { ask } from "./program.mjs";
 
-const LISTS = 60;
+const FEW = 60; // lists of 2 to 7 voters; then one list for each number from 8 to 16
 
 export function tryPowers(expect, draw) {
-  for (let k = 0; k < LISTS; k++) {
-    const count = 2 + draw(6), den = [1, 1, 10][draw(3)], most = [2, 4, 30][draw(3)];
+  for (let k = 0; k < FEW + 9; k++) {
+    const count = k < FEW ? 2 + draw(6) : k - FEW + 8, den = [1, 1, 10][draw(3)], most = [2, 4, 30][draw(3)];
     const number = (high) => new Rational(BigInt(draw(high)), BigInt(den));
     const rows = Array.from({ length: count }, (_, i) => {
       const own = number(40 * den);
