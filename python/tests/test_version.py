@@ -7,7 +7,12 @@ import coop
 from coop.program import TOP
 from coop.version import VERSION
 
-REPEATED = {"CITATION.cff": r"^version: (.*)$", "docs/definitions.md": r"YEAR, version (.*?), commit"}
+REPEATED = {
+    "CITATION.cff": r"^version: (.*)$",
+    "docs/definitions.md": r"YEAR, version (.*?), commit",
+    "CHANGELOG.md": r"^## (\d+\.\d+\.\d+),",
+    "page/coop.html": r"The program inside: coop (\S+), of the sources",
+}
 """Where the number is repeated, and behind which words."""
 
 
