@@ -91,6 +91,7 @@ def landings(rows: Iterable[tuple[str, Amount, int]], *, digits: Optional[int] =
     names: list[str] = []
     costs: list[Amount] = []
     done: dict[str, int] = {}
+    require_rows(rows)
     for row in rows:
         name, cost, count = parts_of(row)
         if type(count) is not int or count < 1:
@@ -187,8 +188,15 @@ def require_none_negative(amounts: list[Fraction]) -> None:
         raise BadInput(f"{min(amounts)} is below 0")
 
 
+def require_rows(rows: Any) -> None:
+    """Refuses what is no list of rows; a text is none."""
+    if isinstance(rows, (str, bytes)) or not isinstance(rows, Iterable):
+        raise BadInput(f"{str(rows)[:40]!r} is no list of rows")
+
+
 def rows_of(matrix: Rows, digits: Optional[int]) -> list[list[Fraction]]:
     """The rows of a matrix, none of them empty, and none of its numbers negative."""
+    require_rows(matrix)
     rows = [fractions_of(row, digits) for row in matrix]
     if not rows or not rows[0] or any(len(row) != len(rows[0]) for row in rows):
         raise BadInput("the rows of a matrix have one length, and there is one at least")

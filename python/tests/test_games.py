@@ -122,6 +122,8 @@ class Constructors(unittest.TestCase):
             ("is a text", coop.airport, "12"),
             ("is a text", lambda shares: coop.propose(coop.airport([1, 2]), shares), "11"),
             ("no list of numbers", coop.airport, 5),
+            ("no list of rows", coop.landings, 5),
+            ("no list of rows", coop.tree, None),
             ("half of a character", lambda names: coop.airport([1], names), ["\ud800"]),
             ("half of a character", coop.check, "\ud800"),
             ("half of a character", lambda tree: coop.Game(tree).document(), {
