@@ -14,6 +14,9 @@ from .slips import Found, Refusal, need
 IS_FLOAT = "has a point or an exponent, or more than 64 bits"
 FRACTION = re.compile("-?(0|[1-9][0-9]{0,38})(/[1-9][0-9]{0,38})?")
 """The form of a fraction text, but for lowest terms."""
+LONG_EXPONENT = re.compile("[eE][-+]?[0-9_]{3}")
+MOST_GUESSED = 100
+"""The length of a text that may mean a number, without an exponent of three digits."""
 
 
 Number = tuple[str, Any]
@@ -169,7 +172,9 @@ def hint_on(guess: Optional[Fraction], most: Optional[int]) -> str:
 
 
 def guessed(tree: str) -> Optional[Fraction]:
-    """What a text that is no fraction text may mean."""
+    """What a text that is no fraction text may mean; None if it is longer than anybody means, such as by its exponent."""
+    if len(tree) > MOST_GUESSED or LONG_EXPONENT.search(tree):
+        return None
     try:
         return Fraction(tree.replace(",", ".").replace(" ", ""))
     except (ValueError, ZeroDivisionError):

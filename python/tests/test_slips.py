@@ -45,6 +45,9 @@ SLIPS = {
     '{"game":{"class":"airport","costs":["2195/100"],"version":2}}': (
         '5 $.game.costs[0] (the cost of player 1): "2195/100" isn\'t in lowest terms: write "439/20"'
     ),
+    '{"game":{"class":"airport","costs":["2e30944731"],"version":2}}': (
+        '5 $.game.costs[0] (the cost of player 1): "2e30944731" is no fraction text'
+    ),
     '{"game":{"class":"airport","costs":["1,5"],"version":2}}': (
         '5 $.game.costs[0] (the cost of player 1): "1,5" is no fraction text: write "3/2"'
     ),
