@@ -172,7 +172,7 @@ def hint_on(guess: Optional[Fraction], most: Optional[int]) -> str:
 
 
 def guessed(tree: str) -> Optional[Fraction]:
-    """What a text that is no fraction text may mean; None if it is longer than anybody means, such as by its exponent."""
+    """What a text that is no fraction text may mean; None if its number is longer than anybody means."""
     if len(tree) > MOST_GUESSED or LONG_EXPONENT.search(tree):
         return None
     try:
