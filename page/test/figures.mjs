@@ -120,6 +120,7 @@ async function estates(page, expect) {
   await page.paste('[data-cell="rows.0.name"]', `Bank\t1000\nBank\t2000\n${"Long ".repeat(16)}AG\t3000`);
   await noted(page, /The name “Bank” occurs twice/);
   await page.click("Number the names that occur twice");
+  await noted(page, /^(?![\s\S]*occurs twice)[\s\S]*A name has at most/);
   await page.click("Shorten the long names");
   await settle(page);
   expect("an answer", await page.text("#answer .lead"), /Bank gets .*Bank 2 gets .*Long Long .*… gets/);
