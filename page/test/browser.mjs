@@ -159,13 +159,12 @@ class Page {
     })()`);
   }
 
-  click(text, scope = "document") {
-    return this.run(`(() => {
-      const all = [...${scope}.querySelectorAll("button, summary, a")];
-      const found = all.find((one) => one.textContent.includes(${JSON.stringify(text)}) && one.offsetParent !== null);
-      if (!found) throw new Error("no button " + ${JSON.stringify(text)});
-      found.click();
-    })()`);
+  /** Clicks a button by a part of its text, as soon as it is there. */
+  async click(text, scope = "document") {
+    const isIt = `(one) => one.textContent.includes(${JSON.stringify(text)}) && one.offsetParent !== null`;
+    const found = `[...${scope}.querySelectorAll("button, summary, a")].find(${isIt})`;
+    await this.until(found, 5000).catch(() => Promise.reject(new Error(`no button ${text}`)));
+    return this.run(`${found}.click()`);
   }
 
   /** Chooses a value of a list. */
