@@ -93,7 +93,7 @@ class Batch:
                 if first == self.first and [len(row) for row in lines] == [len(self.words)] * len(self.games):
                     return lines  # type: ignore[no-any-return]
                 break
-        raise self.lost("the executor gave the lines of others")
+        raise self.lost("the executor returned the lines of other games")
 
 
 def is_late(fault: Exception) -> bool:

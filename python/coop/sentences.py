@@ -40,7 +40,7 @@ class Teller:
         if self.namer is None:
             return f"player {player}"
         if not 1 <= player <= self.namer.n:
-            raise BadInput(f"{player} is no player of the game")
+            raise BadInput(f"{player} isn't a player of the game")
         return self.namer.names[player - 1]
 
     def group(self, players: list[int]) -> str:
@@ -97,13 +97,13 @@ class Teller:
             return filled(USAGES.get(tree["usage"], USAGES["words"]))
         tell = TELLERS.get(str(tree.get("answer", "gen" if "verdict" in tree else "")))
         if tell is None:
-            raise BadInput(NO_ANSWER if "shares" in tree else "this is no answer of the program")
+            raise BadInput(NO_ANSWER if "shares" in tree else "this isn't an answer of the program")
         try:
             if self.game is not None and self.shares is not None:
                 require_judged(self.game, self.shares, tree)
             return tell(self, tree)
         except (KeyError, TypeError, ValueError, IndexError) as fault:
-            raise BadInput(f"this is no whole answer of the program: {fault!r}") from None
+            raise BadInput(f"this isn't a whole answer of the program: {fault!r}") from None
 
     def no_imputation(self, tree: dict[str, Any]) -> str:
         """Why there is no nucleolus. Costs alone add to less than those of all, worths to more."""

@@ -58,7 +58,7 @@ class Calls(unittest.TestCase):
         self.assertIsInstance(coop.propose(AIRPORT, [1.0, 1.5, 3.499999], digits=2), answers.InCore)
         shares = {"heavy": 3.5, "light": 1.0, "medium": 1.5}
         self.assertIsInstance(coop.kernel(AIRPORT, shares, digits=1), answers.InPrekernel)
-        with self.assertRaisesRegex(coop.BadInput, "name a number of digits"):
+        with self.assertRaisesRegex(coop.BadInput, "give a number of digits"):
             coop.propose(AIRPORT, [1.0, 1.5, 3.5])
 
     def test_proposals(self) -> None:
