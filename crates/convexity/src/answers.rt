@@ -54,9 +54,9 @@ fn shares_of<W: Worth>(alloc: Global, game: &W) -> Result<(Shares, Shares), OutO
     }
 }
 
-/// Whether a game of at most 16 players is convex: `Convex` exactly where it is, with its Shapley shares and the
-/// marginal shares of the players in ascending order, both of which lie in its core (Shapley 1971); and else the first
-/// coalition and players at which it isn't.
+/// Returns `Convex` exactly if a game of at most 16 players is convex, with its Shapley shares and the marginal shares
+/// of the players in ascending order; both lie in its core (Shapley 1971). Otherwise returns the first coalition and
+/// players at which it isn't convex.
 ///
 /// Its one error is want of memory.
 pub fn answer<W: Worth>(alloc: Global, game: &W) -> Result<ConvexAnswer, OutOfMemory>

@@ -8,8 +8,8 @@ use fractions::OutOfMemory;
 use game_text::{Game, Kind};
 use std::alloc::Global;
 
-/// The game of that kind, of `n` players, made from the seed. The kind has games of so many players, and the seed is
-/// below 2^31.
+/// Returns the game of that kind, of `n` players, made from the seed. The kind has games of that number of players, and
+/// the seed is below 2^31.
 ///
 /// Its one error is want of memory.
 pub fn generate(alloc: Global, kind: Kind, n: u32, seed: u32) -> Result<Game, OutOfMemory>
@@ -26,7 +26,7 @@ pub fn generate(alloc: Global, kind: Kind, n: u32, seed: u32) -> Result<Game, Ou
     })
 }
 
-/// Whether the kind has games of `n` players.
+/// Returns whether the kind has games of `n` players.
 pub fn has_size(kind: Kind, n: u32) -> bool
     ensures { IsTrue result ↔ HasKindSize kind n }
 {

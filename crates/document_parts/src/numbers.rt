@@ -37,8 +37,8 @@ fn raise(numbers: &mut Vec<i64>, factor: u32) -> bool
     true
 }
 
-/// The numbers that the values write, times their scale, where that is at most 65,536 and each of them is below 2^40 in
-/// size then.
+/// Returns the numbers that the values write, times their scale. Returns none if the scale is above 65,536, or a number
+/// times it reaches 2^40 in size.
 ///
 /// Each text is parsed once: the numbers in front stand over their own scale, and are multiplied where a denominator
 /// makes it grow, which is so at most 16 times.
@@ -72,8 +72,8 @@ fn are_from_zero(numbers: &[i64]) -> bool
     numbers.iter().all(|z| *z >= 0)
 }
 
-/// The numbers that the values write, times their scale, where that is at most 65,536 and each of them is from 0 to
-/// below 2^40 then.
+/// Returns the numbers that the values write, times their scale. Returns none if the scale is above 65,536, or a number
+/// times it is negative or reaches 2^40.
 ///
 /// # Errors
 ///

@@ -10,7 +10,7 @@ use json_trees::parts;
 use serde_json::Value;
 use std::alloc::Global;
 
-/// The numbers, which stand row by row, in rows as long as the arrays.
+/// Returns numbers that are listed row by row as rows, each as long as its array.
 ///
 /// # Errors
 ///

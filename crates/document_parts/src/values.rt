@@ -10,7 +10,7 @@ use fractions::OutOfMemory;
 use json_trees::parts;
 use serde_json::Value;
 
-/// Adds the value at a key, where one is there.
+/// Adds the value at a key, if there is one.
 ///
 /// # Errors
 ///

@@ -208,7 +208,7 @@ macro_rules! of_its_class {
 }
 
 impl Game {
-    /// Whether its numbers are costs, so that shares are read and printed as payments.
+    /// Returns whether its numbers are costs. Shares are then read and printed as payments.
     pub fn is_cost(&self) -> bool
         ensures { result ≡ is_cost (description_in self.now) }
     {

@@ -51,7 +51,7 @@ fn read_all<R: Reader>(
     Ok(Some(found))
 }
 
-/// What the items of the array at a key describe. None exactly where one of them hasn't the form.
+/// Returns what the items of the array at a key describe. Returns none exactly if one of them doesn't have the form.
 ///
 /// # Errors
 ///

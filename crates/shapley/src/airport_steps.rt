@@ -104,8 +104,8 @@ fn step_shares(alloc: Global, game: &AirportGame) -> Result<Shares, AllocError>
     Ok(Shares::new(num, COMMON as i128).unwrap())
 }
 
-/// The Shapley shares of an airport game of at most 32 players, as worths over the least common multiple of 1 to 32:
-/// each step of the sorted costs is shared equally by the players at or above it (Littlechild and Owen 1973).
+/// Returns the Shapley shares of an airport game of at most 32 players, as worths over the least common multiple of 1
+/// to 32: each step of the sorted costs is shared equally by the players at or above it (Littlechild and Owen 1973).
 ///
 /// # Errors
 ///

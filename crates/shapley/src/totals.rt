@@ -136,8 +136,8 @@ fn mean_shares<W: Worth>(alloc: Global, game: &W) -> Result<Shares, AllocError>
     Ok(Shares::new(totals, factorial(game.players()) as i128).unwrap())
 }
 
-/// The Shapley shares of a game of at most 16 players, as worths over the number of orders: for each player the mean,
-/// over all orders, of what it adds to the worth of those in front of it (Shapley 1953).
+/// Returns the Shapley shares of a game of at most 16 players, as worths over the number of orders: for each player the
+/// mean, over all orders, of what it adds to the worth of those before it (Shapley 1953).
 ///
 /// # Errors
 ///

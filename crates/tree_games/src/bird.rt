@@ -30,8 +30,8 @@ impl Model for Tree {
 }
 
 impl TreeGame {
-    /// The Bird plan, and the shares in which each player pays for its link, as worth: each step takes the link of
-    /// least (cost, connected end, new player). No plan costs less, and the shares lie in the core.
+    /// Returns the Bird plan, and the shares by which each player pays for its link, as worth: each step takes the link
+    /// of least (cost, connected end, new player). No plan costs less, and the shares lie in the core.
     ///
     /// Its one error is want of memory.
     pub fn bird(&self, alloc: Global) -> Result<(Shares, Tree), OutOfMemory>
