@@ -43,8 +43,8 @@ pub enum CoreFault {
 /// empty: `Empty` exactly if it is.
 ///
 /// The collection has no more coalitions than there are players. Its weights and its `k` are positive, below 2^62, and
-/// have no common divisor but 1. `TooMany` comes exactly where there are more than 16 players, and
-/// `Memory` for want of memory.
+/// have no common divisor but 1. Fails with `TooMany` exactly if there are more than 16 players, and with `Memory` if
+/// memory runs out.
 pub fn core_of<W: Worth>(alloc: Global, game: &W) -> Result<CoreAnswer, CoreFault>
     ensures answer { MatchResult result (IsFound (W.game game.now)) (IsFault (W.game game.now)) }
     ensures few { IfOk result (λ _. (W.game game.now).players ≤ 16) }

@@ -55,7 +55,7 @@ impl MarketGame {
     /// Shubik 1971). Each of the two points shows that the matching is optimal: it shares out its value, and no pair
     /// blocks it.
     ///
-    /// Its one error is want of memory.
+    /// Fails only if memory runs out.
     pub fn solve(&self, alloc: Global) -> Result<Solution, OutOfMemory>
         ensures pairs { IfOk result (λ solution. IsOptimalMatching self.now solution.pairs.items solution.value) }
         ensures buyers { IfOk result

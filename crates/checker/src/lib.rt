@@ -24,10 +24,10 @@ use worth_core::{Measure, Shares, Worth};
 ///
 /// The conditions, in the order in which they are tested: the shares add to the worth of all; for imputations no share
 /// is below the worth alone. Then level by level: its coalitions have its excess; their weights are at least 1, and so
-/// are those of its bounds, but for players whose bound has such a weight in front; at each player the weights, with
-/// those of earlier coalitions, add to its total; the players in its bounds get their worth alone, and only imputations
-/// have bounds; no coalition that the levels in front don't fix has a greater excess. At the end the levels fix
-/// everything.
+/// are those of its bounds, except for players whose bound has such a weight at an earlier level; at each player the
+/// weights, with those of earlier coalitions, add to its total; the players in its bounds get their worth alone, and
+/// only imputations have bounds; no coalition that earlier levels don't fix has a greater excess. At the end the levels
+/// fix everything.
 ///
 /// It takes no memory and always answers.
 pub fn check<W: Worth>(

@@ -19,7 +19,7 @@ pub fn a_core_needs_a_veto()
     ensures { ACoreNeedsAVeto }
 {}
 
-/// A player with a veto gets no less than any other, of the nucleolus and the prenucleolus, plain and per head.
+/// By the nucleolus and the prenucleolus, plain and per head, a player with a veto gets no less than any other.
 pub fn who_has_a_veto_gets_no_less()
     ensures { WhoHasAVetoGetsNoLess }
 {}

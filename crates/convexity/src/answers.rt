@@ -58,7 +58,7 @@ fn shares_of<W: Worth>(alloc: Global, game: &W) -> Result<(Shares, Shares), OutO
 /// of the players in ascending order; both lie in its core (Shapley 1971). Otherwise returns the first coalition and
 /// players at which it isn't convex.
 ///
-/// Its one error is want of memory.
+/// Fails only if memory runs out.
 pub fn answer<W: Worth>(alloc: Global, game: &W) -> Result<ConvexAnswer, OutOfMemory>
     requires { (W.game game.now).players ≤ 16 }
     ensures { IfOk result (IsAnswer (W.game game.now)) }

@@ -40,7 +40,7 @@ use worth_core::Family;
 /// Answers the words, with a command on the source's input or a generated game, and prints one line to the sink.
 ///
 /// The status says what was answered, or why the line wasn't printed whole: a read failed, a write failed, or memory
-/// was not found.
+/// ran out.
 pub fn run<S: Source, K: Sink>(
     alloc: Global,
     words: &[String],

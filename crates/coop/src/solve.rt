@@ -60,7 +60,7 @@ pub(crate) fn solve_document(
     }
 }
 
-// What is found by the measure.
+// Finds the nucleolus or prenucleolus of a game by the measure.
 fn found_for(
     alloc: Global,
     game: &Game,
@@ -78,7 +78,7 @@ fn found_for(
     }
 }
 
-/// The point and the certificate of a scheme.
+/// Returns the point and the certificate of a scheme's solution.
 pub(crate) fn found_point(solution: (Shares, Certificate)) -> Found
     ensures { result ≡ Found.Point solution.0 solution.1 }
 {

@@ -15,12 +15,12 @@ ghost use Rattle.coop_c.specs.Calls.{Asked, EndsAs, IsServed};
 use calling::called;
 use std::alloc::Global;
 
-/// Runs `coop` on words and a document. The words are UTF-8, with a zero byte between two; where they aren't UTF-8
-/// there are none, as in the program.
+/// Runs `coop` on words and a document. The words are UTF-8, with a zero byte between two. If they aren't UTF-8 there
+/// are none, as in the program.
 ///
-/// The line goes to the front of `line`, and to `count` how many bytes stand there. The result is the number that the
-/// program ends with: 0 and 1 after the positive and the negative answer, 2 after a usage, 3 after a refusal. After 6
-/// the room is full, and the line is longer than it; after 7 memory wasn't found, and nothing stands there.
+/// The line goes to the front of `line`, and its number of bytes there to `count`. Returns the number that the program
+/// ends with: 0 and 1 after the positive and the negative answer, 2 after a usage, 3 after a refusal. After 6 the room
+/// is full, and the line is longer than it. After 7 memory ran out, and nothing is written.
 #[unsafe(no_mangle)]
 pub extern "C" fn coop_run(
     alloc: Global,

@@ -11,7 +11,7 @@ use std::alloc::Global;
 /// Returns the game of that kind, of `n` players, made from the seed. The kind has games of that number of players, and
 /// the seed is below 2^31.
 ///
-/// Its one error is want of memory.
+/// Fails only if memory runs out.
 pub fn generate(alloc: Global, kind: Kind, n: u32, seed: u32) -> Result<Game, OutOfMemory>
     requires size { HasKindSize kind n }
     requires seed { seed < 2 ^ 31 }

@@ -117,7 +117,7 @@ fn read_names<'a>(alloc: Global, values: &'a [Value]) -> Result<Option<Names<'a>
 ///
 /// # Errors
 ///
-/// Where memory was not found.
+/// If memory runs out.
 pub fn names_of<'a>(
     alloc: Global,
     game: &'a Value,

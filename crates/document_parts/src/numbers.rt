@@ -40,12 +40,12 @@ fn raise(numbers: &mut Vec<i64>, factor: u32) -> bool
 /// Returns the numbers that the values write, times their scale. Returns none if the scale is above 65,536, or a number
 /// times it reaches 2^40 in size.
 ///
-/// Each text is parsed once: the numbers in front stand over their own scale, and are multiplied where a denominator
-/// makes it grow, which is so at most 16 times.
+/// Each text is parsed once. The numbers before it are kept over their own scale, and are multiplied when a denominator
+/// makes it grow, at most 16 times.
 ///
 /// # Errors
 ///
-/// Where memory was not found.
+/// If memory runs out.
 pub fn read_worths(alloc: Global, values: &[&Value]) -> Result<Option<Numbers>, OutOfMemory>
     ensures none { IfOk result (λ o. IfNone o (are_worths (seen values.now) ≡ false)) }
     ensures within { IfOk result (λ o. IfSome o (λ n. are_worths (seen values.now) ≡ true)) }
@@ -77,7 +77,7 @@ fn are_from_zero(numbers: &[i64]) -> bool
 ///
 /// # Errors
 ///
-/// Where memory was not found.
+/// If memory runs out.
 pub fn read_costs(alloc: Global, values: &[&Value]) -> Result<Option<Numbers>, OutOfMemory>
     ensures none { IfOk result (λ o. IfNone o (are_costs (seen values.now) ≡ false)) }
     ensures within { IfOk result (λ o. IfSome o (λ n. are_costs (seen values.now) ≡ true)) }

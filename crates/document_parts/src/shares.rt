@@ -18,7 +18,7 @@ use worth_core::{Shares, SharesFault};
 ///
 /// # Errors
 ///
-/// Where memory was not found.
+/// If memory runs out.
 pub fn written_shares(alloc: Global, tree: &Value) -> Result<Option<Vec<Frac>>, OutOfMemory>
     ensures { IfOk result (λ o. option_map (λ v. v.items) o
         ≡ (if has_share_numbers (view tree.now) then Some (written_shares (view tree.now)) else None)) }
@@ -66,7 +66,7 @@ fn over_least(alloc: Global, written: &[Frac]) -> Result<Option<Shares>, OutOfMe
 ///
 /// # Errors
 ///
-/// Where memory was not found.
+/// If memory runs out.
 pub fn shares_as_worth(
     alloc: Global,
     written: &[Frac],

@@ -94,7 +94,7 @@ fn other_number(pairs: usize, numbers: &[i64]) -> i64
 ///
 /// # Errors
 ///
-/// Where memory was not found.
+/// If memory runs out.
 pub fn sparse_numbers(
     alloc: Global,
     players: u32,

@@ -60,7 +60,7 @@ pub enum Class {
     Tree,
     /// What each buyer and each seller are worth together.
     Assignment,
-    /// The same for up to 32 buyers and 32 sellers, to be matched.
+    /// What each buyer and each seller are worth together, for up to 32 of each, to be matched.
     Market,
     /// A quota and the weight of each player.
     Voting,
@@ -185,7 +185,7 @@ pub enum Game {
     Tree(TreeGame),
     /// What each buyer and each seller are worth together.
     Assignment(AssignmentGame),
-    /// The same for up to 32 buyers and 32 sellers.
+    /// What each buyer and each seller are worth together, for up to 32 of each.
     Market(MarketGame),
     /// A quota and the weight of each player.
     Voting(VotingGame),

@@ -45,7 +45,7 @@ use worth_core::Shares;
 ///
 /// The kept tree of the game holds no float, is nested at most 8 deep, and is written in no more bytes than were read.
 ///
-/// It stands apart from its callers, so that its stack is given back before they go on.
+/// It is a call of its own, so that its stack is given back before its callers go on.
 #[inline(never)]
 pub fn read_document(alloc: Global, bytes: &[u8], command: Command) -> Result<Document, TextFault>
     ensures reading { MatchResult result (IsReading command bytes.now) (IsFault command bytes.now) }

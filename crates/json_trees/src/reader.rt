@@ -25,7 +25,7 @@ pub trait Reader {
     ///
     /// # Errors
     ///
-    /// Where memory was not found.
+    /// If memory runs out.
     fn read(&self, alloc: Global, tree: &Value) -> Result<Option<Self::Item>, OutOfMemory>
         ensures { IfOk result (λ o. o ≡
             (if form self.now (view tree.now) then Some (described self.now (view tree.now)) else None)) };
@@ -55,7 +55,7 @@ fn read_all<R: Reader>(
 ///
 /// # Errors
 ///
-/// Where memory was not found.
+/// If memory runs out.
 pub fn read_at<R: Reader>(
     alloc: Global,
     reader: &R,

@@ -37,10 +37,10 @@ impl Model for Certificate {
 impl Certificate {
     /// Makes the certificate of these levels for 1 to 64 players. It takes no memory.
     ///
-    /// `Malformed` exactly where the levels don't have this form: fewer levels than players; in mode span at most 16
-    /// players; in each level 1 to 65536 coalitions, neither empty nor all, at most 65536 earlier ones, each of them a
-    /// coalition of a level in front, and bounds of players of the game; all three lists in ascending order, without
-    /// repeats; weights and total below 2^63 in size.
+    /// Fails with `Malformed` exactly if the levels don't have this form: fewer levels than players; in mode span at
+    /// most 16 players; in each level 1 to 65536 coalitions, neither empty nor all, at most 65536 earlier ones, each of
+    /// them a coalition of an earlier level, and bounds of players of the game; all three lists in ascending order,
+    /// without repeats; weights and total below 2^63 in size.
     pub fn new(players: u32, mode: Mode, levels: Vec<Level>) -> Result<Certificate, Malformed>
         requires some { 1 ≤ players }
         requires few { players ≤ 64 }

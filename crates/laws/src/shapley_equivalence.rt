@@ -3,7 +3,7 @@
 
 ghost use Rattle.laws.specs.ShapleyEquivalence.{ShapleyIsAnonymous, ShapleyIsCovariant};
 
-/// Anonymity: who is renumbered keeps its share.
+/// Anonymity: a player who is renumbered keeps its share.
 pub fn shapley_is_anonymous()
     ensures { ShapleyIsAnonymous }
 {}

@@ -17,8 +17,8 @@ pub fn no_core_rule_is_monotonic()
     ensures { NoCoreRuleIsMonotonic }
 {}
 
-/// The Shapley value gives a player no less where no coalition with this player is worth less, and each other what it
-/// was: of any number of players.
+/// The Shapley value gives a player no less if no coalition with this player is worth less, and each other coalition is
+/// worth what it was: for any number of players.
 pub fn who_is_in_all_that_grows_gets_no_less()
     ensures { WhoIsInAllThatGrowsGetsNoLess }
 {}

@@ -30,9 +30,9 @@ use worth_core::{Measure, Worth};
 /// twice the number of players, and its excess is a fraction in lowest terms with parts of 128 bits. It has at least
 /// one coalition, and none that earlier levels fix, so each level settles more than the earlier ones.
 ///
-/// `NoImputation` comes exactly where the family is the imputations and the worths of the players alone add to more
-/// than the worth of all; it carries both. `TooMany` comes exactly where there are more than 16 players, and `Memory`
-/// for want of memory.
+/// Returns `NoImputation` exactly if the family is the imputations and the worths of the players alone add to more than
+/// the worth of all; it carries both. Fails with `TooMany` exactly if there are more than 16 players, and with `Memory`
+/// if memory runs out.
 pub fn solve<W: Worth>(
     alloc: Global,
     game: &W,

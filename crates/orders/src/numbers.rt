@@ -20,7 +20,7 @@ pub fn are_numbers(numbers: &[i64]) -> bool
 
 /// Returns the numbers as natural numbers.
 ///
-/// Its one error is want of memory.
+/// Fails only if memory runs out.
 pub fn naturals(alloc: Global, numbers: &[i64]) -> Result<Vec<u64>, AllocError>
     requires { All IsNumber numbers.now }
     ensures { IfOk result (λ v. (map pos v.items ≡ numbers.now) × All (λ c. c < 2 ^ 40) v.items) }

@@ -28,7 +28,7 @@ impl Ordered {
 
     /// Sorts the players by their numbers.
     ///
-    /// Its one error is want of memory.
+    /// Fails only if memory runs out.
     pub fn new(alloc: Global, numbers: Vec<u64>) -> Result<Ordered, AllocError>
         requires some { 1 ≤ length numbers.items }
         requires few { length numbers.items ≤ 64 }

@@ -19,7 +19,7 @@ pub fn blocks(table: &Table, point: &Point, coalition: u64) -> bool
 
 /// Returns the masks of the coalitions that are worth more than their members get, in ascending order.
 ///
-/// Its one error is want of memory.
+/// Fails only if memory runs out.
 pub fn blockers(alloc: Global, table: &Table, point: &Point) -> Result<Vec<u64>, AllocError>
     ensures { IfOk result (λ masks. masks.items ≡ blocking_masks (game_of table.now) point.now) }
 {

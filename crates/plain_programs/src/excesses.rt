@@ -73,7 +73,7 @@ fn scaled(scale: i128, excess: i128) -> i128
 /// Returns the measured excesses of all coalitions except the empty one and that of all players, in mask order and over
 /// the point's denominator, each times a scale.
 ///
-/// Its one error is want of memory.
+/// Fails only if memory runs out.
 pub fn excess_list(
     alloc: Global,
     measure: Measure,
@@ -97,7 +97,7 @@ pub fn excess_list(
 /// Returns whether the sorted excess list of the first point comes before that of the second by the measure, both over
 /// the product of the two denominators.
 ///
-/// Its one error is want of memory.
+/// Fails only if memory runs out.
 pub fn beats(
     alloc: Global,
     measure: Measure,

@@ -5,8 +5,8 @@ ghost use Rattle.reduced_games.specs.SobolevsTheorem.{SobolevsTheorem, SomeRuleM
 ghost use Rattle.reduced_games.specs.SobolevsTheorem.{InTheirOrder};
 
 /// Sobolev's theorem (Sobolev 1975), both ways, over games whose worths are whole numbers and rules whose shares are
-/// fractions. A rule that gives one allocation to each game, of any number of players, is covariant under strategic
-/// equivalence, anonymous and has the reduced game property just where it gives each game its prenucleolus.
+/// fractions: a rule that gives one allocation to each game, of any number of players, is covariant under strategic
+/// equivalence, anonymous and has the reduced game property exactly if it gives each game its prenucleolus.
 pub fn sobolevs_theorem()
     ensures { SobolevsTheorem }
 {}

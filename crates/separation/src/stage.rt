@@ -35,7 +35,7 @@ fn outer<W: Worth>(game: &W, levels: &[Level], outside: &Outside, s: Coalition) 
     }
 }
 
-/// Adds the columns of the coalitions outside, each under its mask. Its one error is want of memory; then those below
+/// Adds the columns of the coalitions outside, each under its mask. Fails only if memory runs out; then those below
 /// some mask are added.
 fn push_outer<W: Worth>(
     columns: &mut Vec<Option<Column>>,
@@ -89,7 +89,7 @@ impl Listed {
     /// excesses of the levels. Per head there are at most 8 players.
     ///
     /// There are at most n - 2 levels, in the form of a certificate. `span` holds exactly the coalitions that the
-    /// levels fix in span mode. The one error is want of memory.
+    /// levels fix in span mode. Fails only if memory runs out.
     pub fn stage<W: Worth>(
         alloc: Global,
         game: &W,

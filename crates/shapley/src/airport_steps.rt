@@ -109,7 +109,7 @@ fn step_shares(alloc: Global, game: &AirportGame) -> Result<Shares, AllocError>
 ///
 /// # Errors
 ///
-/// `TooMany` exactly where there are more than 32 players; `Memory` where there was no memory for the shares.
+/// `TooMany` exactly if there are more than 32 players; `Memory` if memory for the shares runs out.
 pub fn airport_shapley(alloc: Global, game: &AirportGame) -> Result<Shares, ShapleyFault>
     ensures value { IfOk result (IsShapley (airport_game game.now)) }
     ensures den { IfOk result (λ x. x.den ≡ pos common) }

@@ -141,7 +141,7 @@ fn mean_shares<W: Worth>(alloc: Global, game: &W) -> Result<Shares, AllocError>
 ///
 /// # Errors
 ///
-/// `TooMany` exactly where there are more than 16 players; `Memory` where there was no memory for the shares.
+/// `TooMany` exactly if there are more than 16 players; `Memory` if memory for the shares runs out.
 pub fn shapley<W: Worth>(alloc: Global, game: &W) -> Result<Shares, ShapleyFault>
     ensures value { IfOk result (IsShapley (W.game game.now)) }
     ensures den { IfOk result (λ x. x.den ≡ pos (factorial (W.game game.now).players)) }

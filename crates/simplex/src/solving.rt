@@ -83,8 +83,8 @@ fn solve_in<C: Columns>(work: &mut State, columns: &mut C) -> Result<Optimal, Lp
 /// Returns the best weights of a program, and multipliers that show that they are best: the weights solve the program,
 /// the multipliers bound it, and both have one value.
 ///
-/// `NoSolution` exactly where nothing solves the program. `Unbounded` exactly where something does, and a ray, which
-/// adds nothing in any row, has a cost above 0.
+/// Fails with `NoSolution` exactly if nothing solves the program. Fails with `Unbounded` exactly if something does, and
+/// a ray, which adds nothing in any row, has a cost above 0.
 pub fn solve<C: Columns>(workspace: &mut Workspace, columns: &mut C) -> Result<Optimal, LpFault>
     requires { workspace.old ≡ (C.program columns.old).rows }
     ensures same { C.program columns.new ≡ C.program columns.old }

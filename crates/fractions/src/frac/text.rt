@@ -18,8 +18,8 @@ impl Frac {
     /// Returns the fraction that a text writes. Returns none exactly if it is no fraction's text, or its numerator or
     /// its denominator is out of the range of `i128`.
     ///
-    /// A fraction's text is an optional `-`, decimal digits without a leading zero (but for `0`), and perhaps a `/` and
-    /// the digits of a number above 1 that has no divisor in common with the first. `-0` is none.
+    /// A fraction's text is an optional `-`, decimal digits without a leading zero (except `0` itself), and perhaps a
+    /// `/` and the digits of a number above 1 that has no divisor in common with the first. `-0` is none.
     pub fn parse(text: &[u8]) -> Option<Frac>
         ensures value { result ≡ parsed text.now }
         ensures unique { IfSome result (λ f. fraction_text f ≡ text.now) }
