@@ -10,7 +10,8 @@ pub fn kohlberg()
     ensures { KohlbergTheorem }
 {}
 
-/// For 1 to 16 players, and with weights and totals below 2 ^ 63 in size, these levels have the form of a certificate.
+/// Levels of the shape in `kohlberg` have the form of a certificate, for 1 to 16 players, if weights and totals are
+/// below 2 ^ 63 in size.
 pub fn small_shapes_are_forms()
     ensures { SmallShapesAreForms }
 {}

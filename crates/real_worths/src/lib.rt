@@ -111,8 +111,8 @@ pub fn integers_cant_halve()
     ensures { IntegersCantHalve }
 {}
 
-/// Of two players the second alone is worth something: it adds no less than the first, which adds less, so they aren't
-/// interchangeable. Where nobody is worth anything, the first is a dummy.
+/// If only the second of two players is worth something alone, it adds no less than the first, which adds less, so they
+/// aren't interchangeable. If nobody is worth anything, the first is a dummy.
 pub fn some_add_no_less()
     ensures { SomeAddNoLess }
 {}

@@ -5,7 +5,7 @@ ghost use Rattle.reduced_games.specs.ReducedGames.{ReducedGamesExist, ReducedGam
 ghost use Rattle.reduced_games.specs.ReducedGames.{PrekernelReduces, CoreReduces, PrekernelByPairs, CoreByPairs};
 ghost use Rattle.reduced_games.specs.ReducedGames.{NucleolusReduces, EachTwoAreStandard, TwoOfThreeVoters};
 
-/// Whoever stays, there is a reduced game.
+/// There is a reduced game for any players who stay.
 pub fn reduced_games_exist()
     ensures { ReducedGamesExist }
 {}
@@ -53,7 +53,8 @@ pub fn core_by_pairs()
     ensures { CoreByPairs }
 {}
 
-/// Of three who vote by majority and get a third each, one goes: what is the game of the others, and what isn't.
+/// Examples of a reduced game: if three who vote by majority get a third each and one goes, what is the game of the
+/// others, and what isn't.
 pub fn two_of_three_voters()
     ensures { TwoOfThreeVoters }
 {}
