@@ -15,8 +15,8 @@ ghost use Rattle.coop_c.specs.Calls.{Asked, EndsAs, IsServed};
 use calling::called;
 use std::alloc::Global;
 
-/// Runs `coop` on words and a document. The words are UTF-8, with a zero byte between two. If they aren't UTF-8 there
-/// are none, as in the program.
+/// Runs `coop` on words and a document. The words are UTF-8, with a zero byte between two; where they aren't UTF-8
+/// there are none, as in the program.
 ///
 /// The line goes to the front of `line`, and its number of bytes there to `count`. Returns the number that the program
 /// ends with: 0 and 1 after the positive and the negative answer, 2 after a usage, 3 after a refusal. After 6 the room

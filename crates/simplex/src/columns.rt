@@ -67,9 +67,8 @@ pub trait Columns {
             (Bounds (priced (program self.old) with_costs) m.now.num.items m.now.den)
             (λ id. IsEntering (priced (program self.old) with_costs) m.now.num.items m.now.den id) };
 
-    /// Returns a column that costs more than its value under the multipliers, and none exactly if no column does.
-    /// Without costs each column counts as costing 0. Any such column serves: the choice makes `solve` take fewer steps
-    /// or more.
+    /// Returns a column that costs more than its value by the multipliers; none exactly if none does. Without costs
+    /// each column counts as costing 0. Any such column serves: the choice makes `solve` take fewer steps or more.
     fn rising(&mut self, m: &Multipliers, with_costs: bool) -> Option<u64>
         requires { array_vec_len m.now.num ≡ (program self.old).rows }
         ensures same { program self.new ≡ program self.old }
