@@ -14,7 +14,7 @@ pub trait Form {
     /// The test that is meant.
     ghost form: { Self → Data → Bool };
 
-    /// Whether the tree has the form.
+    /// Returns whether the tree has the form.
     fn fits(&self, value: &Value) -> bool
         ensures { result ≡ form self.now (view value.now) };
 }

@@ -21,7 +21,7 @@ pub trait Reader {
     /// What a tree of that form describes.
     ghost described: { Self → Data → Self.Item };
 
-    /// What the tree describes. None exactly where it hasn't the form.
+    /// Returns what the tree describes, and none exactly if it doesn't have the form.
     ///
     /// # Errors
     ///

@@ -8,8 +8,8 @@ pub fn shapley_is_anonymous()
     ensures { ShapleyIsAnonymous }
 {}
 
-/// Covariance under strategic equivalence: the shares go with a change of the unit, and with what each player brings of
-/// its own.
+/// Covariance under strategic equivalence: the shares change by the same unit as the worths, and by what each player
+/// brings of its own.
 pub fn shapley_is_covariant()
     ensures { ShapleyIsCovariant }
 {}

@@ -21,7 +21,8 @@ pub fn reduced_game_property()
     ensures { ReducedGameProperty }
 {}
 
-/// The reduced game property of the nucleolus, if the core isn't empty.
+/// The reduced game property of the nucleolus, when the core isn't empty: if some players go with their shares, the
+/// nucleolus of the game that is left gives each of the others what it got before.
 pub fn nucleolus_reduces()
     ensures { NucleolusReduces }
 {}

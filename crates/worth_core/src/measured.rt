@@ -17,7 +17,7 @@ use std::marker::Model;
 
 /// What a measure divides the excess of a coalition by.
 pub trait Divisor {
-    /// 1, or the number of members of a coalition that isn't empty.
+    /// Returns 1, or the number of members of a coalition that isn't empty.
     fn divisor(self, s: Coalition) -> u32
         requires { 0 < s };
 }
