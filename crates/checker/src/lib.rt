@@ -18,9 +18,10 @@ use kohlberg::{Certificate, Family};
 pub use kohlberg::{Place, Reason, Verdict};
 use worth_core::{Measure, Shares, Worth};
 
-/// Checks a certificate. Returns `Yes` exactly if it meets all conditions for these shares by the measure; the shares
-/// are then the nucleolus of the game, or the prenucleolus for preimputations (Schmeidler 1969; per head Grotte 1970).
-/// Otherwise returns `No` with the first condition that fails. There are at most 16 players if excess is per head.
+/// Checks a certificate: returns `Yes` exactly if it meets all conditions for these shares by the measure, and
+/// otherwise `No` with the first condition that fails. After `Yes` the shares are the nucleolus of the game, or the
+/// prenucleolus for preimputations (Schmeidler 1969; per head Grotte 1970). There are at most 16 players if excess is
+/// per head.
 ///
 /// The conditions, in the order in which they are tested: the shares add to the worth of all; for imputations no share
 /// is below the worth alone. Then level by level: its coalitions have its excess; their weights are at least 1, and so
