@@ -1,4 +1,4 @@
-//! Solves cooperative games for a host: the words and the document stand in its memory, and the line goes there.
+//! Solves cooperative games for a host: the words and the document are in its memory, and the line goes there.
 #![tactic(auto)]
 
 mod calling;

@@ -1,4 +1,4 @@
-//! The nucleolus, the core and the prekernel where shares are real numbers, or numbers of any linearly ordered abelian
+//! The nucleolus, the core and the prekernel when shares are real numbers, or numbers of any linearly ordered abelian
 //! group. Each function's contract is a theorem, and its body is empty.
 #![tactic(auto)]
 
