@@ -1,5 +1,4 @@
-//! The checker: whether a certificate shows that shares are the nucleolus or the prenucleolus of a game
-//! (Kohlberg 1971).
+//! Whether a certificate shows that shares are the nucleolus or the prenucleolus of a game (Kohlberg 1971).
 #![tactic(auto)]
 
 mod conditions;
@@ -18,10 +17,9 @@ use kohlberg::{Certificate, Family};
 pub use kohlberg::{Place, Reason, Verdict};
 use worth_core::{Measure, Shares, Worth};
 
-/// Checks a certificate: returns `Yes` exactly if it meets all conditions for these shares by the measure, and
-/// otherwise `No` with the first condition that fails. After `Yes` the shares are the nucleolus of the game, or the
-/// prenucleolus for preimputations (Schmeidler 1969; per head Grotte 1970). There are at most 16 players if excess is
-/// per head.
+/// Returns `Yes` exactly if the certificate meets all conditions for these shares by the measure, and otherwise `No`
+/// with the first condition that fails. After `Yes` the shares are the nucleolus of the game, or the prenucleolus for
+/// preimputations (Schmeidler 1969; per head Grotte 1970). There are at most 16 players if excess is per head.
 ///
 /// The conditions, in the order in which they are tested: the shares add to the worth of all; for imputations no share
 /// is below the worth alone. Then level by level: its coalitions have its excess; their weights are at least 1, and so

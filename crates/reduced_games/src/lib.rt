@@ -1,5 +1,5 @@
-//! Consistency: if some players take their shares and go, the rest divide what is left in the same way. Each function's
-//! contract is a theorem, and its body is empty. No crate of the program needs them.
+//! Rules that divide in the same way what is left when some players take their shares and go: they are consistent. Each
+//! function's contract is a theorem, and its body is empty. No crate of the program needs them.
 #![tactic(auto)]
 
 pub mod airports_left;
