@@ -37,7 +37,8 @@ use report::{Answer, UsageKind, write_report};
 use std::alloc::Global;
 use worth_core::Family;
 
-/// Answers the words, with a command on the source's input or a generated game, and prints one line to the sink.
+/// Answers what the words ask for, a command on the input of the source or a generated game, and prints one line to the
+/// sink.
 ///
 /// The status says what was answered, or why the line wasn't printed whole: a read failed, a write failed, or memory
 /// ran out.

@@ -25,8 +25,8 @@ pub enum SharesFault {
 }
 
 impl Shares {
-    /// Makes the fractions' shares over their least common denominator. Fails with `TooFine` exactly if that is more
-    /// than 2^63, or some numerator over it isn't below 2^110 in size.
+    /// Makes shares of these fractions, over their least common denominator. Fails with `TooFine` exactly if that is
+    /// more than 2^63, or some numerator over it isn't below 2^110 in size.
     pub fn from_fracs(alloc: Global, shares: &[Frac]) -> Result<Shares, SharesFault>
         requires some { 1 ≤ length shares.now }
         requires few { length shares.now ≤ 64 }
