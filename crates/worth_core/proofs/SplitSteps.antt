@@ -1,4 +1,8 @@
 -- The greatest sums over the sets of seen players of a kind, with one more player seen.
+--
+-- A split bound asks for sets that hold some player of f and lack some player of f. Four sums are kept, for the sets
+-- that have to hold one or not, and to lack one or not. These are demands and not exact kinds. So with one more player
+-- of f, a set with that player has to hold no other, and a set without it has to lack no other.
 use Rattle.std.proofs.Common.{◌≡◌, ◌⊎◌, ℕ, ◌+◌, ◌^◌, ◌<◌, Bool, true, false, not}
 use Rattle.std.proofs.Common.{◌&&◌}
 use Rattle.std.proofs.Common.{◌||◌, ℤ, pos, ◌+ℤ◌, ◌≤ℤ◌, Option, None, Some, MatchOption, refl}
