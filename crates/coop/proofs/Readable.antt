@@ -1,7 +1,5 @@
 -- The line of what a solver found can be checked.
 --
--- The line of a nucleolus is read as a document to check.
---
 -- 1. The game's tree was read, so it is exact, nested at most 8 deep and written in no more bytes (`IsKept`). With
 --    levels of at most 128 entries the line is at most 2 MiB longer than the game's text, so the limit of `check` is
 --    kept.

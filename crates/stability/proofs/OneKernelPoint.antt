@@ -1,7 +1,5 @@
--- Two points of the prekernel of a convex game are one. Some coalition has the greatest excess at both of those
--- that
--- split a part, so its members get the same together at both, and the others of the part too; and then so on in
--- each
+-- Two points of the prekernel of a convex game are one. Some coalition has the greatest excess at both of those that
+-- split a part, so its members get the same together at both, and the others of the part too; and then so on in each
 -- (Maschler, Peleg and Shapley 1972).
 --
 -- By induction on the number of players of a part; the first part is all players. At a point, consider the coalitions
