@@ -1,6 +1,6 @@
 -- A certificate that meets its conditions certifies the nucleolus over every linearly ordered abelian group.
 --
--- Let z be another member of the family. For player i, `gap` x i is the difference between x and z over the denominator
+-- Take another member z of the family. For player i, `gap` x i is the difference between x and z over the denominator
 -- of x, as a column: integers that say how often the unit and each share of z are taken. Level by level, either the
 -- level differs by nothing, or x comes before z.
 --
