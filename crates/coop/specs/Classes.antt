@@ -54,6 +54,7 @@ serves_class _ d = is_no_market d
 
 -- the most players of a game whose nucleolus is answered: the programs per head are those of few players, and with
 -- plain excess airport and bankruptcy games have schemes of their own
+-- (of the other classes only voting games can have more than 16; their limits are stated all the same)
 abbrev pub nucleolus_limit : Measure → Description → ℕ
 nucleolus_limit PerHead d = 8
 nucleolus_limit Plain (table n worths) = 16
@@ -73,6 +74,7 @@ core_limit _ = 64
 
 -- the most players of a game whose Shapley shares are answered: the steps of an airport's costs and the sums of votes
 -- are few, and the coalitions of another game many
+-- (`shapley` and `airport_shapley` refuse more players, and `run` answers that as usage: so the limit is tested once)
 abbrev pub shapley_limit : Description → ℕ
 shapley_limit (table n worths) = 16
 shapley_limit (cost n costs) = 16

@@ -112,6 +112,8 @@ fn best_around<W: Worth>(scan: &Scan<'_, W>) -> Option<Coalition>
 }
 
 /// A coalition that has a column whose cost is above its value.
+///
+/// Per head there are at most 256 coalitions, so only with plain excess does the search have to be quick.
 fn some_marked<W: Worth>(scan: &Scan<'_, W>) -> Option<Coalition>
     ensures { MatchOption result (NoneRises scan.now) (IsSomeRising scan.now) }
 {
