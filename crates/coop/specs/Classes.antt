@@ -54,7 +54,7 @@ serves_class _ d = is_no_market d
 
 -- the most players of a game whose nucleolus is answered: the programs per head are those of few players, and with
 -- plain excess airport and bankruptcy games have schemes of their own
--- (of the other classes only voting games can have more than 16; their limits are stated all the same)
+-- (of the classes that are served only voting games can have more with plain excess; the other limits are stated too)
 abbrev pub nucleolus_limit : Measure → Description → ℕ
 nucleolus_limit PerHead d = 8
 nucleolus_limit Plain (table n worths) = 16
