@@ -1,6 +1,9 @@
 -- What the commands do with each class of games: the list of classes. Where a command doesn't serve the class, the
 -- usage of the class is the right answer, and where a game has more players than are answered, the usage of players.
 --
+-- A new class adds its case to `nucleolus_limit`, `shapley_limit`, `HasFewPlayers` and `IsSchemePoint`; and to
+-- `core_limit`, `IsChosen` and `serves_class`, if it isn't as most classes.
+--
 --   is_market, is_tree   the class of the game
 --   is_no_market         the game is of another class than a market
 --   serves_class         the command serves the class of the game
