@@ -11,7 +11,7 @@ const PAGE = 64 * KiB;
 const NO_ROOM = 6;
 const OUT_OF_MEMORY = 7;
 const STATUSES = [0, 1, 2, 3, NO_ROOM, OUT_OF_MEMORY];
-// Where a pointer leads that no memory stands behind: it is never null.
+// A pointer for empty slices. It must not be null.
 const NOWHERE = 16;
 const NO_MEMORY = { status: OUT_OF_MEMORY, line: new Uint8Array(0) };
 

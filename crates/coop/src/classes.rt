@@ -145,8 +145,8 @@ pub(crate) fn shares_of(alloc: Global, game: &Game) -> Result<Shares, ShapleyFau
     }
 }
 
-/// The same game with its worths kept, where it finds each anew when it is asked, as a tree game does: the checker asks
-/// for each at each level.
+/// Returns the game with its worths kept, if it computes each anew when it is asked, as a tree game does. The checker
+/// asks for each worth at each level.
 pub(crate) fn kept_where_slow(
     alloc: Global,
     game: &Game,

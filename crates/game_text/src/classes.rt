@@ -63,7 +63,7 @@ pub enum Class {
     Tree,
     /// What each buyer and each seller are worth together.
     Assignment,
-    /// The same for up to 32 buyers and 32 sellers, to be matched.
+    /// What each buyer and each seller are worth together, for up to 32 of each, to be matched.
     Market,
     /// A quota and the weight of each player.
     Voting,
@@ -188,7 +188,7 @@ pub enum Game {
     Tree(TreeGame),
     /// What each buyer and each seller are worth together.
     Assignment(AssignmentGame),
-    /// The same for up to 32 buyers and 32 sellers.
+    /// What each buyer and each seller are worth together, for up to 32 of each.
     Market(MarketGame),
     /// A quota and the weight of each player.
     Voting(VotingGame),
@@ -211,7 +211,7 @@ macro_rules! of_its_class {
 }
 
 impl Game {
-    /// Whether its numbers are costs, so that shares are read and printed as payments.
+    /// Returns whether its numbers are costs. Shares are then read and printed as payments.
     pub fn is_cost(&self) -> bool
         ensures { result ≡ is_cost (description_in self.now) }
     {

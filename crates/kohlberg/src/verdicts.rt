@@ -46,7 +46,7 @@ pub enum Reason {
 }
 
 impl Reason {
-    /// The number of the reason, 1 to 8, in the order in which conditions are tested.
+    /// Returns the number of the reason, 1 to 8, in the order in which conditions are tested.
     pub fn number(&self) -> u32
         ensures { result ≡ reason_number self.now }
     {

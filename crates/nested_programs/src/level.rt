@@ -36,7 +36,7 @@ fn outer_numbers(
 /// Puts the coalitions of a level in front whose net number isn't 0 in mask order, where `first` is the number of the
 /// column of its first.
 ///
-/// Its one error is want of memory; then those of the first coalitions are put.
+/// Fails only if memory runs out; then those of the first coalitions are put.
 fn put_level(
     earlier: &mut Vec<(Coalition, i128)>,
     weights: &[(ColumnId, i128)],

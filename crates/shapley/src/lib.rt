@@ -1,5 +1,5 @@
 //! The Shapley value: for each player the mean, over all orders of the players, of what it adds to the worth of those
-//! in front of it (Shapley 1953).
+//! before it (Shapley 1953).
 #![tactic(auto)]
 
 mod airport_steps;

@@ -31,8 +31,8 @@ export class Session {
   }
 
   /** `doubt` is why the game isn't taken for the agreed one, in words; `file` is that which was opened: {name, digest},
-   * and `made`, the document that the page makes of it. What `isFile` has no mark of the case before; its `mark` was
-   * chosen. */
+   * and `made`, the document that the page makes of it. With `isFile`, the previous case's decimal mark is dropped. A
+   * `mark` that is given was chosen by the user. */
   open(kind, typed, { isFile = false, isTyped = isFile, ...settings } = {}) {
     const { measure = "plain", texts = [], todays = null, pinned = null, doubt = "", file = null } = settings;
     const { places = kind.places ?? 2, mark = isFile ? this.usualMark() : this.mark } = settings;
@@ -46,7 +46,8 @@ export class Session {
     this.file = file;
   }
 
-  /** Something was typed, or chosen, that changes the game. Before it was read it was no more that of its file. */
+  /** Something was typed, or chosen, that changes the game. A file that hasn't been read yet is forgotten: the case no
+   * longer counts as that file. */
   changed(wait = WAIT) {
     if (!this.file?.made) this.file = null;
     this.turn += 1;
