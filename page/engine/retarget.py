@@ -11,7 +11,10 @@ What the kit itself writes for wasm64 has two things more. Each function with a 
 over; here the stack lies below all else, so the first access past its end traps. And an export refuses to run after a
 trap; here the host takes a new instance then.
 
-Whatever the LLVM module has that isn't known here stops it.
+Whatever the LLVM module has that isn't known here stops it: another function of LLVM, assembly or types of one
+processor, calls of C except the heap's, memory that others may name, other attributes. So do other words of the kit to
+clang (kit.py), and a finished module with a table of functions, another memory, or other imports and exports
+(sections.py).
 """
 import os
 import re
