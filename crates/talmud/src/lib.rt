@@ -31,7 +31,7 @@ use worth_core::{Shares, Worth};
 /// shares are the prenucleolus too, and lie in the core.
 ///
 /// Each claim is first cut to the estate. If the estate is at most half of the claims, each player gets half of its
-/// claim or an amount that is the same for all, whichever is less. Otherwise each loses that much of its claim.
+/// claim or an amount that is the same for all, whichever is less. Otherwise each loses such a part of its claim.
 ///
 /// The excess of each level is a fraction in lowest terms with parts of 128 bits.
 ///
