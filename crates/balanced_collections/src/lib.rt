@@ -1,5 +1,7 @@
 //! Balanced collections: the evidence that a core is empty (Bondareva 1963, Shapley 1967), and the two numbers that it
 //! sets against each other.
+//!
+//! They are below the program that finds them: so lines, which print them, don't wait for the simplex to be proved.
 #![tactic(auto)]
 
 ghost use Rattle.std.specs.Prelude.{◌≡◌, ◌≤◌, ◌<◌, ◌^◌, ◌≤ℤ◌, ◌*ℤ◌, pos, length, unsigned_abs};

@@ -25,6 +25,7 @@ pub enum MarketFault {
     /// The rows differ in length.
     Matrix,
     /// There was no memory.
+    /// `MarketGame::new` takes none and never gives this: it is part of a promised signature.
     Memory,
 }
 

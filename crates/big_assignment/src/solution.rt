@@ -53,6 +53,7 @@ fn pairs_of(
 impl MarketGame {
     /// Returns an optimal matching, and the core points best for every buyer and for every seller (Shapley and Shubik
     /// 1971). Each of the two shows that the matching is optimal: it shares out its value, and no pair blocks it.
+    /// Which optimal matching it is stays open.
     ///
     /// Fails only if memory runs out.
     pub fn solve(&self, alloc: Global) -> Result<Solution, OutOfMemory>

@@ -1,4 +1,8 @@
 //! What the commands do with each class of games: the list of classes.
+//!
+//! A new class adds here who solves it (`found_plainly`, `said_of`) and whether its worths are kept for the checker
+//! (`kept_where_slow`); and, if it isn't as most classes, who serves it, to how many players, and who finds its Shapley
+//! shares.
 ghost use Rattle.std.specs.Prelude.{◌≡◌, ◌≤◌, IfOk, ◌<◌, ◌↔◌, IsErrOf, IfSome};
 ghost use Rattle.definitions.specs.declared.Measure.{Measure};
 ghost use Rattle.definitions.specs.Shapley.{IsShapley};

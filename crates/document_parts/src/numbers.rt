@@ -42,6 +42,8 @@ fn raise(numbers: &mut Vec<i64>, factor: u32) -> bool
 ///
 /// Each text is parsed once: the numbers in front stand over their own scale, and are multiplied where a denominator
 /// makes it grow, which is so at most 16 times.
+/// So no list of fractions is kept beside that of the numbers, and integers, of which a table has up to 65,535, take
+/// one pass.
 ///
 /// # Errors
 ///

@@ -86,6 +86,9 @@ pub fn shares_as_worth(
 }
 
 /// The fractions over their least common denominator, as worth, and none where they break a limit of `Shares` there.
+///
+/// Payments are negated only over their denominator: one of the least number of 128 bits has a form, and its negation
+/// doesn't.
 fn signed_shares(
     alloc: Global,
     written: &[Frac],

@@ -21,6 +21,8 @@ pub fn optima_exist()
 /// The theorem of Bondareva and Shapley (Bondareva 1963, Shapley 1967): every game in which the empty coalition is
 /// worth nothing, of any number of players, has a core point in fractions or a balanced collection of excess worth, and
 /// never both.
+///
+/// It rests on Farkas's lemma. `balanced::core_of` finds the one or the other for at most 16 players.
 pub fn bondareva_shapley()
     ensures { BondarevaShapley }
 {}

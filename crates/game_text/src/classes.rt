@@ -1,5 +1,8 @@
 //! The list of classes: the class that a document names, and the game of a class. Each class has its arm in each
 //! `match` here, and a module of its own.
+//!
+//! A new class adds here its module, the class, its arm of `by_class!`, its word in `class_named`, its making in
+//! `game_of`, the game, its arm of `of_its_class!`, and `is_cost`.
 ghost use Rattle.std.specs.Prelude.{◌≡◌, codes, true, false, Some, None, if◌then◌else◌, ◌≤◌};
 ghost use Rattle.std.specs.Prelude.{length, MatchResult, IfOk, IfSome, IfNone};
 ghost use Rattle.std.specs.Str.{bytes_eq};

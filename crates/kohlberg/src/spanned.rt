@@ -1,4 +1,5 @@
-//! Spans of what levels fix.
+//! Spans of what levels fix. The checker and the nested programs call the same bodies, so they agree on what is fixed
+//! and on the least player that isn't.
 
 ghost use Rattle.std.specs.Prelude.{◌≡◌, List, ◌^◌, ◌<◌, ◌≤◌, pos, int_le, length, MatchOption, ⊤};
 ghost use Rattle.std.specs.List.{AllByRecursion};

@@ -1,4 +1,5 @@
-//! Verdicts on certificates.
+//! Verdicts on certificates. They are beside certificates and not in `checker`, which hands them on: `report` prints
+//! them, and needn't wait for the checker to be proved.
 ghost use Rattle.std.specs.Prelude.{◌≡◌};
 ghost use Rattle.kohlberg.specs.Reasons.{reason_number};
 

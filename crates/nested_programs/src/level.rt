@@ -106,6 +106,9 @@ fn bound_numbers(
 
 /// The level of the optimum of a stage behind these levels: the coalitions, earlier coalitions and bounds with a
 /// number, and the optimum as excess.
+///
+/// The multipliers of all later stages have the same excess at this level, so it is read here, and no level is written
+/// twice.
 pub(crate) fn level_of(
     alloc: Global,
     n: u32,

@@ -18,6 +18,8 @@ use worth_core::{Measure, Shares, Worth};
 
 /// The shares that are the multipliers of the players' rows, over their denominator. Without multipliers it is one
 /// share, the worth of all.
+///
+/// The denominator isn't always the least common one; what is printed are fraction texts, which have one form.
 fn shares_of<W: Worth>(
     alloc: Global,
     game: &W,

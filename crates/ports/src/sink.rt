@@ -12,6 +12,7 @@ pub trait Sink {
     // Whether the last write failed.
     ghost failed: { Self → Bool };
     // A number by which its owner knows the sink again, as where it holds memory of its owner: no write changes it.
+    // Without it a contract over every sink says only what was taken, not that it is in the memory lent to the sink.
     ghost mark: { Self → ℕ } = { λ _. 0 };
 
     /// Takes bytes from the front of `piece`, at least one if there is one, and returns their number.

@@ -69,6 +69,9 @@ pub trait Columns {
 
     /// Returns a column that costs more than its value by the multipliers; none exactly if none does. Without costs
     /// each column counts as costing 0. Any such column serves: the choice makes `solve` take fewer steps or more.
+    ///
+    /// No proof that the simplex ends asks for the least one: only where an added unit is driven out is `entering`
+    /// called. So an implementation needn't write a body.
     fn rising(&mut self, m: &Multipliers, with_costs: bool) -> Option<u64>
         requires { array_vec_len m.now.num ≡ (program self.old).rows }
         ensures same { program self.new ≡ program self.old }

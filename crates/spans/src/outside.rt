@@ -1,5 +1,7 @@
 //! The coalitions outside of a span, found all at once. A coalition's weight at a place is the sum of two numbers from
 //! tables, one for the members among the first eight players and one for those among the rest.
+//!
+//! So the coalitions are cleared place by place, 256 at a time, and the span isn't asked for each mask.
 
 ghost use Rattle.std.specs.Prelude.{◌≡◌, ◌↔◌, ◌&&◌, ◌||◌, not, false, IsTrue, slice_index_or};
 ghost use Rattle.std.specs.Prelude.{ℕ, ◌*◌, ◌/◌, ◌%◌, ◌+◌, ◌^◌, ◌<◌, ◌≤◌, nat_eq};

@@ -25,6 +25,7 @@ pub enum TreeFault {
     /// a point to itself isn't 0.
     Matrix,
     /// There was no memory.
+    /// `TreeGame::new` takes none and never gives this: it is part of a promised signature.
     Memory,
 }
 

@@ -16,6 +16,8 @@ use fractions::Frac;
 use std::marker::Model;
 
 /// What a measure divides the excess of a coalition by.
+///
+/// It is a trait, since a type of another crate takes no methods of its own, and `Coalition` is above `definitions`.
 pub trait Divisor {
     /// Returns 1, or the number of members of a coalition that isn't empty.
     fn divisor(self, s: Coalition) -> u32

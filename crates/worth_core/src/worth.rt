@@ -9,6 +9,10 @@ use crate::{Shares, scaled};
 use coalitions::Coalition;
 
 /// A game with transferable worth.
+///
+/// A class may have a faster body of its own for `blocker` and `split_bound`. It takes the clauses as they are, and
+/// they leave one answer: so no test compares it with the default body, but tries it at shares worked by hand and at
+/// its greatest size.
 pub trait Worth {
     /// The game that is meant.
     ghost game: { Self → Game };

@@ -14,6 +14,7 @@ pub enum TableFault {
     /// A worth is 2^40 or more in size.
     Number,
     /// There was no memory.
+    /// `TableGame::new` takes none and never gives this: it is part of a promised signature.
     Memory,
 }
 
