@@ -31,8 +31,8 @@ export class Session {
   }
 
   /** `doubt` is why the game isn't taken for the agreed one, in words; `file` is that which was opened: {name, digest},
-   * and `made`, the document that the page makes of it. With `isFile`, the previous case's decimal mark is dropped. A
-   * `mark` that is given was chosen by the user. */
+   * and `made`, the document that the page makes of it. What `isFile` has no mark of the case before; its `mark` was
+   * chosen. */
   open(kind, typed, { isFile = false, isTyped = isFile, ...settings } = {}) {
     const { measure = "plain", texts = [], todays = null, pinned = null, doubt = "", file = null } = settings;
     const { places = kind.places ?? 2, mark = isFile ? this.usualMark() : this.mark } = settings;
