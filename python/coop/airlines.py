@@ -156,7 +156,7 @@ def require_told_apart(read: Sequence[Landings], has_types: bool) -> None:
         lines[row.airline] = row.line
 
 
-# ---- What is worth a word
+# ---- Warnings
 
 
 def remarks(text: str, layout: Layout) -> list[str]:

@@ -1,7 +1,7 @@
-"""What is worth a word of a table of costs: numbers that look like slips, and what was filled in.
+"""Warnings about a table of costs: numbers that look like mistakes, and what was filled in.
 
-No number that is told here is impossible. But a misplaced comma makes a group dearer than its parts, or cheaper than
-one of its members alone.
+No number that is reported here is impossible. But a misplaced comma makes a group dearer than its parts, or cheaper
+than one of its members alone.
 """
 from __future__ import annotations
 

@@ -2,7 +2,8 @@
 
 What goes there is a function of this package, words and the bytes of documents; what comes back are statuses and the
 bytes of lines, from which answers are made here. So each process needs this package, with its program, and no class of
-the package is pickled but a program that was named.
+the package is pickled except a program that was named. The project has no scheduler and no protocol between machines:
+engines that exist have them.
 """
 from __future__ import annotations
 

@@ -57,8 +57,8 @@ def numbers(tree: Any, what: str) -> list[Fraction]:
 
 class Game:
     """The game of a document. `amounts` has its numbers, all worths or costs of a table by their masks; `rows` has its
-    matrix, and `single` its estate or quota. `factor` says how many times the game's own numbers those of the document
-    are: 1, but where a document couldn't take these."""
+    matrix, and `single` its estate or quota. The document's numbers are the game's own times `factor`: 1, unless a
+    document can't hold them."""
 
     kind: str
     n: int

@@ -294,7 +294,7 @@ def by_mark(cell: str, mark: str, digits: Optional[int]) -> Fraction:
     return fraction_of(cell.replace(",", ".") if mark == "," else cell, digits)
 
 
-# ---- What is worth a word
+# ---- Warnings
 
 
 def notes(text: str, columns: int, layout: Layout, beside: Sequence[Cell] = ()) -> list[str]:
