@@ -19,8 +19,8 @@ Proposal = Union[Mapping[str, Amount], Sequence[Amount]]
 FAULTS = {5: "reading failed", 6: "writing failed", 70: "the program couldn't answer", 124: "it took too long"}
 USAGES = {
     "class": "the command doesn't serve the class of the game",
-    "players": "the command doesn't serve so many players",
-    "words": "the words are no command",
+    "players": "the game has more players than the command serves",
+    "words": "there is no such command",
 }
 
 
@@ -147,7 +147,7 @@ def answer_from(command: str, status: int, data: bytes, document: bytes, game: G
 def fault_of(command: str, status: int, line: str, document: bytes) -> NoAnswer:
     """The exception of a status that is no answer."""
     if status == 7:
-        return NoMemory("the program found no memory", status)
+        return NoMemory("the program ran out of memory", status)
     if status in (2, 3):
         try:
             tree = json.loads(line)

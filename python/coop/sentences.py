@@ -14,12 +14,12 @@ from .styles import EXACT, Style, each
 
 USAGES = {
     "class": "The command doesn't serve the class of this game.",
-    "players": "The command doesn't serve so many players.",
-    "words": "The words aren't those of a command: a command is one word, and the document comes on standard input.",
+    "players": "The game has more players than the command serves.",
+    "words": "There is no such command: a command is one word, and the document comes on standard input.",
 }
 NO_ANSWER = (
-    "there are shares, and no answer of the program: bin/coop propose and kernel judge shares, and scripts/compare "
-    "sets them beside a nucleolus"
+    "these are shares, not an answer of the program: bin/coop propose and kernel judge shares, and scripts/compare "
+    "compares them with a nucleolus"
 )
 MOST_PLAYERS = 16
 

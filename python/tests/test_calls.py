@@ -171,11 +171,11 @@ class Statuses(unittest.TestCase):
 
     def test_no_answers(self) -> None:
         cases: list[tuple[int, str, type[coop.NoAnswer], str]] = [
-            (2, '{"usage":"players"}', coop.Usage, "so many players"),
+            (2, '{"usage":"players"}', coop.Usage, "more players than the command serves"),
             (3, '{"number":8,"refused":"Estate"}', coop.Refused, "8 Estate"),
             (5, "", coop.Fault, "reading failed"),
             (6, '{"answ', coop.Fault, "writing failed"),
-            (7, "", coop.NoMemory, "no memory"),
+            (7, "", coop.NoMemory, "out of memory"),
             (70, "", coop.Fault, "couldn't answer"),
             (-9, "", coop.Fault, "status -9"),
             (2, "usage: cat", coop.Fault, "status 2"),

@@ -187,7 +187,7 @@ SENTENCES: list[tuple[Any, Any, str]] = [
         None,
         "a table of worths of 12 players from the number 1",
     ),
-    ({"usage": "players"}, None, "The command doesn't serve so many players."),
+    ({"usage": "players"}, None, "The game has more players than the command serves."),
     (
         {"number": 3, "refused": "Shape"},
         {"game": {"class": "airport", "cost": [2]}},
