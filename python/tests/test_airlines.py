@@ -81,7 +81,11 @@ class Lists(unittest.TestCase):
             ('"Aer, Ltd",,3,20\nBee,B,1,2\n', Layout(), "line 1: Aer, Ltd has a comma but no type"),
             ("Aer,20\n", Layout(), "line 1 has 2 columns instead of 3 or 4"),
             ("Aer,A,3,20,x\n", Layout(), "line 1 has 5 columns instead of 3 or 4.*--head"),
-            ("Airline,Landings,Cost\nAer,3,20\n", Layout(), "line 1: Cost isn't a number of landings; if this"),
+            (
+                "Airline,Landings,Cost\nAer,3,20\n",
+                Layout(),
+                "line 1: Cost isn't a number of landings; if this line has head",
+            ),
             ("Airline,Type,Cost\nAer,A320,20\n", HEADED, "no heading names the column of landings"),
             ("", Layout(), "the file has no lines"),
         ):

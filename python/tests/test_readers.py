@@ -221,7 +221,12 @@ class Sheets(unittest.TestCase):
             ("A,480\nB,400\n", "400.000", Layout(), "the estate: 400.000 may be 400 or 400000.*--decimal"),
             ("A;480\nB;400\n", "1.500", Layout(), "the estate: 1.500 may be 1.5 or 1500"),
             ("A;480.000\nB;400.000\n", "500.000", Layout(), "line 1: 480.000 may be"),
-            ("A;40.123,83\n", "12.5", Layout(), "40.123,83 in line 1 and 12.5 in the estate have different"),
+            (
+                "A;40.123,83\n",
+                "12.5",
+                Layout(),
+                "40.123,83 in line 1 and 12.5 in the estate have different decimal marks",
+            ),
             ("A;480\n", "12.50", comma, "the estate: '12.50' isn't a number with a decimal comma"),
             ("A;480\n", "much", Layout(), "the estate: 'much' isn't a number"),
         ):
@@ -275,7 +280,10 @@ class Sheets(unittest.TestCase):
         for text, sentence in (
             ("1,Adler,1200.5\n2,Brandt,800\n", "line 1 has 3 columns instead of 2: is the first one .* --skip 1"),
             (",5,7\nAdler,1,2\n", "line 1 has 3 columns instead of 2: is 5,7 one number, with a decimal comma"),
-            ("Adler,1200,50\nBrandt,800\n", "line 1 has 3 columns instead of 2: is 1200,50 one number"),
+            (
+                "Adler,1200,50\nBrandt,800\n",
+                "line 1 has 3 columns instead of 2: is 1200,50 one number, with a decimal comma",
+            ),
             ("2024-01-15,Adler,1200\n", "line 1 has 3 columns instead of 2: write Adler.* --skip"),
             (",name,claim\nAdler,1\n", "line 1 has 3 columns"),
         ):
@@ -333,7 +341,8 @@ class Sheets(unittest.TestCase):
         for text, layout in tables:
             self.assertEqual([game.tree["worths"] for game in vectors(text, "size", layout=layout)], wanted, text)
         self.assertIn("left out the first row and the first column", left_out(tables[0][0], Layout())[0])
-        self.assertIn("the first row, 0, 1, 2, .., is read", left_out("0,1,2,3,4,5,6\n" + rows[1], Layout())[0])
+        counted = left_out("0,1,2,3,4,5,6\n" + rows[1], Layout())[0]
+        self.assertIn("the first row, 0, 1, 2, .., is read as a game", counted)
         self.assertEqual(left_out("\n".join(rows), Layout()), [])
         with self.assertRaisesRegex(BadInput, "it isn't 0; if the first column has names, use --skip 1"):
             list(vectors("\n".join(named), "size"))
