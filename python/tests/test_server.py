@@ -1,9 +1,11 @@
 """Processes that stay: their answers, threads and forks, and how they end."""
 import os
 import pickle
+import shutil
 import signal
 import subprocess
 import sys
+import tempfile
 import threading
 import time
 import unittest
@@ -233,6 +235,31 @@ class Frames(unittest.TestCase):
         longest = HEAD.pack(4, (8 << 20) + 1) + b"core" + b" " * ((8 << 20) + 1)
         refused = b'{"number":1,"refused":"TooLong"}\n'
         self.assertEqual(ended(longest), (0, READY + HEAD.pack(3, len(refused)) + refused))
+
+    def test_ports_that_fail(self) -> None:
+        """Nobody reads the answer, as after the end of a parent that was killed; or the input is a folder."""
+        request = HEAD.pack(4, len(AIRPORT)) + b"core" + AIRPORT
+        for options, data in (([], request), (["--lines", "core"], AIRPORT)):
+            reading, writing = os.pipe()
+            os.close(reading)
+            done = subprocess.run([*COMMAND, *options], input=data, stdout=writing, stderr=subprocess.PIPE)
+            os.close(writing)
+            self.assertEqual((done.returncode, done.stderr), (6, b""))
+        folder = os.open(TOP, os.O_RDONLY)
+        done = subprocess.run(COMMAND, stdin=folder, stdout=subprocess.PIPE, stderr=subprocess.PIPE)
+        os.close(folder)
+        self.assertEqual((done.returncode, done.stdout), (5, READY))
+
+    def test_a_file_that_is_missing(self) -> None:
+        page = os.path.dirname(COMMAND[1])
+        for name in ("coop.html", "engine/host.js"):
+            with tempfile.TemporaryDirectory() as folder:
+                copy = shutil.copytree(page, os.path.join(folder, "page"), ignore=shutil.ignore_patterns("src", "test"))
+                os.unlink(os.path.join(copy, name))
+                words = [COMMAND[0], os.path.join(copy, "serve.mjs")]
+                done = subprocess.run(words, input=b"", stdout=subprocess.PIPE, stderr=subprocess.PIPE)
+            self.assertEqual((done.returncode, done.stdout), (70, b""))
+            self.assertTrue(done.stderr.startswith(b"coop: no answer: "))
 
     def test_lines(self) -> None:
         options, core, no = ["--lines", "core,shapley"], b"0 " + CORE, b'3 {"number":2,"refused":"NotJson"}\n'
