@@ -140,7 +140,7 @@ def answer_from(command: str, status: int, data: bytes, document: bytes, game: G
         raise fault_of(command, status, line, document)
     try:
         return answers.answer_of(line, status, game)
-    except (ValueError, KeyError, TypeError) as fault:
+    except (ValueError, KeyError, TypeError, AttributeError, ZeroDivisionError) as fault:
         raise Fault(f"the program's line isn't one of coop: {line[:80]!r} ({fault})", status, line) from None
 
 
