@@ -1,4 +1,5 @@
 """Processes that stay: their answers, threads and forks, and how they end."""
+import contextlib
 import os
 import pickle
 import shutil
@@ -44,6 +45,12 @@ def is_gone(process: int, seconds: float = 10) -> bool:
     while is_alive(process) and time.monotonic() < end:
         time.sleep(0.02)
     return not is_alive(process)
+
+
+def end(process: int) -> None:
+    """Ends a process that may have ended."""
+    with contextlib.suppress(ProcessLookupError):
+        os.kill(process, signal.SIGKILL)
 
 
 @needs_node
@@ -156,7 +163,10 @@ class Ends(unittest.TestCase):
         server.run(["core"], AIRPORT)
         process, server.seconds = server.free[0].process.pid, 0.3
         os.kill(process, signal.SIGSTOP)
+        late = threading.Timer(20, os.kill, (process, signal.SIGKILL))  # so that a server without a limit fails here
+        late.start()
         self.assertEqual(server.run(["core"], AIRPORT), (124, b""))
+        late.cancel()
         self.assertTrue(is_gone(process))
         server.seconds = 30
         self.assertEqual(server.run(["core"], AIRPORT), (0, CORE))
@@ -202,9 +212,10 @@ class Ends(unittest.TestCase):
         parent = self.begun_by("import time; time.sleep(60)")
         assert parent.stdout is not None
         process = int(parent.stdout.readline())
+        self.addCleanup(end, process)
         self.assertTrue(is_alive(process))
         parent.kill()
-        parent.communicate()
+        parent.communicate(timeout=30)  # it ends as soon as nobody has its ports
         self.assertTrue(is_gone(process))
 
     def test_at_exit(self) -> None:
