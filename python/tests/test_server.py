@@ -250,7 +250,8 @@ class Frames(unittest.TestCase):
     def test_ports_that_fail(self) -> None:
         """Nobody reads the answer, as after the end of a parent that was killed; or the input is a folder."""
         request = HEAD.pack(4, len(AIRPORT)) + b"core" + AIRPORT
-        for options, data in (([], request), (["--lines", "core"], AIRPORT)):
+        cases: list[tuple[list[str], bytes]] = [([], request), (["--lines", "core"], AIRPORT)]
+        for options, data in cases:
             reading, writing = os.pipe()
             os.close(reading)
             done = subprocess.run([*COMMAND, *options], input=data, stdout=writing, stderr=subprocess.PIPE)
