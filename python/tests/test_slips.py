@@ -13,7 +13,7 @@ from unittest.mock import patch
 import coop
 from coop.errors import BadInput
 from coop.program import TOP, find
-from coop.slips import COMMANDS, MOST_ARRAYS, MOST_TO_CHECK, Repeated, repeated, slip_in
+from coop.slips import COMMANDS, MOST_ARRAYS, MOST_TO_CHECK, STRING, Repeated, repeated, slip_in
 
 from .asking import Answering, needs_program
 
@@ -277,10 +277,10 @@ class Slips(unittest.TestCase):
         self.assertEqual(repeated(many.encode()), Repeated("$", "k99999"))
 
     def test_a_text_that_is_not_closed(self) -> None:
-        """No search begins anew at each of its quotes: that would take a day."""
-        for end in ("", "\\"):
-            slip = slip_in(("[" * 128 + '"' + '\\"' * 1000000 + end).encode())
-            self.assertEqual(str(slip), "character 128: it is nested deeper than 127 there")
+        """It is one string to its end, so that no search begins anew at each of its quotes: that takes hours."""
+        for text in ('"', '"a', '"\\', '"' + '\\"' * 9, '"' + '\\"' * 9 + "\\"):
+            self.assertEqual([string.span() for string in STRING.finditer("[" + text)], [(1, len(text) + 1)])
+            self.assertEqual(str(slip_in(("[" * 128 + text).encode()))[:15], "character 128: ")
 
     @needs_program
     def test_the_program_refuses_the_same(self) -> None:
