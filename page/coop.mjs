@@ -6,6 +6,7 @@
 // It prints the program's line and ends with the program's status; or with 70, and says why, where there is no answer
 // since a file of the page is missing or the module stops. docs/page.md says what is trusted.
 const REFUSED = 3;
+// No status of the program. Nor does a broken page end with 1, which is an answer.
 const NO_ANSWER = 70;
 
 function input({ MOST, needInput, readTo }) {
@@ -19,6 +20,7 @@ function input({ MOST, needInput, readTo }) {
 function answer(words, coop, ports) {
   const module = ports.pageModule();
   // A command on a document refuses an empty one, and nothing else ends so: only such a command reads.
+  // So no list of the commands is needed.
   const first = coop(module, words, new Uint8Array(0));
   return first.status === REFUSED ? coop(module, words, input(ports)) : first;
 }

@@ -8,6 +8,8 @@ class Tool(NamedTuple):
     """A tool of this folder, and how tools/try-all and tools/try-tools run it."""
 
     name: str
+    # The words that it takes in front of a program.
+    words: tuple[str, ...] = ()
     # Commands without which it isn't run, and those without which it leaves out a part.
     needs: tuple[str, ...] = ()
     uses: tuple[str, ...] = ()
@@ -29,6 +31,7 @@ class Tool(NamedTuple):
 TOOLS = (
     Tool("short-lines", has_program=False, takes_program=False),
     Tool("try-prose", has_program=False, takes_program=False),
+    Tool("make-contracts", ("--check",), has_program=False, takes_program=False),
     Tool("try-library", needs=("cc", "ar", "ld", "objcopy"), uses=("valgrind",), needs_kit=True),
     Tool("shown-lines", uses=("cc",), takes_program=False, needs_kit=True, after="try-library"),
     Tool("try-page", needs=("node",)),

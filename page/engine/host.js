@@ -11,11 +11,11 @@ const PAGE = 64 * KiB;
 const NO_ROOM = 6;
 const OUT_OF_MEMORY = 7;
 const STATUSES = [0, 1, 2, 3, NO_ROOM, OUT_OF_MEMORY];
-// Where a pointer leads that no memory stands behind: it is never null.
+// A pointer for empty slices. It must not be null.
 const NOWHERE = 16;
 const NO_MEMORY = { status: OUT_OF_MEMORY, line: new Uint8Array(0) };
 
-/** The engine stopped, by a fault of its own or of its host: there is no answer. */
+/** The engine stopped, by a fault of its own or of its host: no answer, and no status of the program. */
 export class EngineFault extends Error {
   name = "EngineFault";
 }
@@ -40,7 +40,7 @@ export function coop(module, words, document, { most = 1024 * MiB, refused = 0, 
 /**
  * One instance for many calls, made when it is first needed. Each call finds its memory as a new instance has it,
  * except for the memory's length, which the module doesn't ask for (sections.py sees to that). So `run` gives what
- * `coop` gives.
+ * `coop` gives, in a third of the time.
  *
  * After a call that stops or runs out of memory, or that took more than `kept` bytes, the next call has a new instance.
  */
@@ -140,6 +140,9 @@ function guarded(call) {
 
 // Blocks of 16, 32, 48, 64, 96, 128, .. bytes, at places that 16 divides. A block that is given back waits for the next
 // request of its class. The class of each stands in a table beside the memory, one byte for 16 of the memory's.
+//
+// The module asks its host for memory as the library asks the C library. So what is proved stays as it is, and a test
+// can refuse each request.
 class Heap {
   constructor(most, refused) {
     this.most = most;

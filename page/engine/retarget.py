@@ -11,7 +11,10 @@ What the kit itself writes for wasm64 has two things more. Each function with a 
 over; here the stack lies below all else, so the first access past its end traps. And an export refuses to run after a
 trap; here the host takes a new instance then.
 
-Whatever the LLVM module has that isn't known here stops it.
+Whatever the LLVM module has that isn't known here stops it: another function of LLVM, assembly or types of one
+processor, calls of C except the heap's, memory that others may name, other attributes. So do other words of the kit to
+clang (kit.py), and a finished module with a table of functions, another memory, or other imports and exports
+(sections.py).
 """
 import os
 import re
@@ -22,7 +25,8 @@ EXPORT = "coop_run"
 LAYOUT = "e-m:e-p:64:64-p10:8:8-p20:8:8-i64:64-i128:128-n32:64-S128-ni:1:10:20"
 TRIPLE = "wasm64-unknown-unknown"
 CPU = "lime1"
-# Bytes; `docs/architecture.md` has what was measured.
+# Bytes. With a stack of 256 KB each run of tools/try-page ended as it should; with 192 KB some trapped, and with 64 KB
+# a fifth. None answered otherwise.
 STACK = 1048576
 HEAP = ("rattle_alloc", "rattle_realloc", "rattle_dealloc")
 # LLVM makes these anew for any target.
@@ -102,6 +106,10 @@ def wide_module(kit: str, module: str, words: list[str], folder: str) -> str:
 
 
 def narrow(wide: str, out: str) -> None:
-    """Cuts the memory of a module to 32 bits, and changes nothing else."""
+    """Cuts the memory of a module to 32 bits, and changes nothing else.
+
+    A module whose memory has 64 bits runs in the newest browsers only. Binaryen is a known tool, and its module is
+    smaller than that of a script of our own.
+    """
     features = [f"--enable-{name}" for name in (*FEATURES, "memory64")]
     subprocess.run(["wasm-opt", *features, "--memory64-lowering", wide, "-o", out], check=True)

@@ -18,7 +18,7 @@ REFUSED, READ_FAULT, WRITE_FAULT, NO_ANSWER = 3, 5, 6, 70
 USAGE = """usage: python -m coop COMMAND < DOCUMENT
        python -m coop page
 COMMAND is nucleolus, prenucleolus, check, propose, core, shapley, convex, kernel, bird, matching, or gen KIND N SEED.
-docs/formats.md of the project says what a document is."""
+docs/formats.md of the project describes the documents."""
 
 
 def answer(words: Sequence[str]) -> tuple[int, bytes]:
@@ -42,7 +42,7 @@ def show_page() -> int:
 
     folder = page_folder()
     if folder is None:
-        raise NotFound("there is no page beside this package: install it anew")
+        raise NotFound("the page is missing: install the package again")
     page = os.path.join(folder, "coop.html")
     print(page, flush=True)
     webbrowser.open(pathlib.Path(page).as_uri())

@@ -19,7 +19,7 @@ from .sheets import note_on_points, require_width, sheet_of, unparted
 AIRLINE, TYPE, COUNT, NEED = "airline", "type", "landings", "need"
 THREE, FOUR = (AIRLINE, NEED, COUNT), (AIRLINE, TYPE, COUNT, NEED)
 EXAMPLE = "Aer,20.50,3 or Aer,A320,3,20.50"
-ORDER = "four columns are airline, type, landings and what one needs, where no headings tell another order (--head)"
+ORDER = "four columns are airline, type, landings and need, unless headings name another order (--head)"
 MOST_COLUMNS = 64  # below headings
 
 # Words in headings. What is called a cost or a need isn't looked at for another word.
@@ -84,7 +84,7 @@ def found_in(text: str, layout: Layout) -> Found:
     found = Found(sheet, {**places, **dict(zip(keys, free))}, False)
     lacking = [key for key in (AIRLINE, COUNT, NEED) if key not in found.places]
     if lacking:
-        raise BadInput(f"no heading tells the column of {lacking[0]}: {', '.join(sheet.head)}")
+        raise BadInput(f"no heading names the column of {lacking[0]}: {', '.join(sheet.head)}")
     if width == 4:
         require_plain_order(found, free)
     return found
@@ -113,11 +113,11 @@ def require_plain_order(found: Found, free: Sequence[int]) -> None:
     first, second, third, last = ([row.cells[k] for row in sheet.rows] for k in range(4))
     line = sheet.rows[0].line
     if 0 in free and are_counted(first):
-        raise BadInput(f"line {line}: is {first[0]} the number of the row? Then leave the first column out by --skip 1")
+        raise BadInput(f"line {line}: is {first[0]} the number of the row? Then use --skip 1")
     if len(free) == 4 and sheet.sign == "," and all(cell.isdigit() for cell in [*second, *third, *last]):
         both = f"{second[0]},{third[0]}"
         advice = f"write semicolons between cells; or if {second[0]} is a type, name the columns by headings (--head)"
-        raise BadInput(f"line {line}: is {both} one number, with a comma in front of decimals? Then {advice}")
+        raise BadInput(f"line {line}: is {both} one number, with a decimal comma? Then {advice}")
 
 
 # ---- Rows
@@ -133,11 +133,11 @@ def landings_of(row: Row, found: Found, digits: Optional[int], hint: str) -> Lan
     """What a row says."""
     cells = {key: row.cells[place] for key, place in found.places.items()}
     if not cells[AIRLINE]:
-        raise BadInput(f"line {row.line}: there is no name")
+        raise BadInput(f"line {row.line} has no name")
     count = re.fullmatch(r"([0-9]{1,9})(?:[.,]0{1,2})?", unparted(cells[COUNT]))
     if not count:
         order = f"; {ORDER}" * (len(row.cells) == 4 and not found.is_told)
-        raise BadInput(f"line {row.line}: {cells[COUNT]} is no number of landings{order or hint}")
+        raise BadInput(f"line {row.line}: {cells[COUNT]} isn't a number of landings{order or hint}")
     need = amount_of(row, found.places[NEED], digits, hint)
     return Landings(row.line, cells[AIRLINE], cells.get(TYPE, ""), need, int(count[1]))
 
@@ -147,16 +147,16 @@ def require_told_apart(read: Sequence[Landings], has_types: bool) -> None:
     lines: dict[str, int] = {}
     for row in read:
         if "," in row.type:
-            raise BadInput(f"line {row.line}: the type {row.type} has a comma, which parts it from the airline")
+            raise BadInput(f"line {row.line}: the type {row.type} has a comma, which separates airline and type")
         if has_types and not row.type and ", " in row.airline:
-            raise BadInput(f"line {row.line}: {row.airline} has no type, and a comma, behind which types stand")
+            raise BadInput(f"line {row.line}: {row.airline} has a comma but no type, which a comma separates")
         if not has_types and row.airline in lines:
-            advice = "where it has several kinds of landing, give their types, as Aer,A320,3,20.50"
-            raise BadInput(f"line {row.line}: {row.airline} stands in line {lines[row.airline]} already; {advice}")
+            advice = "if it has several kinds of landing, give their types: Aer,A320,3,20.50"
+            raise BadInput(f"line {row.line}: {row.airline} is already in line {lines[row.airline]}; {advice}")
         lines[row.airline] = row.line
 
 
-# ---- What is worth a word
+# ---- Warnings
 
 
 def remarks(text: str, layout: Layout) -> list[str]:
@@ -168,17 +168,17 @@ def remarks(text: str, layout: Layout) -> list[str]:
     told += note_on_points(rows[0].mark, [row.cells[found.places[NEED]] for row in rows], layout)
     others = [name for k, name in enumerate(found.sheet.head) if k not in found.places.values()]
     if others:
-        told.append(f"left out: {', '.join(name or 'a column without a heading' for name in others)}")
+        told.append(f"left out these columns: {', '.join(name or 'a column without a heading' for name in others)}")
     if found.sheet.head and not found.is_told:
         columns = sorted(found.places, key=lambda key: found.places[key])
-        told.append(f"the columns are taken as {', '.join(columns)}: not all headings are known")
+        told.append(f"the columns are read as {', '.join(columns)}: not all headings are known")
     elif TYPE in found.places and not found.is_told and all(row.need >= 1 and row.need % 1 == 0 for row in read):
-        told.append(f"{read[0].landings} is taken as landings, and {read[0].need} as what one needs: {ORDER}")
+        told.append(f"{read[0].landings} is read as landings, and {read[0].need} as what one needs: {ORDER}")
     parted = next((row.airline for row in read if ", " in row.airline), None)
     if TYPE not in found.places and parted:
-        told.append(f"{parted} has a comma, behind which `shares --by` takes a type to stand: take --together")
+        told.append(f"{parted} has a comma, and `shares --by` reads what follows it as a type: use --together")
     last = read[-1]
     if len(read) > 2 and last.landings == sum(row.landings for row in read[:-1]):
-        asked = "is that a row of the sum? It is taken as an airline"
+        asked = "is that the row of the sum? It counts as an airline"
         told.append(f"{last.name} has as many landings as all others: {asked}")
     return told

@@ -25,20 +25,20 @@ def fraction_of(value: Amount, digits: Optional[int] = None) -> Fraction:
     """The exact value. With a number of digits it is rounded to so many decimals, and floats are taken too."""
     value = plain(value)
     if digits is not None and (type(digits) is not int or not 0 <= digits <= MOST_DIGITS):
-        raise BadInput(f"{digits!r} is no number of digits, from 0 to {MOST_DIGITS}")
+        raise BadInput(f"{digits!r} isn't a number of digits from 0 to {MOST_DIGITS}")
     if isinstance(value, float) and digits is None:
-        raise BadInput(f"{value!r} is a float: name a number of digits to round to, or give a text, {str(value)!r}")
+        raise BadInput(f"{value!r} is a float: give a number of digits to round to, or a text, {str(value)!r}")
     if isinstance(value, str) and not NUMBER.fullmatch(value.strip()):
-        raise BadInput(f"{value[:40]!r} is no number; write 12, 12.50, 1e-05 or 25/2")
+        raise BadInput(f"{value[:40]!r} isn't a number: write 12, 12.50, 1e-05 or 25/2")
     try:
         exact = Fraction(value.strip() if isinstance(value, str) else value)
     except (ValueError, OverflowError):
-        raise BadInput(f"{value!r} is no number") from None
+        raise BadInput(f"{value!r} isn't a number") from None
     if max(exact.numerator.bit_length(), exact.denominator.bit_length()) > MOST_BITS:
         raise BadInput(f"a number has more than {MOST_BITS} bits")
     if isinstance(value, Decimal) and digits is None and has_digits_of_a_float(value, exact):
         told = f"Decimal({str(value)[:24]}..) has all the digits of the float {float(value)!r}"
-        raise BadInput(f"{told}: make it of a text, Decimal({str(float(value))!r}), or name a number of digits")
+        raise BadInput(f"{told}: make it of a text, Decimal({str(float(value))!r}), or give a number of digits")
     return exact if digits is None else Fraction(round(exact * 10**digits), 10**digits)
 
 
@@ -56,7 +56,7 @@ def plain(value: Amount) -> Amount:
             return index(value)
     except TypeError:
         pass
-    raise BadInput(f"{str(value)[:40]!r} is no number")
+    raise BadInput(f"{str(value)[:40]!r} isn't a number")
 
 
 def has_digits_of_a_float(value: Decimal, exact: Fraction) -> bool:
@@ -67,11 +67,11 @@ def has_digits_of_a_float(value: Decimal, exact: Fraction) -> bool:
 def fractions_of(values: Iterable[Amount], digits: Optional[int] = None) -> list[Fraction]:
     """The exact values of a list. A text is none, though it has letters one after the other."""
     if isinstance(values, (str, bytes)):
-        raise BadInput(f"{values[:40]!r} is a text, and no list of numbers")
+        raise BadInput(f"{values[:40]!r} is a text, not a list of numbers")
     try:
         items = list(values)
     except TypeError:
-        raise BadInput(f"{str(values)[:40]!r} is no list of numbers") from None
+        raise BadInput(f"{str(values)[:40]!r} isn't a list of numbers") from None
     return [fraction_of(value, digits) for value in items]
 
 

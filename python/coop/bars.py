@@ -59,7 +59,7 @@ class Bars:
 
     def __init__(self, game: Game, points: Sequence[Point], title: str, style: Style, with_added: bool = True):
         if len(points) > len(FILLS):
-            raise BadInput(f"{len(points)} points: at most {len(FILLS)} can be told apart in bars")
+            raise BadInput(f"{len(points)} points: bars show at most {len(FILLS)}")
         self.game, self.points, self.parts = game, points, [PATTERNS]
         self.names = [safe(name) for name in game.names]
         self.title, self.style = title, style

@@ -19,8 +19,8 @@ Proposal = Union[Mapping[str, Amount], Sequence[Amount]]
 FAULTS = {5: "reading failed", 6: "writing failed", 70: "the program couldn't answer", 124: "it took too long"}
 USAGES = {
     "class": "the command doesn't serve the class of the game",
-    "players": "the command doesn't serve so many players",
-    "words": "the words are no command",
+    "players": "the game has more players than the command serves",
+    "words": "there is no such command",
 }
 
 
@@ -39,7 +39,7 @@ def least_core(game: Game, program: Chosen = None) -> Fraction:
     The core is empty where it is above 0. For costs an excess is what a group pays above its own cost."""
     levels = prenucleolus(game, program).certificate["levels"]
     if not levels:
-        raise BadInput("a game of one player has no group but the whole, and so no least core")
+        raise BadInput("a game of one player has no smaller group, and so no least core")
     return Fraction(levels[0]["excess"]) / game.factor
 
 
@@ -118,7 +118,7 @@ def rounded(game: Game, shares: Proposal, digits: Optional[int]) -> list[Fractio
     """Shares by names, or in the players' order, as exact numbers in that order."""
     if isinstance(shares, Mapping):
         if set(shares) != set(game.names):
-            raise BadInput(f"shares by names are for {', '.join(game.names)}, each once")
+            raise BadInput(f"give a share to each of these names, each once: {', '.join(game.names)}")
         shares = [shares[name] for name in game.names]
     return fractions_of(shares, digits)
 
@@ -141,13 +141,13 @@ def answer_from(command: str, status: int, data: bytes, document: bytes, game: G
     try:
         return answers.answer_of(line, status, game)
     except (ValueError, KeyError, TypeError, AttributeError, ZeroDivisionError) as fault:
-        raise Fault(f"the program's line isn't one of coop: {line[:80]!r} ({fault})", status, line) from None
+        raise Fault(f"the line isn't one of coop: {line[:80]!r} ({fault})", status, line) from None
 
 
 def fault_of(command: str, status: int, line: str, document: bytes) -> NoAnswer:
     """The exception of a status that is no answer."""
     if status == 7:
-        return NoMemory("the program found no memory", status)
+        return NoMemory("the program ran out of memory", status)
     if status in (2, 3):
         try:
             tree = json.loads(line)

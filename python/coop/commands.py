@@ -46,42 +46,42 @@ class Options(argparse.ArgumentParser):
     def add_style(self, places: Optional[int] = None, is_plain: bool = False) -> None:
         """How numbers are shown; in plain digits, for a spreadsheet, without a sign between thousands."""
         shown = "fractions" if places is None else f"{places}"
-        told = f"decimals of N places (else {shown}), " + ("in plain digits" if is_plain else "thousands separated")
+        told = f"N decimals, {'in plain digits' if is_plain else 'thousands separated'} (default: {shown})"
         self.add_argument("--places", type=digits, metavar="N", default=places, help=told)
-        self.add_argument("--unit", default="", metavar="UNIT", help="the unit behind each number, as EUR")
+        self.add_argument("--unit", default="", metavar="UNIT", help="the unit after each number, such as EUR")
 
     def add_no_added(self) -> None:
         """Whether a picture has marks at what each adds to all others."""
-        told = "leave out the marks at what each adds to all others, as where groups were filled in"
+        told = "leave out the marks at what each player adds to all others, for example if costs were filled in"
         self.add_argument("--no-added", dest="with_added", action="store_false", help=told)
 
     def add_cells(self, text: str = "with --csv") -> None:
         """How a CSV is laid out."""
-        told = f"which mark stands in front of decimals {text} (else a point); with commas, semicolons between cells"
+        told = f"the decimal mark {text} (default: point); comma puts semicolons between cells"
         self.add_argument("--decimal", choices=list(MARKS), help=told)
-        told = f"what stands between cells {text} (else commas, or semicolons)"
+        told = f"what separates cells {text} (default: comma, or semicolon)"
         self.add_argument("--sep", choices=[name for name in SEPARATORS if name != "blank"], help=told)
-        told = f"begin {text} with a byte order mark, without which Excel spoils letters with accents, or Greek"
+        told = f"begin {text} with a byte order mark; without it Excel spoils accents and Greek letters"
         self.add_argument("--bom", action="store_true", help=told)
 
     def add_over(self) -> None:
         """By what numbers of a document that was multiplied are divided."""
-        told = "divide all by N, for documents that were multiplied"
+        told = "divide all amounts by N, for documents that were multiplied"
         self.add_argument("--over", type=factor, default=1, metavar="N", help=told)
 
     def add_digits(self) -> None:
         """To how many decimals numbers of a file are rounded."""
-        told = "round each number to N decimals (else all are exact)"
+        told = "round each number to N decimals (default: exact)"
         self.add_argument("--digits", type=digits, metavar="N", help=told)
 
     def add_layout(self) -> None:
         """What a file of rows doesn't show of itself."""
         self.add_argument("--head", action="store_true", help="the first row has headings")
-        told = "which mark stands in front of decimals (else as the numbers show)"
+        told = "the decimal mark (default: as the numbers show)"
         self.add_argument("--decimal", choices=list(MARKS), help=told)
-        told = "what stands between cells (else what the file has: tabs, semicolons, commas)"
+        told = "what separates cells (default: what the file has)"
         self.add_argument("--sep", choices=list(SEPARATORS), help=told)
-        told = "leave out N columns in front, as numbers of rows"
+        told = "leave out the first N columns, such as row numbers"
         self.add_argument("--skip", type=columns, default=0, metavar="N", help=told)
 
 
@@ -93,7 +93,7 @@ def layout_of(chosen: Any) -> Layout:
 def cells_of(options: Options, chosen: Any, is_csv: bool) -> Cells:
     """How cells are written by the words, which speak of a CSV alone."""
     if not is_csv and (chosen.decimal or chosen.sep or chosen.bom):
-        options.error("--decimal, --sep and --bom lay out a CSV: give --csv too")
+        options.error("--decimal, --sep and --bom need --csv")
     return cells_named(chosen.sep, chosen.decimal, chosen.bom)
 
 
@@ -113,14 +113,14 @@ def digits(text: str) -> int:
 def columns(text: str) -> int:
     """A number of columns."""
     if not text.isascii() or not text.isdigit() or len(text) > 3:
-        raise argparse.ArgumentTypeError(f"{text!r} is no number of columns")
+        raise argparse.ArgumentTypeError(f"{text!r} isn't a number of columns")
     return int(text)
 
 
 def factor(text: str) -> int:
     """A number from 1 on."""
     if not text.isascii() or not text.isdigit() or not int(text):
-        raise argparse.ArgumentTypeError(f"{text!r} is no number from 1 on")
+        raise argparse.ArgumentTypeError(f"{text!r} isn't a whole number from 1 up")
     return int(text)
 
 
@@ -158,7 +158,7 @@ def warn_of(names: Sequence[str]) -> None:
 
 def add_scaled(options: Options) -> None:
     """Whether numbers too fine for a document may be multiplied."""
-    told = "multiply all numbers by one that makes them integers, and tell it"
+    told = "multiply all numbers by one that makes them integers, and say by which"
     options.add_argument("--scaled", action="store_true", help=told)
 
 
@@ -170,15 +170,15 @@ def documents_of(games: Iterable[Game], may_scale: bool) -> str:
         if game.factor > 1 and not may_scale:
             raise BadInput(
                 f"the numbers have the common denominator {game.factor}, above {MOST_SCALE}: round them (--digits 4), "
-                "or have all multiplied by it (--scaled)"
+                "or multiply all by it (--scaled)"
             )
         looks[warning(game.names) if game.named else None] = None
         factors.add(game.factor)
         lines.append(game.document().decode() + "\n")
     if len(factors) > 1:
-        raise BadInput("the games would be multiplied by different numbers: name a number of digits, as --digits 9")
+        raise BadInput("the games need different factors: give a number of digits, such as --digits 9")
     for sentence in filter(None, looks):
         say(sentence)
     for factor in factors - {1}:
-        say(f"numbers were multiplied by {factor}: divide what comes out, by --over {factor} of the scripts")
+        say(f"all numbers were multiplied by {factor}: give the scripts that read the answers --over {factor}")
     return "".join(lines)

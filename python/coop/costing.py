@@ -1,7 +1,7 @@
-"""What is worth a word of a table of costs: numbers that look like slips, and what was filled in.
+"""Warnings about a table of costs: numbers that look like mistakes, and what was filled in.
 
-No number that is told here is impossible. But a misplaced comma makes a group dearer than its parts, or cheaper than
-one of its members alone.
+No number that is reported here is impossible. But a misplaced comma makes a group dearer than its parts, or cheaper
+than one of its members alone.
 """
 from __future__ import annotations
 
@@ -24,21 +24,21 @@ def remarks(costed: Costed, within: bool, say: Style, wants_all: bool = False) -
     if not costed.filled:
         return
     game, factor = costed.game, costed.game.factor
-    ways = f"their cheapest splits; {filling.WARNING}"
+    ways = f"with the cost of their cheapest split. {filling.WARNING}"
     if within:
-        ways = f"their cheapest splits, or by the works of larger groups; {filling.WARNING_WITHIN}"
-    yield f"{len(costed.filled)} groups were filled in by {ways}"
+        ways = f"with the cost of their cheapest split, or of larger groups' works. {filling.WARNING_WITHIN}"
+    yield f"{len(costed.filled)} groups were filled in {ways}"
     yield f"{filling.ON_CORES}. What was filled in:"
     yield from filling.told(game, costed.filled, say)
     if within:
         apart = filling.cheapest(costed.given, [item.group for item in costed.filled])
         lines = filling.told_within(game, costed.filled, apart, say)
         if lines:
-            yield f"{len(lines)} of these cost less by the works of a larger group than apart:"
+            yield f"{len(lines)} of these cost less with the works of a larger group than apart:"
             yield from first_of(lines, wants_all)
     above = filling.above_larger([amount / factor for amount in game.amounts])
     if above:
-        last = "" if within else " (--fill-within takes the lesser for those that were filled in)"
+        last = "" if within else " (then use --fill-within)"
         yield f"{len(above)} groups cost more than a larger group that contains them: may they use its works?{last}"
         yield from first_of(filling.told_above(game, above, say), wants_all)
 

@@ -69,7 +69,7 @@ def read_text(path: str, may_be_marked: bool = True) -> tuple[str, str]:
     try:
         return data.decode("utf-8-sig"), where
     except UnicodeError:
-        raise BadInput(f"{where} isn't UTF-8: save it as UTF-8 (of Excel's kinds of CSV, as CSV UTF-8)") from None
+        raise BadInput(f"{where} isn't UTF-8: save it as UTF-8 (in Excel, choose CSV UTF-8)") from None
 
 
 def once(pairs: list[tuple[str, Any]]) -> dict[str, Any]:
@@ -78,7 +78,7 @@ def once(pairs: list[tuple[str, Any]]) -> dict[str, Any]:
     if len(tree) < len(pairs):
         keys = [key for key, _ in pairs]
         twice = next(key for key in keys if keys.count(key) > 1)
-        raise BadInput(f"the key {json.dumps(twice)[:80]} stands twice in one object, of which the last would count")
+        raise BadInput(f"the key {json.dumps(twice)[:80]} is given twice in one object: only the last one would count")
     return tree
 
 
@@ -93,7 +93,7 @@ def parse(text: str, where: str) -> list[Any]:
         except BadInput as fault:
             raise BadInput(f"{where}: {fault}") from None
         except (ValueError, RecursionError) as fault:
-            raise BadInput(f"{where} is no JSON: {fault}{spoilt(text)}") from None
+            raise BadInput(f"{where} isn't JSON: {fault}{spoilt(text)}") from None
         trees.append(tree)
         rest = rest[end:].strip()
     return trees
@@ -111,7 +111,7 @@ def read_documents(paths: Sequence[str], may_be_marked: bool = True) -> list[Doc
 def object_of(tree: Any, where: str) -> dict[str, Any]:
     """The object that a document or a line is, and no refusal."""
     if type(tree) is not dict:
-        raise BadInput(f"{where} is no object, as a document or a line is")
+        raise BadInput(f"{where} isn't a document or a line: it isn't a JSON object")
     if "refused" in tree or "usage" in tree:
         raise BadInput(f"{where}: the program answered {json.dumps(tree)}")
     return tree
@@ -140,10 +140,10 @@ def games_in(documents: Iterable[Document], may_leave: bool = False) -> list[tup
 def unlike(game: Game, first: Game, may_differ: bool) -> str:
     """In what a game of other players, unless they may differ, or of costs beside worths, isn't like a first one."""
     if game.n == first.n and game.named != first.named:
-        return "the players have " + ("names, and none" if game.named else "no names, and some") + " in"
+        return "the players have " + ("names, and none" if game.named else "no names, but some") + " in"
     if game.names != first.names and not may_differ:
         return "other players than those of"
-    return ("costs, beside worths" if game.costs else "worths, beside costs") + " of"
+    return ("costs, but worths" if game.costs else "worths, but costs") + " in"
 
 
 # ---- Shares
@@ -186,7 +186,7 @@ def shares_in(document: Document) -> Iterable[tuple[str, list[Fraction]]]:
 def only_game(document: Document, games: list[tuple[Document, Game]]) -> Optional[Game]:
     """The game of a document without one: that of all the others."""
     if any(without_measure(game) != without_measure(games[0][1]) for _, game in games):
-        raise BadInput(f"{document.where} has shares and no game, and the others have several games")
+        raise BadInput(f"{document.where} has shares but no game, and the other documents have several games")
     return games[0][1] if games else None
 
 

@@ -12,7 +12,7 @@ class CoopError(Exception):
 
 
 class BadInput(CoopError):
-    """What was given is no game, no document, no line or no number; the text says what is wrong with it."""
+    """The input isn't a game, a document, a line or a number; the text says what is wrong with it."""
 
 
 class NotFound(CoopError):
@@ -20,8 +20,8 @@ class NotFound(CoopError):
 
 
 class Lost(CoopError):
-    """An executor gave no answer to some games: it lost them with its processes, again and again, or took longer than
-    was allowed. The text names the games, and the cause is the executor's own exception."""
+    """An executor gave no answer to some games: it lost them with its processes, again and again, or took longer
+    than allowed. The text names the games, and the cause is the executor's own exception."""
 
 
 class NoAnswer(CoopError):
@@ -48,7 +48,7 @@ def restored(kind: type[NoAnswer], args: tuple[Any, ...], parts: dict[str, Any])
 
 
 class Usage(NoAnswer):
-    """The command doesn't serve the class of the game, or so many players, or the words are no command; status 2."""
+    """The command doesn't serve the game's class or its number of players, or there is no such command; status 2."""
 
 
 class Refused(NoAnswer):
@@ -61,7 +61,7 @@ class Refused(NoAnswer):
         self.name = name
         """The name of the refusal."""
         self.where = where
-        """The place of the slip, where it was found."""
+        """The place of the mistake, if it was found."""
 
 
 class Fault(NoAnswer):
@@ -69,4 +69,4 @@ class Fault(NoAnswer):
 
 
 class NoMemory(NoAnswer):
-    """The program found no memory; status 7."""
+    """The program ran out of memory; status 7."""

@@ -41,7 +41,7 @@ def excess_list(game: Game, shares: Sequence[Fraction]) -> list[Entry]:
     """The excesses of all groups but the empty one and that of all, from the greatest; equals in mask order. They are
     found in whole numbers over a common unit, which is quick."""
     if game.n > MOST_PLAYERS:
-        raise BadInput(f"the groups of {game.n} players are too many to list: {MOST_PLAYERS} players at most")
+        raise BadInput(f"the groups of {game.n} players are too many to list: the limit is {MOST_PLAYERS} players")
     unit = common_denominator([*shares, *game.all_numbers()]) * (lcm(*range(1, game.n + 1)) if game.per_head else 1)
     parts = [(share * unit).numerator * (1 if game.costs else -1) for share in shares]
     sums, found = [0], []
@@ -173,10 +173,10 @@ class Comparison:
 def comparisons(points: Sequence[Point], say: Style = EXACT) -> list[Comparison]:
     """The comparisons of two points of one game, one by each measure that their lines have, plain excess first."""
     if len(points) != 2:
-        raise BadInput(f"{len(points)} divisions are given, and two are compared")
+        raise BadInput(f"{len(points)} divisions: give exactly two")
     games = [point.game for point in points if point.game]
     if not games:
-        raise BadInput("no game: give the document beside the lines")
+        raise BadInput("no game: give the document too")
     if any(without_measure(game) != without_measure(games[0]) for game in games):
         raise BadInput("the two are divisions of different games")
     by_measure = {game.per_head: game for game in games}
@@ -187,7 +187,7 @@ def compare(points: Sequence[Point], say: Style = EXACT) -> Comparison:
     """The comparison of two points of one game, whose lines have one measure."""
     found = comparisons(points, say)
     if len(found) > 1:
-        raise BadInput("one goes by plain excess, and the other by excess per head: `comparisons` has both")
+        raise BadInput("one goes by plain excess, the other by excess per head: `comparisons` has both")
     return found[0]
 
 

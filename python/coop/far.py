@@ -2,7 +2,8 @@
 
 What goes there is a function of this package, words and the bytes of documents; what comes back are statuses and the
 bytes of lines, from which answers are made here. So each process needs this package, with its program, and no class of
-the package is pickled but a program that was named.
+the package is pickled except a program that was named. The project has no scheduler and no protocol between machines:
+engines that exist have them.
 """
 from __future__ import annotations
 
@@ -93,7 +94,7 @@ class Batch:
                 if first == self.first and [len(row) for row in lines] == [len(self.words)] * len(self.games):
                     return lines  # type: ignore[no-any-return]
                 break
-        raise self.lost("the executor gave the lines of others")
+        raise self.lost("the executor returned the lines of other games")
 
 
 def is_late(fault: Exception) -> bool:

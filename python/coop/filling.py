@@ -16,18 +16,17 @@ from .masks import members
 from .styles import Style
 
 WARNING = (
-    "what stands there for them is a bound and no estimate: Shapley shares, and all shares per head, depend on it; the "
-    "nucleolus by plain excess doesn't, as long as none of these groups could build cheaper together than apart, and "
-    "the core isn't empty; if one could, its shares change, too"
+    "This is an upper bound, not an estimate. Shapley shares, and all shares per head, depend on it. The nucleolus by "
+    "plain excess doesn't, as long as none of these groups could build cheaper together than apart, and the core isn't "
+    "empty; if one could, the shares change."
 )
 WARNING_WITHIN = (
-    "what stands there for them is a bound and no estimate, as long as they may use these works: all shares may depend "
-    "on it, those of the nucleolus too"
+    "This is an upper bound, not an estimate, as long as they may use these works. All shares may depend on it, those "
+    "of the nucleolus too."
 )
 ON_CORES = (
-    'of what propose and core answer "blocked" and "empty core" are sure, as long as the costed numbers are right; '
-    '"core" and "core point" hold against the filled numbers alone: by true costs a group that was filled in may do '
-    "better by itself"
+    'The answers "blocked" and "empty core" are certain, as long as the costed numbers are right; "core" and "core '
+    'point" hold only against the filled numbers: by true costs a group that was filled in may do better alone'
 )
 
 

@@ -26,7 +26,7 @@ def require_form(tree: Any, players: int, scale: int) -> None:
         len(levels) < players,
         Refusal.Certificate,
         f"{place}.levels",
-        f"{len(levels)} levels: there are fewer than {players}",
+        f"{len(levels)} levels: a certificate has fewer than {players}",
     )
     listed: set[int] = set()
     for i, level in enumerate(levels):
@@ -38,13 +38,13 @@ def require_form(tree: Any, players: int, scale: int) -> None:
             1 <= count <= MOST_ITEMS,
             Refusal.Certificate,
             f"{where}.coalitions",
-            f"{count} coalitions: there are 1 to {MOST_ITEMS:,}",
+            f"{count} coalitions: a level has 1 to {MOST_ITEMS:,}",
         )
         need(
             len(level["earlier"]) <= MOST_ITEMS,
             Refusal.Certificate,
             f"{where}.earlier",
-            f"there are at most {MOST_ITEMS:,}",
+            f"a level has at most {MOST_ITEMS:,}",
         )
         here = ascending(level["coalitions"], f"{where}.coalitions", players)
         for k, group in enumerate(ascending(level["earlier"], f"{where}.earlier", players)):
@@ -53,7 +53,7 @@ def require_form(tree: Any, players: int, scale: int) -> None:
                 group in listed,
                 Refusal.Certificate,
                 f"{where}.earlier[{k}]",
-                lambda: f"{brief(coalition)} stands in no level in front",
+                lambda: f"{brief(coalition)} isn't in an earlier level",
             )
         bounds(level["bounds"], f"{where}.bounds", players)
         listed.update(here)
@@ -87,7 +87,7 @@ def ascending(tree: Any, place: str, players: int) -> list[int]:
     for k, (coalition, number) in enumerate(tree):
         where = f"{place}[{k}]"
         ids = all(type(player) is int and 1 <= player <= players for player in coalition)
-        need(ids, Refusal.Certificate, where, lambda: f"{brief(coalition)} has what is no player from 1 to {players}")
+        need(ids, Refusal.Certificate, where, lambda: f"{brief(coalition)} has a member that isn't from 1 to {players}")
         need(
             coalition == sorted(set(coalition)),
             Refusal.Certificate,

@@ -34,7 +34,7 @@ def encoded(text: str, what: str) -> bytes:
     try:
         return text.encode()
     except UnicodeEncodeError:
-        raise BadInput(f"{what} has half of a character, as \\ud800") from None
+        raise BadInput(f"{what} has half of a character, such as \\ud800") from None
 
 
 def number(tree: Any, what: str) -> Fraction:
@@ -58,8 +58,8 @@ def numbers(tree: Any, what: str) -> list[Fraction]:
 
 class Game:
     """The game of a document. `amounts` has its numbers, all worths or costs of a table by their masks; `rows` has its
-    matrix, and `single` its estate or quota. `factor` says how many times the game's own numbers those of the document
-    are: 1, but where a document couldn't take these."""
+    matrix, and `single` its estate or quota. The document's numbers are the game's own times `factor`: 1, unless a
+    document can't hold them."""
 
     kind: str
     n: int
@@ -73,7 +73,7 @@ class Game:
             raise BadInput("the game isn't an object")
         kind = tree.get("class")
         if type(kind) is not str or kind not in KINDS:
-            raise BadInput(f"the class of the game is none of {', '.join(KINDS)}")
+            raise BadInput(f"the class of the game isn't one of {', '.join(KINDS)}")
         self.tree: dict[str, Any] = tree
         self.kind, self.factor = kind, factor
         self.costs, self.per_head = kind in COSTS, tree.get("excess") == "per-head"
@@ -107,13 +107,13 @@ class Game:
             self.rows = self.read_matrix(tree)
             n = len(self.rows) - 1 if self.kind == "tree" else len(self.rows) + len(self.rows[0])
         if type(n) is not int or not 1 <= n <= (MOST_IN_A_TABLE if self.is_table else 64):
-            raise BadInput("the game hasn't 1 to 64 players, or a table 1 to 16")
+            raise BadInput("the game doesn't have 1 to 64 players, or the table 1 to 16")
         return n
 
     def value(self, tree: dict[str, Any], key: str) -> Any:
         """What stands at a key that the class has."""
         if key not in tree:
-            raise BadInput(f"a game of class {self.kind} has the key {key}")
+            raise BadInput(f"a game of class {self.kind} needs the key {key}")
         return tree[key]
 
     def read_matrix(self, tree: dict[str, Any]) -> list[list[Fraction]]:
@@ -121,7 +121,7 @@ class Game:
         rows = [numbers(row, "a row of the matrix") for row in array(self.value(tree, "matrix"), "the matrix")]
         widths = {len(row) for row in rows}
         if len(widths) != 1 or widths == {0}:
-            raise BadInput("the rows of the matrix differ in length, or there is none, or it is empty")
+            raise BadInput("the matrix has no row, an empty row, or rows of different lengths")
         if self.kind == "tree" and widths != {len(rows)}:
             raise BadInput("the matrix of a network isn't square")
         return rows
@@ -148,7 +148,7 @@ class Game:
                 players = {self.player(member) for member in array(item[0], "a group of sparse")}
                 amounts[mask_of(players)] = number(item[1], "sparse")
         if len(amounts) != 2**self.n:
-            raise BadInput(f"worths has {len(amounts) - 1} items, and not {2**self.n - 1}")
+            raise BadInput(f"worths has {len(amounts) - 1} items instead of {2**self.n - 1}")
         return amounts
 
     def player(self, member: Any) -> int:
@@ -157,7 +157,7 @@ class Game:
             return self.names.index(member)
         if type(member) is int and 1 <= member <= self.n:
             return member - 1
-        raise BadInput(f"{json.dumps(member)[:80]} is no player of the game")
+        raise BadInput(f"{json.dumps(member)[:80]} isn't a player of the game")
 
     def all_numbers(self) -> list[Fraction]:
         """The numbers of the game, in one list."""

@@ -95,7 +95,7 @@ def landings(rows: Iterable[tuple[str, Amount, int]], *, digits: Optional[int] =
     for row in rows:
         name, cost, count = parts_of(row)
         if type(count) is not int or count < 1:
-            raise BadInput(f"{name}: {count!r} is no number of landings")
+            raise BadInput(f"{name}: {count!r} isn't a number of landings")
         if len(names) + count > MOST_LANDINGS:
             way = "coop.runways works out more, by both rules (docs/examples.md)"
             raise BadInput(f"more than {MOST_LANDINGS} landings: an airport has at most {MOST_LANDINGS} players; {way}")
@@ -109,7 +109,7 @@ def landings(rows: Iterable[tuple[str, Amount, int]], *, digits: Optional[int] =
 def parts_of(row: Any) -> tuple[str, Amount, int]:
     """The three parts of a row of landings."""
     if isinstance(row, str) or not isinstance(row, Sequence) or len(row) != 3:
-        raise BadInput(f"{str(row)[:40]!r} is no row of a name, what a landing needs, and how many landings")
+        raise BadInput(f"{str(row)[:40]!r} isn't a row of a name, what a landing needs, and how many landings")
     name, cost, count = row
     return name, cost, count
 
@@ -137,10 +137,10 @@ def tree(
     """A network by what the link of each two points costs; row and column 0 are the source."""
     rows = rows_of(matrix, digits)
     if any(len(row) != len(rows) for row in rows):
-        raise BadInput("a network's matrix has as many columns as rows, the source first")
+        raise BadInput("the matrix of a network needs as many columns as rows, the source first")
     for i, row in enumerate(rows):
         if row[i]:
-            raise BadInput(f"the link from point {i} to itself costs {row[i]}, and not 0")
+            raise BadInput(f"the link from point {i} to itself costs {row[i]} instead of 0")
         for j, cost in enumerate(row):
             if cost != rows[j][i]:
                 raise BadInput(f"the link between {i} and {j} costs {cost} one way and {rows[j][i]} the other")
@@ -164,7 +164,7 @@ def voting(quota: int, weights: Union[Mapping[str, int], Sequence[int]], names: 
     names, amounts = named(weights, names, None)
     whole = fraction_of(quota)
     if any(value.denominator > 1 for value in [whole, *amounts]):
-        raise BadInput("a quota and votes are integers")
+        raise BadInput("the quota and the votes have to be integers")
     return made("voting", {"quota": whole, "weights": amounts}, names)
 
 
@@ -177,7 +177,7 @@ def named(
     """The names and the numbers of a mapping or a list."""
     if isinstance(amounts, Mapping):
         if names is not None:
-            raise BadInput("names stand in the mapping already")
+            raise BadInput("the mapping has the names already")
         return [str(name) for name in amounts], fractions_of(amounts.values(), digits)
     return names, fractions_of(amounts, digits)
 
@@ -191,7 +191,7 @@ def require_none_negative(amounts: list[Fraction]) -> None:
 def require_rows(rows: Any) -> None:
     """Refuses what is no list of rows; a text is none."""
     if isinstance(rows, (str, bytes)) or not isinstance(rows, Iterable):
-        raise BadInput(f"{str(rows)[:40]!r} is no list of rows")
+        raise BadInput(f"{str(rows)[:40]!r} isn't a list of rows")
 
 
 def rows_of(matrix: Rows, digits: Optional[int]) -> list[list[Fraction]]:
@@ -199,7 +199,7 @@ def rows_of(matrix: Rows, digits: Optional[int]) -> list[list[Fraction]]:
     require_rows(matrix)
     rows = [fractions_of(row, digits) for row in matrix]
     if not rows or not rows[0] or any(len(row) != len(rows[0]) for row in rows):
-        raise BadInput("the rows of a matrix have one length, and there is one at least")
+        raise BadInput("the matrix needs a row, and rows of the same length")
     require_none_negative([entry for row in rows for entry in row])
     return rows
 
@@ -212,7 +212,7 @@ def checked_names(names: Sequence[str]) -> list[str]:
             told = f"is no name of 1 to {MOST_NAME} bytes; letters beyond ASCII have several"
             raise BadInput(f"{str(name)[:80]!r} {told}")
     if len(set(names)) < len(names):
-        raise BadInput(f"the name {next(name for name in names if names.count(name) > 1)!r} stands twice")
+        raise BadInput(f"the name {next(name for name in names if names.count(name) > 1)!r} is given twice")
     return names
 
 
@@ -221,7 +221,7 @@ def listed_names(names: Iterable[str]) -> list[str]:
     try:
         return list(names)
     except TypeError:
-        raise BadInput(f"{str(names)[:40]!r} is no list of names") from None
+        raise BadInput(f"{str(names)[:40]!r} isn't a list of names") from None
 
 
 def made(
@@ -276,7 +276,7 @@ def listed(
     """A table from a mapping or a vector."""
     if not isinstance(amounts, Mapping):
         if default is not None:
-            raise BadInput("a vector has no default")
+            raise BadInput("`default` is for a mapping, not for a vector")
         vector = in_mask_order(fractions_of(amounts, digits), order)
         players = len(vector).bit_length()
         names = names if names is None else listed_names(names)
@@ -284,11 +284,11 @@ def listed(
             raise BadInput(f"{len(names)} names for {players} players")
         return made(kind, {"players": players, "worths": vector}, names, per_head, digits)
     if order is not None:
-        raise BadInput("only a vector has an order")
+        raise BadInput("`order` is for a vector, not for a mapping")
     groups = [(members_of(group), fraction_of(amount, digits)) for group, amount in amounts.items()]
     empty = [amount for group, amount in groups if not group]
     if any(empty):
-        raise BadInput("the empty group isn't worth 0")
+        raise BadInput("the empty group has to be worth 0")
     rest = None if default is None else fraction_of(default, digits)
     return by_groups(kind, [item for item in groups if item[0]], names, rest, per_head, digits)
 
@@ -307,7 +307,7 @@ def number_of(member: Any) -> int:
     try:
         return index(member)
     except TypeError:
-        raise BadInput(f"{str(member)[:40]!r} is no player: a group has names, or numbers from 1") from None
+        raise BadInput(f"{str(member)[:40]!r} isn't a player: a group has names, or numbers from 1") from None
 
 
 def by_groups(
@@ -330,9 +330,9 @@ def by_groups(
     for group, amount in groups:
         mask = mask_of(player_of(member, players) for member in group)
         if mask in found:
-            raise BadInput(f"the group {'+'.join(map(str, group))} stands twice")
+            raise BadInput(f"the group {'+'.join(map(str, group))} is given twice")
         if len(members(mask)) < len(group):
-            raise BadInput(f"a member of {'+'.join(map(str, group))} stands twice")
+            raise BadInput(f"a member of {'+'.join(map(str, group))} is there twice")
         found[mask] = amount
     missing = [mask for mask in range(1, 2 ** len(players)) if mask not in found]
     if missing and default is None:
@@ -348,4 +348,4 @@ def player_of(member: Any, players: Sequence[Any]) -> int:
         return players.index(member)
     if type(member) is int and 1 <= member <= len(players):
         return member - 1
-    raise BadInput(f"{member!r} is no player")
+    raise BadInput(f"{member!r} isn't a player")

@@ -22,9 +22,9 @@ def require_judged(game: Game, shares: Sequence[Fraction], tree: dict[str, Any])
     """Refuses shares that an answer can't be about."""
     answer, total = tree["answer"], sum(shares, Fraction(0))
     if answer == "not efficient":
-        require(total, number(tree["sum"], "sum"), "add to")
+        require(total, number(tree["sum"], "sum"), "add up to")
     elif answer in EFFICIENT:
-        require(total, game.whole(), "add to")
+        require(total, game.whole(), "add up to")
     if answer == "blocked":
         group = group_of(tree["coalition"])
         require(excess(game, shares, group), number(tree["excess"], "excess"), "give that group the excess")
@@ -39,8 +39,8 @@ def require_judged(game: Game, shares: Sequence[Fraction], tree: dict[str, Any])
 def require(found: object, wanted: object, verb: str) -> None:
     """Refuses shares by which something is otherwise than the line says."""
     if found != wanted:
-        said = f"they {verb} {found}, by the line {wanted}" if type(found) is not bool else f"they {verb[:-1]}"
-        raise BadInput(f"the shares beside the line aren't those that it judges: {said}")
+        said = f"they {verb} {found}, not {wanted} as in the line" if type(found) is not bool else f"they {verb[:-1]}"
+        raise BadInput(f"the document's shares aren't those that the line judges: {said}")
 
 
 def surplus(game: Game, shares: Sequence[Fraction], i: int, j: int) -> tuple[Fraction, int]:

@@ -6,7 +6,7 @@ import quopri
 import re
 from typing import Any, Iterator
 
-ADVICE = "have it sent as a file, or paste it into Check of page/coop.html, which has a button that undoes this"
+ADVICE = "ask for it as a file, or paste it into Check of page/coop.html, which has a button that undoes this"
 QUOTED = re.compile(r"=(?:3D|22|\r?\n)")
 
 
@@ -15,15 +15,15 @@ def spoilt(text: str) -> str:
     done, bare = [], text
     if any(line.startswith(">") for line in text.splitlines()):
         bare = re.sub(r"(?m)^(?:> ?)+", "", bare)
-        done.append("put > in front of lines")
+        done.append("put > before lines")
     if QUOTED.search(bare):
         bare = quopri.decodestring(bare.encode()).decode("utf-8", "replace")
         done.append("wrote it as quoted-printable, with = and two digits")
     if not done and not any(is_object(one) for one in joined(text)):
         return ""
     if len(bare.strip().splitlines()) > 1:
-        done.append("broke its lines, or put others around it")
-    return f"; mail has spoilt it ({' and '.join(done)}): {ADVICE}" if done else ""
+        done.append("broke its lines, or added others")
+    return f"; mail has changed it ({' and '.join(done)}): {ADVICE}" if done else ""
 
 
 def joined(text: str) -> Iterator[str]:

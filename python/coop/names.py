@@ -100,13 +100,13 @@ def warning(names: Sequence[str]) -> Optional[str]:
     sentences = [f"{len(some)} names look alike: {', '.join(map(shown, some))}" for some in alike(names)]
     told = {name for some in alike(names) for name in some}
     for some in alike([name for name in names if name not in told], str.casefold):
-        sentences.append(f"{len(some)} names differ in capitals alone: {', '.join(map(safe, some))}")
+        sentences.append(f"{len(some)} names differ only in capitals: {', '.join(map(safe, some))}")
     hidden = [name for name in names if name not in told and any(map(is_unseen, name))]
     if hidden:
-        sentences.append(f"characters that aren't seen are shown as escapes in {', '.join(map(safe, hidden))}")
+        sentences.append(f"hidden characters are shown as escapes in {', '.join(map(safe, hidden))}")
     mixed = [name for name in names if name not in told and is_mixed(name)]
     if mixed:
-        sentences.append(f"letters of two alphabets stand in one word: {', '.join(map(shown, mixed))}")
+        sentences.append(f"a word mixes letters of two alphabets: {', '.join(map(shown, mixed))}")
     return "; ".join(sentences) or None
 
 

@@ -50,10 +50,10 @@ def listed_names(
     if names is not None:
         for name in found:
             if name not in names:
-                raise BadInput(f"a link has {name}, which is neither {source} nor among the names {', '.join(names)}")
+                raise BadInput(f"a link has {name}, which is neither {source} nor one of the names {', '.join(names)}")
         return list(names)
     for some in alike([source, *found], str.casefold):
-        raise BadInput(f"{' and '.join(some)} differ in capitals alone: if they are several places, give all names")
+        raise BadInput(f"{' and '.join(some)} differ only in capitals: if they are different places, give all names")
     return found
 
 
@@ -65,7 +65,7 @@ def numbered(links: Mapping[tuple[str, str], Amount], points: list[str], digits:
         if one == other or cost < 0:
             raise BadInput(f"the link of {one} and {other} joins a point to itself, or costs less than nothing")
         if found.setdefault(ends, cost) != cost or found.setdefault(ends[::-1], cost) != cost:
-            raise BadInput(f"the link of {one} and {other} stands twice, with two costs")
+            raise BadInput(f"the link of {one} and {other} is given twice, with two costs")
     return found
 
 

@@ -25,7 +25,7 @@ def divided(tree: dict[str, Any], by: int) -> dict[str, Any]:
     try:
         return parts_divided(tree, by)
     except (KeyError, TypeError, ValueError) as fault:
-        raise BadInput(f"this is no whole document or line: {fault!r}") from None
+        raise BadInput(f"this isn't a whole document or line: {fault!r}") from None
 
 
 def parts_divided(tree: dict[str, Any], by: int) -> dict[str, Any]:
@@ -44,7 +44,7 @@ def parts_divided(tree: dict[str, Any], by: int) -> dict[str, Any]:
 def game_divided(tree: Any, by: int) -> dict[str, Any]:
     """The tree of a game with each amount over a number."""
     if Game(tree).kind == "voting":
-        raise BadInput("a vote has no amounts that could be divided")
+        raise BadInput("a vote has no amounts to divide")
     result = {key: amounts(part, by) if key in OF_A_GAME else part for key, part in tree.items()}
     if "sparse" in tree:
         result["sparse"] = [[group, amounts(amount, by)] for group, amount in tree["sparse"]]

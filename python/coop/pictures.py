@@ -15,7 +15,7 @@ def game_of(points: Sequence[Point]) -> Game:
     """The game whose marks a picture has: the first one of the points."""
     game: Optional[Game] = next((point.game for point in points if point.game), None)
     if game is None:
-        raise BadInput("no game: give the document beside the line")
+        raise BadInput("no game: give the document too")
     return game
 
 
@@ -23,9 +23,9 @@ def core_alone(documents: Sequence[Document], title: str = "", style: Style = EX
     """The triangle with the core and no point, of documents of one game of three players."""
     games = [game for _, game in games_in(documents)]
     if not games or games[0].n != 3:
-        raise BadInput("no shares: give a line that has them, or a document with a proposal; of three a game will do")
+        raise BadInput("no shares: give a line or a document that has them; for three players a game is enough")
     if any(without_measure(game) != without_measure(games[0]) for game in games):
-        raise BadInput("no shares, and several games: the core alone is that of one")
+        raise BadInput("no shares, and several games: a picture of only the core needs one game")
     return triangle(games[0], [], title, style)
 
 

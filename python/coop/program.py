@@ -84,7 +84,7 @@ class Library:
         try:
             self.call: Any = ctypes.CDLL(path).coop_run
         except (OSError, AttributeError) as fault:
-            raise NotFound(f"{path} is no library of coop: {fault}") from None
+            raise NotFound(f"{path} isn't a library of coop: {fault}") from None
         text, size = ctypes.c_char_p, ctypes.c_size_t
         self.call.restype = ctypes.c_uint32
         self.call.argtypes = [text, size, text, size, text, size, ctypes.POINTER(size)]
@@ -129,7 +129,7 @@ def named(text: str) -> Program:
     try:
         return Command(shlex.split(text))
     except ValueError as fault:
-        raise BadInput(f"{text!r} is no command: {fault}") from None
+        raise BadInput(f"{text!r} isn't a command: {fault}") from None
 
 
 def built() -> Optional[str]:
@@ -159,8 +159,8 @@ def found() -> Program:
         return Command([builder])
     others = "or name a program, set COOP to it, or put it on the path"
     if page:
-        raise NotFound(f"there is no program coop: put Node 18 or later on the path (nodejs.org), {others}")
-    raise NotFound(f"there is no program coop, and no page beside this package: install it anew, {others}")
+        raise NotFound(f"no program found: put Node 18 or later on the path (nodejs.org), {others}")
+    raise NotFound(f"no program found, and the page is missing: install the package again, {others}")
 
 
 def page_folder() -> Optional[str]:

@@ -14,12 +14,12 @@ from .errors import BadInput
 from .game import MOST_IN_A_TABLE, Game
 from .masks import mask_of, members
 from .names import looks, shown
-from .sheets import AS_SEEN, Cell, Layout, Row, amount_of, by_mark, fixed_rows, hint_at, rows_of_numbers
+from .sheets import AS_SEEN, LEFT_OUT, Cell, Layout, Row, amount_of, by_mark, fixed_rows, hint_at, rows_of_numbers
 from .vectors import in_mask_order
 
 MOST_CLAIMS = 64
 ANOTHER_SIGN = re.compile(r"[&/|,;]| and | und | et ")
-SKIP = "; a first column of names is left out by --skip 1"
+SKIP = "; if the first column has names, use --skip 1"
 
 
 # ---- A line for each group
@@ -65,7 +65,7 @@ def members_of(row: Row) -> list[str]:
     """The members of a row's group."""
     group = [member.strip() for member in row.cells[0].split("+")]
     if "" in group or len(set(group)) < len(group):
-        raise BadInput(f"line {row.line}: a member of {row.cells[0]} has no name, or stands twice")
+        raise BadInput(f"line {row.line}: a member of {row.cells[0]} has no name, or is there twice")
     return group
 
 
@@ -75,7 +75,7 @@ def names_of(rows: Sequence[tuple[Row, list[str]]]) -> list[str]:
     for row, group in rows:
         for member in group:
             if member not in names:
-                raise BadInput(f"line {row.line}: there is no line for {member} alone{look_alike(member, names)}")
+                raise BadInput(f"line {row.line}: no line has the cost of {member} alone{look_alike(member, names)}")
     if len(names) > MOST_IN_A_TABLE:
         raise BadInput(f"{len(names)} players: a table has at most {MOST_IN_A_TABLE}")
     return games.checked_names(names)
@@ -86,9 +86,9 @@ def look_alike(member: str, names: Sequence[str]) -> str:
     capitals alone."""
     for name in names:
         if looks(name) == looks(member):
-            return f", but one for {shown(name)}, which looks like it ({shown(member)}): is that the same player?"
+            return f", but one has {shown(name)}, which looks like it ({shown(member)}): is that the same player?"
     near = next((name for name in names if name.casefold() == member.casefold()), None)
-    return f", but one for {near}: is that the same player?" if near else ""
+    return f", but one has {near}: is that the same player?" if near else ""
 
 
 def once_each(rows: Sequence[tuple[Row, list[str], Fraction]], names: Sequence[str]) -> dict[int, Fraction]:
@@ -98,7 +98,7 @@ def once_each(rows: Sequence[tuple[Row, list[str], Fraction]], names: Sequence[s
     for row, group, amount in rows:
         mask = mask_of(names.index(member) for member in group)
         if mask in lines:
-            raise BadInput(f"line {row.line}: {'+'.join(group)} stands in line {lines[mask]} already")
+            raise BadInput(f"line {row.line}: {'+'.join(group)} is already in line {lines[mask]}")
         lines[mask], amounts[mask] = row.line, amount
     return amounts
 
@@ -115,7 +115,7 @@ def missing_groups(
         first = missing[-1] if fill else missing[0]
         others = f", and {len(missing) - 1} more groups" * (len(missing) > 1)
         advice = (
-            ": what all together cost can't be filled in" if fill else others + " (--fill takes the cheapest split)"
+            ": the cost of all together can't be filled in" if fill else others + " (--fill takes the cheapest split)"
         )
         raise BadInput(f"{'+'.join(names[i] for i in members(first))} has no line{advice}")
     return []
@@ -126,10 +126,10 @@ def no_player(rows: Sequence[tuple[Row, list[str], Fraction]], names: Sequence[s
     for row, group, _ in rows:
         parts = [part.strip() for part in ANOTHER_SIGN.split(group[0])]
         if len(group) == 1 and len(parts) > 1 and all(part in names for part in parts):
-            return f"; is {group[0]}, in line {row.line}, the group {'+'.join(parts)}? A + stands between members"
+            return f"; is {group[0]}, in line {row.line}, the group {'+'.join(parts)}? Write + between members"
     *others, (row, group, amount) = rows
     if len(rows) > 2 and len(group) == 1 and amount == sum(other for _, _, other in others):
-        return f"; is {group[0]}, in line {row.line}, a row of the sum?"
+        return f"; is {group[0]}, in line {row.line}, the row of the sum?"
     return ""
 
 
@@ -166,9 +166,9 @@ def left_out(text: str, layout: Layout) -> list[str]:
     """What `vectors` leaves out of a text unasked, or takes for a game and may be a head."""
     rows, found = rows_of_numbers(text, layout)
     if found != layout:
-        return ["the first row and the first column, which have names, are left out"]
+        return [LEFT_OUT]
     if len(rows) > 1 and rows[0].cells == [str(i) for i in range(len(rows[0].cells))]:
-        return ["the first row is 0, 1, 2, ..: it is taken for a game; if it has headings, say --head"]
+        return ["the first row, 0, 1, 2, .., is read as a game; if it has headings, use --head"]
     return []
 
 
@@ -207,8 +207,8 @@ def named_once(rows: Sequence[Row]) -> list[str]:
     for row in rows:
         name = row.cells[0]
         if not name:
-            raise BadInput(f"line {row.line}: there is no name")
+            raise BadInput(f"line {row.line} has no name")
         if name in lines:
-            raise BadInput(f"line {row.line}: {name} stands in line {lines[name]} already")
+            raise BadInput(f"line {row.line}: {name} is already in line {lines[name]}")
         lines[name] = row.line
     return list(lines)

@@ -61,9 +61,9 @@ def read(data: bytes, where: str) -> dict[str, Any]:
     except BadInput as fault:
         raise BadInput(f"{where}: {fault}") from None
     except (ValueError, RecursionError) as fault:
-        raise BadInput(f"{where} is no JSON: {fault}{spoilt(data.decode('utf-8', 'replace'))}") from None
+        raise BadInput(f"{where} isn't JSON: {fault}{spoilt(data.decode('utf-8', 'replace'))}") from None
     if type(tree) is not dict:
-        raise BadInput(f"{where} is no object, as a document or a line is")
+        raise BadInput(f"{where} isn't a document or a line: it isn't a JSON object")
     return tree
 
 
@@ -73,7 +73,7 @@ def checked(line: bytes, where: str) -> dict[str, Any]:
     if "refused" in tree or "usage" in tree:
         raise BadInput(f"{where}: the program answered {json.dumps(tree)}")
     if tree.get("answer") not in CHECKED or "certificate" not in tree:
-        raise BadInput(f"{where} is no line of nucleolus or prenucleolus, with its certificate")
+        raise BadInput(f"{where} isn't a line of nucleolus or prenucleolus with its certificate")
     verdict = verdict_on(line, where)
     if verdict["answer"] == "no":
         raise BadInput(f"the certificate fails: {' '.join(failure(verdict, tree).split())}")
@@ -106,9 +106,9 @@ def refusal(tree: dict[str, Any], document: Optional[bytes]) -> str:
     """Why a document is refused, and where."""
     number = tree.get("number")
     if number not in NAMES:
-        raise BadInput("this is no refusal of the program")
+        raise BadInput("this isn't a refusal of the program")
     if document is None:
-        advice = "Give the document beside the line, and its slip is told."
+        advice = "Give the document too, and this script finds the mistake."
         return filled(f"The document is refused: {number} {NAMES[number]}. {advice}")
     for command in ("nucleolus", *NEEDS):
         slip = slip_in(document, command)
@@ -116,4 +116,4 @@ def refusal(tree: dict[str, Any], document: Optional[bytes]) -> str:
             twice = repeated(document)
             besides = f" Besides, at {twice}." if twice else ""
             return filled(f"The document is refused: {number} {NAMES[number]}. {slip}.{besides}")
-    raise BadInput(f"the document isn't refused for {number} {NAMES[number]}: is it another one?")
+    raise BadInput(f"the program doesn't refuse this document for {number} {NAMES[number]}: is it another document?")

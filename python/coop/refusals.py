@@ -53,7 +53,7 @@ def count_players(game: Any) -> int:
     if kind in LISTS:
         key, most = LISTS[kind], 32 if kind == "voting" else 64
         count = len(game[key])
-        need(1 <= count <= most, Refusal.Players, f"$.game.{key}", f"{count} players: there are 1 to {most}")
+        need(1 <= count <= most, Refusal.Players, f"$.game.{key}", f"{count} players: this class has 1 to {most}")
         return count
     rows = game["matrix"]
     if kind == "tree":
@@ -61,19 +61,19 @@ def count_players(game: Any) -> int:
             2 <= len(rows) <= 17,
             Refusal.Players,
             "$.game.matrix",
-            f"{len(rows)} rows: there are 2 to 17, the source's first",
+            f"{len(rows)} rows: a network has 2 to 17, the source first",
         )
         return len(rows) - 1
-    need(rows and rows[0], Refusal.Players, "$.game.matrix", "there is no row, or the first is empty")
+    need(rows and rows[0], Refusal.Players, "$.game.matrix", "the matrix has no row, or its first row is empty")
     sellers = len(rows[0])
     if kind == "assignment":
         need(
             len(rows) + sellers <= 16,
             Refusal.Players,
             "$.game.matrix",
-            f"{len(rows) + sellers} players: there are at most 16",
+            f"{len(rows) + sellers} players: an assignment has at most 16",
         )
-    need(max(len(rows), sellers) <= 32, Refusal.Players, "$.game.matrix", "there are at most 32 buyers and 32 sellers")
+    need(max(len(rows), sellers) <= 32, Refusal.Players, "$.game.matrix", "a market has at most 32 of each side")
     return len(rows) + sellers
 
 
@@ -135,7 +135,7 @@ def value_of(tree: Any, place: str, has_fractions: bool) -> Fraction:
         rounded = float(f"{tree:.4f}")
         meant = tree if Fraction(repr(tree)).denominator <= MOST_SCALE else rounded
         hint = "" if has_fractions or meant == int(meant) else ', with "version":2'
-        about = "" if meant == tree else "fewer decimals, as "
+        about = "" if meant == tree else "fewer decimals, such as "
         raise Found(Refusal.Number, place, f"{brief(tree)} {IS_FLOAT}: write {about}{text_of(meant)}{hint}")
     if type(tree) is int:
         return Fraction(tree)
@@ -168,7 +168,7 @@ def hint_on(guess: Optional[Fraction], most: Optional[int]) -> str:
     if most is None or guess.denominator <= most:
         return f": write {written(guess)}"
     fewer = written(Fraction(round(guess * 10**4), 10**4))
-    return f": write fewer decimals, as {fewer}, or have all numbers multiplied (--scaled of scripts/from-vector)"
+    return f": write fewer decimals, such as {fewer}, or multiply all numbers (--scaled of scripts/from-vector)"
 
 
 def guessed(tree: str) -> Optional[Fraction]:
@@ -197,7 +197,7 @@ def too_fine(shares: Sequence[Fraction], scale: int) -> None:
     """The shares have a common denominator that fits."""
     scaled = [value * scale for value in shares]
     finest = lcm(*(value.denominator for value in scaled))
-    need(finest <= 2**63, Refusal.TooFine, "$.shares", "the shares have no common denominator to 2^63")
+    need(finest <= 2**63, Refusal.TooFine, "$.shares", "the common denominator of the shares is above 2^63")
     for i, value in enumerate(scaled):
         need(
             abs(value * finest) < 2**110,
@@ -219,7 +219,7 @@ def names(game: Any, players: int) -> None:
         place = f"$.game.names[{i}]"
         need(name, Refusal.Names, place, "a name is empty")
         need(len(name.encode()) <= 64, Refusal.Names, place, f"a name has {len(name.encode())} bytes, above 64")
-        need(name not in found[:i], Refusal.Names, place, f"the name {brief(name)} stands twice")
+        need(name not in found[:i], Refusal.Names, place, f"the name {brief(name)} is given twice")
     for i, item in enumerate(game.get("sparse", [])):
         for j, member in enumerate(item[0]):
             known = type(member) is not str or member in found
@@ -236,12 +236,12 @@ def coalitions(game: Any, players: int) -> None:
             player = game["names"].index(member) + 1 if type(member) is str else member
             fits = type(player) is int and 1 <= player <= players
             if not fits:
-                raise Found(Refusal.Coalition, place, f"{brief(player)} is no player: they count from 1 to {players}")
+                raise Found(Refusal.Coalition, place, f"{brief(player)} isn't a player from 1 to {players}")
             if player in ids:
-                raise Found(Refusal.Coalition, place, f"{brief(member)} stands twice in {brief(coalition)}")
+                raise Found(Refusal.Coalition, place, f"{brief(member)} is twice in {brief(coalition)}")
             ids.append(player)
         first = seen.setdefault(frozenset(ids), i)
-        need(first == i, Refusal.Coalition, place, lambda: f"{brief(coalition)} stands in item {first + 1} already")
+        need(first == i, Refusal.Coalition, place, lambda: f"{brief(coalition)} is already in item {first + 1}")
 
 
 # ---- What a class asks
@@ -252,16 +252,16 @@ def own_tests(game: Any) -> None:
     kind = game["class"]
     if kind == "bankruptcy":
         total, estate = sum(map(Fraction, game["claims"])), Fraction(game["estate"])
-        sentence = f"the claims add to {total}, less than the estate of {estate}: each gets its claim"
+        sentence = f"the claims add up to {total}, less than the estate of {estate}: each gets its claim"
         need(total >= estate, Refusal.Estate, "$.game.estate", sentence)
     elif kind == "voting":
         total, quota = sum(game["weights"]), game["quota"]
-        need(total <= 1000, Refusal.Quota, "$.game.weights", f"the weights add to {total}, above 1,000")
+        need(total <= 1000, Refusal.Quota, "$.game.weights", f"the weights add up to {total}, above 1,000")
         need(
             1 <= quota <= total,
             Refusal.Quota,
             "$.game.quota",
-            f"the quota {quota} isn't from 1 to {total}, what the weights add to",
+            f"the quota {quota} isn't from 1 to {total}, the sum of the weights",
         )
     elif "matrix" in game:
         matrix(game["matrix"], kind == "tree")
@@ -271,13 +271,13 @@ def matrix(rows: Any, is_tree: bool) -> None:
     """The rows of a matrix."""
     width = len(rows) if is_tree else len(rows[0])
     for i, row in enumerate(rows):
-        need(len(row) == width, Refusal.Matrix, f"$.game.matrix[{i}]", f"the row has {len(row)} items, and not {width}")
+        need(len(row) == width, Refusal.Matrix, f"$.game.matrix[{i}]", f"the row has {len(row)} items, not {width}")
     for i, row in enumerate(rows if is_tree else []):
         need(
             not Fraction(row[i]),
             Refusal.Matrix,
             f"$.game.matrix[{i}][{i}]",
-            lambda: f"{brief(row[i])} from a point to itself, and not 0",
+            lambda: f"{brief(row[i])} from a point to itself, instead of 0",
         )
         for j in range(i):
             same = Fraction(row[j]) == Fraction(rows[j][i])
@@ -285,5 +285,5 @@ def matrix(rows: Any, is_tree: bool) -> None:
                 same,
                 Refusal.Matrix,
                 f"$.game.matrix[{i}][{j}]",
-                lambda: f"{brief(row[j])}, and {brief(rows[j][i])} the other way",
+                lambda: f"{brief(row[j])}, but {brief(rows[j][i])} the other way",
             )

@@ -52,7 +52,7 @@ def read_rows(rows: Rows) -> Iterable[tuple[str, Fraction, int]]:
     """The rows with exact costs."""
     for name, cost, count in rows:
         if type(count) is not int or count < 1:
-            raise BadInput(f"{name}: {count!r} is no number of landings")
+            raise BadInput(f"{name}: {count!r} isn't a number of landings")
         exact = fraction_of(cost)
         if exact < 0:
             raise BadInput(f"{exact} is below 0")
@@ -65,7 +65,7 @@ def places_of(rows: Iterable[tuple[str, Fraction, int]]) -> list[tuple[Fraction,
     for _, cost, count in rows:
         counts[cost] = counts.get(cost, 0) + count
     if not counts:
-        raise BadInput("there is no landing")
+        raise BadInput("the list has no landing")
     costs = sorted(counts)
     return [(cost, sum(counts[other] for other in costs[: k + 1])) for k, cost in enumerate(costs)]
 

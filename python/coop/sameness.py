@@ -37,7 +37,7 @@ def game_of(path: str) -> Game:
     text, where = read_text(path, may_be_marked=False)
     trees = parse(text, where)
     if len(trees) != 1:
-        raise BadInput(f"{path} has {len(trees)} documents, and not one")
+        raise BadInput(f"{path} has {len(trees)} documents: give a file with one")
     tree = object_of(trees[0], where)
     if "game" not in tree:
         raise BadInput(f"{where} has no game")

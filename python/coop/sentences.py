@@ -14,12 +14,12 @@ from .styles import EXACT, Style, each
 
 USAGES = {
     "class": "The command doesn't serve the class of this game.",
-    "players": "The command doesn't serve so many players.",
-    "words": "The words aren't those of a command: a command is one word, and the document comes on standard input.",
+    "players": "The game has more players than the command serves.",
+    "words": "There is no such command: a command is one word, and the document comes on standard input.",
 }
 NO_ANSWER = (
-    "there are shares, and no answer of the program: bin/coop propose and kernel judge shares, and scripts/compare "
-    "sets them beside a nucleolus"
+    "these are shares, not an answer of the program: bin/coop propose and kernel judge shares, and scripts/compare "
+    "compares them with a nucleolus"
 )
 MOST_PLAYERS = 16
 
@@ -40,7 +40,7 @@ class Teller:
         if self.namer is None:
             return f"player {player}"
         if not 1 <= player <= self.namer.n:
-            raise BadInput(f"{player} is no player of the game")
+            raise BadInput(f"{player} isn't a player of the game")
         return self.namer.names[player - 1]
 
     def group(self, players: list[int]) -> str:
@@ -97,13 +97,13 @@ class Teller:
             return filled(USAGES.get(tree["usage"], USAGES["words"]))
         tell = TELLERS.get(str(tree.get("answer", "gen" if "verdict" in tree else "")))
         if tell is None:
-            raise BadInput(NO_ANSWER if "shares" in tree else "this is no answer of the program")
+            raise BadInput(NO_ANSWER if "shares" in tree else "this isn't an answer of the program")
         try:
             if self.game is not None and self.shares is not None:
                 require_judged(self.game, self.shares, tree)
             return tell(self, tree)
         except (KeyError, TypeError, ValueError, IndexError) as fault:
-            raise BadInput(f"this is no whole answer of the program: {fault!r}") from None
+            raise BadInput(f"this isn't a whole answer of the program: {fault!r}") from None
 
     def no_imputation(self, tree: dict[str, Any]) -> str:
         """Why there is no nucleolus. Costs alone add to less than those of all, worths to more."""

@@ -37,9 +37,9 @@ def is_number(tree: Any) -> bool:
 
 def require_shape(tree: Any, needs: Sequence[str]) -> None:
     """Ends with the first slip of shape."""
-    need(type(tree) is dict, Refusal.Shape, "$", lambda: f"a document is an object, and not {brief(tree)}")
+    need(type(tree) is dict, Refusal.Shape, "$", lambda: f"a document is an object, not {brief(tree)}")
     if "game" not in tree and "class" in tree:
-        raise Found(Refusal.Shape, "$", 'the game stands alone: write {"game":..} around it')
+        raise Found(Refusal.Shape, "$", 'this is only the game: write {"game":..} around it')
     keys(tree, [needs], ALL, "$", "the document")
     game(tree["game"])
     if "shares" in needs:
@@ -74,12 +74,12 @@ def word(tree: Any, words: Sequence[Any], place: str) -> None:
         return
     near = get_close_matches(str(tree).lower(), map(str, words), 1, 0.6)
     hint = f"; is {near[0]} meant?" if near else ""
-    raise Found(Refusal.Shape, place, f"{brief(tree)} is none of {', '.join(map(str, words))}{hint}")
+    raise Found(Refusal.Shape, place, f"{brief(tree)} isn't one of {', '.join(map(str, words))}{hint}")
 
 
 def items(tree: Any, place: str, test: Callable[[Any, str], None]) -> None:
     """The value is an array, and each item passes the test."""
-    hint = ": an array in the order of the players" if type(tree) is dict else ""
+    hint = ": write an array in the order of the players" if type(tree) is dict else ""
     need(type(tree) is list, Refusal.Shape, place, lambda: f"{brief(tree)} is no array{hint}")
     for i, item in enumerate(tree):
         test(item, f"{place}[{i}]")
@@ -88,7 +88,7 @@ def items(tree: Any, place: str, test: Callable[[Any, str], None]) -> None:
 def pair(tree: Any, place: str, hint: str = "") -> None:
     """The value is an array of two."""
     need(type(tree) is list, Refusal.Shape, place, lambda: f"{brief(tree)} is no pair{hint}")
-    need(len(tree) == 2, Refusal.Shape, place, lambda: f"{brief(tree)} has {len(tree)} parts, and not two{hint}")
+    need(len(tree) == 2, Refusal.Shape, place, lambda: f"{brief(tree)} has {len(tree)} parts instead of two{hint}")
 
 
 def share(tree: Any, place: str) -> None:
@@ -154,7 +154,7 @@ def game(tree: Any) -> None:
                 other not in tree,
                 Refusal.Shape,
                 "$.game",
-                f"a table has either worths or sparse, so {other} has no place",
+                f"a table has either worths or sparse, so leave out {other}",
             )
     keys(tree, KEYS[kind], COMMON, "$.game", f"a game of class {kind}")
     if "names" in tree:

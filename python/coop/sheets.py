@@ -23,9 +23,9 @@ OTHER = {".": ",", ",": "."}
 NUMBER = re.compile(r"-?([0-9]+)((?:[.,][0-9]+)+)(?:[eE][-+]?[0-9]+)?")
 PARTED = re.compile(r"-?[0-9]{1,3}(?:([ \u00a0\u2009\u202f'\u2019])[0-9]{3})(?:\1[0-9]{3})*(?:[.,][0-9]+)?")
 WHOLE = re.compile(r"-?[0-9]+(?:/[0-9]+)?")
-HEAD = "; a line of headings is left out by --head"
-UNIT = "; a unit or a sign of money has to be left out"
-LEFT_OUT = "the first row and the first column, which have names, are left out"
+HEAD = "; if this line has headings, use --head"
+UNIT = "; leave out units and currency signs"
+LEFT_OUT = "left out the first row and the first column, which have names"
 
 
 Cell = tuple[str, str]
@@ -160,30 +160,30 @@ def without_names(rows: list[Row], layout: Layout) -> tuple[list[Row], Layout]:
 def require_width(sheet: Sheet, widths: Collection[int], example: str) -> None:
     """Refuses a sheet that has no rows, or a row of another number of cells."""
     if not sheet.rows:
-        raise BadInput("there is no line")
+        raise BadInput("the file has no lines")
     for row in sheet.rows:
         if len(row.cells) not in widths or len(row.cells) != len(sheet.rows[0].cells):
             raise BadInput(f"line {row.line} {told_width(sheet, row, widths)}: {advice_on_width(sheet, row, example)}")
         if sheet.sign == "," and re.search(r";\s*-?[0-9.]*$", row.cells[0]):
-            raise BadInput(f"line {row.line} has a semicolon: write {example}, or semicolons in all lines")
+            raise BadInput(f"line {row.line} has a semicolon: write {example}, or use semicolons in all lines")
 
 
 def told_width(sheet: Sheet, row: Row, widths: Collection[int]) -> str:
     """How many columns a row has, and how many it should have."""
     count = "1 column" if len(row.cells) == 1 else f"{len(row.cells)} columns"
     wanted = len(sheet.rows[0].cells)
-    return f"has {count}, and not {wanted if wanted in widths else ' or '.join(map(str, widths))}"
+    return f"has {count} instead of {wanted if wanted in widths else ' or '.join(map(str, widths))}"
 
 
 def advice_on_width(sheet: Sheet, row: Row, example: str) -> str:
     """What may be done about a row of another number of cells."""
     firsts = [other.cells[0] for other in sheet.rows if other.cells]
     if are_counted(firsts) or are_counted(firsts[1:]):
-        return "is the first one the number of the row? Then leave it out by --skip 1"
+        return "is the first one the number of the row? Then leave it out with --skip 1"
     if sheet.sign == "," and len(row.cells) > 2 and all(cell.isdigit() for cell in row.cells[-2:]):
         both = ",".join(row.cells[-2:])
-        return f"is {both} one number, with a comma in front of decimals? Then write semicolons between cells"
-    skip = ", or leave out columns in front by --skip" * (len(row.cells) > 2)
+        return f"is {both} one number, with a decimal comma? Then write semicolons between cells"
+    skip = ", or leave out the first columns with --skip" * (len(row.cells) > 2)
     return f"write {example}, or the same with semicolons or tabs{skip}"
 
 
@@ -200,7 +200,7 @@ def rows_of_numbers(text: str, layout: Layout) -> tuple[list[Row], Layout]:
     text, signs = signs_in(text, layout, True)
     rows, found = without_names(list(cells_of(text, signs[0])), layout)
     if not rows:
-        raise BadInput("there is no line")
+        raise BadInput("the file has no lines")
     return marked(rows, [(f"line {row.line}", cell) for row in rows for cell in row.cells], signs[0], layout), found
 
 
@@ -233,11 +233,11 @@ def mark_in(cells: Sequence[Cell]) -> str:
             unsure = unsure or (place, cell)
     if len(found) > 1:
         (a, one), (b, other) = found.values()
-        raise BadInput(f"{one} in {a} and {other} in {b} have two marks in front of decimals")
+        raise BadInput(f"{one} in {a} and {other} in {b} have different decimal marks")
     if not found and unsure:
         place, cell = unsure
         part, whole = two_ways(cell)
-        advice = "name the mark in front of decimals (--decimal point, or comma)"
+        advice = "name the decimal mark (--decimal point, or comma)"
         raise BadInput(f"{place}: {cell} may be {part} or {whole}: {advice}")
     return next(iter(found), ".")
 
@@ -290,11 +290,11 @@ def by_mark(cell: str, mark: str, digits: Optional[int]) -> Fraction:
     if re.fullmatch(rf"-?[0-9]{{1,3}}([{other}][0-9]{{3}})+([{mark}][0-9]+)?", cell):
         cell = cell.replace(other, "")
     elif mark == "," and "." in cell:
-        raise BadInput(f"{cell!r} is no number with a comma in front of decimals")
+        raise BadInput(f"{cell!r} isn't a number with a decimal comma")
     return fraction_of(cell.replace(",", ".") if mark == "," else cell, digits)
 
 
-# ---- What is worth a word
+# ---- Warnings
 
 
 def notes(text: str, columns: int, layout: Layout, beside: Sequence[Cell] = ()) -> list[str]:
@@ -305,7 +305,7 @@ def notes(text: str, columns: int, layout: Layout, beside: Sequence[Cell] = ()) 
     told += note_on_points(rows[0].mark, [row.cells[1] for row in rows], layout)
     amounts = [amount_of(row, 1, None) for row in rows]
     if len(rows) > 2 and "+" not in rows[-1].cells[0] and sum(amounts[:-1]) == amounts[-1]:
-        told.append(f"{rows[-1].cells[0]} has the sum of all others: is that a row of the sum? It is taken as a player")
+        told.append(f"{rows[-1].cells[0]} has the sum of all others: is that the row of the sum? It counts as a player")
     return told
 
 
@@ -315,4 +315,4 @@ def note_on_points(mark: str, cells: Sequence[str], layout: Layout) -> list[str]
     is_told = mark == "." and not layout.decimal and pointed
     if not is_told or not all(re.fullmatch(r"-?[1-9][0-9]{0,2}\.[0-9]{3}", cell) for cell in pointed):
         return []
-    return [f"{pointed[0]} is read as {fraction_of(pointed[0])}: a point stands in front of decimals"]
+    return [f"{pointed[0]} is read as {fraction_of(pointed[0])}: the point is the decimal mark"]

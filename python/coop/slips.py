@@ -132,7 +132,7 @@ class Repeated:
 
     def __str__(self) -> str:
         key = json.dumps(self.key, ensure_ascii=False)
-        return visible(f"{self.place[:MOST_SHOWN]}: the key {key[:MOST_SHOWN]} stands twice, and the last one counts")
+        return visible(f"{self.place[:MOST_SHOWN]}: the key {key[:MOST_SHOWN]} is given twice, and the last one counts")
 
 
 def repeated(data: bytes) -> Optional[Repeated]:
@@ -185,13 +185,13 @@ def read_json(data: bytes) -> Any:
         not data.startswith(b"\xef\xbb\xbf"),
         Refusal.NotJson,
         "line 1",
-        "there is a byte order mark: save as UTF-8 without one",
+        "there is a byte order mark: save the file as UTF-8 without one",
     )
     try:
         text = data.decode()
     except UnicodeDecodeError as fault:
         line = data.count(b"\n", 0, fault.start) + 1
-        raise Found(Refusal.NotJson, f"line {line}", "a byte there isn't UTF-8: save as UTF-8") from None
+        raise Found(Refusal.NotJson, f"line {line}", "a byte isn't UTF-8: save the file as UTF-8") from None
     need(text.strip(), Refusal.NotJson, "the document", "it is empty")
     require_few(text)
     require_depth(text)
@@ -224,20 +224,20 @@ def real(text: str) -> float:
 
 def constant(text: str) -> Any:
     """What JSON has no word for."""
-    raise ValueError(f"{text} is no number")
+    raise ValueError(f"{text} isn't a number")
 
 
 def advice(fault: str, text: str, place: int) -> str:
     """What a fault of JSON means."""
     rest = text[place : place + 1]
     if fault == "Extra data":
-        return "there is more behind the document: one JSON object is a document"
+        return "something follows the document: a document is one JSON object"
     if rest == "'":
-        return "a single quote: JSON has double quotes"
+        return "JSON has double quotes, not single ones"
     if fault.startswith(("Expecting property name", "Expecting value")) and rest in ("]", "}"):
-        return f"a comma stands in front of {rest}"
+        return f"there is a comma before {rest}"
     if rest == "/" or rest == "#":
-        return "a comment, which JSON hasn't"
+        return "JSON has no comments"
     return fault[:1].lower() + fault[1:] if rest else "the document ends there, before it is whole"
 
 
@@ -250,7 +250,7 @@ def require_few(text: str) -> None:
             count -= sum(string[0].count(bracket) for string in STRING.finditer(text))
         if count > most:
             told = f"the document has {count:,} {what}, and none within the limits has more than {most:,}"
-            raise BadInput(f"{told}: its slip isn't looked for")
+            raise BadInput(f"{told}: its mistake isn't looked for")
 
 
 def brackets(text: str) -> Iterator[tuple[int, str]]:
@@ -273,7 +273,7 @@ def require_depth(text: str) -> None:
             depth <= MOST_DEPTH,
             Refusal.NotJson,
             f"character {place + 1}",
-            f"it is nested deeper than {MOST_DEPTH} there",
+            f"it is nested deeper than {MOST_DEPTH}",
         )
 
 
@@ -286,4 +286,4 @@ def require_whole(text: str) -> None:
             json.loads(string[0]).encode()
         except UnicodeEncodeError:
             line = text.count("\n", 0, string.start()) + 1
-            raise Found(Refusal.NotJson, f"line {line}", "a text there has half of a character, as \\ud800") from None
+            raise Found(Refusal.NotJson, f"line {line}", "a text has half of a character, such as \\ud800") from None

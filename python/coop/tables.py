@@ -189,7 +189,7 @@ def of_those_who_stay(points: Sequence[Point]) -> tuple[list[str], list[Point], 
 def change(points: Sequence[Point]) -> Point:
     """What each gets more by the last point than by the first."""
     if len(points) < 2:
-        raise BadInput("a change is that between two divisions, and there is one")
+        raise BadInput("--change needs two divisions, and there is one")
     shares = [last - first for first, last in zip(points[0].shares, points[-1].shares)]
     return Point("change", shares, points[-1].game, (points[0].shares, points[-1].shares))
 

@@ -36,7 +36,7 @@ def marked(words: str, mark: Optional[str]) -> Fraction:
         return by_mark(words, mark, None)
     except BadInput:
         name = next(name for name, sign in MARKS.items() if sign == mark)
-        raise BadInput(f"{words} is no number with a {name} in front of decimals") from None
+        raise BadInput(f"{words} isn't a number with a decimal {name}") from None
 
 
 def as_operand(word: str) -> str:

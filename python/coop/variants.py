@@ -18,10 +18,10 @@ def without(game: Game, leaving: Collection[str]) -> Game:
         if name not in game.names:
             near = next((own for own in game.names if looks(own) == looks(name)), None)
             told = f"{shown(near)} looks like it ({shown(name)})" if near else f"there are {', '.join(game.names)}"
-            raise BadInput(f"{name} is no player: {told}")
+            raise BadInput(f"{name} isn't a player: {told}")
     stay = [i for i, name in enumerate(game.names) if name not in leaving]
     if not stay:
-        raise BadInput("nobody stays")
+        raise BadInput("no player stays")
     names = [game.names[i] for i in stay] if game.named else None
     return made(game.kind, parts_of(game, stay), names, game.per_head)
 

@@ -23,7 +23,7 @@ def players_of(length: int) -> int:
     players = (length + 1).bit_length() - 1
     if length < 1 or 2**players - 1 != length:
         near = ", ".join(str(2**n - 1) for n in range(2, 7))
-        raise BadInput(f"a vector has 2^n - 1 numbers ({near}, ..), or one more, 0, for the empty group; not {length}")
+        raise BadInput(f"{length} numbers: a vector has 2^n - 1 ({near}, ..), or one more, 0, for the empty group")
     if players > MOST_PLAYERS:
         raise BadInput(f"{players} players: a table has at most {MOST_PLAYERS}")
     return players
@@ -33,7 +33,7 @@ def in_mask_order(vector: Sequence[Fraction], order: Optional[str]) -> list[Frac
     """The vector in mask order, without the empty group, which may stand first with 0. From three players on the order
     has to be named."""
     if order is not None and order not in ORDERS:
-        raise BadInput(f"{order!r} is no order: {', '.join(ORDERS)}")
+        raise BadInput(f"{order!r} isn't an order: use {', '.join(ORDERS)}")
     numbers = list(vector)
     if len(numbers) > 1 and len(numbers) & len(numbers) - 1 == 0:
         if numbers[0]:
@@ -50,5 +50,5 @@ def in_mask_order(vector: Sequence[Fraction], order: Optional[str]) -> list[Frac
 def in_order(worths: Sequence[Fraction], order: str) -> list[Fraction]:
     """The other way: a vector in mask order, in the order that is named."""
     if order not in ORDERS:
-        raise BadInput(f"{order!r} is no order: {', '.join(ORDERS)}")
+        raise BadInput(f"{order!r} isn't an order: use {', '.join(ORDERS)}")
     return [worths[group - 1] for group in ORDERS[order](players_of(len(worths)))]

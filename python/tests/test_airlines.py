@@ -49,7 +49,7 @@ class Lists(unittest.TestCase):
         self.assertEqual(read("a,b,c\nAer,20,3\nBee,40,2\n", HEADED), three)
         saved = '"","airline","cost","landings"\n"1","Aer",20,3\n"2","Bee",40,2\n'
         self.assertEqual(read(saved), three)
-        self.assertIn("have names, are left out", remarks(saved, Layout())[0])
+        self.assertIn("left out the first row and the first column", remarks(saved, Layout())[0])
         dated = ",date,airline,type,landings,cost\n0,2024-01-15,Aer,DH8,3,20\n1,2024-01-16,Bee,DH8,2.0,40.0\n"
         self.assertEqual(read(dated), [("Aer, DH8", 20, 3), ("Bee, DH8", 40, 2)])
         self.assertEqual(read("1;Aer;20;3\n2;Bee;40;2\n", Layout(skip=1)), three)
@@ -57,33 +57,37 @@ class Lists(unittest.TestCase):
 
     def test_what_is_told(self) -> None:
         whole = "Aer,A320,3,20\nBee,A320,2,40\n"
-        self.assertIn("3 is taken as landings, and 20 as what one needs", remarks(whole, Layout())[0])
+        self.assertIn("3 is read as landings, and 20 as what one needs", remarks(whole, Layout())[0])
         self.assertEqual(remarks(FEW, Layout()), [])
         half = remarks("Airline,ICAO,n,Cost\nAer,A320,3,20\n", HEADED)
-        self.assertEqual(half, ["the columns are taken as airline, type, landings, need: not all headings are known"])
+        self.assertEqual(half, ["the columns are read as airline, type, landings, need: not all headings are known"])
         dated = "Date,Airline,Type,Landings,Cost\n1/5,Aer,A320,3,20\n"
-        self.assertEqual(remarks(dated, HEADED), ["left out: Date"])
+        self.assertEqual(remarks(dated, HEADED), ["left out these columns: Date"])
         comma = remarks("\"M, S\u00f6hne\",20.5,3\n", Layout())
-        self.assertIn("M, S\u00f6hne has a comma, behind which `shares --by` takes a type to stand", comma[0])
+        self.assertIn("M, S\u00f6hne has a comma, and `shares --by` reads what follows it as a type", comma[0])
         summed = "Aer,20,3\nBee,40,2\nTotal,60,5\n"
         self.assertIn("Total has as many landings as all others", remarks(summed, Layout())[0])
         self.assertIn("480.000 is read as 480", remarks("Aer,480.000,3\n", Layout())[0])
 
     def test_what_is_refused(self) -> None:
         for text, layout, sentence in (
-            ("Aer,20,50,3\nBee,40,25,2\n", Layout(), "line 1: is 20,50 one number, with a comma in front of decimals"),
+            ("Aer,20,50,3\nBee,40,25,2\n", Layout(), "line 1: is 20,50 one number, with a decimal comma"),
             ("1;Aer;20;3\n2;Bee;40;2\n", Layout(), "line 1: is 1 the number of the row.*--skip 1"),
             ("id;airline;need;n\n0;Aer;20;3\n1;Bee;40;2\n", HEADED, "line 2: is 0 the number of the row.*--skip 1"),
-            ("Aer,A320,20.50,3\n", Layout(), "20.50 is no number of landings; four columns are airline, type, land"),
-            ("Aer,20,3\nAer,40,2\n", Layout(), "line 2: Aer stands in line 1 already; .* give their types"),
-            ("Aer,A,3,20\n,B,3,20\n", Layout(), "line 2: there is no name"),
+            ("Aer,A320,20.50,3\n", Layout(), "20.50 isn't a number of landings; four columns are airline, type, land"),
+            ("Aer,20,3\nAer,40,2\n", Layout(), "line 2: Aer is already in line 1; .* give their types"),
+            ("Aer,A,3,20\n,B,3,20\n", Layout(), "line 2 has no name"),
             ('Aer,"A320, neo",3,20\n', Layout(), "line 1: the type A320, neo has a comma"),
-            ('"Aer, Ltd",,3,20\nBee,B,1,2\n', Layout(), "line 1: Aer, Ltd has no type, and a comma"),
-            ("Aer,20\n", Layout(), "line 1 has 2 columns, and not 3 or 4"),
-            ("Aer,A,3,20,x\n", Layout(), "line 1 has 5 columns, and not 3 or 4.*--head"),
-            ("Airline,Landings,Cost\nAer,3,20\n", Layout(), "line 1: Cost is no number of landings; a line of head"),
-            ("Airline,Type,Cost\nAer,A320,20\n", HEADED, "no heading tells the column of landings"),
-            ("", Layout(), "there is no line"),
+            ('"Aer, Ltd",,3,20\nBee,B,1,2\n', Layout(), "line 1: Aer, Ltd has a comma but no type"),
+            ("Aer,20\n", Layout(), "line 1 has 2 columns instead of 3 or 4"),
+            ("Aer,A,3,20,x\n", Layout(), "line 1 has 5 columns instead of 3 or 4.*--head"),
+            (
+                "Airline,Landings,Cost\nAer,3,20\n",
+                Layout(),
+                "line 1: Cost isn't a number of landings; if this line has head",
+            ),
+            ("Airline,Type,Cost\nAer,A320,20\n", HEADED, "no heading names the column of landings"),
+            ("", Layout(), "the file has no lines"),
         ):
             with self.assertRaisesRegex(BadInput, sentence):
                 landings_in(text, layout=layout)

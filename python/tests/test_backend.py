@@ -85,7 +85,7 @@ class Built(unittest.TestCase):
         tools = os.path.join(self.folder, "tools")
         os.mkdir(tools)
         found = self.asked(python, tools)
-        self.assertIn(b"NotFound: there is no program coop: put Node 18 or later on the path", found[1])
+        self.assertIn(b"NotFound: no program found: put Node 18 or later on the path", found[1])
         os.symlink(NODE or "", os.path.join(tools, "nodejs"))
         said = f"-2 {os.path.join(site, 'coop', '__init__.py')}\n{{'answer': 'yes'}}\n"
         self.assertEqual(self.asked(python, tools), (said.encode(), b""))

@@ -58,7 +58,7 @@ class Calls(unittest.TestCase):
         self.assertIsInstance(coop.propose(AIRPORT, [1.0, 1.5, 3.499999], digits=2), answers.InCore)
         shares = {"heavy": 3.5, "light": 1.0, "medium": 1.5}
         self.assertIsInstance(coop.kernel(AIRPORT, shares, digits=1), answers.InPrekernel)
-        with self.assertRaisesRegex(coop.BadInput, "name a number of digits"):
+        with self.assertRaisesRegex(coop.BadInput, "give a number of digits"):
             coop.propose(AIRPORT, [1.0, 1.5, 3.5])
 
     def test_proposals(self) -> None:
@@ -171,11 +171,11 @@ class Statuses(unittest.TestCase):
 
     def test_no_answers(self) -> None:
         cases: list[tuple[int, str, type[coop.NoAnswer], str]] = [
-            (2, '{"usage":"players"}', coop.Usage, "so many players"),
+            (2, '{"usage":"players"}', coop.Usage, "more players than the command serves"),
             (3, '{"number":8,"refused":"Estate"}', coop.Refused, "8 Estate"),
             (5, "", coop.Fault, "reading failed"),
             (6, '{"answ', coop.Fault, "writing failed"),
-            (7, "", coop.NoMemory, "no memory"),
+            (7, "", coop.NoMemory, "out of memory"),
             (70, "", coop.Fault, "couldn't answer"),
             (-9, "", coop.Fault, "status -9"),
             (2, "usage: cat", coop.Fault, "status 2"),

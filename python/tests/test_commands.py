@@ -71,7 +71,7 @@ class Scripts(unittest.TestCase):
         self.refused(script("from-vector", text="1,2,4\n"), "--order")
         self.refused(script("from-vector", "--order", "mask", text="1,2,0.00001\n"), "--digits 4", "--scaled")
         self.refused(
-            script("from-vector", "--order", "mask", "--scaled", text="1,2,0.00001\n1,2,3\n"), "different numbers"
+            script("from-vector", "--order", "mask", "--scaled", text="1,2,0.00001\n1,2,3\n"), "different factors"
         )
 
     def test_from_claims_and_landings(self) -> None:
@@ -113,7 +113,7 @@ class Scripts(unittest.TestCase):
         saved = '"";"V1";"V2";"V3"\n"1";0,5;1e-04;2\n'
         status, text, errors = script("from-vector", "--order", "size", text=saved)
         self.assertEqual((status, json.loads(text)["game"]["worths"]), (0, ["1/2", "1/10000", 2]))
-        self.assertIn("have names, are left out", errors)
+        self.assertIn("left out the first row and the first column", errors)
         named = script("from-vector", "--order", "size", "--skip", "1", text="1,1,2,4\n")[1]
         self.assertEqual(json.loads(named)["game"]["worths"], [1, 2, 4])
 
@@ -137,7 +137,7 @@ class Scripts(unittest.TestCase):
         self.assertEqual([row[1::2] for row in rows], wanted)
         both = script("shares", text='{"game":{"class":"airport","costs":[1],"names":["together"]},"shares":[1]}')[1]
         self.assertIn("\nall together", both)
-        self.refused(script("shares", "--over", "0", text=text), "no number from 1 on")
+        self.refused(script("shares", "--over", "0", text=text), "isn't a whole number from 1 up")
 
     def test_landings_by_airline(self) -> None:
         """Four columns in, and rows and airlines' sums out, which agree; a CSV has no sums."""
@@ -161,7 +161,7 @@ class Scripts(unittest.TestCase):
         self.refused(script("shares", "--by", "row", "--together", text=line), "give one")
         self.refused(script("from-landings", text="Aer,20,50,3\n"), "is 20,50 one number")
         known = script("from-landings", "--head", text="Date,Airline,Landings,Cost\n1/5,Aer,3,20\n")
-        self.assertEqual((known[0], known[2]), (0, "from-landings: left out: Date\n"))
+        self.assertEqual((known[0], known[2]), (0, "from-landings: left out these columns: Date\n"))
 
     def test_files_for_spreadsheets(self) -> None:
         """Semicolons and decimal commas on the way out, as they are read on the way in."""
@@ -186,7 +186,7 @@ class Scripts(unittest.TestCase):
     def test_what_is_told_once_and_how_to_save(self) -> None:
         """Names that look alike are told once for all rows; and what isn't UTF-8 is told with what to choose."""
         rows = script("from-vector", "--order", "mask", "--names", "A,a", text="1,2,4\n" * 30)
-        self.assertEqual((rows[0], rows[1].count("\n"), rows[2].count("capitals alone")), (0, 30, 1))
+        self.assertEqual((rows[0], rows[1].count("\n"), rows[2].count("only in capitals")), (0, 30, 1))
         with tempfile.TemporaryDirectory() as folder:
             path = os.path.join(folder, "claims.csv")
             with open(path, "wb") as file:
@@ -199,7 +199,7 @@ class Scripts(unittest.TestCase):
             with open(path, "w", encoding="utf-8") as file:
                 file.write(twice)
             told = script("explain", "-", path, text='{"number":5,"refused":"Number"}')
-        self.assertIn('Besides, at $.game: the key "costs" stands twice', " ".join(told[1].split()))
+        self.assertIn('Besides, at $.game: the key "costs" is given twice', " ".join(told[1].split()))
 
     @needs_program
     def test_columns_of_many(self) -> None:
@@ -228,7 +228,7 @@ class Scripts(unittest.TestCase):
         self.assertEqual((runway["class"], runway["worths"]), ("cost-table", [2, 4, 4, 6, 6, 6, 7]))
         game = json.loads(script("without", PROPOSAL, "light")[1])["game"]
         self.assertEqual(game, {"class": "airport", "costs": [4, 6], "names": ["medium", "heavy"]})
-        self.refused(script("without", PROPOSAL, "bright"), "bright is no player")
+        self.refused(script("without", PROPOSAL, "bright"), "bright isn't a player")
         dear = '{"game":{"class":"cost-table","names":["a","b","c"],"players":3,"worths":[3,4,7,5,5,9,6]}}'
         status, text, errors = script("without", "-", "c", text=dear)
         self.assertEqual((status, json.loads(text)["game"]["worths"]), (0, [3, 4, 7]))
@@ -251,12 +251,12 @@ class Scripts(unittest.TestCase):
         rows = [row.split() for row in text.splitlines()[1:]]
         wanted = [["a", "1", "1", "0"], ["c", "7/2", "5", "3/2"], ["together", "9/2", "6", "3/2"]]
         self.assertEqual((status, [row[:1] + row[1::2] for row in rows]), (0, wanted))
-        self.assertIn("left out: b\n", errors)
+        self.assertIn("left out, since they aren't in all games: b\n", errors)
         self.refused(script("shares", text=three + two), "other players than those of")
         nobody = two.replace('"c","a"', '"d","e"')
         self.refused(script("shares", "--change", text=three + nobody), "no player is in all the games")
         gains = two.replace('"airport","costs"', '"voting","quota":2,"weights"')
-        self.refused(script("shares", "--change", text=three + gains), "worths, beside costs")
+        self.refused(script("shares", "--change", text=three + gains), "worths, but costs")
         unnamed = '{"game":{"class":"airport","costs":[2,4]},"shares":[1,3]}'
         self.refused(script("shares", "--change", text=three + unnamed), "other players")
 
@@ -270,7 +270,7 @@ class Scripts(unittest.TestCase):
         dear = script("from-costs", "--fill", text="a,3\nb,4\nc,5\na+b+c,6\n")[2]
         self.assertIn("3 groups cost more than a larger group that contains them", dear)
         self.assertIn("from-costs: b+c: 9, and a+b+c: 6\n", dear)
-        self.assertIn('"core" and "core point" hold against the filled numbers alone', dear)
+        self.assertIn('"core" and "core point" hold only against the filled numbers', dear)
         within = script("from-costs", "--fill-within", "--places", "1", text="a,3\nb,4\nc,5\na+b+c,6\n")
         self.assertEqual([item[1] for item in json.loads(within[1])["game"]["sparse"]], [3, 4, 5, 6, 6, 6, 6])
         self.assertIn("b+c: 6.0 = a + b + c, and not 9.0 = b | c\n", within[2])
@@ -282,7 +282,7 @@ class Scripts(unittest.TestCase):
         gains = json.loads(script("from-costs", "--gains", text="a,1\n")[1])["game"]
         self.assertEqual(gains["class"], "table")
         for word in ("--fill", "--fill-within"):
-            self.refused(script("from-costs", "--gains", word, text=costs), "only costs")
+            self.refused(script("from-costs", "--gains", word, text=costs), "are for costs")
 
     def test_same_game(self) -> None:
         with tempfile.TemporaryDirectory() as folder:
@@ -301,7 +301,7 @@ class Scripts(unittest.TestCase):
                 script("same-game", "-", agreed, text=json.dumps({"game": other}))[:2],
                 (1, "another game:\n  the cost of heavy (item 3): 7 in the line, 6 in the agreed document\n"),
             )
-            self.refused(script("same-game", line, twice), 'the key "costs" stands twice')
+            self.refused(script("same-game", line, twice), 'the key "costs" is given twice')
             marked = "\ufeff" + json.dumps({"game": AIRPORT})
             self.refused(script("same-game", "-", agreed, text=marked), "standard input begins with a byte order mark")
             with open(twice, "w", encoding="utf-8") as file:
@@ -338,16 +338,16 @@ class Scripts(unittest.TestCase):
     def test_slip(self) -> None:
         slip = '{"game":{"class":"airport","cost":[2,4,6]}}'
         self.assertEqual(script("slip", text=slip)[0], 1)
-        self.assertEqual(script("slip", PROPOSAL), (0, "no slip is seen\n", ""))
+        self.assertEqual(script("slip", PROPOSAL), (0, "no mistake found\n", ""))
         self.assertIn(
             "3 Shape, at $: the document lacks the key shares",
             script("slip", "--command", "kernel", text='{"game":1}')[1],
         )
         twice = '{"game":{"class":"airport","costs":[2,4,6],"costs":[2,4,%s]}}'
-        told = 'at $.game: the key "costs" stands twice, and the last one counts\n'
+        told = 'at $.game: the key "costs" is given twice, and the last one counts\n'
         self.assertEqual(script("slip", text=twice % 7), (1, f"no refusal, but {told}", ""))
         both = script("slip", text=twice % 1.5)
-        self.assertEqual((both[0], both[1].count("\n"), both[1].splitlines(True)[1]), (1, 2, f"besides, {told}"))
+        self.assertEqual((both[0], both[1].count("\n"), both[1].splitlines(True)[1]), (1, 2, f"also {told}"))
         self.assertTrue(both[1].startswith("5 Number, at $.game.costs[2] (the cost of player 3): 1.5 has a point"))
 
     def test_compare(self) -> None:
@@ -386,7 +386,7 @@ class Scripts(unittest.TestCase):
         noted = script("report", "--note", "215 groups were filled in.", text=json.dumps(solved()))[1]
         self.assertEqual((noted.count("215 groups were filled in."), "215 groups" in text), (1, False))
         self.refused(script("report", text=json.dumps(solved(shares=[3, 1, 2]))), "condition 2")
-        self.refused(script("report", text='{"answer":"core"}'), "no line of nucleolus")
+        self.refused(script("report", text='{"answer":"core"}'), "isn't a line of nucleolus")
 
     def test_over(self) -> None:
         """A line that was multiplied is told as one that wasn't, but for the line on the report."""
@@ -495,8 +495,8 @@ class Scripts(unittest.TestCase):
         great = '{"game":{"class":"airport","costs":[4000000]}}'
         row = script("many", "nucleolus", "--csv", "--places", "2", "--unit", "EUR", text=great)[1].splitlines()[1]
         self.assertEqual(row, "0,standard input,nucleolus,4000000.00,")
-        self.refused(script("many", "core", "--over", "0", majority), "no number from 1 on")
-        self.refused(script("many", "core,sharply", majority), "'sharply' is none of")
+        self.refused(script("many", "core", "--over", "0", majority), "isn't a whole number from 1 up")
+        self.refused(script("many", "core,sharply", majority), "'sharply' isn't one of")
         game = script("proposal", PROPOSAL, "heavy=2", "light=0.50", "medium=7/2")
         self.assertEqual(json.loads(game[1])["shares"], ["1/2", "7/2", 2])
         self.assertEqual(json.loads(script("proposal", PROPOSAL, "1", "1.5", "3.5")[1])["shares"], [1, "3/2", "7/2"])

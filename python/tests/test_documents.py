@@ -67,7 +67,7 @@ class Points(Files):
         self.assertEqual([point.name for point in points], ["nucleolus, before", "nucleolus, after"])
         self.assertIn("<svg", picture(points))
         self.assertEqual(short_names(["a/x", "b/x", "y"]), {"a/x": "a/x", "b/x": "b/x", "y": "y"})
-        with self.assertRaisesRegex(BadInput, "no game, and the others have several"):
+        with self.assertRaisesRegex(BadInput, "no game, and the other documents have several"):
             self.points(before, after, self.file("line", {"answer": "shapley", "shares": [1, 2, 3]}))
 
     def test_what_is_refused(self) -> None:
@@ -75,13 +75,13 @@ class Points(Files):
         with self.assertRaisesRegex(BadInput, "other players"):
             self.points(self.file("line", solved()), others)
         for game, sentence in (
-            ({key: AIRPORT[key] for key in ("class", "costs")}, "no names, and some in .*line"),
-            ({"class": "bankruptcy", "claims": [2, 4, 6], "estate": 6, "names": AIRPORT["names"]}, "beside costs"),
+            ({key: AIRPORT[key] for key in ("class", "costs")}, "no names, but some in .*line"),
+            ({"class": "bankruptcy", "claims": [2, 4, 6], "estate": 6, "names": AIRPORT["names"]}, "but costs"),
         ):
             with self.assertRaisesRegex(BadInput, sentence):
                 self.points(self.file("line", solved()), self.file("other", solved(game=game)))
         twice = self.file("twice", '{"game":{"class":"airport","costs":[1],"costs":[2]},"shares":[1]}')
-        with self.assertRaisesRegex(BadInput, 'twice: the key "costs" stands twice'):
+        with self.assertRaisesRegex(BadInput, 'twice: the key "costs" is given twice'):
             self.points(twice)
         with self.assertRaisesRegex(BadInput, "2 shares for 3 players"):
             self.points(self.file("line", solved(), {"shares": [1, 2]}))
@@ -137,15 +137,15 @@ class Mail(Files):
         line = json.dumps(solved())
         halves = line[:60], line[60:]
         spoilt_lines = {
-            f"> {halves[0]}\n> {halves[1]}\n": "put > in front of lines and broke its lines",
-            f"> {line}\n": "put > in front of lines): have it sent as a file",
+            f"> {halves[0]}\n> {halves[1]}\n": "put > before lines and broke its lines",
+            f"> {line}\n": "put > before lines): ask for it as a file",
             quopri.encodestring(line.replace("light", "l=t").encode()).decode(): "quoted-printable",
             line.replace("light", "li\nght"): "broke its lines",
-            f"Dear Ann,\n{line}\nYours, Ben\n": "put others around it",
+            f"Dear Ann,\n{line}\nYours, Ben\n": "added others",
         }
         for text, sentence in spoilt_lines.items():
             for is_document in (True, False):
-                with self.assertRaisesRegex(BadInput, "no JSON.*mail has spoilt it") as caught:
+                with self.assertRaisesRegex(BadInput, "isn't JSON.*mail has changed it") as caught:
                     if is_document:
                         game_of(self.file("line", text))
                     reasons(text.encode())
@@ -259,7 +259,7 @@ class Sameness(Files):
             "  class: airport (an airport), 3 players\n  costs:\n    light: 2\n    medium: 4\n    heavy: 6\n",
         )
         twice = self.file("agreed", '{"game":{"class":"bankruptcy","estate":4,"claims":[1,2],"claims":[2,9]}}')
-        with self.assertRaisesRegex(BadInput, 'the key "claims" stands twice'):
+        with self.assertRaisesRegex(BadInput, 'the key "claims" is given twice'):
             game_of(twice)
         for texts, sentence in (((solved(), solved()), "2 documents"), (({"answer": "yes"},), "has no game")):
             with self.assertRaisesRegex(BadInput, sentence):

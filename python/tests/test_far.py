@@ -91,7 +91,7 @@ class Losses(unittest.TestCase):
         self.assertEqual(str(found.exception.__cause__), "the worker is gone")
 
     def test_mixed_up(self) -> None:
-        with self.assertRaisesRegex(coop.Lost, "games 5 to 8 .* the lines of others"):
+        with self.assertRaisesRegex(coop.Lost, "games 5 to 8 .* the lines of other games"):
             list(self.rows(Mixing()))
 
     def test_never(self) -> None:

@@ -81,23 +81,23 @@ class Constructors(unittest.TestCase):
             ("twice", lambda: coop.table({("Ann", "Bob"): 1, ("Bob", "Ann"): 2}, default=0)),
             ("twice", lambda: coop.table({("Ann", "Ann"): 1}, default=0)),
             ("empty group", lambda: coop.table({(): 1, "Ann": 1})),
-            ("no player", lambda: coop.table({"Ann": 1}, ["Bob"])),
+            ("isn't a player", lambda: coop.table({"Ann": 1}, ["Bob"])),
             ("2.n - 1", lambda: coop.table([1, 2, 3, 4, 5])),
             ("isn't 0", lambda: coop.table([5, 1, 2, 4])),
-            ("no order", lambda: coop.table([1, 2, 4], order="lexical")),
+            ("isn't an order", lambda: coop.table([1, 2, 4], order="lexical")),
             ("names for", lambda: coop.table([1, 2, 4], ["Ann"])),
             ("default", lambda: coop.table([1, 2, 4], default=0)),
             ("17 players", lambda: coop.table({str(i): 1 for i in range(17)}, default=0)),
             ("is a float", lambda: coop.airport([0.5])),
             ("below 0", lambda: coop.airport([-1])),
-            ("stands twice", lambda: coop.airport([1, 2], ["a", "a"])),
+            ("is given twice", lambda: coop.airport([1, 2], ["a", "a"])),
             ("no name", lambda: coop.airport([1, 2], ["a", "ü" * 33])),
             ("no name", lambda: coop.airport([1, 2], ["a", ""])),
             ("less than the estate", lambda: coop.bankruptcy(5, [1, 2])),
             ("one way", lambda: coop.tree([[0, 1], [2, 0]])),
             ("itself", lambda: coop.tree([[0, 1], [1, 1]])),
             ("as many columns", lambda: coop.tree([[0, 1]])),
-            ("one length", lambda: coop.assignment([[1, 2], [3]])),
+            ("rows of the same length", lambda: coop.assignment([[1, 2], [3]])),
             ("integers", lambda: coop.voting("2.5", [1, 2])),  # type: ignore[arg-type]
             ("64 landings", lambda: coop.landings([("Aer", 1, 65)])),
             ("number of landings", lambda: coop.landings([("Aer", 1, 0)])),
@@ -116,14 +116,14 @@ class Constructors(unittest.TestCase):
             ("the exponent 9999999", coop.airport, [Decimal("1E+9999999")]),
             ("the exponent -9999999", coop.airport, [Decimal("1E-9999999")]),
             ("more than 4096 bits", coop.airport, [long]),
-            ("no player", coop.table, {None: 1}),
-            ("no player", coop.table, {1.5: 1}),
-            ("no row", coop.landings, [("a", 1)]),
+            ("isn't a player", coop.table, {None: 1}),
+            ("isn't a player", coop.table, {1.5: 1}),
+            ("isn't a row", coop.landings, [("a", 1)]),
             ("is a text", coop.airport, "12"),
             ("is a text", lambda shares: coop.propose(coop.airport([1, 2]), shares), "11"),
-            ("no list of numbers", coop.airport, 5),
-            ("no list of rows", coop.landings, 5),
-            ("no list of rows", coop.tree, None),
+            ("isn't a list of numbers", coop.airport, 5),
+            ("isn't a list of rows", coop.landings, 5),
+            ("isn't a list of rows", coop.tree, None),
             ("half of a character", lambda names: coop.airport([1], names), ["\ud800"]),
             ("half of a character", coop.check, "\ud800"),
             ("half of a character", lambda tree: coop.Game(tree).document(), {
@@ -131,7 +131,7 @@ class Constructors(unittest.TestCase):
             }),
         ]
         digits: list[Any] = [10**7, -1, 2.5, "2", float("nan"), True]
-        cases += [("no number of digits", lambda some: coop.airport([1], digits=some), some) for some in digits]
+        cases += [("isn't a number of digits", lambda some: coop.airport([1], digits=some), some) for some in digits]
         for sentence, call, given in cases:
             with self.assertRaisesRegex(BadInput, sentence):
                 call(given)

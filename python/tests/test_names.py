@@ -6,7 +6,7 @@ from coop.names import alike, apart, looks, safe, visible, warning
 from coop.sentences import Teller
 from coop.tables import aligned
 
-CAPITALS = "2 names differ in capitals alone: HARTMANN KG, Hartmann KG"
+CAPITALS = "2 names differ only in capitals: HARTMANN KG, Hartmann KG"
 ZERO_WIDTH, OVERRIDE, ESCAPE = "\u200b", "\u202e", "\x1b"
 
 
@@ -49,7 +49,7 @@ class Names(unittest.TestCase):
             self.assertEqual(alike([name, "Brandt", other]), [[name, other]])
             self.assertIn(f"2 names look alike: {name}, ", warning([name, "Brandt", other]) or "")
         self.assertIn("H\\u0430rtmann", warning(["H\u0430rtmann", "Hartmann"]) or "")
-        self.assertIn("two alphabets stand in one word: H\\u0430rtmann", warning(["H\u0430rtmann KG"]) or "")
+        self.assertIn("mixes letters of two alphabets: H\\u0430rtmann", warning(["H\u0430rtmann KG"]) or "")
         own_alphabets = ["\u0418\u0432\u0430\u043d", "\u039d\u03af\u03ba\u03b7"]
         self.assertIsNone(warning([*own_alphabets, "M\u00fcller 1", "M\u00fcller 2"]))
         self.assertEqual(warning(["HARTMANN KG", "Hartmann KG"]), CAPITALS)

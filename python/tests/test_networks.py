@@ -20,7 +20,7 @@ class Networks(unittest.TestCase):
         cases: list[tuple[dict[tuple[str, str], int], bool, str]] = [
             (LINKS, False, "no links join b to the source"),
             ({("a", "b"): 1}, True, "no links join a to"),
-            ({**LINKS, ("a", "source"): 6}, True, "stands twice"),
+            ({**LINKS, ("a", "source"): 6}, True, "is given twice"),
             ({("a", "a"): 1}, True, "to itself"),
             ({("source", "a"): -1}, True, "less than nothing"),
             ({}, True, "0 players"),
@@ -36,9 +36,9 @@ class Networks(unittest.TestCase):
         both = {("source", "Ash"): 5, ("ash", "Ash"): 3}
         self.assertEqual(table_of_links(both, names=["Ash", "ash"]).names, ["Ash", "ash"])
         cases: list[tuple[dict[tuple[str, str], int], Optional[list[str]], str]] = [
-            (both, None, "Ash and ash differ in capitals alone"),
+            (both, None, "Ash and ash differ only in capitals"),
             ({("Source", "a"): 5}, None, "source and Source differ"),
-            (both, ["Ash"], "a link has ash, which is neither source nor among the names Ash"),
+            (both, ["Ash"], "a link has ash, which is neither source nor one of the names Ash"),
             (links, ["a", "b", "c"], "no links join c to the source"),
         ]
         for links, names, sentence in cases:

@@ -62,7 +62,7 @@ class Over(unittest.TestCase):
             divided({"shares": [1.5]}, 2)
         trees: list[Any] = [{"tree": [[1, 2]]}, {"tree": 7}, {"certificate": []}, {"certificate": {"levels": [{}]}}]
         for tree in trees:
-            with self.assertRaisesRegex(BadInput, "no whole document or line"):
+            with self.assertRaisesRegex(BadInput, "isn't a whole document or line"):
                 divided(tree, 2)
 
 

@@ -45,7 +45,7 @@ class Finding(unittest.TestCase):
             os.mkdir(os.path.join(top, "python"))
             os.symlink(os.path.join(PACKAGE, "coop"), os.path.join(top, "python", "coop"))
             package = os.path.join(top, "python")
-            self.assertIn("NotFound: there is no program coop", self.found(package))
+            self.assertIn("NotFound: no program found", self.found(package))
             for folder in ("page", "bin", "kit", "tools"):
                 os.mkdir(os.path.join(top, folder))
             builder = executable(os.path.join(top, "bin"), "coop", "exit 0")
@@ -54,7 +54,7 @@ class Finding(unittest.TestCase):
             self.assertIn("NotFound", self.found(package))
             self.assertEqual(self.found(package, PATH=kit), str([builder]))
             page = executable(os.path.join(top, "page"), "serve.mjs", "exit 0")
-            self.assertIn("NotFound: there is no program coop: put Node 18 or later on the path", self.found(package))
+            self.assertIn("NotFound: no program found: put Node 18 or later on the path", self.found(package))
             for name in ("nodejs", "node"):
                 node = executable(tools, name, "exit 0")
                 self.assertEqual(self.found(package, PATH=f"{kit}:{tools}"), str([node, page]))

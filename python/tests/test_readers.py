@@ -31,10 +31,10 @@ class Readers(unittest.TestCase):
     def test_a_name_that_looks_alike(self) -> None:
         """A member without a line of its own, where the line of one that looks like it is there."""
         for text, sentence in (
-            ("A,1\nB,1\n\u0421,1\nA+C,2\n", r"no line for C alone, but one for \\u0421, which looks like it \(C\)"),
-            ("A,1\nC,1\nA+\u0421,2\n", r"alone, but one for C, which looks like it \(\\u0421\)"),
-            ("A,1\nops,1\nA+Ops,2\n", "no line for Ops alone, but one for ops: is that"),
-            ("A,1\nA+C,2\n", "no line for C alone$"),
+            ("A,1\nB,1\n\u0421,1\nA+C,2\n", r"the cost of C alone, but one has \\u0421, which looks like it \(C\)"),
+            ("A,1\nC,1\nA+\u0421,2\n", r"alone, but one has C, which looks like it \(\\u0421\)"),
+            ("A,1\nops,1\nA+Ops,2\n", "no line has the cost of Ops alone, but one has ops: is that"),
+            ("A,1\nA+C,2\n", "no line has the cost of C alone$"),
         ):
             with self.assertRaisesRegex(BadInput, sentence):
                 groups(text)
@@ -42,9 +42,9 @@ class Readers(unittest.TestCase):
     def test_a_row_of_no_player(self) -> None:
         """Where groups lack, since a row is no player's: a group by another sign, or the sum."""
         for text, fill, sentence in (
-            ("a,3\nb,4\na & b,6\n", False, "; is a & b, in line 3, the group a\\+b\\? A \\+ stands between members"),
+            ("a,3\nb,4\na & b,6\n", False, "; is a & b, in line 3, the group a\\+b\\? Write \\+ between members"),
             ("a;3\nb;4\na und b;6\n", True, "; is a und b, in line 3, the group a\\+b"),
-            ("a,3\nb,4\na+b,6\nTotal,13\n", False, "; is Total, in line 4, a row of the sum"),
+            ("a,3\nb,4\na+b,6\nTotal,13\n", False, "; is Total, in line 4, the row of the sum"),
             ("a,3\nb,4\n", False, "takes the cheapest split\\)$"),
         ):
             with self.assertRaisesRegex(BadInput, sentence):
@@ -60,7 +60,7 @@ class Readers(unittest.TestCase):
         self.assertEqual(told(costed.game, costed.filled, EXACT), ["a+c: 8 = a | c", "b+c: 9 = b | c"])
         with self.assertRaisesRegex(BadInput, "a\\+c has no line, and 1 more groups"):
             groups(COSTS)
-        with self.assertRaisesRegex(BadInput, "a\\+b has no line: what all together cost"):
+        with self.assertRaisesRegex(BadInput, "a\\+b has no line: the cost of all together"):
             groups("a,1\nb,2\n", fill=True)
 
     def test_the_cheapest_split_is_the_cheapest(self) -> None:
@@ -101,10 +101,10 @@ class Readers(unittest.TestCase):
         self.assertEqual(said[2:4], ["a+c: 8.125 = a | c", "b+c: 9.125 = b | c"])
         self.assertIn("2 groups cost more than a larger group", said[4])
         self.assertEqual(said[5:], ["a+c: 8.125, and a+b+c: 7", "b+c: 9.125, and a+b+c: 7"])
-        self.assertIn('"core" and "core point" hold against the filled numbers alone', said[1])
+        self.assertIn('"core" and "core point" hold only against the filled numbers', said[1])
         self.assertEqual([lesser.game.worth(group) for group in (5, 6)], [-7, -7])
         said = list(remarks(lesser, True, Plainly(1)))
-        self.assertIn("2 of these cost less by the works of a larger group", said[4])
+        self.assertIn("2 of these cost less with the works of a larger group", said[4])
         self.assertEqual(said[5:], [f"{s}: 7.0 = a + b + c, and not {t}" for s, t in APART])
 
     def test_costs_that_look_like_slips(self) -> None:
@@ -149,18 +149,18 @@ class Readers(unittest.TestCase):
     def test_what_is_refused(self) -> None:
         cases: list[tuple[str, Callable[[], object]]] = [
             ("line 1 has a semicolon", lambda: groups("Sales;7,50\nOps,8\n")),
-            ("line 1: 'cost' is no number.*; a line of headings", lambda: groups("group,cost\na,1\n")),
+            ("line 1: 'cost' isn't a number.*; if this line has headings", lambda: groups("group,cost\na,1\n")),
             ("line 2 has 3 columns", lambda: groups("a,1\nb,1,5\n")),
-            ("line 2: 'x' is no number", lambda: groups("a,1\nb,x\n")),
-            ("line 2: b is|line 2: there is no line for b", lambda: groups("a,1\na+b,2\n")),
-            ("line 3: a stands in line 1", lambda: groups("a,1\nb,1\na,2\n")),
-            ("line 2: Adler stands in line 1", lambda: claims("Adler,1\nAdler,2\n", 2)),
-            ("there is no name", lambda: claims(",1\n", 1)),
+            ("line 2: 'x' isn't a number", lambda: groups("a,1\nb,x\n")),
+            ("line 2: no line has the cost of b alone", lambda: groups("a,1\na+b,2\n")),
+            ("line 3: a is already in line 1", lambda: groups("a,1\nb,1\na,2\n")),
+            ("line 2: Adler is already in line 1", lambda: claims("Adler,1\nAdler,2\n", 2)),
+            ("line 1 has no name", lambda: claims(",1\n", 1)),
             ("less than the estate", lambda: claims("Adler,1\n", 2)),
-            ("no number of landings", lambda: landings("Aer,20,2.5\n")),
+            ("isn't a number of landings", lambda: landings("Aer,20,2.5\n")),
             ("64 landings", lambda: landings("Aer,20,65\n")),
-            ("line 2: a vector has", lambda: list(vectors("1,2,3\n1,2,3,4,5\n", "mask"))),
-            ("line 1: .* is no number", lambda: list(vectors("v1,v2,v3\n1,2,3\n", "mask"))),
+            ("line 2: 5 numbers: a vector has", lambda: list(vectors("1,2,3\n1,2,3,4,5\n", "mask"))),
+            ("line 1: .* isn't a number", lambda: list(vectors("v1,v2,v3\n1,2,3\n", "mask"))),
             ("no line", lambda: list(vectors("\n", "mask"))),
         ]
         for sentence, read in cases:
@@ -195,12 +195,12 @@ class Sheets(unittest.TestCase):
         for text, sentence in (
             ("A;480.000\nB;900\n", "line 1: 480.000 may be 480 or 480000"),
             ("A\t3,387\n", "line 1: 3,387 may be 3.387 or 3387"),
-            ("A;3387,4\nB;12.5\n", "3387,4 in line 1 and 12.5 in line 2 have two marks"),
+            ("A;3387,4\nB;12.5\n", "3387,4 in line 1 and 12.5 in line 2 have different decimal marks"),
             ('A,"3,387"\n', "may be"),
         ):
             with self.assertRaisesRegex(BadInput, sentence):
                 self.claims(text)
-        with self.assertRaisesRegex(BadInput, "'12.5' is no number with a comma"):
+        with self.assertRaisesRegex(BadInput, "'12.5' isn't a number with a decimal comma"):
             self.claims("A;12.5\n", Layout(decimal="comma"))
 
     def test_the_estate_is_read_as_the_claims_are(self) -> None:
@@ -221,9 +221,14 @@ class Sheets(unittest.TestCase):
             ("A,480\nB,400\n", "400.000", Layout(), "the estate: 400.000 may be 400 or 400000.*--decimal"),
             ("A;480\nB;400\n", "1.500", Layout(), "the estate: 1.500 may be 1.5 or 1500"),
             ("A;480.000\nB;400.000\n", "500.000", Layout(), "line 1: 480.000 may be"),
-            ("A;40.123,83\n", "12.5", Layout(), "40.123,83 in line 1 and 12.5 in the estate have two marks"),
-            ("A;480\n", "12.50", comma, "the estate: '12.50' is no number with a comma"),
-            ("A;480\n", "much", Layout(), "the estate: 'much' is no number"),
+            (
+                "A;40.123,83\n",
+                "12.5",
+                Layout(),
+                "40.123,83 in line 1 and 12.5 in the estate have different decimal marks",
+            ),
+            ("A;480\n", "12.50", comma, "the estate: '12.50' isn't a number with a decimal comma"),
+            ("A;480\n", "much", Layout(), "the estate: 'much' isn't a number"),
         ):
             with self.assertRaisesRegex(BadInput, sentence):
                 claims(text, estate, layout=layout)
@@ -233,7 +238,7 @@ class Sheets(unittest.TestCase):
         for end in ("\n", "\r\n", "\r"):
             text = f'A;100{end}{end}"Brandt{end}999";200{end}'
             self.assertEqual(self.claims(text), {"A": 100, f"Brandt{end}999": 200})
-        with self.assertRaisesRegex(BadInput, "line 4: 'x' is no number"):
+        with self.assertRaisesRegex(BadInput, "line 4: 'x' isn't a number"):
             self.claims('A;100\n"Brandt\n999";200\nB;x\n')
 
     def test_typed_numbers(self) -> None:
@@ -243,7 +248,7 @@ class Sheets(unittest.TestCase):
         for word, sentence in (
             ("400.000", "the amount: 400.000 may be 400 or 400000: write 400 or 400000"),
             ("-1.500", "the amount: -1.500 may be -1.5 or -1500: write -3/2 or -1500"),
-            ("twelve", "the amount: 'twelve' is no number"),
+            ("twelve", "the amount: 'twelve' isn't a number"),
         ):
             with self.assertRaisesRegex(BadInput, sentence):
                 number(word, "the amount")
@@ -251,7 +256,7 @@ class Sheets(unittest.TestCase):
     def test_notes(self) -> None:
         self.assertEqual(
             notes("A,480.000\nB,900\n", 2, Layout()),
-            ["480.000 is read as 480: a point stands in front of decimals"],
+            ["480.000 is read as 480: the point is the decimal mark"],
         )
         for text in ("A,480.000\nB,900.5\n", "A,0.125\n", "A,480\n", self.GERMAN):
             self.assertEqual(notes(text, 2, Layout()), [])
@@ -270,13 +275,16 @@ class Sheets(unittest.TestCase):
         ):
             for layout in (Layout(), Layout(has_head=True)):
                 self.assertEqual(self.claims(text, layout), wanted)
-            self.assertIn("have names, are left out", notes(text, 2, Layout())[0])
+            self.assertIn("left out the first row and the first column", notes(text, 2, Layout())[0])
         self.assertEqual(self.claims("1,Adler,1200.5\n2,Brandt,800\n", Layout(skip=1)), wanted)
         for text, sentence in (
-            ("1,Adler,1200.5\n2,Brandt,800\n", "line 1 has 3 columns, and not 2: is the first one .* --skip 1"),
-            (",5,7\nAdler,1,2\n", "line 1 has 3 columns, and not 2: is 5,7 one number, with a comma"),
-            ("Adler,1200,50\nBrandt,800\n", "line 1 has 3 columns, and not 2: is 1200,50 one number, with a comma"),
-            ("2024-01-15,Adler,1200\n", "line 1 has 3 columns, and not 2: write Adler.* --skip"),
+            ("1,Adler,1200.5\n2,Brandt,800\n", "line 1 has 3 columns instead of 2: is the first one .* --skip 1"),
+            (",5,7\nAdler,1,2\n", "line 1 has 3 columns instead of 2: is 5,7 one number, with a decimal comma"),
+            (
+                "Adler,1200,50\nBrandt,800\n",
+                "line 1 has 3 columns instead of 2: is 1200,50 one number, with a decimal comma",
+            ),
+            ("2024-01-15,Adler,1200\n", "line 1 has 3 columns instead of 2: write Adler.* --skip"),
             (",name,claim\nAdler,1\n", "line 1 has 3 columns"),
         ):
             with self.assertRaisesRegex(BadInput, sentence):
@@ -289,7 +297,7 @@ class Sheets(unittest.TestCase):
         wanted = {"A,B;C": "2401/2", "B": 8000000}
         self.assertEqual(self.claims('sep=;\r\n"A,B;C";1200,5\r\nB;8000000\r\n'), wanted)
         self.assertEqual(self.claims('"A,B;C";1200,5;;\n;;;\nB;8000000;;\n'), wanted)
-        with self.assertRaisesRegex(BadInput, "line 3: 'x' is no number"):
+        with self.assertRaisesRegex(BadInput, "line 3: 'x' isn't a number"):
             self.claims("sep=;\nA;1\nB;x\n")
         with self.assertRaisesRegex(BadInput, "line 2 has 3 columns"):
             self.claims("A;1\nB;2;\nC;3;4\n")
@@ -299,18 +307,18 @@ class Sheets(unittest.TestCase):
         self.assertEqual(self.claims("A;1 200.50\n"), {"A": "2401/2"})
         self.assertEqual(groups("a;\u22121 200,50\n").game.tree["sparse"], [[["a"], "-2401/2"]])
         for cell in ("1 20", "12 00,5", "1'200 300", "1200 300", "1 200 EUR"):
-            with self.assertRaisesRegex(BadInput, "is no number"):
+            with self.assertRaisesRegex(BadInput, "isn't a number"):
                 self.claims(f"A;{cell}\n")
         for cell in ("1.200,50 \u20ac", "\u20ac 12", "12 EUR", "$12"):
-            with self.assertRaisesRegex(BadInput, "is no number.*; a unit or a sign of money has to be left out"):
+            with self.assertRaisesRegex(BadInput, "isn't a number.*; leave out units and currency signs"):
                 self.claims(f"A;{cell}\n")
-        for text, sentence in (("Cost 2024;x\nA;1\n", "'x' is no .* --head$"), ("A;2024-01-15\n", "--head$")):
+        for text, sentence in (("Cost 2024;x\nA;1\n", "'x' isn't a .* --head$"), ("A;2024-01-15\n", "--head$")):
             with self.assertRaisesRegex(BadInput, sentence):
                 self.claims(text)
         with self.assertRaisesRegex(BadInput, "65 claims: an estate has at most 64"):
             self.claims("".join(f"p{i};1\n" for i in range(65)))
         dated = "date,v1,v2,v3\n2024-01-15,1,2,4\n"
-        with self.assertRaisesRegex(BadInput, "line 2: '2024-01-15' is no number.* --skip 1$"):
+        with self.assertRaisesRegex(BadInput, "line 2: '2024-01-15' isn't a number.* --skip 1$"):
             list(vectors(dated, "size", layout=Layout(has_head=True)))
         vector = next(vectors("sep=;\n1;2;1\u00a0200,5\n", "mask"))
         self.assertEqual(vector.tree["worths"], [1, 2, "2401/2"])
@@ -332,10 +340,11 @@ class Sheets(unittest.TestCase):
         ]
         for text, layout in tables:
             self.assertEqual([game.tree["worths"] for game in vectors(text, "size", layout=layout)], wanted, text)
-        self.assertIn("have names, are left out", left_out(tables[0][0], Layout())[0])
-        self.assertIn("the first row is 0, 1, 2", left_out("0,1,2,3,4,5,6\n" + rows[1], Layout())[0])
+        self.assertIn("left out the first row and the first column", left_out(tables[0][0], Layout())[0])
+        counted = left_out("0,1,2,3,4,5,6\n" + rows[1], Layout())[0]
+        self.assertIn("the first row, 0, 1, 2, .., is read as a game", counted)
         self.assertEqual(left_out("\n".join(rows), Layout()), [])
-        with self.assertRaisesRegex(BadInput, "it isn't 0; a first column of names is left out by --skip 1"):
+        with self.assertRaisesRegex(BadInput, "it isn't 0; if the first column has names, use --skip 1"):
             list(vectors("\n".join(named), "size"))
 
 

@@ -187,7 +187,7 @@ SENTENCES: list[tuple[Any, Any, str]] = [
         None,
         "a table of worths of 12 players from the number 1",
     ),
-    ({"usage": "players"}, None, "The command doesn't serve so many players."),
+    ({"usage": "players"}, None, "The game has more players than the command serves."),
     (
         {"number": 3, "refused": "Shape"},
         {"game": {"class": "airport", "cost": [2]}},
@@ -315,7 +315,7 @@ class Reasons(unittest.TestCase):
         for line, shares in good:
             said(line, {"game": AIRPORT, "shares": shares})
             for some in others[1:] if line["answer"] == "prekernel" else others:
-                with self.assertRaisesRegex(BadInput, "aren't those that it judges", msg=f"{line} {some}"):
+                with self.assertRaisesRegex(BadInput, "aren't those that the line judges", msg=f"{line} {some}"):
                     said(line, {"game": AIRPORT, "shares": some})
         per_head = {**AIRPORT, "excess": "per-head"}
         said({"answer": "blocked", "coalition": [1, 2], "excess": "1/2"}, {"game": per_head, "shares": [2, 3, 1]})
@@ -343,17 +343,17 @@ class Reasons(unittest.TestCase):
 
     def test_what_is_refused(self) -> None:
         cases: list[tuple[bytes, Optional[bytes], str]] = [
-            (b'{"answer":"yes","answer":"no"}', None, 'the key "answer" stands twice'),
-            (b'{"answer":"perhaps"}', None, "no answer of the program"),
-            (b'{"game":{"class":"airport","costs":[1]}}', None, "no answer of the program"),
-            (b'{"answer":"blocked"}', None, "no whole answer"),
+            (b'{"answer":"yes","answer":"no"}', None, 'the key "answer" is given twice'),
+            (b'{"answer":"perhaps"}', None, "isn't an answer of the program"),
+            (b'{"game":{"class":"airport","costs":[1]}}', None, "isn't an answer of the program"),
+            (b'{"answer":"blocked"}', None, "isn't a whole answer"),
             (
                 b'{"answer":"blocked","coalition":[9],"excess":"1"}',
                 json.dumps({"game": AIRPORT}).encode(),
-                "9 is no player",
+                "9 isn't a player",
             ),
-            (b'{"number":8,"refused":"Estate"}', json.dumps({"game": AIRPORT}).encode(), "is it another one"),
-            (b'{"number":99,"refused":"X"}', None, "no refusal"),
+            (b'{"number":8,"refused":"Estate"}', json.dumps({"game": AIRPORT}).encode(), "is it another document"),
+            (b'{"number":99,"refused":"X"}', None, "isn't a refusal"),
             (b'{"answer":"nucleolus","shares":[1]}', None, "no certificate"),
             (json.dumps(solved(shares=[1, 2])).encode(), None, "2 shares for 3 players"),
         ]

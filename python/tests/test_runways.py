@@ -48,8 +48,8 @@ class Runways(unittest.TestCase):
 
     def test_what_is_refused(self) -> None:
         for rows, sentence in (
-            ([], "there is no landing"),
-            ([("a", 1, 0)], "a: 0 is no number of landings"),
+            ([], "the list has no landing"),
+            ([("a", 1, 0)], "a: 0 isn't a number of landings"),
             ([("a", -1, 1)], "-1 is below 0"),
             ([("a", 1.5, 1)], "1.5 is a float"),
         ):

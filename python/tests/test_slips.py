@@ -21,9 +21,9 @@ SLIPS = {
     '{"game":{"class":"airport","cost":[2,4,6]}}': (
         "3 $.game: a game of class airport lacks the key costs; is 'cost' meant for it?"
     ),
-    '{"class":"airport","costs":[2]}': '3 $: the game stands alone: write {"game":..} around it',
+    '{"class":"airport","costs":[2]}': '3 $: this is only the game: write {"game":..} around it',
     '{"game":{"class":"Airport","costs":[2]}}': (
-        '3 $.game.class: "Airport" is none of table, cost-table, airport, '
+        '3 $.game.class: "Airport" isn\'t one of table, cost-table, airport, '
         "bankruptcy, tree, assignment, market, voting; is airport meant?"
     ),
     '{"game":{"class":"tree","matrix":[[0,5,8],[5,0,null],[8,null,0]]}}': (
@@ -43,7 +43,7 @@ SLIPS = {
     ),
     '{"game":{"class":"airport","costs":[2,0.2875775201],"version":2}}': (
         "5 $.game.costs[1] (the cost of player 2): 0.2875775201 has a point or an exponent, or more than 64 bits: "
-        'write fewer decimals, as "719/2500"'
+        'write fewer decimals, such as "719/2500"'
     ),
     '{"game":{"class":"airport","costs":[2,1e300],"version":2}}': (
         "5 $.game.costs[1] (the cost of player 2): 1e+300 has a point or an exponent, or more than 64 bits: write "
@@ -59,32 +59,32 @@ SLIPS = {
         '5 $.game.costs[0] (the cost of player 1): "1,5" is no fraction text: write "3/2"'
     ),
     '{"game":{"class":"airport","costs":["0.2875775201"],"version":2}}': (
-        '5 $.game.costs[0] (the cost of player 1): "0.2875775201" is no fraction text: write fewer decimals, as '
-        '"719/2500", or have all numbers multiplied (--scaled of scripts/from-vector)'
+        '5 $.game.costs[0] (the cost of player 1): "0.2875775201" is no fraction text: write fewer decimals, such as '
+        '"719/2500", or multiply all numbers (--scaled of scripts/from-vector)'
     ),
     '{"game":{"class":"airport","costs":[1,2],"names":["bob","bob"]}}': (
-        '6 $.game.names[1] (the name of player 2): the name "bob" stands twice'
+        '6 $.game.names[1] (the name of player 2): the name "bob" is given twice'
     ),
     '{"game":{"class":"table","players":2,"sparse":[[[1,2],3],[[2,1],4]]}}': (
-        "7 $.game.sparse[1][0] (item 2): [2, 1] stands in item 1 already"
+        "7 $.game.sparse[1][0] (item 2): [2, 1] is already in item 1"
     ),
     '{"game":{"class":"bankruptcy","claims":[1,2],"estate":4}}': (
-        "8 $.game.estate: the claims add to 3, less than the estate of 4: each gets its claim"
+        "8 $.game.estate: the claims add up to 3, less than the estate of 4: each gets its claim"
     ),
     '{"game":{"class":"tree","matrix":[[0,1],[2,0]]}}': (
-        "9 $.game.matrix[1][0] (row 2, column 1): 2, and 1 the other way"
+        "9 $.game.matrix[1][0] (row 2, column 1): 2, but 1 the other way"
     ),
     '{"game":{"class":"voting","quota":600,"weights":[500,300,300]}}': (
-        "13 $.game.weights: the weights add to 1100, above 1,000"
+        "13 $.game.weights: the weights add up to 1100, above 1,000"
     ),
     "": "2 the document: it is empty",
-    '{"game":\n{"class":"airport","costs":[2,]}}': "2 line 2, column 31: a comma stands in front of ]",
-    "{'game':1}": "2 line 1, column 2: a single quote: JSON has double quotes",
-    '{"game":1} {}': "2 line 1, column 12: there is more behind the document: one JSON object is a document",
+    '{"game":\n{"class":"airport","costs":[2,]}}': "2 line 2, column 31: there is a comma before ]",
+    "{'game':1}": "2 line 1, column 2: JSON has double quotes, not single ones",
+    '{"game":1} {}': "2 line 1, column 12: something follows the document: a document is one JSON object",
     '{"game":{"class":': "2 line 1, column 18: the document ends there, before it is whole",
-    '{"game":{"class":"airport","costs":[NaN]}}': "2 the document: NaN is no number",
+    '{"game":{"class":"airport","costs":[NaN]}}': "2 the document: NaN isn't a number",
     '{"game":{"class":"airport","costs":[1],"names":["\\ud800"]}}': (
-        "2 line 1: a text there has half of a character, as \\ud800"
+        "2 line 1: a text has half of a character, such as \\ud800"
     ),
 }
 
@@ -260,7 +260,7 @@ class Slips(unittest.TestCase):
 
     def test_a_key_that_stands_twice(self) -> None:
         """The first place in the order of the text, however the key is written; none in what is no JSON."""
-        sentence = "the key {} stands twice, and the last one counts"
+        sentence = "the key {} is given twice, and the last one counts"
         for text, place, key in (
             ('{"game":{"class":"airport","costs":[2],"costs":[3]}}', "$.game", '"costs"'),
             ('{"game":1,"x":[0,{"a":{"b":1,"b":2}}],"game":2}', "$", '"game"'),

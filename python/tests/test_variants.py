@@ -31,9 +31,9 @@ class Variants(unittest.TestCase):
             without(game, ["heavy", "light"]).tree, {"class": "airport", "costs": [4], "names": ["medium"]}
         )
         self.assertEqual(without(coop.airport([2, 4]), ["1"]).tree, {"class": "airport", "costs": [4]})
-        with self.assertRaisesRegex(coop.BadInput, r"is no player: \\u03ac looks like it \(\\u03b1\\u0301\)"):
+        with self.assertRaisesRegex(coop.BadInput, r"isn't a player: \\u03ac looks like it \(\\u03b1\\u0301\)"):
             without(coop.airport({"\u03ac": 1, "b": 2}), ["\u03b1\u0301"])
-        cases = [(["x"], "x is no player"), (game.names, "nobody stays")]
+        cases = [(["x"], "x isn't a player"), (game.names, "no player stays")]
         for leaving, sentence in cases:
             with self.assertRaisesRegex(coop.BadInput, sentence):
                 without(game, leaving)
@@ -71,9 +71,9 @@ class Variants(unittest.TestCase):
         refused = [
             ("356,852", "356,852 may be 356.852 or 356852: write 89213/250 or 356852"),
             ("1.500", "1.500 may be 1.5 or 1500: write 3/2 or 1500"),
-            ("1.2345,5", "is no number"),
-            ("ten%", "'ten' is no number"),
-            ("%", "is no number"),
+            ("1.2345,5", "isn't a number"),
+            ("ten%", "'ten' isn't a number"),
+            ("%", "isn't a number"),
         ]
         for text, sentence in refused:
             with self.assertRaisesRegex(coop.BadInput, sentence):

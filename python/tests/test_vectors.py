@@ -51,7 +51,7 @@ class Orders(unittest.TestCase):
         for make in (coop.table, coop.cost_table):
             with self.assertRaisesRegex(BadInput, "name the order"):
                 make([0, 0, 0, 6, 2, 2, 12])
-            with self.assertRaisesRegex(BadInput, "only a vector has an order"):
+            with self.assertRaisesRegex(BadInput, "`order` is for a vector"):
                 make({1: 1}, order="mask")
             two = [make([1, 2, 4], order=order).tree["worths"] for order in (None, "mask", "size")]
             self.assertEqual(two, [[1, 2, 4]] * 3)

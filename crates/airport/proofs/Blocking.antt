@@ -1,6 +1,11 @@
 -- A scan over the players from the least cost keeps the players who pay, and the chosen coalition among those of
 -- the players seen.
 --
+-- A coalition of the players seen now lacks the new player, or is one of before with it (`IsWithin-cases`). With the
+-- new player, its cost is that player's (`greatest_cost-last`). If the player doesn't pay, leaving it out costs no more
+-- and pays no less. If it pays, it joins the payers, who then are the only new candidate: they pay most, and the cost
+-- is the same for all coalitions with that player.
+--
 -- A payment is minus a share. Among the coalitions of seen players the payers pay most together, and of those that
 -- pay as much they are the least.
 use Rattle.std.proofs.Common.{◌≡◌, ◌⊎◌, ℕ, ◌+◌, ◌^◌, ◌<◌, ◌≤◌, false, ℤ, pos}

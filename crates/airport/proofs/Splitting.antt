@@ -1,5 +1,9 @@
 -- A scan over the players from the least cost keeps a bound of the excesses of the splitting coalitions of the
 -- players seen, which some coalition reaches.
+--
+-- At each place, take the greatest payment of a splitting coalition of the players seen, less the cost at that place.
+-- That is at most the coalition's excess, since its cost is at most the cost there. It is at least the excess of every
+-- splitting coalition whose last player is at that place. So the greatest of these numbers is attained and bounds all.
 use Rattle.std.proofs.Common.{◌≡◌, ℕ, zero, suc, ◌+◌, ◌^◌, ◌<◌, Bool, true, false}
 use Rattle.std.proofs.Common.{not, ◌&&◌, ◌||◌}
 use Rattle.std.proofs.Common.{cond, nat_eq, IsSome, ℤ, ◌-ℤ◌, ◌≤ℤ◌, Option, Some, None, MatchOption}

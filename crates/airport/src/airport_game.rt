@@ -38,7 +38,8 @@ impl Model for AirportGame {
 impl AirportGame {
     ghost use Rattle.airport.specs.Airport.{IsAirport, IsRefused, place};
 
-    /// The game of 1 to 64 costs, each from 0 to below 2^40; else the first cause in the order of `AirportFault`.
+    /// Makes the game of 1 to 64 costs, each from 0 to below 2^40. Otherwise returns the first cause in the order of
+    /// `AirportFault`.
     pub fn new(alloc: Global, costs: Vec<i64>) -> Result<AirportGame, AirportFault>
         ensures { MatchResult result (λ game. map pos game.costs ≡ costs.items) (IsRefused costs.items) }
     {
@@ -57,7 +58,7 @@ impl AirportGame {
         Ok(AirportGame { costs })
     }
 
-    /// The number of players, and so of places.
+    /// Returns the number of players, and so of places.
     pub fn len(&self) -> u32
         ensures count { result ≡ length self.now.costs }
         ensures laws { IsAirport self.now }
@@ -65,7 +66,7 @@ impl AirportGame {
         self.costs.len()
     }
 
-    /// The cost of player `i`.
+    /// Returns the cost of player `i`.
     pub fn cost(&self, i: u32) -> i64
         requires { i < length self.now.costs }
         ensures value { result ≡ pos (slice_index self.now.costs i) }
@@ -75,7 +76,7 @@ impl AirportGame {
         self.costs.number(i) as i64
     }
 
-    /// The player at place `k` from the least cost; of equal costs the lesser player stands first.
+    /// Returns the player at place `k` from the least cost. Of equal costs, that of the lesser player comes first.
     pub fn place(&self, k: u32) -> u32
         requires { k < length self.now.costs }
         ensures value { result ≡ place self.now k }

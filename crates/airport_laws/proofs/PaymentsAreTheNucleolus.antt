@@ -1,5 +1,9 @@
 -- Whatever shares are payments, the levels of their blocks certify them, so they are the nucleolus. Where there are no
 -- players, all shares are the same.
+--
+-- The levels of the blocks (PaymentLevels.antt) have the form of a certificate except for the sizes of lists and
+-- weights, of which the theorem asks nothing (`IsNucleolusOver-from_levels` of real_shares). The other way is
+-- EveryNucleolusIsPaid.antt: the five facts of the scheme don't depend on the denominator.
 use Rattle.std.proofs.Common.{◌≡◌, ℕ, ◌≤◌, List, length, get_or, ℤ, pos, neg_ℤ, ◌*ℤ◌, refl, sym, ap, ◌∙◌, inl, inr}
 use Rattle.std.proofs.Common.{arith}
 use Rattle.definitions.proofs.Ring.{mul-zeroℤ}

@@ -1,5 +1,4 @@
--- What a player pays for the units of its cost, place by place: between two costs that follow each other, all from
--- the
+-- What a player pays for the units of its cost, place by place: between two costs that follow each other, all from the
 -- second one's place on are above each unit.
 use Rattle.std.proofs.Common.{◌≡◌, ℕ, zero, suc, ◌+◌, ◌-◌, ◌*◌, ◌/◌, ◌<◌, ◌≤◌, Bool, cond, nat_lt, List, length}
 use Rattle.std.proofs.Common.{slice_index, ℤ, pos, ◌+ℤ◌, refl, sym, ap, ◌∙◌, inl, inr, arith}

@@ -15,7 +15,7 @@ pub fn payments_exist()
     ensures { PaymentsExist }
 {}
 
-/// Whatever shares are payments, they are the nucleolus by plain excess, and the prenucleolus.
+/// Shares that are payments are the nucleolus by plain excess, and the prenucleolus.
 pub fn payments_are_the_nucleolus()
     ensures { PaymentsAreTheNucleolus }
 {}
@@ -40,7 +40,7 @@ pub fn no_group_pays_more_than_its_cost_by_nucleolus()
     ensures { NoGroupPaysMoreThanItsCostByNucleolus }
 {}
 
-/// By the nucleolus and the prenucleolus all together pay just the greatest cost.
+/// By the nucleolus and the prenucleolus all together pay exactly the greatest cost.
 pub fn all_pay_the_greatest_cost_by_nucleolus()
     ensures { AllPayTheGreatestCostByNucleolus }
 {}

@@ -1,4 +1,8 @@
 -- The levels of the blocks have the form of a certificate, and certify the payments.
+--
+-- The weights of a level balance by who is before the block, in it or after it (Pairs.antt). The players of blocks that
+-- are done are fixed (`Covers`). After the last block at most one player is free. A list in its form ascends, so the
+-- pairs that it holds fix it (Exactly.antt).
 use Rattle.std.proofs.Common.{◌≡◌, ◌≢◌, ◌⊎◌, ℕ, zero, suc, ◌+◌, ◌-◌, ◌^◌, ◌<◌}
 use Rattle.std.proofs.Common.{◌≤◌, Bool, true, false}
 use Rattle.std.proofs.Common.{cond, nat_lt, nat_eq, List, [], ◌∷◌, ◌++◌, length, ℤ}

@@ -1,4 +1,8 @@
 -- The excesses at the payments.
+--
+-- All excesses follow from five facts on the payments, without blocks (Scheme.antt of specs). The first players up to
+-- the end of a block have minus the block's rate. All but one player have minus what that player pays. A coalition that
+-- splits the players from a block on has at most minus the block's rate, by its last place (`excess-outside`).
 use Rattle.std.proofs.Common.{◌≡◌, ◌≢◌, ◌⊎◌, ℕ, zero, suc, ◌-◌, ◌^◌, ◌<◌, ◌≤◌}
 use Rattle.std.proofs.Common.{true, false, List, length, get_or}
 use Rattle.std.proofs.Common.{ℤ, pos, ◌-ℤ◌, ◌*ℤ◌, neg_ℤ, ◌≤ℤ◌, refl, sym, ap, ◌∙◌}

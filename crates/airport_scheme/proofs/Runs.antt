@@ -1,4 +1,7 @@
 -- The run of the scheme: what holds of the payments so far.
+--
+-- The loop finds the least term of what is left (`IsBest`). Rates never fall. A block of b players multiplies the
+-- denominator by at most 2^b.
 use Rattle.std.proofs.Common.{◌≡◌, ◌⊎◌, ℕ, zero, suc, ◌+◌, ◌-◌, ◌*◌, ◌^◌, ◌<◌}
 use Rattle.std.proofs.Common.{◌≤◌, Bool, true, false, cond, nat_lt}
 use Rattle.std.proofs.Common.{List, [], ◌++◌, length, get_or, replicate, take, drop, ℤ, pos}

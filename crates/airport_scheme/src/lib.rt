@@ -23,15 +23,15 @@ use kohlberg::Mode;
 use std::alloc::Global;
 use worth_core::Shares;
 
-/// The nucleolus of an airport game of 1 to 64 players, which is its prenucleolus too and lies in the core, and the
-/// certificate for both, in mode players and with no bounds (Littlechild 1974).
+/// Returns the nucleolus of an airport game of 1 to 64 players, with its certificate, in mode players and with no
+/// bounds (Littlechild 1974). The shares are the prenucleolus too, with the same certificate, and lie in the core.
 ///
-/// Each level is that of a block, of players in a row in the order of their costs who pay the same. Its excess is minus
-/// what each of them pays, a fraction in lowest terms with parts of 128 bits. It lists all players but one of the
-/// block, for each, and all players up to the block's end where others follow, each with weight 1; and the players in
-/// front of the block with weight -1.
+/// Each level is that of a block: players in a row, in the order of their costs, who pay the same. Its excess is minus
+/// what each of them pays, a fraction in lowest terms with parts of 128 bits. With weight 1 it lists, for each player
+/// of the block, all players except that one, and, if other players follow, all players up to the block's end. With
+/// weight -1 it lists the players before the block.
 ///
-/// Its one error is want of memory.
+/// Fails only if memory runs out.
 pub fn solve(alloc: Global, game: &AirportGame) -> Result<(Shares, Certificate), OutOfMemory>
     ensures solved { IfOk result
         (λ solution. (family : Family)

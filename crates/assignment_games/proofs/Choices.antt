@@ -1,4 +1,7 @@
 -- The value of an optimal matching by the choice for one row: no column, or the best of the columns.
+--
+-- An optimal matching of the members is the best of these: one without the buyer, or one pair of the buyer with a
+-- member seller and an optimal matching of the others (`best_choice`).
 use Rattle.std.proofs.Common.{◌≡◌, ◌⊎◌, ℕ, ◌+◌, ◌<◌, ◌≤◌, Bool, true, false, List}
 use Rattle.std.proofs.Common.{◌∷◌}
 use Rattle.std.proofs.Common.{refl, sym, ap, subst, ◌∙◌, inl, inr, arith}

@@ -1,4 +1,7 @@
 -- The value that is found row by row is that of an optimal matching.
+--
+-- `optimal_value` goes by recursion over the rows, from the last one, without a table. Optimal matchings have one value
+-- (`same_optimal` in Games.antt), so what the table holds is the worth.
 use Rattle.std.proofs.Common.{◌≡◌, ◌⊎◌, ℕ, zero, suc, ◌+◌, ◌*◌, ◌<◌, ◌≤◌, Bool}
 use Rattle.std.proofs.Common.{true, false, cond, List}
 use Rattle.std.proofs.Common.{◌∷◌, refl, sym, ap, ◌∙◌, inl, inr, arith, if◌then◌else◌}

@@ -1,4 +1,7 @@
 -- The table of the values of optimal matchings, filled in mask order.
+--
+-- A coalition without one of its members is a lesser mask (`less_mask`). So the table already holds what the choice for
+-- the least buyer of a coalition asks for.
 use Rattle.std.proofs.Common.{◌≡◌, ◌≢◌, ℕ, ◌+◌, ◌^◌, ◌<◌, ◌≤◌, Bool, true, false}
 use Rattle.std.proofs.Common.{not, ◌&&◌, nat_eq, List}
 use Rattle.std.proofs.Common.{[], ◌∷◌, ◌++◌, length, Option, Some, None, MatchOption, refl, sym}

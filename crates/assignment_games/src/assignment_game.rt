@@ -47,9 +47,9 @@ impl Model for AssignmentGame {
 }
 
 impl AssignmentGame {
-    /// The game of these rows, one for each buyer, with an entry for each seller, from 0 to below 2^40 as worth, and of
-    /// at most 16 players; else the first cause in the order of `AssignmentFault`. The worths of all coalitions are
-    /// found here.
+    /// Makes the game of these rows: one for each buyer, with an entry for each seller, from 0 to below 2^40 as worth,
+    /// and at most 16 players. Otherwise returns the first cause in the order of `AssignmentFault`. The worths of all
+    /// coalitions are found here.
     pub fn new(alloc: Global, matrix: Vec<Vec<i64>>) -> Result<AssignmentGame, AssignmentFault>
         ensures { let rows = map (λ row. row.items) matrix.items in MatchResult result
             (λ game. (game ≡ rows) × IsAssignment rows
@@ -76,7 +76,7 @@ impl AssignmentGame {
         Ok(AssignmentGame { matrix, values })
     }
 
-    /// The number of buyers.
+    /// Returns the number of buyers.
     pub fn buyers(&self) -> u32
         ensures count { result ≡ length self.now }
         ensures few { result ≤ 15 }
@@ -86,7 +86,7 @@ impl AssignmentGame {
         self.matrix.len() as u32
     }
 
-    /// The number of sellers.
+    /// Returns the number of sellers.
     pub fn sellers(&self) -> u32
         ensures count { result ≡ seller_count self.now }
         ensures few { result ≤ 15 }

@@ -52,7 +52,8 @@ fn first_buyer(s: Coalition, buyers: u32) -> Option<u32>
     (0..buyers).find(|b| s.contains(*b))
 }
 
-/// The same by the best choice for buyer `b`: no seller, or one of those in `s`.
+/// Returns the value of an optimal matching within `s`, by the best choice for buyer `b`: no seller, or one of those in
+/// `s`.
 fn best_with(
     matrix: &[Vec<i64>],
     buyers: u32,

@@ -1,5 +1,9 @@
 -- Optimal weights of the balanced program, put in mask order, are a balanced collection of excess worth where the
 -- multipliers add to more than the worth of all.
+--
+-- Both values of an optimum are equal, so the weights' worth is more too (`more_worth`). The weights add to their
+-- denominator at each player, because they solve the program. The simplex gives them in lowest terms, on distinct
+-- columns, so in mask order the masks ascend strictly (`is_balanced`).
 use Rattle.std.proofs.Common.{◌≡◌, ◌≢◌, ℕ, ◌+◌, ◌^◌, ◌<◌, ◌≤◌, Bool, true, false}
 use Rattle.std.proofs.Common.{cond, List, [], ◌∷◌}
 use Rattle.std.proofs.Common.{map, ℤ, pos, ◌+ℤ◌, ◌*ℤ◌, ◌<ℤ◌, ◌≤ℤ◌, refl, sym, ap}

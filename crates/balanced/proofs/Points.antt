@@ -1,4 +1,8 @@
 -- Optimal multipliers of the balanced program are shares that no coalition blocks.
+--
+-- The bound of a column says that its coalition is worth no more than its members' multipliers add to (`covered`). If
+-- all of them add to the worth of all, they are a core point (`in_core`). Otherwise they add to more (`above_worth`),
+-- and so do the weights (Collected.antt).
 use Rattle.std.proofs.Common.{◌≡◌, ℕ, zero, suc, ◌^◌, ◌<◌, List, ℤ, pos, ◌*ℤ◌}
 use Rattle.std.proofs.Common.{◌<ℤ◌, ◌≤ℤ◌}
 use Rattle.std.proofs.Common.{sym, ap, subst, ◌∙◌, arith, if◌then◌else◌}

@@ -1,5 +1,8 @@
 -- The balanced program has an optimum: the grand coalition alone solves it, and no weights that sum to 0 in every
 -- row have a positive cost.
+--
+-- The weight 1 on the grand coalition solves it (`whole_solves`). A multiplier of 2^46 for each player, past every
+-- worth, bounds it, since a coalition that isn't empty has a member (`even_bounds`).
 use Rattle.std.proofs.Common.{◌≡◌, ℕ, zero, suc, ◌^◌, ◌<◌, ◌≤◌, List, [], ◌∷◌}
 use Rattle.std.proofs.Common.{ℤ, pos, ◌*ℤ◌, ◌≤ℤ◌}
 use Rattle.std.proofs.Common.{refl, sym, ap, subst, arith, unsigned_abs, if◌then◌else◌}

@@ -39,12 +39,12 @@ pub enum CoreFault {
     Memory,
 }
 
-/// A point of the core of a game of at most 16 players, or a balanced collection that shows that the core is empty. So
-/// `Empty` comes exactly where it is.
+/// Returns a point of the core of a game of at most 16 players, or a balanced collection that shows that the core is
+/// empty: `Empty` exactly if it is.
 ///
 /// The collection has no more coalitions than there are players. Its weights and its `k` are positive, below 2^62, and
-/// have no common divisor but 1. `TooMany` comes exactly where there are more than 16 players, and
-/// `Memory` for want of memory.
+/// have no common divisor but 1. Fails with `TooMany` exactly if there are more than 16 players, and with `Memory` if
+/// memory runs out.
 pub fn core_of<W: Worth>(alloc: Global, game: &W) -> Result<CoreAnswer, CoreFault>
     ensures answer { MatchResult result (IsFound (W.game game.now)) (IsFault (W.game game.now)) }
     ensures few { IfOk result (λ _. (W.game game.now).players ≤ 16) }
@@ -60,8 +60,8 @@ pub fn core_of<W: Worth>(alloc: Global, game: &W) -> Result<CoreAnswer, CoreFaul
 
 // For the crates above.
 
-/// What `core_of` says of a game that has at most 16 players, as the caller has tested: so want of memory is the only
-/// fault.
+/// Returns what `core_of` returns, for a game of at most 16 players, as the caller has tested. Fails only if memory
+/// runs out.
 pub fn core_of_few<W: Worth>(alloc: Global, game: &W) -> Result<CoreAnswer, OutOfMemory>
     requires { (W.game game.now).players ≤ 16 }
     ensures { IfOk result (IsFound (W.game game.now)) }

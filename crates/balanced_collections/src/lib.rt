@@ -1,5 +1,7 @@
 //! Balanced collections: the evidence that a core is empty (Bondareva 1963, Shapley 1967), and the two numbers that it
 //! sets against each other.
+//!
+//! They are below the program that finds them: so lines, which print them, don't wait for the simplex to be proved.
 #![tactic(auto)]
 
 ghost use Rattle.std.specs.Prelude.{◌≡◌, ◌≤◌, ◌<◌, ◌^◌, ◌≤ℤ◌, ◌*ℤ◌, pos, length, unsigned_abs};
@@ -30,7 +32,7 @@ impl Model for Collection {
 }
 
 impl Collection {
-    /// What its coalitions are worth together, by their weights.
+    /// Returns what its coalitions are worth together, by their weights.
     pub fn value<W: Worth>(&self, game: &W) -> i128
         requires { ShowsEmpty (W.game game.now) self.now }
         ensures value { result ≡ weighted_sum (W.game game.now).worth self.now.weights }
@@ -40,7 +42,7 @@ impl Collection {
         weighted_worth(game, &self.weights)
     }
 
-    /// What all players are worth, `k` times.
+    /// Returns `k` times the worth of all players together.
     pub fn against<W: Worth>(&self, game: &W) -> i128
         requires { ShowsEmpty (W.game game.now) self.now }
         ensures value { let g = W.game game.now in result ≡ self.now.k *ℤ g.worth (grand_coalition g.players) }

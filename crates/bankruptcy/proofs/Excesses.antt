@@ -1,4 +1,9 @@
 -- The excess in a bankruptcy game is the greater of its two arms.
+--
+-- An arm is a linear function of the coalition: one if the others leave nothing, one if they leave something. It is
+-- greatest at the players who add a positive number. Every coalition at which it is as great holds these, so their mask
+-- is the least (LeastGreatest.antt). Of the two candidates the one of greater excess, and on a tie the lesser mask, is
+-- the chosen one. The split bound is the greater of those of the two arms.
 use Rattle.std.proofs.Common.{◌≡◌, ℕ, zero, suc, ◌-◌, ◌^◌, ◌<◌, Bool, true, false}
 use Rattle.std.proofs.Common.{cond, length, ℤ, pos}
 use Rattle.std.proofs.Common.{◌+ℤ◌, ◌-ℤ◌, ◌*ℤ◌, neg_ℤ, ◌≤ℤ◌, ap, ◌∙◌, inl, inr, arith}

@@ -44,8 +44,8 @@ impl BankruptcyGame {
     ghost use Rattle.bankruptcy.specs.Bankruptcy.{IsBankruptcy, IsRefused};
     ghost use Rattle.bankruptcy.specs.Arms.{estate_less_claims};
 
-    /// The game of an estate and 1 to 64 claims, each from 0 to below 2^40 as worth, where the estate is at most the
-    /// sum of the claims; else the first cause in the order of `BankruptcyFault`.
+    /// Makes the game of an estate and 1 to 64 claims, each from 0 to below 2^40 as worth; the estate is at most the
+    /// sum of the claims. Otherwise returns the first cause in the order of `BankruptcyFault`.
     pub fn new(
         alloc: Global,
         estate: i64,
@@ -72,7 +72,7 @@ impl BankruptcyGame {
         })
     }
 
-    /// The estate, as worth.
+    /// Returns the estate, as worth.
     pub fn estate(&self) -> i64
         ensures value { result ≡ pos self.now.estate }
         ensures small { result <ℤ pos (2 ^ 40) }
@@ -81,7 +81,7 @@ impl BankruptcyGame {
         self.estate as i64
     }
 
-    /// The claim of player `i`, as worth.
+    /// Returns the claim of player `i`, as worth.
     pub fn claim(&self, i: u32) -> i64
         requires { i < length self.now.claims }
         ensures value { result ≡ pos (slice_index self.now.claims i) }

@@ -1,4 +1,8 @@
 -- Shares at which the pairs of a matching get exactly their worth, and the others nothing, are in the core.
+--
+-- The bound that prices give holds for the members of any coalition, so none blocks (`paid_core`). The other way, a
+-- core point gives each player at least 0, each buyer and seller what these two are worth, and all players no more than
+-- an optimal matching. So it supports that matching (`core_paid`).
 use Rattle.std.proofs.Common.{◌≡◌, ℕ, zero, suc, ◌+◌, ◌*◌, ◌^◌, ◌<◌, ◌≤◌, Bool}
 use Rattle.std.proofs.Common.{true, false, cond, List, length, ℤ}
 use Rattle.std.proofs.Common.{pos, ◌+ℤ◌, ◌*ℤ◌, ◌<ℤ◌, refl, sym, ap, ◌∙◌}

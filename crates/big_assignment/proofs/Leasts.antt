@@ -1,5 +1,10 @@
 -- Least prices: raised only where a row would rather have another column, they stay below all others that leave
 -- each row content.
+--
+-- Prices start at 0 (Demange, Gale and Sotomayor 1986). In its turn a row raises the price of each column that it would
+-- rather have, until it is content with its own. All prices at which each row is content, over any denominator, stay
+-- above (`below_raised`), and the prices of a core point are such (`buyers_meet` in Sides.antt). So the prices at the
+-- end are the least of all core points, and the gains of the rows the greatest.
 use Rattle.std.proofs.Common.{◌≡◌, ℕ, ◌+◌, ◌*◌, ◌^◌, ◌<◌, ◌≤◌, List, slice_index, sym}
 use Rattle.std.proofs.Common.{ap, inl, inr, arith}
 use Rattle.big_assignment.specs.declared.deal.Deal.{Deal}

@@ -1,5 +1,9 @@
 -- Rounds in which each row has its turn: in each, one price more gets as high as the least one at which each row is
 -- content. So there are at most as many rounds as places.
+--
+-- There are least prices, since prices stay below the fair ones that are known (`least_from`). Each round settles one
+-- more price, if one is left (`settles`). Otherwise prices that are 1 less at all columns that aren't settled would
+-- leave each row content too (`lowered_meet`), and be below the least.
 use Rattle.std.proofs.Common.{◌≡◌, ◌≢◌, ◌⊎◌, ℕ, zero, suc, ◌+◌, ◌-◌, ◌<◌, ◌≤◌, nat_eq, if◌then◌else◌}
 use Rattle.std.proofs.Common.{refl, subst, ◌∙◌, inl, inr, arith}
 use Rattle.definitions.proofs.Cases.{same_or_other, less_or_last, last_or_less_of, below_or_above}

@@ -1,4 +1,11 @@
 -- The search keeps fair prices: the reached rows give up the least slack, and a place is reached.
+--
+-- The Hungarian method (Kuhn 1955): buyers join one at a time. The new buyer gains 2^40, more than any offer. From it
+-- columns are reached. Among the pairs of a reached row and a column that isn't reached, one lacks least of its worth:
+-- the reached rows give up that much, and the prices of the reached columns rise by it (`shift_keeps`). The column is
+-- then reached, and so is the row that has it (`mark_keeps`). A column that nobody has is handed back along the way
+-- (Walks.antt). Column 32 stands for being alone: nothing is offered for it, it costs nothing, and many rows may have
+-- it. Fair prices (`IsFair`) leave each row its best column, and a column without a row costs nothing.
 use Rattle.std.proofs.Common.{◌≡◌, ◌≢◌, ◌⊎◌, ℕ, ◌+◌, ◌^◌, ◌<◌, ◌≤◌, List, refl}
 use Rattle.std.proofs.Common.{ap, ◌∙◌, inl, inr, arith}
 use Rattle.big_assignment.specs.declared.deal.Deal.{Deal}

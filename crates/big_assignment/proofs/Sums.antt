@@ -1,5 +1,7 @@
 -- Sums over those that pass a test, and the bound that prices give: where each pair gets together at least what it
 -- is worth, no matching is worth more than its members get.
+--
+-- A matching's pairs are taken out one by one (`prices_bound`).
 use Rattle.std.proofs.Common.{◌≡◌, ◌≢◌, ℕ, zero, suc, ◌+◌, ◌*◌, ◌<◌, ◌≤◌, Bool}
 use Rattle.std.proofs.Common.{true, List, []}
 use Rattle.std.proofs.Common.{◌∷◌, refl, sym, ap, ◌∙◌, inl, inr, arith, if◌then◌else◌}

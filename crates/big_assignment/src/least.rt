@@ -84,7 +84,7 @@ fn gains_at(deal: &Deal, n: usize, prices: &[u64; PLACES]) -> [u64; PLACES]
     gains
 }
 
-/// The same columns at the least prices.
+/// Returns the deal with the columns that it has, at the least prices.
 pub(crate) fn cheapest(deal: &Deal, n: usize) -> Deal
     requires rows { n ≤ 32 }
     requires offers { AreDealOffers deal.now }

@@ -25,6 +25,7 @@ pub enum MarketFault {
     /// The rows differ in length.
     Matrix,
     /// There was no memory.
+    /// `MarketGame::new` takes none and never gives this: it is part of a promised signature.
     Memory,
 }
 
@@ -47,8 +48,9 @@ impl Model for MarketGame {
 }
 
 impl MarketGame {
-    /// The market of these rows, one for each buyer, with an entry for each seller, from 0 to below 2^40 as worth, and
-    /// of at most 32 buyers and 32 sellers; else the first cause in the order of `MarketFault`. No memory is taken.
+    /// Makes the market of these rows: one for each buyer, with an entry for each seller, from 0 to below 2^40 as
+    /// worth, and at most 32 buyers and 32 sellers. Otherwise returns the first cause in the order of `MarketFault`. It
+    /// takes no memory.
     pub fn new(_alloc: Global, matrix: Vec<Vec<i64>>) -> Result<MarketGame, MarketFault>
         ensures { let rows = map (λ row. row.items) matrix.items in MatchResult result
             (λ game. (game ≡ rows) × IsMarket rows
@@ -72,7 +74,7 @@ impl MarketGame {
         Ok(MarketGame { matrix })
     }
 
-    /// The number of buyers.
+    /// Returns the number of buyers.
     pub fn buyers(&self) -> u32
         ensures count { result ≡ length self.now }
         ensures few { result ≤ 32 }
@@ -82,7 +84,7 @@ impl MarketGame {
         self.matrix.len() as u32
     }
 
-    /// The number of sellers.
+    /// Returns the number of sellers.
     pub fn sellers(&self) -> u32
         ensures count { result ≡ seller_count self.now }
         ensures few { result ≤ 32 }

@@ -51,10 +51,11 @@ fn pairs_of(
 }
 
 impl MarketGame {
-    /// An optimal matching, and the core points that are best for every buyer and for every seller (Shapley and Shubik
+    /// Returns an optimal matching, and the core points best for every buyer and for every seller (Shapley and Shubik
     /// 1971). Each of the two shows that the matching is optimal: it shares out its value, and no pair blocks it.
+    /// Which optimal matching it is stays open.
     ///
-    /// Its one error is want of memory.
+    /// Fails only if memory runs out.
     pub fn solve(&self, alloc: Global) -> Result<Solution, OutOfMemory>
         ensures pairs { IfOk result (λ solution. IsOptimalMatching self.now solution.pairs.items solution.value) }
         ensures buyers { IfOk result

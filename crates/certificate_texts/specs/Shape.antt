@@ -43,6 +43,9 @@ certificate_keys = codes "levels" ∷ codes "mode" ∷ []
 abbrev pub level_keys : List (List ℕ)
 level_keys = codes "bounds" ∷ codes "coalitions" ∷ codes "earlier" ∷ codes "excess" ∷ codes "total" ∷ []
 
+-- A number is any JSON number here: one that isn't an integer, or is 2^63 or more in size, is a fault of the
+-- certificate (`has_form`), and not of its shape or its numbers, since the refusal of numbers speaks of the game and
+-- the shares.
 abbrev pub is_weighted_coalition : Data → Bool
 is_weighted_coalition d = is_pair_of (is_array_of is_number) is_number d
 

@@ -11,8 +11,8 @@ use kohlberg::Certificate;
 use serde_json::Value;
 use std::alloc::Global;
 
-/// The certificate for `n` players that a tree describes, its excesses times the scale. None exactly where it hasn't
-/// its form.
+/// Returns the certificate for `n` players that a tree describes, its excesses times the scale. Returns none exactly if
+/// the tree doesn't have its form.
 pub fn certificate_of(
     alloc: Global,
     n: u32,

@@ -1,4 +1,4 @@
-//! Certificates in JSON: their kinds, keys and words, and the certificate that a tree describes where it has its form.
+//! Certificates in JSON: their kinds, keys and words, and the certificate that a tree describes if it has its form.
 #![tactic(auto)]
 
 mod ascending;

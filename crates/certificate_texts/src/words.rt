@@ -18,7 +18,7 @@ fn family_named(word: &str) -> Option<Family>
     }
 }
 
-/// The family that the answer of a document names.
+/// Returns the family that the answer of a document names.
 pub fn family_of(tree: &Value) -> Option<Family>
     ensures { result ≡ family_of (view tree.now) }
 {

@@ -1,4 +1,9 @@
 -- What a scan in Gray order knows at its end of the greatest measured excess of the marked coalitions.
+--
+-- Condition 7 asks for the greatest measured excess outside. In mode span a mark says which coalitions the levels don't
+-- fix (Marking.antt of kohlberg). In mode players a coalition is outside if it holds some free player and lacks another
+-- one (Free.antt). The walk keeps what the members get, by one share added or taken off at each step (`sum_flipped` in
+-- Paid.antt), and the greatest excess of the marked ones.
 use Rattle.std.proofs.Common.{ℕ, ◌^◌, ◌<◌, List, pos, ◌*ℤ◌, ◌≤ℤ◌, Some, None, IsTrue}
 use Rattle.std.proofs.Common.{arith, refl, ap, subst, ◌∙◌}
 use Rattle.std.specs.Bool.{Decides}

@@ -1,4 +1,9 @@
 -- Failures and verdicts.
+--
+-- One function for each condition gives the first place that fails, and they are joined in the order of the tests. So
+-- `check` says yes if all hold, and otherwise names the first that fails. An excess is compared with that of a level as
+-- a fraction in lowest terms: `IsValueOf` says that it is the measured excess over its denominator, and
+-- `same_from_value`, `some_above` and `none_above` carry the order over.
 use Rattle.std.proofs.Common.{◌≡◌, ℕ, ◌+◌, true, false, List, [], ◌∷◌, ◌++◌, Option}
 use Rattle.std.proofs.Common.{Some}
 use Rattle.std.proofs.Common.{None, MatchOption, is_some, ℤ, pos, ◌*ℤ◌, ◌<ℤ◌, ◌≤ℤ◌, sym, ap}

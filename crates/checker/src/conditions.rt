@@ -102,7 +102,7 @@ pub(crate) fn first_weightless(pairs: &[(Coalition, i128)]) -> Option<Coalition>
     None
 }
 
-/// Whether a weight on a player's bound is at least 1, or a level in front gave it such a weight.
+/// Whether the bound's weight is at least 1, or an earlier level already gave this player such a weight.
 fn weighs(front: &[Level], i: u32, weight: i128) -> bool
     ensures { IsTrue result ↔ ((pos 1 ≤ℤ weight) ⊎ IsTrue (has_bound front.now i)) }
 {

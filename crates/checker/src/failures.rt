@@ -127,7 +127,7 @@ impl<W: Worth> Claim<'_, W> {
         Some(Reason::NotAll { player })
     }
 
-    /// The first condition that a level, which counts from 1, fails behind the levels in front.
+    /// Returns the first condition that `tested` fails, given the levels before it. `level` is its number, from 1.
     fn level_failure(
         &self,
         fixed: &Fixed,

@@ -1,5 +1,4 @@
-//! The checker: whether a certificate shows that shares are the nucleolus or the prenucleolus of a game
-//! (Kohlberg 1971).
+//! Whether a certificate shows that shares are the nucleolus or the prenucleolus of a game (Kohlberg 1971).
 #![tactic(auto)]
 
 mod conditions;
@@ -18,16 +17,16 @@ use kohlberg::{Certificate, Family};
 pub use kohlberg::{Place, Reason, Verdict};
 use worth_core::{Measure, Shares, Worth};
 
-/// Yes exactly where the certificate meets all conditions for these shares by the measure, and they are then the
-/// nucleolus of the game (Schmeidler 1969; per head Grotte 1970), or the prenucleolus for preimputations; and No with
-/// the first condition that fails. There are at most 16 players where excess is per head.
+/// Returns `Yes` exactly if the certificate meets all conditions for these shares by the measure, and otherwise `No`
+/// with the first condition that fails. After `Yes` the shares are the nucleolus of the game, or the prenucleolus for
+/// preimputations (Schmeidler 1969; per head Grotte 1970). There are at most 16 players if excess is per head.
 ///
 /// The conditions, in the order in which they are tested: the shares add to the worth of all; for imputations no share
 /// is below the worth alone. Then level by level: its coalitions have its excess; their weights are at least 1, and so
-/// are those of its bounds, but for players whose bound has such a weight in front; at each player the weights, with
-/// those of earlier coalitions, add to its total; the players in its bounds get their worth alone, and only imputations
-/// have bounds; no coalition that the levels in front don't fix has a greater excess. At the end the levels fix
-/// everything.
+/// are those of its bounds, except for players whose bound has such a weight at an earlier level; at each player the
+/// weights, with those of earlier coalitions, add to its total; the players in its bounds get their worth alone, and
+/// only imputations have bounds; no coalition that earlier levels don't fix has a greater excess. At the end the levels
+/// fix everything.
 ///
 /// It takes no memory and always answers.
 pub fn check<W: Worth>(

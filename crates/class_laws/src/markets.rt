@@ -8,7 +8,7 @@ pub fn nucleolus_is_between()
     ensures { NucleolusIsBetween }
 {}
 
-/// Of two core points of a market, the greater share for each buyer and the lesser for each seller make a core point,
+/// The greater share for each buyer and the lesser for each seller, of two core points of a market, make a core point,
 /// and so do the lesser for each buyer and the greater for each seller (Shapley and Shubik 1971).
 pub fn core_is_a_lattice()
     ensures { CoreIsALattice }

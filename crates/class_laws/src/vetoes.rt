@@ -19,12 +19,12 @@ pub fn a_core_needs_a_veto()
     ensures { ACoreNeedsAVeto }
 {}
 
-/// A player with a veto gets no less than any other, of the nucleolus and the prenucleolus, plain and per head.
+/// By the nucleolus and the prenucleolus, plain and per head, a player with a veto gets no less than any other.
 pub fn who_has_a_veto_gets_no_less()
     ensures { WhoHasAVetoGetsNoLess }
 {}
 
-/// Of three voters with 3, 4 and 1 votes, of which 7 are needed, the first two have a veto and the third has none.
+/// If three voters have 3, 4 and 1 votes and 7 are needed, the first two have a veto and the third has none.
 pub fn two_of_three_vetoes()
     ensures { TwoOfThreeVetoes }
 {}

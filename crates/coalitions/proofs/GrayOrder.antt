@@ -1,4 +1,9 @@
 -- Gray order: from each step to the next one player comes or goes, and each coalition comes once.
+--
+-- Half of a Gray code is the Gray code of half the number (Gray 1953). Its lowest bit is the parity of the number and
+-- its half. So no mask appears twice, and each appears (`one_step`, `has_step`). From each step to the next one bit
+-- changes: the earlier number has ones below the lowest bit of the next, so the sums of neighbouring bits differ only
+-- there (`flips`).
 use Rattle.std.proofs.Common.{◌≡◌, ℕ, zero, suc, ◌+◌, ◌-◌, ◌*◌, ◌/◌, ◌%◌, ◌^◌}
 use Rattle.std.proofs.Common.{◌<◌, ◌≤◌, Bool, true}
 use Rattle.std.proofs.Common.{false, cond, not, nat_eq, List, ◌∷◌, length, map, Option, Some}

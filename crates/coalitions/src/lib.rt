@@ -34,14 +34,14 @@ impl Model for Coalition {
 }
 
 impl Coalition {
-    /// The coalition without members.
+    /// Returns the coalition without members.
     pub fn empty() -> Coalition
         ensures { result ≡ 0 }
     {
         Coalition(0)
     }
 
-    /// The coalition of player `i` alone.
+    /// Returns the coalition of player `i` alone.
     pub fn single(i: u32) -> Coalition
         requires { i < 64 }
         ensures { result ≡ singleton i }
@@ -49,7 +49,7 @@ impl Coalition {
         Coalition(1 << i)
     }
 
-    /// The coalition of all of `n` players.
+    /// Returns the coalition of all of `n` players.
     pub fn all(n: u32) -> Coalition
         requires { n ≤ 64 }
         ensures { result ≡ grand_coalition n }
@@ -61,7 +61,7 @@ impl Coalition {
         }
     }
 
-    /// Its members and player `i`.
+    /// Returns the coalition of its members and player `i`.
     #[tactic(auto, using(crate::proofs::Bits::has_player_with, crate::proofs::Bits::with_fits))]
     pub fn with(self, i: u32) -> Coalition
         requires { i < 64 }
@@ -70,7 +70,7 @@ impl Coalition {
         Coalition(self.0 | 1 << i)
     }
 
-    /// Its members but player `i`.
+    /// Returns the coalition of its members except player `i`.
     #[tactic(auto, using(crate::proofs::Bits::has_player_without))]
     pub fn without(self, i: u32) -> Coalition
         requires { i < 64 }
@@ -79,7 +79,7 @@ impl Coalition {
         Coalition(self.0 & !(1 << i))
     }
 
-    /// Whether player `i` is a member.
+    /// Returns whether player `i` is a member.
     pub fn contains(self, i: u32) -> bool
         requires { i < 64 }
         ensures { result ≡ has_player self i }
@@ -87,7 +87,7 @@ impl Coalition {
         (self.0 >> i) & 1 == 1
     }
 
-    /// The players of `n` that are not members.
+    /// Returns the coalition of the players of `n` that are not members.
     pub fn complement(self, n: u32) -> Coalition
         requires players { n ≤ 64 }
         requires within { self < 2 ^ n }
@@ -96,7 +96,7 @@ impl Coalition {
         Coalition(Coalition::all(n).0 - self.0)
     }
 
-    /// The number of members.
+    /// Returns the number of members.
     #[tactic(auto, using(crate::proofs::Count::length_members))]
     pub fn len(self) -> u32
         ensures { result ≡ length (members 64 self) }
@@ -104,7 +104,7 @@ impl Coalition {
         self.0.count_ones()
     }
 
-    /// The members, in ascending order.
+    /// Returns the members, in ascending order.
     pub fn members(self) -> ArrayVec<u32, 64>
         ensures { result.items ≡ members 64 self }
     {
@@ -117,7 +117,7 @@ impl Coalition {
         found
     }
 
-    /// The coalition of `n` players with the next greater mask; none after that of all.
+    /// Returns the coalition of `n` players with the next greater mask; none after that of all.
     pub fn next_mask(self, n: u32) -> Option<Coalition>
         requires players { n ≤ 64 }
         requires within { self < 2 ^ n }
@@ -130,7 +130,7 @@ impl Coalition {
         }
     }
 
-    /// Every coalition of `n` players, in ascending order of the masks, from 0 to 2^n - 1.
+    /// Returns every coalition of `n` players, in ascending order of the masks, from 0 to 2^n - 1.
     pub fn subsets(n: u32) -> Subsets
         requires { n ≤ 64 }
         ensures masks { result ≡ all_masks n }
@@ -140,8 +140,8 @@ impl Coalition {
         Subsets::from_empty(n)
     }
 
-    /// Every coalition of `n` players once, in Gray order (Gray 1953), each with the player in which it differs from
-    /// the one before.
+    /// Returns every coalition of `n` players once, in Gray order (Gray 1953), each with the player in which it differs
+    /// from the one before.
     pub fn gray(n: u32) -> Gray
         requires { n ≤ 16 }
         ensures steps { result ≡ gray_steps n }

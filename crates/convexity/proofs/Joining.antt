@@ -1,4 +1,7 @@
 -- In a convex game a player adds no less where more others have joined before (Shapley 1971).
+--
+-- This is an induction over the players in which the two coalitions differ. Each step is convexity at one coalition and
+-- two players (`adds_more`).
 use Rattle.std.proofs.Common.{◌≡◌, ◌⊎◌, ℕ, zero, suc, ◌+◌, ◌^◌, ◌<◌, ◌≤◌, Bool}
 use Rattle.std.proofs.Common.{true, false, ℤ}
 use Rattle.std.proofs.Common.{◌-ℤ◌, ◌≤ℤ◌, refl, sym, ap, ◌∙◌, inl, inr, arith}

@@ -1,4 +1,7 @@
 -- Steps of the search for the first coalition and players at which a game isn't convex.
+--
+-- The search goes over the coalitions in mask order, and at each over the players outside, the lesser first. If it
+-- finds no failure among players i < j there is none at all: the condition is the same for j and i (`convex_from`).
 use Rattle.std.proofs.Common.{◌≡◌, ◌⊎◌, ℕ, ◌+◌, ◌^◌, ◌<◌, true, false, ◌||◌, nat_eq}
 use Rattle.std.proofs.Common.{ℤ}
 use Rattle.std.proofs.Common.{pos, ◌-ℤ◌, ◌≤ℤ◌, sym, ap, ◌∙◌, inl, inr, arith}

@@ -54,11 +54,11 @@ fn shares_of<W: Worth>(alloc: Global, game: &W) -> Result<(Shares, Shares), OutO
     }
 }
 
-/// Whether a game of at most 16 players is convex: `Convex` exactly where it is, with its Shapley shares and the
-/// marginal shares of the players in ascending order, both of which lie in its core (Shapley 1971); and else the first
-/// coalition and players at which it isn't.
+/// Returns `Convex` exactly if a game of at most 16 players is convex, with its Shapley shares and the marginal shares
+/// of the players in ascending order; both lie in its core (Shapley 1971). Otherwise returns the first coalition and
+/// players at which it isn't convex.
 ///
-/// Its one error is want of memory.
+/// Fails only if memory runs out.
 pub fn answer<W: Worth>(alloc: Global, game: &W) -> Result<ConvexAnswer, OutOfMemory>
     requires { (W.game game.now).players ≤ 16 }
     ensures { IfOk result (IsAnswer (W.game game.now)) }

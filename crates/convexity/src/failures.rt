@@ -93,8 +93,8 @@ fn first_pair<W: Worth>(game: &W, s: Coalition) -> Option<Pair>
     None
 }
 
-/// Whether a game of at most 16 players is convex: `Convex` exactly where it is, and else the first coalition and
-/// players at which it isn't (Shapley 1971).
+/// Returns `Convex` exactly if a game of at most 16 players is convex, and otherwise the first coalition and players at
+/// which it isn't (Shapley 1971).
 ///
 /// It takes no memory and always answers.
 pub fn test<W: Worth>(game: &W) -> Convexity

@@ -9,10 +9,10 @@ use fractions::OutOfMemory;
 use std::alloc::Global;
 use worth_core::{Shares, Worth};
 
-/// The marginal shares of an order that holds each player once: each player gets what it adds to the worth of those in
-/// front of it. They lie in the core where the game is convex (Shapley 1971).
+/// Returns the marginal shares of an order that holds each player once: each player gets what it adds to the worth of
+/// those before it. They lie in the core if the game is convex (Shapley 1971).
 ///
-/// Its one error is want of memory.
+/// Fails only if memory runs out.
 pub fn marginal<W: Worth>(alloc: Global, game: &W, order: &[u32]) -> Result<Shares, OutOfMemory>
     requires { IsOrder (W.game game.now).players order.now }
     ensures marginal { IfOk result (IsMarginal (W.game game.now) order.now) }

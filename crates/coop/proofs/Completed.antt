@@ -1,4 +1,11 @@
 -- A right answer to a document that its command serves is positive or negative.
+--
+-- Each status has its cause in the other clauses of `run`, and on a document that its command serves four of the causes
+-- can't hold. A fault needs a count that rose. A usage or a refusal would be right for the words and the bytes. The
+-- words are those of one command (`one_command` in Requests.antt), and the bytes those of one document (`same_document`
+-- in OneAnswer.antt). But no usage is right, as each says that the class or the number of players isn't served
+-- (`no_usage`), and no refusal, as the document was read (`not_refused`). What is left is positive or negative, or that
+-- memory ran out.
 use Rattle.std.proofs.Common.{◌≡◌, ◌⊎◌, ℕ, ℤ, List, Option, Some, refl, sym, subst}
 use Rattle.std.proofs.Common.{◌∙◌, inl, inr, arith}
 use Rattle.std.proofs.lemmas.Bool.{true≢false}

@@ -1,5 +1,9 @@
 -- What is said of the core is what is printed: a scheme's point is its nucleolus, and a collection's numbers are
 -- small.
+--
+-- A scheme's shares are a core point, and they are certified, so they are the nucleolus too (`scheme_point`). The
+-- numbers of a collection are sums of at most 64 products, far from the bounds of 128 bits (`printed_kept`). The usage
+-- of players is right exactly above the limit (`core_limit`, `right_where_ok`).
 use Rattle.std.proofs.Common.{◌≡◌, ℕ, ◌^◌, ◌<◌, ◌≤◌, Result, Ok, Err, IfOk, Bool}
 use Rattle.std.proofs.Common.{List, [], ◌∷◌, ℤ}
 use Rattle.std.proofs.Common.{unsigned_abs, to_z, of_z, ap, subst, ◌∙◌, arith, refl, inl}

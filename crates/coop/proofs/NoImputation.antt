@@ -1,4 +1,7 @@
 -- Where the players alone are worth more than all, there is no imputation.
+--
+-- An imputation gives each player at least its worth alone, and its shares add to the worth of all. So the sum of the
+-- worths alone is at most that. This is said of the numbers as they are printed.
 use Rattle.std.proofs.Common.{◌≡◌, ℕ, ℤ, pos, ◌*ℤ◌, ◌<ℤ◌, ◌≤ℤ◌, sym, subst, ◌∙◌}
 use Rattle.std.proofs.Common.{arith}
 use Rattle.definitions.specs.Sums.{sum_below}

@@ -1,4 +1,7 @@
 -- Bytes that are checked have one right answer: of a document whose certificate certifies its shares it is yes.
+--
+-- The bytes are one document, and no refusal applies. Beside a certificate that certifies no condition is the first
+-- that fails (`no_reason_beside_a_certificate` of theorems). So yes is right, and no other answer is.
 use Rattle.std.proofs.Common.{◌≡◌, ◌≤◌, ℕ, ℤ, List, [], ◌∷◌, length, true, refl}
 use Rattle.std.proofs.Common.{sym, ap, subst, ◌∙◌, arith}
 use Rattle.std.proofs.lemmas.Bool.{true≢false}

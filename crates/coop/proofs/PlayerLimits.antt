@@ -1,5 +1,7 @@
 -- How many players a game of each class has for the commands: the list of classes. One that is no market and has no
 -- scheme of its own has at most 16.
+--
+-- A new class adds its case to `few_as` and `within_check`.
 use Rattle.std.specs.Prelude.{◌≡◌}
 use Rattle.std.proofs.Common.{◌-◌, ◌≤◌, ℕ, ℤ, pos, negsuc, Bool, true, false, ◌&&◌}
 use Rattle.std.proofs.Common.{length, Option, Some, None, if◌then◌else◌, codes, nat_lt, nat_le, unwrap_or}

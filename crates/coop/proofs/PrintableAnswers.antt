@@ -1,6 +1,5 @@
 -- What is right can be printed over any scale: its fractions stand over the denominator of the shares, or that of
--- measured
--- excesses over them.
+-- measured excesses over them.
 use Rattle.std.specs.Prelude.{⊤}
 use Rattle.std.proofs.Common.{◌≡◌, ◌^◌, ℕ, List, ℤ, pos, ◌≤ℤ◌, sym, subst}
 use Rattle.checker.specs.Meaning.{IsVerdict}

@@ -1,4 +1,14 @@
 -- The line of what a solver found can be checked.
+--
+-- 1. The game's tree was read, so it is exact, nested at most 8 deep and written in no more bytes (`IsKept`). With
+--    levels of at most 128 entries the line is at most 2 MiB longer than the game's text, so the limit of `check` is
+--    kept.
+-- 2. Each printed share is read from its text. Each printed denominator divides the least common one, and that divides
+--    the denominator of the shares. So the numerators get no greater, and the shares are the same.
+-- 3. The members of a coalition, ascending, are read as its mask, and weights and totals from their texts. The tests of
+--    the form pass, because the certificate has its form.
+-- 4. So no refusal applies. Each condition is an equation or a comparison of fractions, so the same shares over another
+--    denominator meet it too.
 use Rattle.std.proofs.Common.{◌≡◌, ℕ, ℤ, pos, ◌+◌, ◌≤◌, List, [], ◌∷◌, length}
 use Rattle.std.proofs.Common.{Bool, true}
 use Rattle.std.proofs.Common.{None, sym, ap, subst, ◌∙◌, length-append, arith}

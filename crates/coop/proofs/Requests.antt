@@ -1,4 +1,7 @@
 -- What words ask for: the parts of a generated game are told from its words, and other words are those of no command.
+--
+-- A word gives back its command by its length and its first letter. A number is told from its digits, since the text of
+-- a fraction is read back.
 use Rattle.std.proofs.Common.{◌≡◌, ◌≢◌, ◌^◌, ◌<◌, ℕ, zero, suc, pos, List, []}
 use Rattle.std.proofs.Common.{◌∷◌, length, nat_eq}
 use Rattle.std.proofs.Common.{slice_index, if◌then◌else◌, unsigned_abs, None, Some, refl, sym, ap, ◌∙◌, subst}

@@ -1,6 +1,9 @@
 -- What the commands do with each class of games: the list of classes. Where a command doesn't serve the class, the
 -- usage of the class is the right answer, and where a game has more players than are answered, the usage of players.
 --
+-- A new class adds its case to `nucleolus_limit`, `shapley_limit`, `HasFewPlayers` and `IsSchemePoint`; and to
+-- `core_limit`, `IsChosen` and `serves_class`, if it isn't as most classes.
+--
 --   is_market, is_tree   the class of the game
 --   is_no_market         the game is of another class than a market
 --   serves_class         the command serves the class of the game
@@ -54,6 +57,7 @@ serves_class _ d = is_no_market d
 
 -- the most players of a game whose nucleolus is answered: the programs per head are those of few players, and with
 -- plain excess airport and bankruptcy games have schemes of their own
+-- (of the classes that are served only voting games can have more with plain excess; the other limits are stated too)
 abbrev pub nucleolus_limit : Measure → Description → ℕ
 nucleolus_limit PerHead d = 8
 nucleolus_limit Plain (table n worths) = 16
@@ -73,6 +77,7 @@ core_limit _ = 64
 
 -- the most players of a game whose Shapley shares are answered: the steps of an airport's costs and the sums of votes
 -- are few, and the coalitions of another game many
+-- (`shapley` and `airport_shapley` refuse more players, and `run` answers that as usage: so the limit is tested once)
 abbrev pub shapley_limit : Description → ℕ
 shapley_limit (table n worths) = 16
 shapley_limit (cost n costs) = 16

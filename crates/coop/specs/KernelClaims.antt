@@ -38,6 +38,7 @@ Balances are_costs g x _ = ⊥
 
 -- there are these shares, for players that aren't too many, and the answer is right for them. To the prenucleolus it is
 -- that it is in the prekernel (Schmeidler 1969; Maschler, Peleg and Shapley 1979)
+-- (a part of every right answer, as for `core` that the core is empty: so the clause of `run` says it, and no other)
 pub record IsBalanceOf (d : Contents) (answer : Answer) : Type 0 where
   pub shares : Allocation
   pub given : d.shares ≡ Some shares

@@ -1,4 +1,8 @@
 //! What the commands do with each class of games: the list of classes.
+//!
+//! A new class adds here who solves it (`found_plainly`, `said_of`) and whether its worths are kept for the checker
+//! (`kept_where_slow`); and, if it isn't as most classes, who serves it, to how many players, and who finds its Shapley
+//! shares.
 ghost use Rattle.std.specs.Prelude.{◌≡◌, ◌≤◌, IfOk, ◌<◌, ◌↔◌, IsErrOf, IfSome};
 ghost use Rattle.definitions.specs.declared.Measure.{Measure};
 ghost use Rattle.definitions.specs.Shapley.{IsShapley};
@@ -141,8 +145,8 @@ pub(crate) fn shares_of(alloc: Global, game: &Game) -> Result<Shares, ShapleyFau
     }
 }
 
-/// The same game with its worths kept, where it finds each anew when it is asked, as a tree game does: the checker asks
-/// for each at each level.
+/// Returns the game with its worths kept, if it computes each anew when it is asked, as a tree game does. The checker
+/// asks for each worth at each level.
 pub(crate) fn kept_where_slow(
     alloc: Global,
     game: &Game,

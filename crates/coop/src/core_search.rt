@@ -21,11 +21,11 @@ use report::{Answer, UsageKind};
 use std::alloc::Global;
 use worth_core::{Shares, Worth};
 
-/// A point of the core of the game of a document, or a collection that shows that the core is empty; or that the game
-/// has more players than are answered: 16 for a voting game.
+/// Answers `core`: returns a point of the core of a document's game, or a collection that shows that the core is empty,
+/// or that the game has more players than `core_limit` allows.
 ///
-/// The point of an airport or bankruptcy game is its nucleolus, that of a tree game has Bird's shares, and the others
-/// are answered by the balanced program.
+/// The point of an airport or bankruptcy game is its nucleolus, and that of a tree game Bird's shares. The balanced
+/// program answers the others.
 #[inline(never)]
 pub(crate) fn core_document(alloc: Global, document: &Document) -> Result<Answer, OutOfMemory>
     requires accepted { IsAccepted (contents_in document.now) }
@@ -40,7 +40,7 @@ pub(crate) fn core_document(alloc: Global, document: &Document) -> Result<Answer
     core_of_few(alloc, document)
 }
 
-// The same where the game hasn't more players than are answered.
+// Answers `core` for a game within `core_limit`.
 fn core_of_few(alloc: Global, document: &Document) -> Result<Answer, OutOfMemory>
     requires accepted { IsAccepted (contents_in document.now) }
     requires class { is_no_market (description_in document.now.game) ≡ true }
@@ -57,7 +57,7 @@ fn core_of_few(alloc: Global, document: &Document) -> Result<Answer, OutOfMemory
     }
 }
 
-/// The point of a scheme.
+/// Returns the point of a scheme's solution, without its certificate.
 pub(crate) fn core_point(solution: (Shares, Certificate)) -> CoreAnswer
     ensures point { result ≡ CoreAnswer.Point solution.0 }
     ensures certificate { IsCertificate solution.1 }

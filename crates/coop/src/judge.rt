@@ -36,6 +36,7 @@ pub(crate) fn judge<W: Worth>(game: &W, shares: &Shares, are_costs: bool) -> Ans
     let everyone = Coalition::all(game.players());
     let sum = shares.sum_of(everyone);
     let total = game.worth(everyone);
+    // `is_efficient` isn't asked, since a sum that differs is printed.
     if sum != scaled(shares.den(), total) {
         return Answer::NotEfficient {
             sum: over(printed_amount(sum, are_costs), shares.den()),

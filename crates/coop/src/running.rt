@@ -41,7 +41,7 @@ use worth_core::Family;
 /// sink.
 ///
 /// The status says what was answered, or why the line wasn't printed whole: a read failed, a write failed, or memory
-/// was not found.
+/// ran out.
 pub fn run<S: Source, K: Sink>(
     alloc: Global,
     words: &[String],

@@ -22,9 +22,8 @@ use report::{Answer, UsageKind};
 use std::alloc::Global;
 use worth_core::{Family, Measure, Shares, Worth};
 
-/// The nucleolus of the game of a document, or its prenucleolus, by the measure that the document says, with its
-/// certificate and the document's tree, which it takes; or that there is no imputation; or that the game has more
-/// players than are answered by the measure.
+/// Finds the document's nucleolus or prenucleolus by its measure, with its certificate. Takes the document's tree.
+/// Otherwise reports that there is no imputation, or too many players.
 ///
 /// With plain excess airport and bankruptcy games have schemes of their own. The others, and all games with excess per
 /// head, are solved by nested linear programs.
@@ -61,7 +60,7 @@ pub(crate) fn solve_document(
     }
 }
 
-// What is found by the measure.
+// Finds the nucleolus or prenucleolus of a game by the measure.
 fn found_for(
     alloc: Global,
     game: &Game,
@@ -79,15 +78,15 @@ fn found_for(
     }
 }
 
-/// The point and the certificate of a scheme.
+/// Returns the point and the certificate of a scheme's solution.
 pub(crate) fn found_point(solution: (Shares, Certificate)) -> Found
     ensures { result ≡ Found.Point solution.0 solution.1 }
 {
     Found::Point(solution.0, solution.1)
 }
 
-/// Shares and certificates are within their limits by their types. This does nothing but to call what says so, for the
-/// proofs of those that print them.
+/// Does nothing at run time. It calls the accessors whose contracts state the limits of shares and certificates, since
+/// the proofs of the printers need them.
 pub(crate) fn keep_their_limits(shares: &Shares, certificate: &Certificate)
     ensures shares { IsShares shares.now }
     ensures certificate { IsCertificate certificate.now }

@@ -26,7 +26,7 @@ pub enum Status {
 }
 
 impl Status {
-    /// The number that the program ends with: 0 to 3 after an answer, 5 to 7 after a fault.
+    /// Returns the number that the program ends with: 0 to 3 after an answer, 5 to 7 after a fault.
     pub fn number(self) -> u8
         ensures { result ≡ status_number self }
     {

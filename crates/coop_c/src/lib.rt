@@ -1,4 +1,4 @@
-//! Solves cooperative games for a host: the words and the document stand in its memory, and the line goes there.
+//! Solves cooperative games for a host: the words and the document are in its memory, and the line goes there.
 #![tactic(auto)]
 
 mod calling;
@@ -15,12 +15,15 @@ ghost use Rattle.coop_c.specs.Calls.{Asked, EndsAs, IsServed};
 use calling::called;
 use std::alloc::Global;
 
+// Neither document nor line is copied: it reads the one and writes the other where they are. The words are one text,
+// since a proved call takes no pointers to pointers. The kit rules out null pointers, even for an empty slice, so
+// `c/coop.c` replaces them.
 /// Runs `coop` on words and a document. The words are UTF-8, with a zero byte between two; where they aren't UTF-8
 /// there are none, as in the program.
 ///
-/// The line goes to the front of `line`, and to `count` how many bytes stand there. The result is the number that the
-/// program ends with: 0 and 1 after the positive and the negative answer, 2 after a usage, 3 after a refusal. After 6
-/// the room is full, and the line is longer than it; after 7 memory wasn't found, and nothing stands there.
+/// The line goes to the front of `line`, and its number of bytes there to `count`. Returns the number that the program
+/// ends with: 0 and 1 after the positive and the negative answer, 2 after a usage, 3 after a refusal. After 6 the room
+/// is full, and the line is longer than it. After 7 memory ran out, and nothing is written.
 #[unsafe(no_mangle)]
 pub extern "C" fn coop_run(
     alloc: Global,

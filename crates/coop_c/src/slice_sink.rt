@@ -3,6 +3,9 @@ use ports::{Failed, Sink};
 
 /// Room of the host, which takes what fits to its front. A write fails where no byte of a piece fits, so only where
 /// the room is full.
+///
+/// A run ends at the first write that fails, so a line that is longer than the room isn't measured: to know its length
+/// takes a second call, which may as well bring the line.
 #[derive(Drop)]
 pub(crate) struct SliceSink<'a> {
     pub(crate) room: &'a mut [u8],

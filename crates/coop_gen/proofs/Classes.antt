@@ -1,4 +1,9 @@
 -- A generated game has the players that were asked for, and the worths of its class.
+--
+-- The definition (Generated.antt of specs) asks for each draw by its place. A coalition of a table takes the draw whose
+-- number counts the coalitions before it that have more than one player. Two points of a network take that of the pairs
+-- before them, and a pair of an assignment game that of its place row by row. The code draws in one pass, or looks a
+-- draw up in a list (`drawn_games`). The drawn numbers are within the limits of their class, so no constructor refuses.
 use Rattle.std.proofs.Common.{◌≡◌, ℕ, ◌+◌, ◌-◌, ◌/◌, refl, ap₂, ap, ◌∙◌, arith}
 use Rattle.std.proofs.lemmas.List.FromFn.{length-map-range_with_len}
 use Rattle.tree_games.proofs.Nearest.{tree_is_game}

@@ -8,10 +8,10 @@ use fractions::OutOfMemory;
 use game_text::{Game, Kind};
 use std::alloc::Global;
 
-/// The game of that kind, of `n` players, made from the seed. The kind has games of so many players, and the seed is
-/// below 2^31.
+/// Returns the game of that kind, of `n` players, made from the seed. The kind has games of that number of players, and
+/// the seed is below 2^31.
 ///
-/// Its one error is want of memory.
+/// Fails only if memory runs out.
 pub fn generate(alloc: Global, kind: Kind, n: u32, seed: u32) -> Result<Game, OutOfMemory>
     requires size { HasKindSize kind n }
     requires seed { seed < 2 ^ 31 }
@@ -26,7 +26,7 @@ pub fn generate(alloc: Global, kind: Kind, n: u32, seed: u32) -> Result<Game, Ou
     })
 }
 
-/// Whether the kind has games of `n` players.
+/// Returns whether the kind has games of `n` players.
 pub fn has_size(kind: Kind, n: u32) -> bool
     ensures { IsTrue result ↔ HasKindSize kind n }
 {

@@ -9,6 +9,8 @@ const DEPTH: usize = 228 * 1024;
 /// The system finds memory for a part of the stack when it is first used, and where it finds none it ends the program
 /// by a signal. After this call a run finds its stack there, so that memory is wanted only where it is asked for, and
 /// want of it is a status.
+///
+/// No clause says so: `tools/refuse-memory` tries it.
 #[inline(never)]
 pub(crate) fn use_stack(rt: &HostRuntime) {
     // A call of the system that may write to the whole, so that no compiler leaves it out.

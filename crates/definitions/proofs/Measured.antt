@@ -1,5 +1,14 @@
 -- A measured excess is the excess times a positive weight, and over its denominator the excess over the denominator
 -- times the divisor.
+--
+-- Each of 1 to 16 divides 720720 (`divides`). So over 720720 times the denominator the excess per head of s is a whole
+-- number: the excess times 720720 over the size of s. That weight is positive, and 1 for plain excess. So a measured
+-- excess of one coalition has the sign and the order of the plain one, and the proofs on certificates use no more of
+-- it.
+--
+-- 720720 times an excess would leave 128 bits. Programs compare two coalitions by cross products with their sizes
+-- instead, which is the same order (`measured-order`). They compare a level's excess a / b with e over q times the
+-- divisor (`measured-same`, `measured-le`).
 use Rattle.std.proofs.Common.{◌≡◌, ℕ, zero, suc, ◌*◌, ◌/◌, ◌^◌, ◌<◌, ◌≤◌, Bool}
 use Rattle.std.proofs.Common.{true, ◌&&◌, ◌||◌, nat_eq, ℤ}
 use Rattle.std.proofs.Common.{pos, ◌*ℤ◌, ◌≤ℤ◌, ◌<ℤ◌, refl, sym, ap, ◌∙◌, inl, inr}

@@ -1,5 +1,10 @@
 -- The laws of the product of integers, the sets of laws that `simp` and `omega` take, and orders of products.
 --
+-- `omega` takes each product as an atom, so it is handed the orders of products: `mul-leℤ`, `mul-ltℤ`,
+-- `mul-nonnegativeℤ`, `mul-positiveℤ`, and `mul-subℤ` to multiply out. There is no division: `cancel` (Cancel.antt)
+-- takes a factor that isn't 0 from both sides. State a step of an induction over plain integers, and cite it: then the
+-- tactics see few names, and the checks stay fast. ≤ℤ and <ℤ bind tighter than +ℤ and *ℤ.
+--
 -- An identity of sums and products: simp ring_laws (omega (arith, linear)).
 -- A step where some summand is 0 or some factor is 1: simp unit_laws, or both sets.
 -- An order or an equation by linear arithmetic over products as they stand: omega (arith, linear, facts).

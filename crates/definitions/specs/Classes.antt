@@ -69,6 +69,9 @@ abbrev pub entry : Matrix → ℕ → ℕ → ℕ
 entry matrix i j = matrix i j
 
 -- ---- sets of points or players, as tests
+--
+-- A set is a test on numbers, and a matrix a function of row and column: so matrices kept flat and matrices kept as
+-- lists of rows are served alike.
 
 -- p and what passes the test
 abbrev pub joined : (ℕ → Bool) → ℕ → ℕ → Bool

@@ -13,7 +13,8 @@ abbrev pub divisor : Measure → ℕ → ℕ
 divisor Plain s = 1
 divisor PerHead s = size s
 
--- the excess e of s by the measure. Excesses per head stand over 720720, which each of 1 to 16 divides
+-- the excess e of s by the measure. Excesses per head stand over 720720, which each of 1 to 16 divides, so each is a
+-- whole number; the code compares them by cross products instead, which stay within 128 bits
 abbrev pub measured : Measure → ℕ → ℤ → ℤ
 measured Plain s e = e
 measured PerHead s e = pos (720720 / size s) *ℤ e

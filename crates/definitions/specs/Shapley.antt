@@ -31,6 +31,7 @@ insertions x [] = (x ∷ []) ∷ []
 insertions x (y ∷ ys) = (x ∷ (y ∷ ys)) ∷ map (λ zs. y ∷ zs) (insertions x ys)
 
 -- the lists that hold each player below n once: those of one player less, with the last player put in at each place
+-- (that each such list is there exactly once is proved beside the Shapley value: `orders_are_all` of `shapley`)
 abbrev pub orders : ℕ → List (List ℕ)
 orders zero = [] ∷ []
 orders (suc n) = flat_map (insertions n) (orders n)

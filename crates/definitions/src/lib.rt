@@ -2,6 +2,9 @@
 //! integers, sums and coalitions use (`proofs/`).
 #![tactic(auto)]
 
+// These enums are here since definitions split on them. `worth_core` hands on `Family` and `Measure`, and `kohlberg`
+// hands on `Family` and `Mode`.
+
 /// The allocations that a nucleolus is compared with (Schmeidler 1969; for preimputations Sobolev 1975).
 #[derive(Clone, Copy, Debug, PartialEq, Eq)]
 pub enum Family {

@@ -1,4 +1,8 @@
 -- The least common denominator of numbers.
+--
+-- The scale of a game is found number by number: the least common multiple of the scale so far and the next
+-- denominator, and nothing as soon as it is above 65,536, since a multiple only grows. A number that is 2^40 or more in
+-- size, times the scale, is refused before it is cut to 64 bits.
 use Rattle.std.proofs.Common.{◌≡◌, ℕ, ◌*◌, ◌/◌, ◌%◌, ◌<◌, ◌≤◌, ℤ, pos}
 use Rattle.std.proofs.Common.{unsigned_abs}
 use Rattle.std.proofs.Common.{List, [], ◌∷◌, ◌++◌, map, Bool, true, false}

@@ -1,4 +1,7 @@
 -- The least common denominator of fractions in lowest terms is the least common multiple of their denominators.
+--
+-- A share that leaves 128 bits when it is multiplied by the scale breaks the limit of 2^110 (`not_kept`). The scale of
+-- the numbers found one by one is this least denominator (`least_denominator_is`).
 use Rattle.std.proofs.Common.{◌≡◌, ℕ, zero, suc, ◌+◌, ◌*◌, ◌/◌, ◌*ℤ◌, int_div, ◌≤ℤ◌}
 use Rattle.std.proofs.Common.{ℤ, FitsSigned, slice_index_or}
 use Rattle.std.proofs.Common.{◌<◌, ◌≤◌, ◌^◌, List, [], ◌∷◌, length, map, get_or, Bool}

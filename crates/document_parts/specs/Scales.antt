@@ -1,5 +1,6 @@
 -- The scale of a game: the least common denominator of its numbers. It is 1 for a game of version 1, where each is an
--- integer.
+-- integer: the scale doesn't look at the version, since in version 1 a text in the place of a number is refused as
+-- Shape.
 --
 --   if_there            what is there
 --   second_part         the second of two items
@@ -55,6 +56,7 @@ abbrev pub matrix_numbers_in : Data → List Data
 matrix_numbers_in game = all_parts parts (parts_at (codes "matrix") game)
 
 -- the worths, costs, claims, estate and matrix entries of a game; a game of one class has no keys of another
+-- (so a new class changes nothing here, unless it has fractions at a key of its own)
 abbrev pub game_numbers : Data → List Data
 game_numbers game = table_numbers_in game ++ (player_numbers_in game ++ matrix_numbers_in game)
 

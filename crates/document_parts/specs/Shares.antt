@@ -57,5 +57,7 @@ abbrev pub has_small_numerator : ℕ → Fraction → Bool
 has_small_numerator d f = nat_lt (unsigned_abs (numerator_over (pos d) f)) (2 ^ 110)
 
 -- a denominator of at most 2^63, and numerators over it below 2^110 in size
+-- (so a share is too fine if it leaves 128 bits when it is multiplied by the scale: that is a lemma, `not_kept`, and no
+-- rule)
 abbrev pub has_small_terms : ℕ → List Fraction → Bool
 has_small_terms d fs = nat_le d (2 ^ 63) && list_all (has_small_numerator d) fs

@@ -40,7 +40,7 @@ impl Form for MeasureWord {
     }
 }
 
-/// The measure of a game: plain excess where the game says nothing of it.
+/// Returns the measure of a game: plain excess if the game names none.
 pub fn measure_of(game: &Value) -> Measure
     ensures { result ≡ measure_of (view game.now) }
 {

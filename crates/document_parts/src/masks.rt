@@ -20,6 +20,8 @@ fn named_player(names: &Names, name: &str) -> Option<u32>
 }
 
 /// The player that a member names, by its number or by its name.
+///
+/// A text is looked up among the names only, so an unknown one is a fault of names and not of the coalition.
 fn player_of(players: u32, names: &Names, member: &Value) -> Option<u32>
     requires few { players ≤ 64 }
     requires named { length names.now ≤ players }

@@ -112,12 +112,12 @@ fn read_names<'a>(alloc: Global, values: &'a [Value]) -> Result<Option<Names<'a>
     Ok(Some(names))
 }
 
-/// The names of a game of `players` players; no names where the game gives none. None where there isn't one name for
-/// each player.
+/// Returns the names of a game of `players` players, and no names if the game gives none. Returns none if there isn't
+/// one name for each player.
 ///
 /// # Errors
 ///
-/// Where memory was not found.
+/// If memory runs out.
 pub fn names_of<'a>(
     alloc: Global,
     game: &'a Value,
@@ -166,7 +166,7 @@ fn know_pairs(names: &Names, pairs: &[Value]) -> bool
     pairs.iter().all(|v| are_known(names, v))
 }
 
-/// Whether each member of a sparse coalition that is a text is among the names.
+/// Returns whether each member of a sparse coalition that is a text is among the names.
 #[tactic(auto, using(json_trees::proofs::Values::all_views))]
 pub fn know_sparse(names: &Names, game: &Value) -> bool
     ensures { result ≡ list_all (are_known names.now) (parts_at (codes "sparse") (view game.now)) }

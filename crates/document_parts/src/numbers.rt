@@ -37,15 +37,17 @@ fn raise(numbers: &mut Vec<i64>, factor: u32) -> bool
     true
 }
 
-/// The numbers that the values write, times their scale, where that is at most 65,536 and each of them is below 2^40 in
-/// size then.
+/// Returns the numbers that the values write, times their scale. Returns none if the scale is above 65,536, or a number
+/// times it reaches 2^40 in size.
 ///
 /// Each text is parsed once: the numbers in front stand over their own scale, and are multiplied where a denominator
 /// makes it grow, which is so at most 16 times.
+/// So no list of fractions is kept beside that of the numbers, and integers, of which a table has up to 65,535, take
+/// one pass.
 ///
 /// # Errors
 ///
-/// Where memory was not found.
+/// If memory runs out.
 pub fn read_worths(alloc: Global, values: &[&Value]) -> Result<Option<Numbers>, OutOfMemory>
     ensures none { IfOk result (λ o. IfNone o (are_worths (seen values.now) ≡ false)) }
     ensures within { IfOk result (λ o. IfSome o (λ n. are_worths (seen values.now) ≡ true)) }
@@ -72,12 +74,12 @@ fn are_from_zero(numbers: &[i64]) -> bool
     numbers.iter().all(|z| *z >= 0)
 }
 
-/// The numbers that the values write, times their scale, where that is at most 65,536 and each of them is from 0 to
-/// below 2^40 then.
+/// Returns the numbers that the values write, times their scale. Returns none if the scale is above 65,536, or a number
+/// times it is negative or reaches 2^40.
 ///
 /// # Errors
 ///
-/// Where memory was not found.
+/// If memory runs out.
 pub fn read_costs(alloc: Global, values: &[&Value]) -> Result<Option<Numbers>, OutOfMemory>
     ensures none { IfOk result (λ o. IfNone o (are_costs (seen values.now) ≡ false)) }
     ensures within { IfOk result (λ o. IfSome o (λ n. are_costs (seen values.now) ≡ true)) }

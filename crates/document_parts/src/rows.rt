@@ -10,11 +10,11 @@ use json_trees::parts;
 use serde_json::Value;
 use std::alloc::Global;
 
-/// The numbers, which stand row by row, in rows as long as the arrays.
+/// Returns numbers that are listed row by row as rows, each as long as its array.
 ///
 /// # Errors
 ///
-/// Where memory was not found.
+/// If memory runs out.
 pub fn in_rows(
     alloc: Global,
     arrays: &[Value],

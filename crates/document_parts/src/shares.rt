@@ -13,12 +13,12 @@ use serde_json::Value;
 use std::alloc::Global;
 use worth_core::{Shares, SharesFault};
 
-/// The fractions that the shares write; there are none where there are no shares. None exactly where a share is neither
-/// an integer nor a fraction text.
+/// Returns the fractions that the shares write, and no fractions if there are no shares. Returns none exactly if a
+/// share is neither an integer nor a fraction text.
 ///
 /// # Errors
 ///
-/// Where memory was not found.
+/// If memory runs out.
 pub fn written_shares(alloc: Global, tree: &Value) -> Result<Option<Vec<Frac>>, OutOfMemory>
     ensures { IfOk result (λ o. option_map (λ v. v.items) o
         ≡ (if has_share_numbers (view tree.now) then Some (written_shares (view tree.now)) else None)) }
@@ -61,12 +61,12 @@ fn over_least(alloc: Global, written: &[Frac]) -> Result<Option<Shares>, OutOfMe
     }
 }
 
-/// The written shares times the scale, over their least common denominator, as worth: payments are negated. None where
-/// the denominator is above 2^63, or a numerator reaches 2^110 in size.
+/// Returns the written shares times the scale, over their least common denominator, as worth: payments are negated.
+/// Returns none if the denominator is above 2^63, or a numerator reaches 2^110 in size.
 ///
 /// # Errors
 ///
-/// Where memory was not found.
+/// If memory runs out.
 pub fn shares_as_worth(
     alloc: Global,
     written: &[Frac],
@@ -86,6 +86,9 @@ pub fn shares_as_worth(
 }
 
 /// The fractions over their least common denominator, as worth, and none where they break a limit of `Shares` there.
+///
+/// Payments are negated only over their denominator: one of the least number of 128 bits has a form, and its negation
+/// doesn't.
 fn signed_shares(
     alloc: Global,
     written: &[Frac],

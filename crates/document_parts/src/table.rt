@@ -89,12 +89,12 @@ fn other_number(pairs: usize, numbers: &[i64]) -> i64
     }
 }
 
-/// The number of each mask from 1, where the numbers are those of the pairs of a coalition and a number, and then that
-/// of all other coalitions, if it isn't 0. None where a pair has no coalition, or two have the same.
+/// Returns the number of each mask from 1. `numbers` has that of each pair of a coalition and a number, and then the
+/// default of all other coalitions, if it isn't 0. Returns none if a pair has no coalition, or two pairs have the same.
 ///
 /// # Errors
 ///
-/// Where memory was not found.
+/// If memory runs out.
 pub fn sparse_numbers(
     alloc: Global,
     players: u32,

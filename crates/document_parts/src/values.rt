@@ -10,11 +10,11 @@ use fractions::OutOfMemory;
 use json_trees::parts;
 use serde_json::Value;
 
-/// Adds the value at a key, where one is there.
+/// Adds the value at a key, if there is one.
 ///
 /// # Errors
 ///
-/// Where memory was not found.
+/// If memory runs out.
 pub fn add_at<'a>(
     values: &mut Vec<&'a Value>,
     game: &'a Value,
@@ -33,7 +33,7 @@ pub fn add_at<'a>(
 ///
 /// # Errors
 ///
-/// Where memory was not found.
+/// If memory runs out.
 pub fn add_values<'a>(values: &mut Vec<&'a Value>, more: &'a [Value]) -> Result<(), OutOfMemory>
     ensures { IfOk result (λ _. seen values.new.items ≡ seen values.old.items ++ map view more.now) }
 {
@@ -58,7 +58,7 @@ fn add_second<'a>(values: &mut Vec<&'a Value>, pair: &'a Value) -> Result<(), Ou
 ///
 /// # Errors
 ///
-/// Where memory was not found.
+/// If memory runs out.
 pub fn add_seconds<'a>(values: &mut Vec<&'a Value>, pairs: &'a [Value]) -> Result<(), OutOfMemory>
     ensures { IfOk result
         (λ _. seen values.new.items ≡ seen values.old.items ++ all_parts pair_number (map view pairs.now)) }
@@ -73,7 +73,7 @@ pub fn add_seconds<'a>(values: &mut Vec<&'a Value>, pairs: &'a [Value]) -> Resul
 ///
 /// # Errors
 ///
-/// Where memory was not found.
+/// If memory runs out.
 pub fn add_rows<'a>(values: &mut Vec<&'a Value>, rows: &'a [Value]) -> Result<(), OutOfMemory>
     ensures { IfOk result
         (λ _. seen values.new.items ≡ seen values.old.items ++ all_parts parts (map view rows.now)) }

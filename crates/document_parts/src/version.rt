@@ -21,8 +21,8 @@ fn version_has_texts(version: &Value) -> Option<bool>
     }
 }
 
-/// Whether a number of the game may be a text, as in version 2; a game that says nothing of it is of version 1. None
-/// where its version is neither the integer 1 nor 2.
+/// Returns whether a number of the game may be a text, as in version 2; a game without a version is of version 1.
+/// Returns none if the version is neither the integer 1 nor 2.
 pub fn has_texts(game: &Value) -> Option<bool>
     ensures { result ≡ (if passes_if_there is_version (get (codes "version") (view game.now))
         then Some (has_texts (view game.now)) else None) }

@@ -1,4 +1,7 @@
 -- What players are worth alone, added, is no more than the worth of all: tables, assignments, airports and estates.
+--
+-- In a table and in an assignment game the players are worth nothing alone. In an airport the greatest cost is one of
+-- the costs alone. In an estate the claims, one by one, exceed a rest by no more than they do together.
 use Rattle.std.proofs.Common.{◌≡◌, ℕ, zero, suc, ◌+◌, ◌-◌, ◌^◌, ◌<◌, ◌≤◌, Bool}
 use Rattle.std.proofs.Common.{true, false, cond}
 use Rattle.std.proofs.Common.{List, [], ◌∷◌, length, max, sum, ℤ, pos, neg_ℤ, ◌+ℤ◌}

@@ -18,7 +18,7 @@ use std::alloc::Global;
 use tree_games::{TreeFault, TreeGame};
 use worth_tables::{TableFault, TableGame};
 
-/// A table: nothing for one player alone, and a draw below 2^20 for each other coalition.
+/// Draws a table: 0 for each player alone, and a number below 2^20 for each other coalition.
 pub fn table(alloc: Global, n: u32, seed: u32) -> Result<TableGame, OutOfMemory>
     requires some { 1 ≤ n }
     requires few { n ≤ 16 }
@@ -34,7 +34,7 @@ pub fn table(alloc: Global, n: u32, seed: u32) -> Result<TableGame, OutOfMemory>
     }
 }
 
-/// An airport: a cost below 2^20 for each player.
+/// Draws an airport: a cost below 2^20 for each player.
 pub fn airport(alloc: Global, n: u32, seed: u32) -> Result<AirportGame, OutOfMemory>
     requires some { 1 ≤ n }
     requires few { n ≤ 64 }
@@ -50,7 +50,7 @@ pub fn airport(alloc: Global, n: u32, seed: u32) -> Result<AirportGame, OutOfMem
     }
 }
 
-/// An estate of half of the claims, rounded down, and a claim below 2^20 for each player.
+/// Draws a claim below 2^20 for each player, and takes half of all claims, rounded down, as the estate.
 pub fn bankruptcy(alloc: Global, n: u32, seed: u32) -> Result<BankruptcyGame, OutOfMemory>
     requires some { 1 ≤ n }
     requires few { n ≤ 64 }
@@ -82,7 +82,7 @@ fn total(claims: &[i64]) -> u64
     total
 }
 
-/// A source and players, with a cost below 2^16 for the link between each two.
+/// Draws a cost below 2^16 for each link between two of the source and the players.
 pub fn tree(alloc: Global, n: u32, seed: u32) -> Result<TreeGame, OutOfMemory>
     requires some { 1 ≤ n }
     requires few { n ≤ 16 }
@@ -99,7 +99,7 @@ pub fn tree(alloc: Global, n: u32, seed: u32) -> Result<TreeGame, OutOfMemory>
     }
 }
 
-/// Half of the players, rounded down, are buyers, with a value below 2^16 for each pair.
+/// Draws a value below 2^16 for each pair of a buyer and a seller. Half of the players, rounded down, are buyers.
 pub fn assignment(alloc: Global, n: u32, seed: u32) -> Result<AssignmentGame, OutOfMemory>
     requires some { 2 ≤ n }
     requires few { n ≤ 16 }

@@ -1,5 +1,5 @@
 //! Games drawn from a seed: a table, an airport, an estate, a network and an assignment game, each made of the numbers
-//! of a generator. Each call's one error is want of memory. It knows no documents, so it can be proved before their
+//! of a generator. Each call fails only if memory runs out. It knows no documents, so it can be proved before their
 //! crates are.
 #![tactic(auto)]
 

@@ -1,5 +1,10 @@
 -- Every game has a core point or a balanced collection of excess worth, by Farkas's lemma: the shares are the unknowns,
 -- each coalition asks for its worth, and that of all asks for no more. The factors of a contradiction are the weights.
+--
+-- There are 2^n + 1 inequalities. Fractions that meet them are a core point (`core_point`). Otherwise the weight of the
+-- last inequality is k. It is positive, since at 0 each coalition with a member would have weight 0 (`no_weight`). The
+-- collection has the coalitions of positive weight in mask order (`collected`), over the greatest common divisor
+-- (`reduced` in CommonDivisors.antt).
 use Rattle.std.proofs.Common.{◌≡◌, ℕ, zero, suc, ◌+◌, ◌-◌, ◌^◌, ◌<◌, ◌≤◌, Bool, cond, List, [], ◌∷◌, length}
 use Rattle.std.proofs.Common.{slice_index_or, ℤ, pos, neg_ℤ, ◌+ℤ◌, ◌*ℤ◌, ◌<ℤ◌, ◌≤ℤ◌, int_lt, refl, sym, ap, ◌∙◌, inl}
 use Rattle.std.proofs.Common.{inr, arith, nat_eq, if◌then◌else◌}

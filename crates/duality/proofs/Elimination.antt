@@ -4,6 +4,11 @@
 -- A row u asks of a point x that u 0 * x 0 + .. + u n * x n be at least 0, where x 0 is at least 1. So x i over x 0 are
 -- fractions. Either some point meets all rows, or one row that combines them by factors of at least 0 has a negative
 -- first entry and no other.
+--
+-- Each row with a positive coefficient at the last unknown is crossed with each that has a negative one. A point of the
+-- smaller system is lengthened by the greatest lower bound, which the crossed rows put below each upper bound
+-- (`eliminate`). This speaks of any set of rows that is closed under combinations, and knows nothing of factors;
+-- Farkas.antt takes the set of what factors make of the rows.
 use Rattle.std.proofs.Common.{◌≡◌, ◌⊎◌, ℕ, zero, suc, ◌<◌, List, [], ◌∷◌, ◌++◌, ℤ, pos, neg_ℤ, ◌+ℤ◌, ◌*ℤ◌, ◌<ℤ◌, ◌≤ℤ◌}
 use Rattle.std.proofs.Common.{refl, ap, inl, inr, arith, nat_eq, if◌then◌else◌}
 use Rattle.std.specs.List.{AllByRecursion}

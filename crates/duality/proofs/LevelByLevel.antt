@@ -1,5 +1,11 @@
 -- The levels one after the other: at each, the least greatest value of the forms that are left, and a form that has it
 -- at all points which attain it. That form leaves. In the end each form has one value at all points that are left.
+--
+-- The least value p / q of the greatest of the excesses that are left is attained (`minimax`): a coalition and the
+-- others together have a fixed excess, which bounds it. Then each excess that is left is fixed at p / q on all points
+-- that attain it, or is below at one of them (`fixed_or_loose`). Were all below somewhere, the sum of these points
+-- would have all below, and a mixture would beat the least (`not_all_loose`). After at most 2^n - 2 levels none is
+-- left. Each point that is left beats all that fell out.
 use Rattle.std.proofs.Common.{◌≡◌, ◌⊎◌, ℕ, zero, suc, ◌<◌, List, [], ◌∷◌, ◌++◌, length, ℤ, pos, neg_ℤ, ◌+ℤ◌, ◌*ℤ◌, ◌<ℤ◌}
 use Rattle.std.proofs.Common.{◌≤ℤ◌, refl, sym, ap, subst, inl, inr, arith}
 use Rattle.std.specs.List.{AllByRecursion}

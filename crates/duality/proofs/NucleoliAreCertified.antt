@@ -1,6 +1,11 @@
 -- Every nucleolus has a certificate (Kohlberg 1971; Sobolev 1975): level by level, the coalitions of the greatest
 -- excess among those that the levels in front don't fix have weights that balance, since otherwise a transfer would
 -- gain.
+--
+-- If such weights don't exist, a transfer between players gives each coalition of the greatest excess more, leaves what
+-- is listed as it is, and takes from no player that gets exactly its worth alone (Directions.antt). A small part of it
+-- makes a member that comes first (NoGain.antt), so it can't be. Each level has a coalition that wasn't in the span
+-- (Reductions.antt), so there are fewer levels than players. Weights are whole numbers of any size.
 use Rattle.std.proofs.Common.{◌≡◌, ◌⊎◌, ℕ, zero, suc, ◌-◌, ◌^◌, ◌<◌, ◌≤◌, Bool, true, false, cond, ◌&&◌, ◌||◌, nat_eq}
 use Rattle.std.proofs.Common.{List, [], ◌∷◌, ◌++◌, length, ℤ, pos, ◌+ℤ◌, ◌*ℤ◌, ◌≤ℤ◌, int_le, int_lt, IsTrue, refl, sym}
 use Rattle.std.proofs.Common.{ap, subst, ◌∙◌, inl, inr, arith, if◌then◌else◌}

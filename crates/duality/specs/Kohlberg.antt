@@ -1,6 +1,6 @@
 -- Kohlberg's theorem (Kohlberg 1971; for preimputations Sobolev 1975): the nucleolus is what has a certificate, in mode
--- span. Weights can be of any size here, so the form is that of certificates without its limits of size; the second law
--- says that these limits are all that is left out.
+-- span. Weights can be of any size here, as a nucleolus may need weights beyond 63 bits; so the form is that of
+-- certificates without its limits of size. The second law says that these limits are all that is left out.
 --
 --   LevelShape, LevelsShape   the form of a level, and of each of some levels, without limits of size
 --   HasShape                  the form of a certificate in mode span, without limits of size

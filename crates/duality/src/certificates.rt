@@ -3,14 +3,15 @@
 
 ghost use Rattle.duality.specs.Kohlberg.{KohlbergTheorem, SmallShapesAreForms};
 
-/// Kohlberg's theorem (Kohlberg 1971; for the prenucleolus Sobolev 1975). Shares in a game of any number of players (at
-/// most 16 for excess per head) are its nucleolus, or its prenucleolus, exactly where there is a certificate in mode
-/// span that meets all conditions, of fewer levels than players, with weights of any size.
+/// Kohlberg's theorem (Kohlberg 1971; for the prenucleolus Sobolev 1975): shares in a game of any number of players (at
+/// most 16 for excess per head) are its nucleolus, or its prenucleolus, exactly if there is a certificate in mode span
+/// that meets all conditions, of fewer levels than players, with weights of any size.
 pub fn kohlberg()
     ensures { KohlbergTheorem }
 {}
 
-/// Of 1 to 16 players, and with weights and totals below 2 ^ 63 in size, these levels have the form of a certificate.
+/// Levels of the shape in `kohlberg` have the form of a certificate, for 1 to 16 players, if weights and totals are
+/// below 2 ^ 63 in size.
 pub fn small_shapes_are_forms()
     ensures { SmallShapesAreForms }
 {}

@@ -3,8 +3,8 @@
 
 ghost use Rattle.duality.specs.Existence.{NucleoliExist, PrenucleoliExist, ImputationsExist};
 
-/// Where there is an imputation, or a preimputation, one of them is the nucleolus, in fractions: of any number of
-/// players, and for excess per head of at most 16 (Schmeidler 1969; Grotte 1970).
+/// If there is an imputation, or a preimputation, one of them is the nucleolus, in fractions: for any number of
+/// players, and for excess per head for at most 16 (Schmeidler 1969; Grotte 1970).
 pub fn nucleoli_exist()
     ensures { NucleoliExist }
 {}
@@ -14,8 +14,7 @@ pub fn prenucleoli_exist()
     ensures { PrenucleoliExist }
 {}
 
-/// A game with a player has an imputation exactly where the worths of the players alone add to at most the worth of
-/// all.
+/// A game with a player has an imputation exactly if the worths of the players alone add to at most the worth of all.
 pub fn imputations_exist()
     ensures { ImputationsExist }
 {}

@@ -4,7 +4,7 @@
 ghost use Rattle.duality.specs.RealCores.{RealCorePointsExist};
 
 /// A game in which the empty coalition is worth nothing, of any number of players, has a core point in real shares
-/// exactly where it has one in fractions (by the theorem of Bondareva 1963 and Shapley 1967, over both).
+/// exactly if it has one in fractions (by the theorem of Bondareva 1963 and Shapley 1967, over both).
 pub fn real_core_points_exist()
     ensures { RealCorePointsExist }
 {}

@@ -14,12 +14,12 @@ pub fn nucleoli_over_groups()
     ensures { NucleoliOverGroups }
 {}
 
-/// Where there are imputations, or preimputations, in real shares, one of them is the nucleolus (Schmeidler 1969).
+/// If there are imputations, or preimputations, in real shares, one of them is the nucleolus (Schmeidler 1969).
 pub fn real_nucleoli_exist()
     ensures { RealNucleoliExist }
 {}
 
-/// And it is always the nucleolus in fractions: real shares that are the nucleolus are fractions.
+/// Real shares that are the nucleolus are fractions, and the nucleolus in fractions.
 pub fn real_nucleoli_are_fractions()
     ensures { RealNucleoliAreFractions }
 {}

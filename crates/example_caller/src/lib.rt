@@ -14,8 +14,8 @@ use coalitions::Coalition;
 use kohlberg::{Certificate, Family};
 use worth_core::{Measure, Shares, Worth};
 
-/// The coalition that blocks the shares most. None exactly where no coalition blocks, or the shares are for another
-/// number of players.
+/// Returns the coalition that blocks the shares most. Returns none exactly if no coalition blocks, or the shares are
+/// for another number of players.
 pub fn judged(game: &AirportGame, shares: &Shares) -> Option<Coalition>
     ensures { let g = airport_game game.now in MatchOption result
         (length shares.now.shares ≡ g.players → (s : ℕ) → s < 2 ^ g.players → ¬ Blocks g shares.now s)
@@ -27,7 +27,7 @@ pub fn judged(game: &AirportGame, shares: &Shares) -> Option<Coalition>
     game.blocker(shares)
 }
 
-/// Whether the certificate shows that the shares are the nucleolus: both are for the game's players, and the
+/// Returns whether the certificate shows that the shares are the nucleolus: both are for the game's players, and the
 /// certificate meets all conditions.
 pub fn is_shown(game: &AirportGame, shares: &Shares, certificate: &Certificate) -> bool
     ensures exact { let g = airport_game game.now in (result ≡ true) ↔ ((length shares.now.shares ≡ g.players)

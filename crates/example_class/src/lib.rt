@@ -26,7 +26,7 @@ impl Team {
     ghost use Rattle.std.specs.Prelude.{◌≡◌, MatchOption};
     ghost use Rattle.example_class.specs.Team.{IsTeam};
 
-    /// The team of so many players. None exactly where they aren't 1 to 64.
+    /// Makes the team of that number of players. Returns none exactly if the number isn't from 1 to 64.
     pub fn new(players: u32) -> Option<Team>
         ensures { MatchOption result (¬ IsTeam players) (λ team. team ≡ players) }
     {

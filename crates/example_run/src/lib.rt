@@ -11,7 +11,7 @@ use ports::MemorySource;
 use printed::Printed;
 use std::alloc::Global;
 
-/// The status of `coop` on these words and this document, and what it prints.
+/// Returns the status of `coop` on these words and this document, and what it prints.
 pub fn answer(alloc: Global, words: &[String], document: Vec<u8>) -> (Status, Vec<u8>)
     ensures { (left : Option (List ℕ)) × Ends (map string_bytes words.now) (Some document.items) left (Some [])
         (Some result.1.items) result.0 }

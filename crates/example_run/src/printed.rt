@@ -13,7 +13,7 @@ pub struct Printed {
 impl Printed {
     ghost use Rattle.std.specs.Prelude.{◌≡◌, []};
 
-    /// A sink that has taken nothing.
+    /// Makes a sink that has taken nothing.
     pub fn new(alloc: Global) -> Printed
         ensures { result.line.items ≡ [] }
     {
@@ -24,7 +24,7 @@ impl Printed {
         }
     }
 
-    /// What was taken.
+    /// Returns what was taken.
     pub fn into_line(self) -> Vec<u8>
         ensures { result ≡ self.line }
     {

@@ -1,4 +1,8 @@
 -- Sums, differences, products and quotients of two fractions in lowest terms.
+--
+-- A number that has no divisor in common with a factor of a product divides the other factor (Divisors.antt). So a
+-- product of two ratios that were reduced crosswise is in lowest terms (`product_ratio`), and `mul` refuses only if the
+-- reduced product has no form.
 use Rattle.std.proofs.Common.{◌≡◌, Bool, true, false, ◌≢◌, ℕ, zero, suc, ◌*◌, ◌/◌}
 use Rattle.std.proofs.Common.{◌<◌, arith, refl, sym}
 use Rattle.std.proofs.Common.{ap, subst, ◌∙◌, ℤ, pos, negsuc, ◌+ℤ◌, ◌-ℤ◌, ◌*ℤ◌, ◌≤ℤ◌}

@@ -1,4 +1,7 @@
 -- The order of two fractions by whole parts and remainders.
+--
+-- `compare` needs no product: the whole parts decide, or the remainders turned upside down (`order_of_sizes`). The two
+-- denominators shrink.
 use Rattle.std.proofs.Common.{◌≡◌, ◌⊎◌, inl, inr, ℕ, zero, suc, ◌+◌, ◌*◌, ◌/◌}
 use Rattle.std.proofs.Common.{◌%◌, ◌<◌, ◌≤◌, arith, refl, sym, ap}
 use Rattle.std.proofs.Common.{subst, subst₂, ◌∙◌, Ordering, Less, Equal, Greater, nat_cmp, mod-lt, div-add-mod'}

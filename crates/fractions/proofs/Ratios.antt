@@ -1,5 +1,8 @@
 -- Ratios of integers in lowest terms: there is one, its numerator and denominator divide those given, and how
 -- products go.
+--
+-- Values are compared by cross products. A fraction in lowest terms is determined by its value (`one_ratio`), so a
+-- result that is `IsRatio` of a pair is the one result.
 use Rattle.std.proofs.Common.{◌≡◌, ◌≢◌, ℕ, zero, suc, ◌*◌, arith, sym, ap, subst}
 use Rattle.std.proofs.Common.{◌∙◌}
 use Rattle.std.proofs.Common.{ℤ, pos, negsuc, ◌*ℤ◌, ◌≤ℤ◌, unsigned_abs}

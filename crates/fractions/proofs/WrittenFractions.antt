@@ -1,4 +1,7 @@
 -- What is written of a fraction is read as that fraction, and no other text is.
+--
+-- The grammar is a test on bytes (`is_fraction_text`), apart from both directions. A text that is read is the one text
+-- of its fraction (`read_text_is_written`), and that text is read as the fraction (`read_back`).
 use Rattle.std.proofs.Common.{◌≡◌, ◌≢◌, ◌⊎◌, inl, inr, ℕ, zero, suc, ◌^◌, ◌<◌}
 use Rattle.std.proofs.Common.{Bool, true, false, cond, not, eqb}
 use Rattle.std.proofs.Common.{ltb, ◌&&◌, ◌||◌, List, [], ◌∷◌, ◌++◌, length, drop, Option}

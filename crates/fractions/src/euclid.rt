@@ -4,7 +4,7 @@ ghost use Rattle.std.specs.Prelude.{◌≡◌, pos, ◌≤ℤ◌, unsigned_abs};
 ghost use Rattle.std.specs.Int.{IsGcd};
 ghost use Rattle.fractions.specs.Divisors.{gcd};
 
-/// The greatest common divisor of `a` and `b`: it divides both, and every number that divides both divides it.
+/// Returns the greatest common divisor of `a` and `b`: it divides both, and every number that divides both divides it.
 pub fn gcd(a: u128, b: u128) -> u128
     ensures value { result ≡ gcd a b }
     ensures greatest { IsGcd a b result }

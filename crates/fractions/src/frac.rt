@@ -39,8 +39,8 @@ impl Model for Frac {
 }
 
 impl Frac {
-    /// The value of `num` over `den`, in lowest terms. None exactly where `den` is 0 or a number in lowest terms leaves
-    /// the range of `i128`, which it never does over a positive `den`.
+    /// Returns the value of `num` over `den`, in lowest terms. Returns none exactly if `den` is 0 or a number in lowest
+    /// terms is out of the range of `i128`, which never happens over a positive `den`.
     pub fn new(num: i128, den: i128) -> Option<Frac>
         ensures value { MatchOption result (HasNoForm num den) (λ f. IsRatio f num den) }
         ensures succeeds { pos 1 ≤ℤ den → IsSome result }
@@ -54,21 +54,21 @@ impl Frac {
         Some(Frac { num, den })
     }
 
-    /// The fraction of a whole number.
+    /// Returns the fraction of a whole number.
     pub fn from_int(value: i128) -> Frac
         ensures { result ≡ record { num = value; den = pos 1 } }
     {
         Frac { num: value, den: 1 }
     }
 
-    /// The numerator, with the fraction's sign.
+    /// Returns the numerator, with the fraction's sign.
     pub fn num(&self) -> i128
         ensures { result ≡ self.now.num }
     {
         self.num
     }
 
-    /// The denominator, at least 1.
+    /// Returns the denominator, at least 1.
     pub fn den(&self) -> i128
         ensures value { result ≡ self.now.den }
         ensures positive { pos 1 ≤ℤ result }
@@ -77,8 +77,8 @@ impl Frac {
         self.den
     }
 
-    /// The sum. `OutOfRange` exactly where, over the least common denominator of the two, a numerator, the sum of the
-    /// numerators or the denominator itself leaves the range of `i128`.
+    /// Returns the sum. Fails with `OutOfRange` exactly if, over the least common denominator of the two, a numerator,
+    /// the sum of the numerators or the denominator itself is out of the range of `i128`.
     pub fn add(&self, other: &Frac) -> Result<Frac, OutOfRange>
         ensures value { IfOk result
             (λ f. IsRatio f (self.now.num *ℤ other.now.den +ℤ other.now.num *ℤ self.now.den)
@@ -88,8 +88,8 @@ impl Frac {
         self.combined(false, other)
     }
 
-    /// The difference. `OutOfRange` exactly where, over the least common denominator of the two, a numerator, the
-    /// difference of the numerators or the denominator itself leaves the range of `i128`.
+    /// Returns the difference. Fails with `OutOfRange` exactly if, over the least common denominator of the two, a
+    /// numerator, the difference of the numerators or the denominator itself is out of the range of `i128`.
     pub fn sub(&self, other: &Frac) -> Result<Frac, OutOfRange>
         ensures value { IfOk result
             (λ f. IsRatio f (self.now.num *ℤ other.now.den -ℤ other.now.num *ℤ self.now.den)
@@ -99,7 +99,8 @@ impl Frac {
         self.combined(true, other)
     }
 
-    /// The product. `OutOfRange` exactly where the product in lowest terms leaves the range of `i128`.
+    /// Returns the product. Fails with `OutOfRange` exactly if the product in lowest terms is out of the range of
+    /// `i128`.
     pub fn mul(&self, other: &Frac) -> Result<Frac, OutOfRange>
         ensures { let n = self.now.num *ℤ other.now.num in
             let d = self.now.den *ℤ other.now.den in
@@ -112,8 +113,8 @@ impl Frac {
         Ok(Frac { num, den })
     }
 
-    /// The quotient by a fraction other than 0. `OutOfRange` exactly where the quotient in lowest terms leaves the
-    /// range of `i128`.
+    /// Returns the quotient by a fraction other than 0. Fails with `OutOfRange` exactly if the quotient in lowest terms
+    /// is out of the range of `i128`.
     pub fn div(&self, other: &Frac) -> Result<Frac, OutOfRange>
         requires { other.now.num ≢ pos 0 }
         ensures { let n = self.now.num *ℤ other.now.den in
@@ -124,7 +125,7 @@ impl Frac {
         left.mul(&ratio(other.den, self.den))
     }
 
-    /// The order of the values.
+    /// Returns the order of the two values.
     pub fn compare(&self, other: &Frac) -> Ordering
         ensures { result ≡ int_cmp (self.now.num *ℤ other.now.den) (other.now.num *ℤ self.now.den) }
     {

@@ -1,4 +1,10 @@
 -- What reading the tree says of the bytes.
+--
+-- A refusal is a test on the whole tree, and the tests are in one list (`tree_tests`). So the answer doesn't depend on
+-- places in the text. The order is that of the refusals' numbers, except that the quota's test is after the estate's.
+-- Each test of the code mirrors one word of the definition. What is built after the tests is a total function of the
+-- tree and of the least common denominator of its shares (`contents_over`). Computed.antt goes from what that
+-- denominator is to the one that the private functions compute.
 use Rattle.std.proofs.Common.{◌≡◌, ◌≤◌, ◌&&◌, ℕ, List, length, Bool, true, false, Option}
 use Rattle.std.proofs.Common.{Some, None, Result, Ok, Err, MatchResult, pos, refl, sym, ap, ap₂, ◌∙◌, subst}
 use Rattle.serde_json.specs.Data.{Data}

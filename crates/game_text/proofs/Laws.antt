@@ -1,4 +1,7 @@
 -- What holds of the game that a document of a class describes: the list of classes.
+--
+-- A new class adds its module; what holds of it, as one record, which says among other things that the values that it
+-- gathers are all the numbers of its game; and its line in `laws_of`.
 pub mod MatrixRows
 pub mod MarketRows
 pub mod Votes

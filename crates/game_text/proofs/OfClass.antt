@@ -1,4 +1,7 @@
 -- A document that isn't refused describes a game of its class.
+--
+-- If a class has its worths computed, that is over all attachment plans or all matchings: what the test of the matrix
+-- says of the rows makes them links (`links_hold` in MatrixRows.antt).
 use Rattle.std.proofs.Common.{◌≡◌, ℕ, List, nat_le, None, sym, ap, subst}
 use Rattle.std.proofs.lemmas.Bool.{and_parts}
 use Rattle.serde_json.specs.Data.{Data}

@@ -27,6 +27,9 @@
 --   IsOfClass          the worths of a tree game are minus the least costs of attachment plans, and those of an
 --                      assignment game or a market the greatest values of matchings; those of the other classes are
 --                      said by `game_of`
+--
+-- A new class adds here its module; its word in `class_named`; its case of `Description`, and its rules in `rules_of`;
+-- `game_of`, `is_cost`, `description_in`; and `IsOfClass`.
 pub mod Rules
 pub mod TableClass
 pub mod AirportClass

@@ -1,4 +1,7 @@
 -- The names of a game: those of its players, and those that its sparse table uses.
+--
+-- A name in a sparse table is looked up twice: here, and where its coalition is made. So the refusal of names comes
+-- before that of coalitions, whichever pair is first.
 use Rattle.std.specs.Prelude.{codes, Bool, ◌&&◌}
 use Rattle.std.specs.List.{list_all}
 use Rattle.serde_json.specs.Data.{Data}

@@ -52,6 +52,8 @@ abbrev pub has_needed_terms : ℕ → Command → Data → Data → Bool
 has_needed_terms d command game tree =
     if_needed (needs command).shares (has_small_terms d (scaled_shares (scale_of game) tree))
 
+-- Shares are tested before it: a document to check whose shares don't fit the number of players is a Proposal, whatever
+-- its certificate.
 abbrev pub has_needed_form : Command → Data → Data → Bool
 has_needed_form command game tree =
     if_needed (needs command).certificate

@@ -1,5 +1,8 @@
 //! The list of classes: the class that a document names, and the game of a class. Each class has its arm in each
 //! `match` here, and a module of its own.
+//!
+//! A new class adds here its module, the class, its arm of `by_class!`, its word in `class_named`, its making in
+//! `game_of`, the game, its arm of `of_its_class!`, and `is_cost`.
 ghost use Rattle.std.specs.Prelude.{◌≡◌, codes, true, false, Some, None, if◌then◌else◌, ◌≤◌};
 ghost use Rattle.std.specs.Prelude.{length, MatchResult, IfOk, IfSome, IfNone};
 ghost use Rattle.std.specs.Str.{bytes_eq};
@@ -60,7 +63,7 @@ pub enum Class {
     Tree,
     /// What each buyer and each seller are worth together.
     Assignment,
-    /// The same for up to 32 buyers and 32 sellers, to be matched.
+    /// What each buyer and each seller are worth together, for up to 32 of each, to be matched.
     Market,
     /// A quota and the weight of each player.
     Voting,
@@ -185,7 +188,7 @@ pub enum Game {
     Tree(TreeGame),
     /// What each buyer and each seller are worth together.
     Assignment(AssignmentGame),
-    /// The same for up to 32 buyers and 32 sellers.
+    /// What each buyer and each seller are worth together, for up to 32 of each.
     Market(MarketGame),
     /// A quota and the weight of each player.
     Voting(VotingGame),
@@ -208,7 +211,7 @@ macro_rules! of_its_class {
 }
 
 impl Game {
-    /// Whether its numbers are costs, so that shares are read and printed as payments.
+    /// Returns whether its numbers are costs. Shares are then read and printed as payments.
     pub fn is_cost(&self) -> bool
         ensures { result ≡ is_cost (description_in self.now) }
     {

@@ -73,7 +73,7 @@ impl Inputs {
 }
 
 impl Command {
-    /// What the command needs.
+    /// Returns what the command needs.
     pub fn needs(self) -> Inputs
         ensures { result ≡ needs self }
     {

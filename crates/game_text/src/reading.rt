@@ -38,14 +38,14 @@ use serde_json::Value;
 use std::alloc::Global;
 use worth_core::Shares;
 
-/// The document that the bytes are the text of, or the first refusal that applies to them. Where the command needs
-/// shares, there is one for each player of the game; where it needs a certificate, it is one for the players of the
-/// game. The game, the shares and the certificate are over the scale, the least common denominator of the numbers of
-/// the game, from 1 to 65,536; it is 1 where they are all integers.
+/// Returns the document that the bytes write, or the first refusal that applies to them. If the command needs shares,
+/// there is one for each player of the game; if it needs a certificate, it is one for the players of the game. The
+/// game, the shares and the certificate are over the scale, the least common denominator of the numbers of the game,
+/// from 1 to 65,536; it is 1 if they are all integers.
 ///
 /// The kept tree of the game holds no float, is nested at most 8 deep, and is written in no more bytes than were read.
 ///
-/// It stands apart from its callers, so that its stack is given back before they go on.
+/// It is a call of its own, so that its stack is given back before its callers go on.
 #[inline(never)]
 pub fn read_document(alloc: Global, bytes: &[u8], command: Command) -> Result<Document, TextFault>
     ensures reading { MatchResult result (IsReading command bytes.now) (IsFault command bytes.now) }
@@ -67,7 +67,7 @@ pub fn read_document(alloc: Global, bytes: &[u8], command: Command) -> Result<Do
     document_of(alloc, command, tree)
 }
 
-/// The most bytes that a document for the command may have.
+/// Returns the most bytes that a document for the command may have.
 pub fn document_limit(command: Command) -> usize
     ensures value { result ≡ document_limit command }
     ensures small { result < 2 ^ 40 }

@@ -1,4 +1,7 @@
 -- A tree that was read is written in no more bytes than the tokens that it was read from.
+--
+-- Each lexeme is at least as long as what is written of it (Escaped.antt, Integers.antt, Lexed.antt). The grammar reads
+-- the tokens of the value (Spelled.antt). Putting members into an object may drop one, and never adds one.
 use Rattle.std.proofs.Common.{◌≡◌, ℕ, ◌+◌, ◌≤◌, List, length, Option, Some, None, option_map}
 use Rattle.std.proofs.Common.{option_and_then, Ordering, Less, Equal, Greater, sym, ap, ◌∙◌, subst, arith}
 use Rattle.std.specs.Prelude.{⊤}

@@ -1,4 +1,5 @@
--- Bytes and the newline at their end.
+-- Bytes and the newline at their end. JSON allows a newline there, so leaving it out changes no reading; and no
+-- definition needs a law about white space.
 use Rattle.std.specs.Prelude.{◌==◌, ◌-◌, ◌&&◌, ℕ, List, length, take, slice_index, if◌then◌else◌, nat_lt}
 
 -- the bytes without a newline at their end

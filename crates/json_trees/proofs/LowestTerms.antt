@@ -1,4 +1,7 @@
 -- The fraction in lowest terms, times a scale and over it.
+--
+-- A printed fraction times the scale is what it was (`times_over`). A denominator below 2^100 times a scale stays below
+-- 2^116, so no product leaves 128 bits.
 use Rattle.std.proofs.Common.{◌≡◌, ◌≢◌, ℕ, ◌*◌, ◌/◌, ◌^◌, FitsSigned, ◌<◌, arith, refl}
 use Rattle.std.proofs.Common.{sym, ap}
 use Rattle.std.proofs.Common.{subst, ◌∙◌, Bool, true, false, Some, None, if◌then◌else◌, ℤ, pos}

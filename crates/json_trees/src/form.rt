@@ -14,7 +14,7 @@ pub trait Form {
     /// The test that is meant.
     ghost form: { Self → Data → Bool };
 
-    /// Whether the tree has the form.
+    /// Returns whether the tree has the form.
     fn fits(&self, value: &Value) -> bool
         ensures { result ≡ form self.now (view value.now) };
 }
@@ -25,7 +25,7 @@ fn all_fit<F: Form>(form: &F, values: &[Value]) -> bool
     values.iter().all(|v| form.fits(v))
 }
 
-/// Whether the part at a key is there and has the form.
+/// Returns whether the part at a key is there and has the form.
 pub fn has<F: Form>(value: &Value, key: &str, form: &F) -> bool
     ensures { result ≡ passes (F.form form.now) (get key.now (view value.now)) }
 {
@@ -35,7 +35,7 @@ pub fn has<F: Form>(value: &Value, key: &str, form: &F) -> bool
     }
 }
 
-/// Whether the part at a key has the form, where it is there.
+/// Returns whether the part at a key is absent or has the form.
 pub fn has_if_there<F: Form>(value: &Value, key: &str, form: &F) -> bool
     ensures { result ≡ passes_if_there (F.form form.now) (get key.now (view value.now)) }
 {

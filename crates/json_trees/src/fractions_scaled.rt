@@ -9,7 +9,7 @@ use crate::fractions_written::fraction_of;
 use fractions::Frac;
 use serde_json::Value;
 
-/// The fraction times the scale, in lowest terms. None where its numerator has no form in 128 bits.
+/// Returns the fraction times the scale, in lowest terms. Returns none if its numerator is out of the range of `i128`.
 pub fn scaled(number: &Frac, scale: u32) -> Option<Frac>
     ensures value { MatchOption result (¬ FitsSigned w128 (times_scale scale number.now).num)
         (λ f. f ≡ times_scale scale number.now) }
@@ -23,8 +23,8 @@ pub fn scaled(number: &Frac, scale: u32) -> Option<Frac>
     }
 }
 
-/// The fraction that is written, times the scale. None where there is none, or its numerator has no form in 128 bits
-/// then.
+/// Returns the fraction that is written, times the scale. Returns none if no fraction is written, or its numerator is
+/// out of the range of `i128` then.
 pub fn scaled_of(value: &Value, scale: u32) -> Option<Frac>
     ensures { result ≡ scaled_of scale (view value.now) }
 {

@@ -17,7 +17,7 @@ fn whole_fraction(value: &Value) -> Option<Frac>
     Some(Frac::from_int(i128::from(z)))
 }
 
-/// The fraction that is written: an integer, or a fraction text.
+/// Returns the fraction that is written: an integer, or a fraction text.
 pub fn fraction_of(value: &Value) -> Option<Frac>
     ensures { result ≡ fraction_of (view value.now) }
 {

@@ -5,7 +5,7 @@ ghost use Rattle.json_trees.specs.Trees.{integer};
 
 use serde_json::Value;
 
-/// The integer that a number is.
+/// Returns the integer that a number is.
 pub fn integer(value: &Value) -> Option<i64>
     ensures { result ≡ integer (view value.now) }
 {

@@ -32,7 +32,7 @@ fn are_among(words: &[&str], members: &Map<String, Value>) -> bool
     members.keys().all(|k| is_among(words, k.as_str()))
 }
 
-/// Whether each key of an object is one of the words; what is no object has no keys.
+/// Returns whether each key of an object is one of the words. A value that is no object has no keys.
 #[tactic(auto, using(crate::proofs::Values::all_keys))]
 pub fn has_only_keys(words: &[&str], value: &Value) -> bool
     ensures { result ≡ has_only_keys (nows words.now) (view value.now) }

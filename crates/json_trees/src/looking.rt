@@ -5,7 +5,7 @@ ghost use Rattle.json_trees.specs.Trees.{parts, parts_at, pair_members, text_of}
 
 use serde_json::Value;
 
-/// The items of an array, and none of anything else.
+/// Returns the items of an array, and no items of any other value.
 pub fn parts(value: &Value) -> &[Value]
     ensures { map view result.now ≡ parts (view value.now) }
 {
@@ -15,7 +15,7 @@ pub fn parts(value: &Value) -> &[Value]
     }
 }
 
-/// The items of the array at a key, and none where it is absent.
+/// Returns the items of the array at a key, and no items if it is absent.
 pub fn parts_at<'a>(value: &'a Value, key: &str) -> &'a [Value]
     ensures { map view result.now ≡ parts_at key.now (view value.now) }
 {
@@ -25,7 +25,7 @@ pub fn parts_at<'a>(value: &'a Value, key: &str) -> &'a [Value]
     }
 }
 
-/// The members of the coalition of a pair of a coalition and a number.
+/// Returns the members of the coalition of a pair of a coalition and a number.
 pub fn pair_members(pair: &Value) -> &[Value]
     ensures { map view result.now ≡ pair_members (view pair.now) }
 {
@@ -35,7 +35,7 @@ pub fn pair_members(pair: &Value) -> &[Value]
     }
 }
 
-/// The text of a value, and none of what is no text.
+/// Returns the text of a value, and none if it is no text.
 pub fn text(value: &Value) -> &str
     ensures { result.now ≡ text_of (view value.now) }
 {

@@ -2,7 +2,7 @@
 ghost use Rattle.std.specs.Prelude.{◌≡◌, ◌<◌, IfSome};
 ghost use Rattle.json_trees.specs.Players.{numbered_player};
 
-/// The player that a number from 1 to `players` names.
+/// Returns the player that a number from 1 to `players` names.
 pub fn numbered_player(players: u32, number: i64) -> Option<u32>
     ensures player { result ≡ numbered_player players number }
     ensures within { IfSome result (λ i. i < players) }

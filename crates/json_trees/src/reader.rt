@@ -21,11 +21,11 @@ pub trait Reader {
     /// What a tree of that form describes.
     ghost described: { Self → Data → Self.Item };
 
-    /// What the tree describes. None exactly where it hasn't the form.
+    /// Returns what the tree describes, and none exactly if it doesn't have the form.
     ///
     /// # Errors
     ///
-    /// Where memory was not found.
+    /// If memory runs out.
     fn read(&self, alloc: Global, tree: &Value) -> Result<Option<Self::Item>, OutOfMemory>
         ensures { IfOk result (λ o. o ≡
             (if form self.now (view tree.now) then Some (described self.now (view tree.now)) else None)) };
@@ -51,11 +51,11 @@ fn read_all<R: Reader>(
     Ok(Some(found))
 }
 
-/// What the items of the array at a key describe. None exactly where one of them hasn't the form.
+/// Returns what the items of the array at a key describe. Returns none exactly if one of them doesn't have the form.
 ///
 /// # Errors
 ///
-/// Where memory was not found.
+/// If memory runs out.
 pub fn read_at<R: Reader>(
     alloc: Global,
     reader: &R,

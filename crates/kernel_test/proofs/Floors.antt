@@ -1,4 +1,7 @@
 -- The floor of a table's row, found column by column.
+--
+-- The floor is a number that no entry of the row is below. If an excess isn't above the floor, the row stays as it is.
+-- So most coalitions need only one comparison for each member.
 use Rattle.std.proofs.Common.{◌≡◌, ◌≢◌, ℕ, ◌+◌, ◌<◌, Bool, true, false, not, nat_eq}
 use Rattle.std.proofs.Common.{List, ℤ, ◌≤ℤ◌}
 use Rattle.std.proofs.Common.{int_lt, Option, Some, None, arith, refl, ◌∙◌, inl, inr, cond}

@@ -25,8 +25,8 @@ pub enum KernelAnswer {
     Differs { i: u32, j: u32, ij: Frac, ji: Frac },
 }
 
-/// The surplus of one player against another, as worth: the greatest excess over the coalitions that hold `i` and lack
-/// `j` (Davis and Maschler 1965). For at most 16 players.
+/// Returns the surplus of one player against another, as worth: the greatest excess over the coalitions that hold `i`
+/// and lack `j` (Davis and Maschler 1965). There are at most 16 players.
 ///
 /// It takes no memory and always answers.
 pub fn surplus<W: Worth>(game: &W, x: &Shares, i: u32, j: u32) -> Frac
@@ -40,9 +40,9 @@ pub fn surplus<W: Worth>(game: &W, x: &Shares, i: u32, j: u32) -> Frac
     ratio(scaled_surplus(game, x, i, j), x.den())
 }
 
-/// Whether shares are in the prekernel of a game of at most 16 players; if not, that they are not efficient, or the
-/// first two players whose surpluses against each other differ. The prenucleolus is in it (Schmeidler 1969; Maschler,
-/// Peleg and Shapley 1979).
+/// Returns `Balanced` exactly if shares are in the prekernel of a game of at most 16 players. Otherwise returns that
+/// they aren't efficient, or the first two players whose surpluses against each other differ. The prenucleolus is in
+/// the prekernel (Schmeidler 1969; Maschler, Peleg and Shapley 1979).
 ///
 /// It takes no memory and always answers.
 pub fn prekernel<W: Worth>(game: &W, x: &Shares) -> KernelAnswer

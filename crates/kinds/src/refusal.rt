@@ -37,7 +37,7 @@ pub enum Refusal {
 }
 
 impl Refusal {
-    /// The number of the refusal, 1 to 13.
+    /// Returns the number of the refusal, 1 to 13.
     pub fn number(self) -> u32
         ensures { result ≡ refusal_number self }
     {

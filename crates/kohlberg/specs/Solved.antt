@@ -24,6 +24,7 @@ abbrev pub HasFew : ℕ → Level → Type 0
 HasFew n l = length l.coalitions + length l.earlier + length l.bounds ≤ 2 * n
 
 -- shares, and a certificate in the mode that certifies them for the family by the measure
+-- (Littlechild's scheme, the Talmud rule and the nested programs all give this)
 pub record IsSolved (mode : Mode) (family : Family) (measure : Measure) (g : Game) (x : Allocation)
     (c : CertificateData) : Type 0 where
   pub players : c.players ≡ g.players

@@ -35,12 +35,12 @@ impl Model for Certificate {
 }
 
 impl Certificate {
-    /// The certificate of these levels for 1 to 64 players; no memory is taken.
+    /// Makes the certificate of these levels for 1 to 64 players. It takes no memory.
     ///
-    /// `Malformed` exactly where the levels don't have this form: fewer levels than players; in mode span at most 16
-    /// players; in each level 1 to 65536 coalitions, neither empty nor all, at most 65536 earlier ones, each of them a
-    /// coalition of a level in front, and bounds of players of the game; all three lists in ascending order, without
-    /// repeats; weights and total below 2^63 in size.
+    /// Fails with `Malformed` exactly if the levels don't have this form: fewer levels than players; in mode span at
+    /// most 16 players; in each level 1 to 65536 coalitions, neither empty nor all, at most 65536 earlier ones, each of
+    /// them a coalition of an earlier level, and bounds of players of the game; all three lists in ascending order,
+    /// without repeats; weights and total below 2^63 in size.
     pub fn new(players: u32, mode: Mode, levels: Vec<Level>) -> Result<Certificate, Malformed>
         requires some { 1 ≤ players }
         requires few { players ≤ 64 }
@@ -60,7 +60,7 @@ impl Certificate {
         }
     }
 
-    /// The number of players, 1 to 64.
+    /// Returns the number of players, 1 to 64.
     pub fn players(&self) -> u32
         ensures value { result ≡ self.now.players }
         ensures some { 1 ≤ result }
@@ -69,14 +69,14 @@ impl Certificate {
         self.players
     }
 
-    /// What the levels fix: players, or vectors in a span.
+    /// Returns what the levels fix: players, or vectors in a span.
     pub fn mode(&self) -> Mode
         ensures { result ≡ self.now.mode }
     {
         self.mode
     }
 
-    /// The levels, from the first.
+    /// Returns the levels, from the first.
     pub fn levels(&self) -> &[Level]
         ensures value { result.now ≡ self.now.levels }
         ensures form { HasForm self.now.mode self.now.players result.now }

@@ -65,7 +65,7 @@ impl Level {
         false
     }
 
-    /// Whether some level has the coalition.
+    /// Returns whether some level lists the coalition.
     pub fn is_listed(levels: &[Level], s: Coalition) -> bool
         ensures { result ≡ is_listed levels.now s }
     {
@@ -89,7 +89,7 @@ impl Level {
         false
     }
 
-    /// Whether some level has a weight of at least 1 on the player's bound.
+    /// Returns whether some level has a weight of at least 1 on the player's bound.
     pub fn has_bound(levels: &[Level], i: u32) -> bool
         ensures { result ≡ has_bound levels.now i }
     {
@@ -101,7 +101,7 @@ impl Level {
         false
     }
 
-    /// The order of a fraction and the level's excess.
+    /// Returns the order of a fraction and the level's excess.
     pub fn order_of(&self, excess: &Frac) -> Ordering
         ensures { result ≡ int_cmp (excess.now.num *ℤ self.now.excess_den) (self.now.excess_num *ℤ excess.now.den) }
     {
@@ -151,7 +151,7 @@ impl Level {
             && is_small(self.total)
     }
 
-    /// Whether the level has its form for n players behind the levels in front.
+    /// Returns whether the level has its form for `n` players, given the levels before it.
     pub fn has_form(&self, n: u32, front: &[Level]) -> bool
         requires { n ≤ 64 }
         ensures { IsTrue result ↔ LevelForm n front.now self.now }
@@ -169,7 +169,7 @@ impl Level {
     }
 }
 
-/// The sum of the weights of the coalitions that hold a player.
+/// Returns the sum of the weights of the coalitions that hold a player.
 pub fn weights_at(pairs: &[(Coalition, i128)], i: u32) -> i128
     requires player { i < 64 }
     requires few { length pairs.now ≤ 65536 }
@@ -186,7 +186,7 @@ pub fn weights_at(pairs: &[(Coalition, i128)], i: u32) -> i128
     sum
 }
 
-/// The sum of the weights of the player's bounds.
+/// Returns the sum of the weights of the player's bounds.
 pub fn bounds_at(bounds: &[(u32, i128)], i: u32) -> i128
     requires few { length bounds.now ≤ 65536 }
     requires small { AllByRecursion (λ p. IsSmall p.1) bounds.now }
@@ -298,6 +298,7 @@ fn are_players(bounds: &[(u32, i128)], n: u32) -> bool
 ///
 /// Where the masks of those levels ascend, halving finds all that stand there, and no level is gone through but for the
 /// first coalition that doesn't.
+/// So no order of theirs has to be known, and a certificate of the right form is read quickly.
 fn are_listed(pairs: &[(Coalition, i128)], front: &[Level]) -> bool
     ensures { result ≡ list_all (λ c. is_listed front.now c.0) pairs.now }
 {

@@ -5,9 +5,9 @@ ghost use Rattle.kohlberg.specs.Pairs.{with_pair};
 use coalitions::Coalition;
 use std::alloc::AllocError;
 
-/// Puts a coalition and its weight in front of the first with a greater mask.
+/// Puts a coalition and its weight before the first pair with a greater mask.
 ///
-/// Its one error is want of memory, which leaves the pairs as they were.
+/// Fails only if memory runs out, and then leaves the pairs as they were.
 pub fn put_pair(
     pairs: &mut Vec<(Coalition, i128)>,
     s: Coalition,

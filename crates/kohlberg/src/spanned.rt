@@ -1,4 +1,5 @@
-//! Spans of what levels fix.
+//! Spans of what levels fix. The checker and the nested programs call the same bodies, so they agree on what is fixed
+//! and on the least player that isn't.
 
 ghost use Rattle.std.specs.Prelude.{◌≡◌, List, ◌^◌, ◌<◌, ◌≤◌, pos, int_le, length, MatchOption, ⊤};
 ghost use Rattle.std.specs.List.{AllByRecursion};
@@ -57,8 +58,8 @@ pub fn add_levels(span: &mut Span, levels: &[Level])
     }
 }
 
-/// The least of `n` players, at most 64, of whose vector no nonzero multiple is an integer sum of the kept vectors. It
-/// always answers. Where there is one, fewer coalitions are kept than there are players.
+/// Returns the least of `n` players, at most 64, of whose vector no nonzero multiple is an integer sum of the kept
+/// vectors. It always answers. If there is such a player, fewer coalitions are kept than there are players.
 pub fn first_unspanned(span: &Span, n: u32) -> Option<u32>
     requires few { n ≤ 64 }
     requires players { span.now.players ≡ n }

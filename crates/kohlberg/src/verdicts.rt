@@ -1,4 +1,5 @@
-//! Verdicts on certificates.
+//! Verdicts on certificates. They are beside certificates and not in `checker`, which hands them on: `report` prints
+//! them, and needn't wait for the checker to be proved.
 ghost use Rattle.std.specs.Prelude.{◌≡◌};
 ghost use Rattle.kohlberg.specs.Reasons.{reason_number};
 
@@ -45,7 +46,7 @@ pub enum Reason {
 }
 
 impl Reason {
-    /// The number of the reason, 1 to 8, in the order in which conditions are tested.
+    /// Returns the number of the reason, 1 to 8, in the order in which conditions are tested.
     pub fn number(&self) -> u32
         ensures { result ≡ reason_number self.now }
     {

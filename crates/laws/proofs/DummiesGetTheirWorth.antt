@@ -1,5 +1,10 @@
 -- A player that adds its worth alone to each coalition without it gets that: else every coalition of greatest
 -- excess would be on one side of the player, and a small transfer there would beat the nucleolus.
+--
+-- With the dummy a coalition's excess is less by d, what the dummy gets beside its worth alone. If d is above 0, the
+-- others together have the excess d, and a unit moved from the dummy to a member of the coalition of greatest excess
+-- without it improves. If d is below 0 (preimputations, plain excess), the dummy alone has the excess -d, and the sides
+-- change.
 use Rattle.std.proofs.Common.{◌≡◌, ◌≢◌, ◌⊎◌, ℕ, ◌+◌, ◌-◌, ◌^◌, ◌<◌, ◌≤◌, Bool, true, false, not, ℤ, pos, ◌+ℤ◌, ◌-ℤ◌}
 use Rattle.std.proofs.Common.{◌*ℤ◌, ◌<ℤ◌, ◌≤ℤ◌, refl, sym, ap, ◌∙◌, inl, inr, length, arith}
 use Rattle.std.proofs.lemmas.Bool.{false≢true}

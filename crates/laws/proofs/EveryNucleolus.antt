@@ -1,5 +1,9 @@
 -- The rule's shares are a core point, so every nucleolus of the game is one, and its prenucleolus. So it balances
 -- every two players, and has the rule's shares.
+--
+-- The steps are: in the core (NucleolusIsInCore.antt), so it is the prenucleolus (WithACoreBothAreOne.antt), so each
+-- two have equal surpluses. At a core point these are the garment (BalanceIsTheGarment.antt), and only the rule's
+-- shares divide each two so (NoOtherIsConsistent.antt).
 use Rattle.std.proofs.Common.{◌≡◌, ℕ, ◌<◌, List, length, ℤ, ◌*ℤ◌, refl, sym, ap, ◌∙◌, inl, arith}
 use Rattle.definitions.proofs.Members.{sum_over-grand_coalition}
 use Rattle.definitions.proofs.Ring.{linear}

@@ -1,5 +1,9 @@
 -- A rule with the four properties gives the Shapley value (Shapley 1953): a game is a sum of games in which just
 -- one coalition counts, and such a game leaves it no choice.
+--
+-- By masks from the greatest down: worths that are 0 below k are the sum of two games. In the first a coalition is
+-- worth v(k) if it holds all of k; there the players of k are alike and the others add nothing. In the second all
+-- worths are 0 below k + 1.
 use Rattle.std.proofs.Common.{◌≡◌, ◌↔◌, ℕ, zero, suc, ◌+◌, ◌-◌, ◌^◌, ◌<◌, ◌≤◌, Bool, true, false, cond, ℤ, pos, ◌+ℤ◌}
 use Rattle.std.proofs.Common.{◌-ℤ◌, ◌*ℤ◌, ◌<ℤ◌, refl, sym, ap, subst, ◌∙◌, inl, inr, arith}
 use lib.IntN.{*ℤ_comm}

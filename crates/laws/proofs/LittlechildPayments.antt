@@ -1,4 +1,7 @@
 -- What Littlechild's payments promise: they rise with the costs, and equal costs pay the same.
+--
+-- If the second of two places with one cost paid more, the first would leave no room. The players up to a place pay at
+-- most the cost there, and all players the greatest cost.
 use Rattle.std.proofs.Common.{◌≡◌, ℕ, zero, suc, ◌+◌, ◌-◌, ◌^◌, ◌<◌, ◌≤◌, true, List, length, get_or, ℤ, pos, ◌*ℤ◌}
 use Rattle.std.proofs.Common.{◌≤ℤ◌, neg_ℤ, sym, ap, ◌∙◌, inl, inr, arith}
 use Rattle.std.proofs.lemmas.Bool.{false≢true}

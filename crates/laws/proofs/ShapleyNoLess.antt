@@ -1,5 +1,8 @@
 -- The total of a player, by the coalitions without it and without another player: who adds no less has no less, and
 -- so players that a game doesn't tell apart have the same.
+--
+-- A sum over coalitions is one over those without j, of s and of s with j. There the terms of i and j compare one by
+-- one, so no list is permuted.
 use Rattle.std.proofs.Common.{◌≡◌, ◌≢◌, ℕ, ◌+◌, ◌^◌, ◌<◌, Bool, false, cond, ℤ, pos, ◌+ℤ◌, ◌-ℤ◌, ◌*ℤ◌, ◌≤ℤ◌, refl, sym}
 use Rattle.std.proofs.Common.{ap, ◌∙◌, inl, inr, arith, if◌then◌else◌}
 use Rattle.std.proofs.lemmas.Int.{ints}

@@ -1,5 +1,9 @@
 -- Whoever adds no less than another to every coalition without both gets no less: else the nucleolus, with the two
 -- shares made equal, would be beaten.
+--
+-- Say j gets c more than i, which adds no less. With i in the place of j a coalition has the same size, and an excess
+-- that is greater by at least c. So the two shares made equal are a move (Moves.antt of theorems), and at a nucleolus
+-- there is none.
 use Rattle.std.proofs.Common.{◌≡◌, ◌≢◌, ℕ, ◌+◌, ◌^◌, ◌<◌, true, false, not, length, ℤ, pos, ◌+ℤ◌, ◌-ℤ◌, ◌*ℤ◌, ◌≤ℤ◌}
 use Rattle.std.proofs.Common.{refl, sym, ap, ◌∙◌, inl, inr, arith}
 use Rattle.std.proofs.lemmas.Int.{by_lt_z}

@@ -22,22 +22,22 @@ pub fn who_needs_more_pays_no_less_by_shapley()
     ensures { WhoNeedsMorePaysNoLessByShapley }
 {}
 
-/// Of Littlechild's payments: who needs no less pays no less.
+/// By Littlechild's payments a player who needs no less pays no less.
 pub fn payments_rise_with_needs()
     ensures { PaymentsRiseWithNeeds }
 {}
 
-/// Of Littlechild's payments: nobody pays more than the cost alone, nor less than nothing.
+/// By Littlechild's payments nobody pays more than the cost alone, nor less than nothing.
 pub fn nobody_pays_more_than_alone()
     ensures { NobodyPaysMoreThanAlone }
 {}
 
-/// Of Littlechild's payments: no group pays more together than its greatest cost.
+/// By Littlechild's payments no group pays more together than its greatest cost.
 pub fn no_group_pays_more_than_its_cost()
     ensures { NoGroupPaysMoreThanItsCost }
 {}
 
-/// Of Littlechild's payments: all together pay just the greatest cost.
+/// By Littlechild's payments all together pay exactly the greatest cost.
 pub fn all_pay_the_greatest_cost()
     ensures { AllPayTheGreatestCost }
 {}

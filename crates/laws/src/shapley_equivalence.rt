@@ -3,13 +3,13 @@
 
 ghost use Rattle.laws.specs.ShapleyEquivalence.{ShapleyIsAnonymous, ShapleyIsCovariant};
 
-/// Anonymity: who is renumbered keeps its share.
+/// Anonymity: a player who is renumbered keeps its share.
 pub fn shapley_is_anonymous()
     ensures { ShapleyIsAnonymous }
 {}
 
-/// Covariance under strategic equivalence: the shares go with a change of the unit, and with what each player brings of
-/// its own.
+/// Covariance under strategic equivalence: the shares change by the same unit as the worths, and by what each player
+/// brings of its own.
 pub fn shapley_is_covariant()
     ensures { ShapleyIsCovariant }
 {}

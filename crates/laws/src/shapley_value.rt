@@ -11,7 +11,7 @@ pub fn shapley_values_exist()
     ensures { ShapleyValuesExist }
 {}
 
-/// Efficiency: where the empty coalition is worth nothing, the shares add to the worth of all.
+/// Efficiency: if the empty coalition is worth nothing, the shares add to the worth of all.
 pub fn shares_add_to_all()
     ensures { SharesAddToAll }
 {}
@@ -21,7 +21,7 @@ pub fn totals_add()
     ensures { TotalsAdd }
 {}
 
-/// Where all worths are taken times one number, the shares are times that number.
+/// If all worths are multiplied by one number, the shares are multiplied by that number.
 pub fn shares_scale()
     ensures { SharesScale }
 {}
@@ -46,9 +46,9 @@ pub fn dummies_get_their_worth()
     ensures { DummiesGetTheirWorth }
 {}
 
-/// The theorem of Shapley (1953), both ways, on the games of so many players whose worths are whole numbers, and for
-/// rules whose shares are fractions. A rule that gives shares to all these games is efficient, gives the same to those
-/// whom the game doesn't tell apart and nothing to those who add nothing, and adds up over sums of games, just where it
+/// The theorem of Shapley (1953), both ways, on the games of that many players whose worths are whole numbers, and for
+/// rules whose shares are fractions: a rule that gives shares to all these games is efficient, gives the same to those
+/// whom the game doesn't tell apart and nothing to those who add nothing, and adds up over sums of games, exactly if it
 /// gives each game the Shapley value.
 pub fn fair_rules_are_shapley()
     ensures { FairRulesAreShapley }

@@ -7,7 +7,7 @@ pub fn sorted_is_the_sorting()
     ensures { SortedIsTheSorting }
 {}
 
-/// Of two efficient allocations the one beats the other over the proper coalitions just where it does over all
+/// Of two efficient allocations the one beats the other over the proper coalitions exactly if it does over all
 /// coalitions: leaving out the empty coalition and that of all changes no comparison.
 pub fn leaving_out_changes_nothing()
     ensures { LeavingOutChangesNothing }

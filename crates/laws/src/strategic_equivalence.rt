@@ -4,14 +4,14 @@
 ghost use Rattle.laws.specs.StrategicEquivalence.{ShiftsChangeNothing, EquivalentGamesAgree};
 
 /// Adding a number of each player to its share, and to the worth of each coalition that holds it, changes no
-/// comparison: the two games have the same families, excesses, nucleoli, blockers and core, where the shares differ by
+/// comparison: the two games have the same families, excesses, nucleoli, blockers and core, if the shares differ by
 /// these numbers.
 pub fn shifts_change_nothing()
     ensures { ShiftsChangeNothing }
 {}
 
-/// Where all worths are taken times one positive number, and then a number of each player is added as above, the
-/// families, the nucleolus and the core change by the same.
+/// If all worths are multiplied by one positive number, and then a number of each player is added as in
+/// `shifts_change_nothing`, the families, the nucleolus and the core change by the same.
 pub fn equivalent_games_agree()
     ensures { EquivalentGamesAgree }
 {}

@@ -10,7 +10,7 @@ pub fn each_two_are_a_garment()
     ensures { EachTwoAreAGarment }
 {}
 
-/// No other shares of the estate are divided so between each two claimants.
+/// No other shares of the estate divide what each two claimants get together as the contested garment.
 pub fn no_other_is_consistent()
     ensures { NoOtherIsConsistent }
 {}
@@ -21,7 +21,7 @@ pub fn talmud_shares_exist()
 {}
 
 /// In the game of an estate and claims, an allocation of the core that balances every two players, as the nucleolus
-/// does, divides so between each two claimants.
+/// does, divides what each two claimants get together as the contested garment.
 pub fn balance_is_the_garment()
     ensures { BalanceIsTheGarment }
 {}
@@ -31,13 +31,13 @@ pub fn every_nucleolus()
     ensures { EveryNucleolus }
 {}
 
-/// Self-duality. What is missing of the claims is divided as an estate is: what each loses is what it would get of
+/// Self-duality: what is missing of the claims is divided as an estate is, and what each loses is what it would get of
 /// that.
 pub fn losses_are_alike()
     ensures { LossesAreAlike }
 {}
 
-/// Of a greater estate, with the same claims, nobody gets less.
+/// If the estate is greater, with the same claims, nobody gets less.
 pub fn more_estate()
     ensures { MoreEstate }
 {}
@@ -47,7 +47,7 @@ pub fn nobody_gets_more()
     ensures { NobodyGetsMore }
 {}
 
-/// Who claims no less gets no less, and loses no less.
+/// A player who claims no less gets no less, and loses no less.
 pub fn who_claims_more()
     ensures { WhoClaimsMore }
 {}

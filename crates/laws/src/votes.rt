@@ -7,7 +7,7 @@ pub fn who_has_more_votes_gets_no_less()
     ensures { WhoHasMoreVotesGetsNoLess }
 {}
 
-/// By the Shapley value who has no fewer votes has no less power (Shapley and Shubik 1954).
+/// By the Shapley value a player with no fewer votes has no less power (Shapley and Shubik 1954).
 pub fn who_has_more_votes_gets_no_less_by_shapley()
     ensures { WhoHasMoreVotesGetsNoLessByShapley }
 {}

@@ -7,21 +7,21 @@ ghost use Rattle.matrices.specs.Rows.{HaveEntries, HaveLength, entries_of};
 
 use orders::are_numbers;
 
-/// Whether each number is from 0 to below 2^40.
+/// Returns whether each number is from 0 to below 2^40.
 pub fn have_entries(matrix: &[Vec<i64>]) -> bool
     ensures { IsTrue result ↔ HaveEntries (map (λ row. row.items) matrix.now) }
 {
     are_rows(matrix)
 }
 
-/// Whether each row has `columns` numbers.
+/// Returns whether each row has `columns` numbers.
 pub fn have_length(matrix: &[Vec<i64>], columns: usize) -> bool
     ensures { IsTrue result ↔ HaveLength columns (map (λ row. row.items) matrix.now) }
 {
     are_long(matrix, columns)
 }
 
-/// The entry of row `i` and column `j`.
+/// Returns the entry of row `i` and column `j`.
 pub fn entry(matrix: &[Vec<i64>], i: usize, j: usize) -> u64
     requires entries { HaveEntries (map (λ row. row.items) matrix.now) }
     requires row { i < length matrix.now }

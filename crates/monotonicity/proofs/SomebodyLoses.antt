@@ -1,5 +1,9 @@
 -- Two games of five players or more with one core point each. In the second, two coalitions are worth more, both with
 -- player 4, who gets 6 in place of 7 (Young 1985).
+--
+-- The core points are (0, 1, 2, 7, 1) and (3, 0, 0, 6, 3): five inequalities that add up leave no room. At a core point
+-- of more players the others together get no less than nothing, so the first five get at most what all have
+-- (ListedGames.antt).
 use Rattle.std.proofs.Common.{◌≡◌, ◌≢◌, ℕ, ◌<◌, ◌≤◌, List, [], ◌∷◌, ◌++◌, ℤ, pos, ◌+ℤ◌, ◌*ℤ◌, ◌<ℤ◌, ◌≤ℤ◌, refl, sym, ap}
 use Rattle.std.proofs.Common.{◌∙◌, inl, inr, arith, rules}
 use Rattle.std.proofs.lemmas.Bool.{false≢true}

@@ -8,9 +8,9 @@ pub fn who_adds_more_gets_no_less()
     ensures { WhoAddsMoreGetsNoLess }
 {}
 
-/// The theorem of Young (1985), both ways. A rule that gives shares to all games of so many players is efficient, gives
-/// the same to players that the game doesn't tell apart, and no less to who adds more, just where it gives each game
-/// the Shapley value.
+/// The theorem of Young (1985), both ways: a rule that gives shares to all games of that many players is efficient,
+/// gives the same to players that the game doesn't tell apart, and no less to a player that adds more, exactly if it
+/// gives each game the Shapley value.
 pub fn monotonic_rules_are_shapley()
     ensures { MonotonicRulesAreShapley }
 {}

@@ -3,14 +3,14 @@
 ghost use Rattle.monotonicity.specs.SmallGrowth.{ContractsCompared};
 ghost use Rattle.monotonicity.specs.TwoRules.{TwoRulesDiffer};
 
-/// Of two contracts, the game that all four players' worth makes greater: what grows in it, around whom, who adds no
-/// less, and who gets an equal part; and what doesn't.
+/// Examples of each notion, with two contracts and the game that all four players' worth makes greater: what grows in
+/// it, around whom, who adds no less, and who gets an equal part; and what doesn't.
 pub fn contracts_compared()
     ensures { ContractsCompared }
 {}
 
-/// From four players on the Shapley value is monotonic in both senses, and isn't always a core point where there is
-/// one; the prenucleolus is, and is monotonic in neither sense.
+/// From four players on the Shapley value is monotonic in both senses, and isn't always a core point if there is one;
+/// the prenucleolus is, and is monotonic in neither sense.
 pub fn two_rules_differ()
     ensures { TwoRulesDiffer }
 {}

@@ -2,7 +2,7 @@
 
 ghost use Rattle.monotonicity.specs.BirdShares.{BirdTimes};
 
-/// Where each link costs k times as much, the Bird plan is the same, and each player pays k times as much (Bird 1976).
+/// If each link costs k times as much, the Bird plan is the same, and each player pays k times as much (Bird 1976).
 pub fn bird_times()
     ensures { BirdTimes }
 {}

@@ -1,4 +1,8 @@
 -- A chain of optimal stages that fix everything certifies the shares of the last.
+--
+-- With nothing left outside, the conditions hold one by one (`chain_certified`), and the theorem that certificates are
+-- sound does the rest. A level row's multiplier is the excess over the divisor, and the measured excess of the
+-- certificate is that fraction. A game of one player has no stage: its worth of all is certified without a level.
 use Rattle.std.proofs.Common.{◌≡◌, ◌⊎◌, ℕ, ◌^◌, ◌<◌, IsTrue, List, [], ◌∷◌, ◌++◌}
 use Rattle.std.proofs.Common.{length, map, ℤ, pos, ◌-ℤ◌, ◌*ℤ◌, ◌≤ℤ◌, refl, sym, ap}
 use Rattle.std.proofs.Common.{subst, ◌∙◌, inl, inr, arith, if◌then◌else◌}

@@ -1,5 +1,15 @@
 -- Along a chain of optimal stages: multipliers that settle all levels agree, optima don't rise, and no coalition
 -- outside a level has more than the level's excess.
+--
+-- A column of positive weight is tight at its stage's own multipliers (`tight_optimal` in Slack.antt), so these settle
+-- the stage's own level (`settles_own_level`). By complementary slackness it is tight at any multipliers that settle
+-- the level (`tight_later` in Advance.antt). So all such multipliers have one excess there, the optimum of the stage
+-- (`excess_optimum`), which is read off once for all.
+--
+-- The optimal multipliers of a stage, with their last excess once more, bound the next one. So by weak duality the
+-- optimum doesn't rise (`optimum_falls`). Take a coalition that was outside before a level. If it isn't spanned later,
+-- it has at most the later excess. If it is, it has one excess at all multipliers that settle the levels
+-- (`outside_low`). That is condition 7. A coalition's divisor is the same in all stages.
 use Rattle.std.proofs.Common.{◌≡◌, ℕ, zero, suc, ◌+◌, ◌<◌, Bool, true, false, ◌&&◌}
 use Rattle.std.proofs.Common.{IsTrue, List, [], ◌∷◌, ◌++◌, length, map, ℤ, pos, ◌+ℤ◌}
 use Rattle.std.proofs.Common.{◌-ℤ◌, ◌*ℤ◌, ◌≤ℤ◌, refl, sym, ap, subst, ◌∙◌, inl, inr}

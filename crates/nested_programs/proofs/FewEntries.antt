@@ -1,4 +1,7 @@
 -- A level has no more entries than its stage has weights: each entry has a column of its own.
+--
+-- Weights are at most as many as rows, so a level has fewer than twice as many entries as there are players
+-- (`level_short`).
 use Rattle.std.proofs.Common.{◌≡◌, ◌≢◌, ◌⊎◌, ℕ, zero, suc, ◌+◌, ◌-◌, ◌*◌, ◌≤◌}
 use Rattle.std.proofs.Common.{Bool, true, false, cond, nat_eq, nat_le, List, [], ◌∷◌, length}
 use Rattle.std.proofs.Common.{ℤ, pos, ◌+ℤ◌, refl, sym, ap, ◌∙◌, inl, inr, arith}

@@ -1,4 +1,8 @@
 -- What the rows of a stage say of its level: it is balanced, and it has a coalition.
+--
+-- The numbers of the columns are the numerators of the weights. The sums of the level at a player are those of the
+-- player's row: each list is additive in the weights, and a column's part in them is its entry (LevelSums.antt,
+-- ColumnParts.antt). That row gives the balance (`level_balanced`), and the last row gives a coalition (`level_some`).
 use Rattle.std.proofs.Common.{◌≡◌, ◌≢◌, ◌⊎◌, ℕ, ◌+◌, ◌-◌, ◌<◌, ◌≤◌, Bool, true}
 use Rattle.std.proofs.Common.{false, ◌||◌, IsTrue, List, [], ◌∷◌, length, ℤ, pos, ◌+ℤ◌}
 use Rattle.std.proofs.Common.{◌*ℤ◌, ◌≤ℤ◌, refl, sym, ap, ◌∙◌, inl, inr, arith, nat_eq}

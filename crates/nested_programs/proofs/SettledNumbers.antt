@@ -1,5 +1,4 @@
--- What the levels of a certificate settle of a difference d between two members of a family, where d i is a number
--- per
+-- What the levels of a certificate settle of a difference d between two members of a family, where d i is a number per
 -- player: the law over ordered groups, of numbers as columns of one place.
 --
 --   IsSettled   the coalitions that are listed and the players that have a bound weight differ by nothing

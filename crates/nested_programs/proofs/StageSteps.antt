@@ -1,4 +1,9 @@
 -- From the levels so far to those with the next stage's level.
+--
+-- The coalitions that are kept are independent, so they are at most as many as the players. A coalition of the new
+-- level was outside, so each stage keeps more (`kept_grows`), and the measure is the number of players less that of
+-- kept coalitions. There are always more kept coalitions than levels, and one less than players while a player is left.
+-- So no stage is behind more than n - 2 levels.
 use Rattle.std.proofs.Common.{◌≡◌, ℕ, ◌+◌, ◌<◌, ◌≤◌, true, false, IsTrue, nat_eq, List}
 use Rattle.std.proofs.Common.{[], ◌∷◌, ◌++◌, length, length-append, map, ℤ, pos, ◌*ℤ◌, ◌≤ℤ◌}
 use Rattle.std.proofs.Common.{Option, Some, None, refl, ap, ◌∙◌, inl, arith}

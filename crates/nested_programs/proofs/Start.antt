@@ -1,5 +1,10 @@
 -- A stage program has a solution where a coalition is outside, and the first has no endless ray where the family
 -- has a member.
+--
+-- If a coalition is outside, so are the others together. Both at weight 1 and all players at minus 1, over the sum of
+-- the two divisors, solve the program (`pair_solves`). No ray exists beside multipliers that bound the program. In the
+-- first stage a member of the family gives them: its shares and its greatest excess, or 0 if that is more, since a
+-- divisor is at least 1 (`first_no_ray`). In a later one those of the stage before do (`next_no_ray` in Chain.antt).
 use Rattle.std.proofs.Common.{◌≡◌, ◌≢◌, ℕ, zero, suc, ◌+◌, ◌-◌, ◌^◌, ◌<◌, ◌≤◌}
 use Rattle.std.proofs.Common.{Bool, true, false, not, cond, IsTrue, List, [], ◌∷◌, length}
 use Rattle.std.proofs.Common.{ℤ, pos, ◌+ℤ◌, ◌-ℤ◌, ◌*ℤ◌, ◌≤ℤ◌, refl, sym, ap, ◌∙◌}

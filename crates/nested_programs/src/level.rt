@@ -36,7 +36,7 @@ fn outer_numbers(
 /// Puts the coalitions of a level in front whose net number isn't 0 in mask order, where `first` is the number of the
 /// column of its first.
 ///
-/// Its one error is want of memory; then those of the first coalitions are put.
+/// Fails only if memory runs out; then those of the first coalitions are put.
 fn put_level(
     earlier: &mut Vec<(Coalition, i128)>,
     weights: &[(ColumnId, i128)],
@@ -106,6 +106,9 @@ fn bound_numbers(
 
 /// The level of the optimum of a stage behind these levels: the coalitions, earlier coalitions and bounds with a
 /// number, and the optimum as excess.
+///
+/// The multipliers of all later stages have the same excess at this level, so it is read here, and no level is written
+/// twice.
 pub(crate) fn level_of(
     alloc: Global,
     n: u32,

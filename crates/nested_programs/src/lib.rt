@@ -24,15 +24,15 @@ pub use point::solve_few;
 use std::alloc::Global;
 use worth_core::{Measure, Worth};
 
-/// The nucleolus of a game of at most 16 players for the imputations, or its prenucleolus for the preimputations, with
-/// a certificate in mode span (Schmeidler 1969, Kohlberg 1971), of excesses as they are or per head (Grotte 1970). Per
-/// head there must be at most 8 players. Each level has fewer entries in its three lists than there are players twice,
-/// and its excess is a fraction in lowest terms with parts of 128 bits. It has at least one coalition, and none that
-/// the levels in front of it fix, so each level settles more than those.
+/// Returns the nucleolus of a game of at most 16 players for the imputations, or its prenucleolus for the
+/// preimputations, with a certificate in mode span (Schmeidler 1969, Kohlberg 1971). Excesses are as they are or per
+/// head (Grotte 1970); per head there must be at most 8 players. Each level has fewer entries in its three lists than
+/// twice the number of players, and its excess is a fraction in lowest terms with parts of 128 bits. It has at least
+/// one coalition, and none that earlier levels fix, so each level settles more than the earlier ones.
 ///
-/// `NoImputation` comes exactly where the family is the imputations and the worths of the players alone add to more
-/// than the worth of all; it carries both. `TooMany` comes exactly where there are more than 16 players, and `Memory`
-/// for want of memory.
+/// Returns `NoImputation` exactly if the family is the imputations and the worths of the players alone add to more than
+/// the worth of all; it carries both. Fails with `TooMany` exactly if there are more than 16 players, and with `Memory`
+/// if memory runs out.
 pub fn solve<W: Worth>(
     alloc: Global,
     game: &W,

@@ -18,6 +18,8 @@ use worth_core::{Measure, Shares, Worth};
 
 /// The shares that are the multipliers of the players' rows, over their denominator. Without multipliers it is one
 /// share, the worth of all.
+///
+/// The denominator isn't always the least common one; what is printed are fraction texts, which have one form.
 fn shares_of<W: Worth>(
     alloc: Global,
     game: &W,
@@ -42,8 +44,8 @@ fn shares_of<W: Worth>(
 
 // For the crates above.
 
-/// What `solve` finds of a game that has at most 16 players, per head at most 8, as the caller has tested: so want of
-/// memory is the only fault. It isn't inlined, since callers that call it twice on one path would take its great frame
+/// Returns what `solve` finds, for a game of at most 16 players, per head at most 8, as the caller has tested. Fails
+/// only if memory runs out. It isn't inlined: a caller that calls it twice on one path would take its large frame
 /// twice.
 #[inline(never)]
 pub fn solve_few<W: Worth>(

@@ -4,23 +4,23 @@ ghost use Rattle.orders.specs.Numbers.{IsNumber};
 
 use std::alloc::{AllocError, Global};
 
-/// Whether a number is from 0 to below 2^40.
+/// Returns whether a number is from 0 to below 2^40.
 pub fn is_number(z: i64) -> bool
     ensures { IsTrue result ↔ IsNumber z }
 {
     0 <= z && z < 1 << 40
 }
 
-/// Whether each number of a list is from 0 to below 2^40.
+/// Returns whether each number of a list is from 0 to below 2^40.
 pub fn are_numbers(numbers: &[i64]) -> bool
     ensures { IsTrue result ↔ All IsNumber numbers.now }
 {
     numbers.iter().all(|z| is_number(*z))
 }
 
-/// The numbers as natural numbers.
+/// Returns the numbers as natural numbers.
 ///
-/// Its one error is want of memory.
+/// Fails only if memory runs out.
 pub fn naturals(alloc: Global, numbers: &[i64]) -> Result<Vec<u64>, AllocError>
     requires { All IsNumber numbers.now }
     ensures { IfOk result (λ v. (map pos v.items ≡ numbers.now) × All (λ c. c < 2 ^ 40) v.items) }

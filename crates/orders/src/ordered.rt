@@ -26,9 +26,9 @@ impl Model for Ordered {
 impl Ordered {
     ghost use Rattle.orders.specs.Ordered.{IsOrdered, place};
 
-    /// The players of these numbers.
+    /// Sorts the players by their numbers.
     ///
-    /// Its one error is want of memory.
+    /// Fails only if memory runs out.
     pub fn new(alloc: Global, numbers: Vec<u64>) -> Result<Ordered, AllocError>
         requires some { 1 ≤ length numbers.items }
         requires few { length numbers.items ≤ 64 }
@@ -40,7 +40,7 @@ impl Ordered {
         Ok(Ordered { numbers, order })
     }
 
-    /// The number of players, and so of places.
+    /// Returns the number of players, and so of places.
     pub fn len(&self) -> u32
         ensures count { result ≡ length self.now.numbers }
         ensures laws { IsOrdered self.now }
@@ -48,7 +48,7 @@ impl Ordered {
         self.numbers.len() as u32
     }
 
-    /// The number of player `i`.
+    /// Returns the number of player `i`.
     pub fn number(&self, i: u32) -> u64
         requires { i < length self.now.numbers }
         ensures value { result ≡ slice_index self.now.numbers i }
@@ -57,7 +57,7 @@ impl Ordered {
         self.numbers[i as usize]
     }
 
-    /// The player at place `k` from the least number; of equal ones the lesser player stands first.
+    /// Returns the player at place `k` from the least number. Of equal numbers, that of the lesser player comes first.
     pub fn place(&self, k: u32) -> u32
         requires { k < length self.now.numbers }
         ensures value { result ≡ place self.now k }

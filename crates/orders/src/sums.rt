@@ -8,7 +8,7 @@ ghost use Rattle.orders.specs.Numbers.{IsNumber};
 
 use coalitions::Coalition;
 
-/// The sum of all numbers, as a document has them.
+/// Returns the sum of all numbers, as a document has them.
 pub fn total(numbers: &[i64]) -> u64
     requires few { length numbers.now ≤ 64 }
     requires small { All IsNumber numbers.now }
@@ -21,7 +21,7 @@ pub fn total(numbers: &[i64]) -> u64
     total
 }
 
-/// The sum of the members' numbers.
+/// Returns the sum of the members' numbers.
 pub fn sum_of(numbers: &[u64], s: Coalition) -> u64
     requires few { length numbers.now ≤ 64 }
     requires small { All (λ c. c < 2 ^ 40) numbers.now }

@@ -9,7 +9,7 @@ ghost use Rattle.plain_programs.specs.Plain.{game_of, blocking_masks};
 use crate::table::{Point, Table, excess};
 use std::alloc::{AllocError, Global};
 
-/// Whether a coalition is worth more than its members get.
+/// Returns whether a coalition is worth more than its members get.
 pub fn blocks(table: &Table, point: &Point, coalition: u64) -> bool
     requires { coalition < 2 ^ table.now.players }
     ensures { IsTrue result ↔ Blocks (game_of table.now) point.now coalition }
@@ -17,9 +17,9 @@ pub fn blocks(table: &Table, point: &Point, coalition: u64) -> bool
     excess(table, point, coalition) > 0
 }
 
-/// The masks of the coalitions that are worth more than their members get, in ascending order.
+/// Returns the masks of the coalitions that are worth more than their members get, in ascending order.
 ///
-/// Its one error is want of memory.
+/// Fails only if memory runs out.
 pub fn blockers(alloc: Global, table: &Table, point: &Point) -> Result<Vec<u64>, AllocError>
     ensures { IfOk result (λ masks. masks.items ≡ blocking_masks (game_of table.now) point.now) }
 {
@@ -55,8 +55,8 @@ fn greatest_excess(table: &Table, point: &Point) -> i128
     greatest
 }
 
-/// The mask of the coalition of greatest excess, the least mask where there are several; `None`
-/// where no coalition blocks.
+/// Returns the mask of the coalition of greatest excess, and the least mask if there are several. Returns `None` if no
+/// coalition blocks.
 pub fn chosen_blocker(table: &Table, point: &Point) -> Option<u64>
     ensures { MatchOption result
         ((s : ℕ) → s < 2 ^ table.now.players → ¬ Blocks (game_of table.now) point.now s)

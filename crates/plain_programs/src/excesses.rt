@@ -46,7 +46,7 @@ fn per_head(coalition: u64, excess: i128) -> i128
     head_weight(coalition) as i128 * excess
 }
 
-/// The excess of a coalition by the measure: per head, 720720 times the excess over the number of
+/// Returns the excess of a coalition by the measure. Per head that is 720720 times the excess over the number of
 /// members, which are at most 16.
 pub fn measured_excess(measure: Measure, table: &Table, point: &Point, coalition: u64) -> i128
     requires some { 0 < coalition }
@@ -70,10 +70,10 @@ fn scaled(scale: i128, excess: i128) -> i128
     scale * excess
 }
 
-/// The measured excesses of all coalitions but the empty one and that of all players, in mask order
-/// and over the point's denominator, each times a scale.
+/// Returns the measured excesses of all coalitions except the empty one and that of all players, in mask order and over
+/// the point's denominator, each times a scale.
 ///
-/// Its one error is want of memory.
+/// Fails only if memory runs out.
 pub fn excess_list(
     alloc: Global,
     measure: Measure,
@@ -94,10 +94,10 @@ pub fn excess_list(
     Ok(list)
 }
 
-/// Whether the sorted excess list of the first point comes before that of the second by the measure,
-/// both over the product of the two denominators.
+/// Returns whether the sorted excess list of the first point comes before that of the second by the measure, both over
+/// the product of the two denominators.
 ///
-/// Its one error is want of memory.
+/// Fails only if memory runs out.
 pub fn beats(
     alloc: Global,
     measure: Measure,

@@ -27,7 +27,7 @@ impl<'a> Model for Table<'a> {
 impl<'a> Table<'a> {
     ghost use Rattle.plain_programs.specs.Plain.{IsSmallTable};
 
-    /// The game of the listed worths.
+    /// Makes the game of the listed worths.
     pub fn new(players: u32, worths: &'a [i64]) -> Table<'a>
         requires { IsSmallTable (record { players = players; worths = worths.now }) }
         ensures { result ≡ record { players = players; worths = worths.now } }
@@ -79,7 +79,7 @@ impl<'a> Model for Point<'a> {
 impl<'a> Point<'a> {
     ghost use Rattle.plain_programs.specs.Plain.{IsSmallPoint};
 
-    /// The point of shares over a denominator.
+    /// Makes the point of shares over a denominator.
     pub fn new(shares: &'a [i128], den: i128) -> Point<'a>
         requires { IsSmallPoint (record { shares = shares.now; den = den }) }
         ensures { result ≡ record { shares = shares.now; den = den } }
@@ -143,7 +143,7 @@ fn product(den: i128, worth: i64) -> i128
     den * worth as i128
 }
 
-/// What a coalition could do better by itself, over the denominator: positive where it blocks.
+/// Returns what a coalition could do better by itself, over the denominator: positive if it blocks.
 pub fn excess(table: &Table, point: &Point, coalition: u64) -> i128
     requires { coalition < 2 ^ table.now.players }
     ensures value { result ≡ excess (game_of table.now) point.now coalition }

@@ -38,7 +38,7 @@ impl Model for FailingSink {
 }
 
 impl FailingSink {
-    /// An empty sink for at most `capacity` bytes, which takes at most `piece` a call; its memory is taken now.
+    /// Makes an empty sink for at most `capacity` bytes, which takes at most `piece` a call. Its memory is taken now.
     ///
     /// `fails` lists which calls fail and take nothing, counted from 0.
     pub fn new(
@@ -67,7 +67,7 @@ impl FailingSink {
         })
     }
 
-    /// The bytes taken so far.
+    /// Returns the bytes taken so far.
     pub fn taken(&self) -> &[u8]
         ensures { result.now ≡ self.now.bytes }
     {

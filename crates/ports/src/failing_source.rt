@@ -39,7 +39,7 @@ impl Model for FailingSource {
 }
 
 impl FailingSource {
-    /// A source that gives these bytes, at most `piece` a call, and then ends.
+    /// Makes a source that gives these bytes, at most `piece` a call, and then ends.
     ///
     /// `fails` lists which calls fail and give nothing, counted from 0.
     pub fn new(bytes: Vec<u8>, piece: usize, fails: Vec<u64>) -> FailingSource

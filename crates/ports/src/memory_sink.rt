@@ -29,7 +29,7 @@ impl Model for MemorySink {
 }
 
 impl MemorySink {
-    /// An empty sink for at most `capacity` bytes; its memory is taken now.
+    /// Makes an empty sink for at most `capacity` bytes. Its memory is taken now.
     pub fn new(alloc: Global, capacity: usize) -> Result<MemorySink, OutOfMemory>
         ensures { IfOk result (λ s. s ≡ record { bytes = []; capacity = capacity; faults = 0; failed = false }) }
     {
@@ -42,7 +42,7 @@ impl MemorySink {
         })
     }
 
-    /// The bytes taken so far.
+    /// Returns the bytes taken so far.
     pub fn taken(&self) -> &[u8]
         ensures { result.now ≡ self.now.bytes }
     {

@@ -24,7 +24,7 @@ impl Model for MemorySource {
 }
 
 impl MemorySource {
-    /// A source that gives these bytes and then ends.
+    /// Makes a source that gives these bytes and then ends.
     pub fn new(bytes: Vec<u8>) -> MemorySource
         ensures { result ≡ bytes.items }
     {

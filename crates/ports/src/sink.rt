@@ -12,12 +12,12 @@ pub trait Sink {
     // Whether the last write failed.
     ghost failed: { Self → Bool };
     // A number by which its owner knows the sink again, as where it holds memory of its owner: no write changes it.
+    // Without it a contract over every sink says only what was taken, not that it is in the memory lent to the sink.
     ghost mark: { Self → ℕ } = { λ _. 0 };
 
-    /// Takes bytes from the front of `piece`, at least one where there is one, and gives their number.
+    /// Takes bytes from the front of `piece`, at least one if there is one, and returns their number.
     ///
-    /// `Failed` comes only where the count of faults rises by one or stands at its last value, and keeps what was
-    /// taken.
+    /// Fails only if the count of faults rises by one or is at its last value, and then keeps what was taken.
     fn write(&mut self, piece: &[u8]) -> Result<usize, Failed>
         ensures write { IsWrite (taken self.old) (taken self.new) (faults self.old) (faults self.new) (failed self.new)
             result piece.now }

@@ -14,10 +14,10 @@ pub trait Source {
     // Whether the last read failed.
     ghost failed: { Self → Bool };
 
-    /// Reads bytes into the front of `buf`, and gives their number.
+    /// Reads bytes into the front of `buf`, and returns their number.
     ///
-    /// 0 for a buffer that isn't empty says that the input has ended. `Failed` comes only where the count of faults
-    /// rises by one or stands at its last value, and keeps the bytes that are left.
+    /// Returning 0 for a buffer that isn't empty says that the input has ended. Fails only if the count of faults rises
+    /// by one or is at its last value, and then keeps the bytes that are left.
     fn read(&mut self, buf: &mut [u8]) -> Result<usize, Failed>
         ensures bound { ReadsAtMost result buf.new }
         ensures bytes { ReadConsumes (left self.old) (left self.new) result buf.new }

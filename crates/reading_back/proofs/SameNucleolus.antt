@@ -1,4 +1,7 @@
 -- The same shares over another denominator are the nucleolus where the first are.
+--
+-- A nucleolus is printed over the least common denominator of its shares, so what `check` reads is over another
+-- denominator.
 use Rattle.std.proofs.Common.{◌≡◌, ℤ, ◌*ℤ◌, sym, ap, ◌∙◌}
 use Rattle.definitions.proofs.Ring.{mul_assocℤ, mul_left_commℤ, mul-cancelℤ, mul_ends_exchangedℤ}
 use Rattle.definitions.specs.Coalitions.{proper_coalitions}

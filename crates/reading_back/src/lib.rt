@@ -19,13 +19,13 @@ pub fn shares_are_read_back()
     ensures { SharesAreReadBack }
 {}
 
-/// A printed certificate is read as the certificate that was printed, where each level's excess is in lowest terms.
+/// A printed certificate is read as the certificate that was printed, if each level's excess is in lowest terms.
 pub fn certificates_are_read_back()
     ensures { CertificatesAreReadBack }
 {}
 
-/// What is printed of the nucleolus or the prenucleolus of a game is not refused where it is checked, and is read with
-/// the same game, measure, family and certificate, and with the same shares, perhaps over another denominator.
+/// The line of a game's nucleolus or prenucleolus isn't refused when it is checked. It is read with the same game,
+/// measure, family and certificate, and with the same shares, perhaps over another denominator.
 pub fn printed_nucleolus_is_a_document()
     ensures { PrintedNucleolusIsADocument }
 {}

@@ -1,4 +1,8 @@
 -- Where numbers are the shares in fractions of a certificate, they are the nucleolus among shares in numbers.
+--
+-- In a group the fraction a / q need not exist, so `IsNucleolusOver` compares q times the excesses. Shares that can be
+-- written as numbers give Schmeidler's own sentence, `IsNucleolusAmong`. All fractions can be written as real numbers
+-- (Quotients.antt).
 use Rattle.std.proofs.Common.{sym, ◌∙◌, ◌≡◌, ◌≤ℤ◌, ◌⊎◌, ℕ, ◌+◌, ◌-◌, ◌^◌, ◌<◌, ◌≤◌, Bool, true, false, cond, List, []}
 use Rattle.std.proofs.Common.{ℤ, pos, ◌*ℤ◌, ◌<ℤ◌, inl, inr, arith, if◌then◌else◌}
 use Rattle.std.proofs.lemmas.Int.{by_lt_z}

@@ -1,5 +1,8 @@
 -- Columns of integers, k by k, and a fact `Low` on them that is kept by sums and holds of each column or of its
 -- negative.
+--
+-- All identities of the proof that certificates are sound are equations of integers, entry by entry. This fact is all
+-- that the proof uses of the group: the combination of a column isn't above zero.
 use Rattle.std.proofs.Common.{◌≡◌, ◌≢◌, ◌⊎◌, ℕ, zero, suc, ◌<◌, List, [], ◌∷◌, ℤ, pos, negsuc, ◌+ℤ◌, ◌-ℤ◌, ◌*ℤ◌, ◌≤ℤ◌}
 use Rattle.std.proofs.Common.{◌<ℤ◌, refl, sym, subst, ap, inl, inr, arith}
 use Rattle.std.specs.List.{AllByRecursion}

@@ -1,4 +1,7 @@
 -- A balanced collection of excess worth leaves no core point over any linearly ordered abelian group.
+--
+-- At a core point the columns of the collection, weighted and added, would be at most zero. But they add to the unit,
+-- taken at least once.
 use Rattle.std.proofs.Common.{◌≡◌, ℕ, suc, ◌<◌, ◌^◌, Bool, true, false, cond, List, [], ◌∷◌, ℤ, pos, ◌+ℤ◌, ◌-ℤ◌, ◌*ℤ◌}
 use Rattle.std.proofs.Common.{◌≤ℤ◌, refl, ap, ◌∙◌, inl, arith}
 use Rattle.std.specs.List.{AllByRecursion}

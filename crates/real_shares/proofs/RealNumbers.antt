@@ -1,5 +1,8 @@
 -- The real numbers are a linearly ordered abelian group: what is additive but for a bounded error, and once above
 -- the bound, is never far below zero.
+--
+-- If the sequences of two numbers aren't in the one order, their difference passes each bound, so they are in the
+-- other. No program decides that order: `AreReals` speaks of a test that excluded middle gives (RealsThere.antt).
 use Rattle.std.proofs.Common.{◌≡◌, ◌⊎◌, ℕ, zero, suc, ◌+◌, ◌*◌, ℤ, pos, ◌+ℤ◌, ◌-ℤ◌, ◌*ℤ◌, ◌≤ℤ◌, ◌<ℤ◌, refl, sym, ap}
 use Rattle.std.proofs.Common.{subst, inl, inr, arith}
 use Rattle.std.proofs.lemmas.Int.{by_lt_z}

@@ -1,5 +1,9 @@
 -- Two lists of one length over a linear order. Where the numbers at each place are equal, or the first is at most
 -- e, and at some place only the second is above e, the sorted first list comes before the sorted second.
+--
+-- Count the numbers above t. For each t from e on the first list has no more of them than the second, and above e it
+-- has fewer. A list that falls, and has no more numbers above each t, is lesser at the first place where the two
+-- differ.
 use Rattle.std.proofs.Common.{◌≡◌, ◌⊎◌, ℕ, suc, ◌+◌, ◌<◌, ◌≤◌, Bool, true, false, cond, List, [], ◌∷◌, length, refl}
 use Rattle.std.proofs.Common.{sym, ap, ◌∙◌, inl, inr, arith, IsTrue}
 use Rattle.std.proofs.lemmas.Bool.{false≢true}

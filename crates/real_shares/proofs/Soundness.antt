@@ -1,4 +1,22 @@
 -- A certificate that meets its conditions certifies the nucleolus over every linearly ordered abelian group.
+--
+-- Take another member z of the family. For player i, `gap` x i is the difference between x and z over the denominator
+-- of x, as a column: integers that say how often the unit and each share of z are taken. Level by level, either the
+-- level differs by nothing, or x comes before z.
+--
+-- 1. `Settled` (Settled.antt) says that the coalitions of the levels so far, and the players with a bound weight there,
+--    differ by nothing.
+-- 2. The weighted differences of a level add to its total times the difference of all players, which is nothing
+--    (`level-sum`). Terms of earlier levels are nothing (`earlier_zero`). Those of bounds have a known sign.
+-- 3. If no coalition of the level gets less at z, all terms have one sign and add to nothing. So each is nothing, and
+--    the level is settled too (`Settled-more`).
+-- 4. Otherwise some coalition has an excess at z above e, the level's excess. A coalition that isn't outside has one
+--    excess at both (`inside_zero`), and one outside has at most e at x. That is `Rises`, so x comes first
+--    (`ComesBefore-sorted` in Sorted.antt).
+-- 5. After the last level no player differs (`all_fixed_zero`).
+--
+-- Weights balance players, so step 2 is on plain differences. A measured excess moves as the plain one does
+-- (`excess-differs`).
 use Rattle.std.proofs.Common.{◌≡◌, ◌⊎◌, ℕ, zero, suc, ◌+◌, ◌-◌, ◌^◌, ◌<◌, ◌≤◌, List, [], ◌∷◌, ◌++◌, length, map, ℤ, pos}
 use Rattle.std.proofs.Common.{◌+ℤ◌, ◌-ℤ◌, ◌*ℤ◌, ◌≤ℤ◌, ◌<ℤ◌, IsTrue, refl, sym, subst, inl, inr, arith}
 use Rattle.std.specs.List.{AllByRecursion, range_with_len}

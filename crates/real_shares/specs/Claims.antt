@@ -1,6 +1,6 @@
 -- What is said of shares in fractions when all shares are real numbers, or numbers of any linearly ordered abelian
 -- group. A contract can't speak of all sets, so the numbers of a group are named by sequences of integers, as real
--- numbers are by their decimals. A group comes with a test of its order.
+-- numbers are by their decimals; the lemmas are of numbers of any set. A group comes with a test of its order.
 --
 --   IsNucleolusOverGroups   the nucleolus over every linearly ordered abelian group with a unit above zero
 --   IsNucleolusForReals     written as real numbers, the nucleolus among real shares

@@ -1,4 +1,4 @@
-//! The nucleolus, the core and the prekernel where shares are real numbers, or numbers of any linearly ordered abelian
+//! The nucleolus, the core and the prekernel when shares are real numbers, or numbers of any linearly ordered abelian
 //! group. Each function's contract is a theorem, and its body is empty.
 #![tactic(auto)]
 
@@ -14,7 +14,8 @@ pub fn certificates_are_sound_over_groups()
     ensures { SoundOverGroups }
 {}
 
-/// And, written as real numbers, its shares are the nucleolus among real shares.
+/// The shares of a certificate that meets its form and its conditions, written as real numbers, are the nucleolus among
+/// real shares.
 pub fn certificates_are_sound_for_reals()
     ensures { SoundForReals }
 {}
@@ -24,7 +25,7 @@ pub fn reals_are_ordered()
     ensures { RealsAreOrdered }
 {}
 
-/// Where excluded middle holds of the order of each two real numbers, there are such numbers.
+/// If excluded middle holds of the order of each two real numbers, there are such numbers.
 pub fn reals_are_there()
     ensures { RealsAreThere }
 {}
@@ -34,12 +35,14 @@ pub fn fractions_are_ordered()
     ensures { FractionsAreOrdered }
 {}
 
-/// The nucleolus among fractions is the nucleolus over these groups: one theorem on groups covers both.
+/// The nucleolus among fractions is the nucleolus over the groups of fractions over a common denominator: one theorem
+/// on groups covers both.
 pub fn fractions_are_shares()
     ensures { FractionsAreShares }
 {}
 
-/// Pairs of integers, by the first and then by the second, are such a group that isn't one of fractions.
+/// Pairs of integers, by the first and then by the second, are a linearly ordered abelian group with a unit above zero,
+/// and not one of fractions.
 pub fn pairs_are_ordered()
     ensures { PairsAreOrdered }
 {}
@@ -50,7 +53,7 @@ pub fn collections_block_over_groups()
     ensures { CollectionsBlockOverGroups }
 {}
 
-/// The same where shares are real numbers.
+/// No core point in real shares stands beside a balanced collection of excess worth.
 pub fn collections_block_for_reals()
     ensures { CollectionsBlockForReals }
 {}
@@ -60,7 +63,7 @@ pub fn core_points_for_reals()
     ensures { CorePointsForReals }
 {}
 
-/// Shares in fractions that lie in the prekernel lie there among real shares: so the prenucleolus does.
+/// Shares in fractions that lie in the prekernel lie there among real shares, and so does the prenucleolus.
 pub fn prekernel_for_reals()
     ensures { PrekernelForReals }
 {}

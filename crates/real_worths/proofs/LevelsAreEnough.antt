@@ -1,7 +1,6 @@
--- Beside other shares, take the greatest excess among the coalitions whose members get other amounts together. If
--- none
--- that has it gets less, the weights of its level would add above zero what all get more, which is nothing. So one
--- gets less, and the other shares come behind.
+-- Beside other shares, take the greatest excess among the coalitions whose members get other amounts together. If none
+-- that has it gets less, the weights of its level would add above zero what all get more, which is nothing. So one gets
+-- less, and the other shares come behind.
 use Rattle.std.proofs.Common.{◌≡◌, ◌⊎◌, ℕ, zero, suc, ◌^◌, ◌<◌, Bool, true, false, cond, ◌&&◌, not, nat_eq, List, ℤ}
 use Rattle.std.proofs.Common.{pos, negsuc, ◌-ℤ◌, ◌*ℤ◌, ◌≤ℤ◌, refl, sym, ap, ◌∙◌, inl, inr, arith}
 use Rattle.std.proofs.lemmas.Bool.{false≢true}

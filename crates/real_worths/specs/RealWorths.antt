@@ -75,6 +75,8 @@ RealsCanHalve = (N : Numbers Real) → AreReals N → CanHalve N
 -- ---- a change of the unit, and what each brings of its own
 
 -- an additive change of all numbers that keeps their order, and the change back: as a positive factor and its inverse
+-- (numbers of an ordered group are added and compared, and not multiplied; of the real numbers the positive factors are
+-- such changes, and a change is determined by what becomes of the unit)
 pub record IsUnitChange {C : Type 0} (N : Numbers C) (to back : C → C) : Type 0 where
   pub adds : (a b : C) → Equal N (to (N.plus a b)) (N.plus (to a) (to b))
   pub keeps : (a b : C) → AtMost N a b → AtMost N (to a) (to b)

@@ -14,8 +14,8 @@ ghost use Rattle.real_worths.specs.KohlbergTheorem.{KohlbergTheorem};
 ghost use Rattle.real_worths.specs.Examples.{TwoShare, DoublingIsAChange, IntegersCantHalve, SomeAddNoLess};
 ghost use Rattle.real_worths.specs.Examples.{SinglesBalance};
 
-/// Where the worths are whole numbers, times the unit, the families, the nucleolus and the core are those among real
-/// shares that other laws speak of, and who adds no less, who is interchangeable and who is a dummy stays the same.
+/// If the worths are whole numbers, times the unit, the families, the nucleolus and the core are those among real
+/// shares that other laws speak of. A player who adds no less, is interchangeable or is a dummy stays so.
 pub fn whole_worths_agree()
     ensures { WholeWorthsAgree }
 {}
@@ -31,7 +31,8 @@ pub fn unbeaten_is_nucleolus()
     ensures { UnbeatenIsNucleolus }
 {}
 
-/// Where there is an imputation, one is the nucleolus, and likewise a preimputation the prenucleolus (Schmeidler 1969).
+/// If there is an imputation, one is the nucleolus, and if there is a preimputation, one is the prenucleolus
+/// (Schmeidler 1969).
 pub fn nucleoli_exist()
     ensures { NucleoliExist }
 {}
@@ -41,23 +42,23 @@ pub fn prenucleoli_exist()
     ensures { PrenucleoliExist }
 {}
 
-/// There is an imputation exactly where the players alone aren't worth more than all together.
+/// There is an imputation exactly if the players alone aren't worth more than all together.
 pub fn imputations_exist()
     ensures { ImputationsExist }
 {}
 
-/// Where the core isn't empty, the nucleolus and the prenucleolus lie in it.
+/// If the core isn't empty, the nucleolus and the prenucleolus lie in it.
 pub fn nucleolus_is_in_core()
     ensures { NucleolusIsInCore }
 {}
 
-/// Where the core isn't empty, the prenucleolus and the nucleolus are one.
+/// If the core isn't empty, the prenucleolus and the nucleolus are one.
 pub fn with_a_core_both_are_one()
     ensures { WithACoreBothAreOne }
 {}
 
-/// A player that adds no less than another to each coalition without both gets no less, of the nucleolus and the
-/// prenucleolus.
+/// By the nucleolus and the prenucleolus a player that adds no less than another to each coalition without both gets no
+/// less.
 pub fn who_adds_no_less_gets_no_less()
     ensures { WhoAddsNoLessGetsNoLess }
 {}
@@ -89,13 +90,13 @@ pub fn factors_are_changes()
 {}
 
 /// Kohlberg's theorem (Kohlberg 1971; for the prenucleolus Sobolev 1975): shares that add to the worth of all are the
-/// prenucleolus just where, for each coalition, those of at least its excess are balanced.
+/// prenucleolus exactly if, for each coalition, those of at least its excess are balanced.
 pub fn kohlberg()
     ensures { KohlbergTheorem }
 {}
 
-/// Two who together are worth a real number above zero, and alone nothing, get half each; all for the first is no
-/// nucleolus, and twice all for the first no core point.
+/// Two players who are worth a real number above zero together, and nothing alone, get half each; all for the first is
+/// no nucleolus, and twice all for the first no core point.
 pub fn two_share()
     ensures { TwoShare }
 {}
@@ -110,8 +111,8 @@ pub fn integers_cant_halve()
     ensures { IntegersCantHalve }
 {}
 
-/// Of two players the second alone is worth something: it adds no less than the first, which adds less, so they aren't
-/// interchangeable. Where nobody is worth anything, the first is a dummy.
+/// If only the second of two players is worth something alone, it adds no less than the first, which adds less, so they
+/// aren't interchangeable. If nobody is worth anything, the first is a dummy.
 pub fn some_add_no_less()
     ensures { SomeAddNoLess }
 {}

@@ -1,7 +1,5 @@
--- The reduced game of an airport. Some who stay have two choices: without the one who goes, or with it, who then
--- brings
--- what it pays. The lesser cost rises with the greatest cost among those who stay, so it is the greatest of the
--- lesser
+-- The reduced game of an airport. Some who stay have two choices: without the one who goes, or with it, who then brings
+-- what it pays. The lesser cost rises with the greatest cost among those who stay, so it is the greatest of the lesser
 -- costs of each.
 use Rattle.std.proofs.Common.{◌≡◌, ◌≢◌, ℕ, ◌-◌, ◌^◌, ◌<◌, ◌≤◌, max, Bool, true}
 use Rattle.std.proofs.Common.{false, cond, not, ◌&&◌, nat_eq, List}

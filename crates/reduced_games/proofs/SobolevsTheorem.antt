@@ -1,6 +1,17 @@
 -- Sobolev's theorem (Sobolev 1975; Peleg and Sudhölter). A rule that meets the axioms gives nothing to each player of
 -- the game of excesses at the prenucleolus, since that is a reduced game of a game of words; so it gives the
 -- prenucleolus. And the prenucleolus meets the axioms, since it is one and has each of the four properties.
+--
+-- 1. Each coalition has weights that balance, on it and on coalitions of no less excess (SideWeights.antt, by Farkas's
+--    lemma).
+-- 2. Each coalition as often as its weight, with its excess as value, makes a list of positions. Each player has
+--    equally many positions of each value (Positions.antt).
+-- 3. A word says of each position whether it has it. The players of the game of all words are the words with as many
+--    positions of each value as a player's own (Words.antt, WordGames.antt).
+-- 4. Exchanging two positions of one value leaves that game as it is, and such exchanges make each word of each other.
+--    So by anonymity all get the same, and by efficiency (Rules.antt) nothing.
+-- 5. The players' own words are some of these players, and their reduced game is the game of excesses
+--    (WordGameShares.antt). So the rule gives nothing there, and by covariance the prenucleolus.
 use Rattle.std.proofs.Common.{◌≡◌, ◌⊎◌, ℕ, zero, suc, ◌-◌, ◌^◌, ◌<◌, ◌≤◌, List, [], length, get_or, map, ℤ, pos, neg_ℤ}
 use Rattle.std.proofs.Common.{◌+ℤ◌, ◌*ℤ◌, ◌≤ℤ◌, refl, sym, ap, ◌∙◌, inl, inr, arith}
 use Rattle.std.proofs.lemmas.Int.{ints, by_lt_z}

@@ -47,6 +47,7 @@ abbrev pub staying : ℕ → (ℕ → ℕ) → ℕ → ℕ
 staying m who s = coalition_where m (λ k. has_player s (who k))
 
 -- the shares of those who stay, in units of 1 over the denominator of x: whole numbers
+-- (a reduced game stands over that denominator, so that all games have whole numbers as worths)
 abbrev pub staying_shares : ℕ → (ℕ → ℕ) → Allocation → Allocation
 staying_shares m who x = record { shares = map (λ k. share x (who k)) (range_with_len 0 m); den = pos 1 }
 

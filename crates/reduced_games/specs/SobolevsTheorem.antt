@@ -3,6 +3,10 @@
 -- whose shares are fractions. Games of fractional worths are such games by a scale: covariance by whole numbers is
 -- covariance by fractions there, and the reduced game stands over the denominator of the shares.
 --
+-- So the axioms ask less than the book does on these games, except that shares are fractions: covariance by whole
+-- numbers only, and reduced games only of players who keep their order. The theorem on what meets them says no less of
+-- such rules; what the prenucleolus meets in full is said by laws of its own.
+--
 --   IsPlayable g               a game with a player, in which the empty coalition is worth nothing
 --   KeepTheirOrder m who       those who stay are numbered in their order
 --   IsSingleValued rule        one allocation of each game

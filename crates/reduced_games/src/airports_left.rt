@@ -3,7 +3,7 @@
 
 ghost use Rattle.reduced_games.specs.AirportsLeft.{AirportsAreLeft, ReducedAirport, AirportByNucleolus, AirlinesLeft};
 
-/// Where the payments are in the core, an airport is left for those who stay.
+/// If the payments are in the core, an airport is left for those who stay.
 pub fn airports_are_left()
     ensures { AirportsAreLeft }
 {}
@@ -13,12 +13,12 @@ pub fn reduced_airport()
     ensures { ReducedAirport }
 {}
 
-/// There the nucleolus, and the prenucleolus, let each who stays pay what it paid.
+/// In the airport that is left, the nucleolus and the prenucleolus let each player who stays pay what it paid.
 pub fn airport_by_nucleolus()
     ensures { AirportByNucleolus }
 {}
 
-/// Who need 2, 4 and 6 pay 1, 3/2 and 7/2; where the last has paid, the others need 2 and 5/2.
+/// Airlines that need 2, 4 and 6 pay 1, 3/2 and 7/2; if the last has paid, the others need 2 and 5/2.
 pub fn airlines_left()
     ensures { AirlinesLeft }
 {}

@@ -4,7 +4,7 @@
 ghost use Rattle.reduced_games.specs.EstatesLeft.{EstatesAreLeft, ReducedEstate, EstateByNucleolus, TalmudIsConsistent};
 ghost use Rattle.reduced_games.specs.EstatesLeft.{HeirsLeft};
 
-/// Where nobody got more than the claim, nor less than nothing, an estate and claims are left.
+/// If nobody got more than the claim, nor less than nothing, an estate and claims are left.
 pub fn estates_are_left()
     ensures { EstatesAreLeft }
 {}
@@ -14,17 +14,17 @@ pub fn reduced_estate()
     ensures { ReducedEstate }
 {}
 
-/// Of the estate that is left the nucleolus, and the prenucleolus, give each who stays what it had.
+/// The nucleolus and the prenucleolus of the estate that is left give each player who stays what it had.
 pub fn estate_by_nucleolus()
     ensures { EstateByNucleolus }
 {}
 
-/// The Talmud rule is consistent: of the estate that is left it gives each who stays what it had.
+/// The Talmud rule is consistent: of the estate that is left, it gives each player who stays what it had.
 pub fn talmud_is_consistent()
     ensures { TalmudIsConsistent }
 {}
 
-/// Of 200 the claims of 100, 200 and 300 get 50, 75 and 75; where the first goes, 150 are left for the others.
+/// The claims of 100, 200 and 300 get 50, 75 and 75 of 200; if the first goes, 150 are left for the others.
 pub fn heirs_left()
     ensures { HeirsLeft }
 {}

@@ -1,4 +1,4 @@
-//! Consistency: where some players take their shares and go, the rest divide what is left in the same way. Each
+//! Rules that divide in the same way what is left when some players take their shares and go: they are consistent. Each
 //! function's contract is a theorem, and its body is empty. No crate of the program needs them.
 #![tactic(auto)]
 

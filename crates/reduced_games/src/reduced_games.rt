@@ -5,23 +5,24 @@ ghost use Rattle.reduced_games.specs.ReducedGames.{ReducedGamesExist, ReducedGam
 ghost use Rattle.reduced_games.specs.ReducedGames.{PrekernelReduces, CoreReduces, PrekernelByPairs, CoreByPairs};
 ghost use Rattle.reduced_games.specs.ReducedGames.{NucleolusReduces, EachTwoAreStandard, TwoOfThreeVoters};
 
-/// Whoever stays, there is a reduced game.
+/// There is a reduced game for any players who stay.
 pub fn reduced_games_exist()
     ensures { ReducedGamesExist }
 {}
 
-/// There is only one: two have the same worths.
+/// Any two reduced games for the same players have the same worths.
 pub fn reduced_game_is_one()
     ensures { ReducedGameIsOne }
 {}
 
-/// The reduced game property of the prenucleolus (Sobolev 1975). Where some players go with their shares, the
-/// prenucleolus of the game that is left gives each of the others what it got before.
+/// The reduced game property of the prenucleolus (Sobolev 1975): if some players go with their shares, the prenucleolus
+/// of the game that is left gives each of the others what it got before.
 pub fn reduced_game_property()
     ensures { ReducedGameProperty }
 {}
 
-/// And of the nucleolus, where the core isn't empty.
+/// The reduced game property of the nucleolus, when the core isn't empty: if some players go with their shares, the
+/// nucleolus of the game that is left gives each of the others what it got before.
 pub fn nucleolus_reduces()
     ensures { NucleolusReduces }
 {}
@@ -36,24 +37,25 @@ pub fn core_reduces()
     ensures { CoreReduces }
 {}
 
-/// And its converse for pairs: an efficient allocation lies in the prekernel exactly where each two players have the
-/// standard solution of their reduced game.
+/// An efficient allocation lies in the prekernel exactly if each two players have the standard solution of their
+/// reduced game: for pairs, the converse of the reduced game property.
 pub fn prekernel_by_pairs()
     ensures { PrekernelByPairs }
 {}
 
-/// So at the prenucleolus each two have it.
+/// At the prenucleolus each two players have the standard solution of their reduced game.
 pub fn each_two_are_standard()
     ensures { EachTwoAreStandard }
 {}
 
-/// An efficient allocation lies in the core exactly where the shares of each two players lie in the core of their
-/// reduced game.
+/// An efficient allocation lies in the core exactly if the shares of each two players lie in the core of their reduced
+/// game.
 pub fn core_by_pairs()
     ensures { CoreByPairs }
 {}
 
-/// Of three who vote by majority and get a third each, one goes: what is the game of the others, and what isn't.
+/// Examples of a reduced game: if three who vote by majority get a third each and one goes, what is the game of the
+/// others, and what isn't.
 pub fn two_of_three_voters()
     ensures { TwoOfThreeVoters }
 {}

@@ -5,25 +5,25 @@ ghost use Rattle.reduced_games.specs.SobolevsTheorem.{SobolevsTheorem, SomeRuleM
 ghost use Rattle.reduced_games.specs.SobolevsTheorem.{InTheirOrder};
 
 /// Sobolev's theorem (Sobolev 1975), both ways, over games whose worths are whole numbers and rules whose shares are
-/// fractions. A rule that gives one allocation to each game, of any number of players, is covariant under strategic
-/// equivalence, anonymous and has the reduced game property just where it gives each game its prenucleolus.
+/// fractions: a rule that gives one allocation to each game, of any number of players, is covariant under strategic
+/// equivalence, anonymous and has the reduced game property exactly if it gives each game its prenucleolus.
 pub fn sobolevs_theorem()
     ensures { SobolevsTheorem }
 {}
 
-/// Some rule meets these axioms.
+/// Some rule meets the axioms of Sobolev's theorem.
 pub fn some_rule_meets_them()
     ensures { SomeRuleMeetsThem }
 {}
 
-/// Of the four axioms the Shapley value meets three, and lacks the reduced game property: where one has a left glove
-/// and two a right one, and one of the two goes with its share, the Shapley value of what is left gives the others
-/// other shares.
+/// The Shapley value meets three of the four axioms, and lacks the reduced game property: if one player has a left
+/// glove and two have a right one, and one of the two goes with its share, the Shapley value of what is left gives the
+/// others other shares.
 pub fn shapley_lacks_reduced_games()
     ensures { ShapleyLacksReducedGames }
 {}
 
-/// What the axioms speak of, in the small: a vote is playable and a game of nobody isn't, and two of three keep their
+/// Examples of what the axioms speak of: a vote is playable and a game of nobody isn't, and two of three keep their
 /// order, but not exchanged.
 pub fn in_their_order()
     ensures { InTheirOrder }

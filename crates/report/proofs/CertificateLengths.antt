@@ -1,4 +1,6 @@
 -- How long the texts of certificates and shares are.
+--
+-- Levels, entries and digits are counted (`nucleoli_are_short`).
 use Rattle.std.proofs.Common.{◌≡◌, ℕ, ◌+◌, ◌*◌, ◌^◌, ◌<◌, ◌≤◌, Bool, true, false}
 use Rattle.std.proofs.Common.{cond, List, [], ◌∷◌, length}
 use Rattle.std.proofs.Common.{map, codes, ℤ, pos, negsuc, unsigned_abs, arith, length-append}

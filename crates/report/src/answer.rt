@@ -23,8 +23,12 @@ pub enum UsageKind {
 }
 
 /// What is answered.
+///
+/// Surpluses and deficits are worth for every class, as excesses are: only shares and sums turn their sign for costs.
 #[derive(Drop)]
 pub enum Answer {
+    // The tree is that of the game as it was read: `read_document` gives that it can be printed, and `write_report`
+    // asks it.
     /// The nucleolus or prenucleolus of the game with this JSON tree: the shares as worth, printed as payments where
     /// `is_cost`, and their certificate.
     Nucleolus {

@@ -11,8 +11,8 @@ pub fn nucleoli_are_read_back()
     written_is_read_back();
 }
 
-/// The text of a nucleolus is at most 2 MiB longer than that of its game, where each level has at most 128 entries and
-/// an excess that is read from its text.
+/// The text of a nucleolus is at most 2 MiB longer than that of its game, if each level has at most 128 entries and an
+/// excess that is read from its text.
 pub fn nucleoli_are_short()
     ensures { NucleoliAreShort }
 {}

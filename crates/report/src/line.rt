@@ -26,8 +26,8 @@ use kinds::Refusal;
 use serde_json::{Map, Value};
 use std::alloc::Global;
 
-/// The line of an answer: compact JSON with ascending keys, and a newline. Its fractions and shares are printed over
-/// the scale, which is from 1 to 65,536.
+/// Returns the line of an answer: compact JSON with ascending keys, and a newline. Its fractions and shares are printed
+/// over the scale, which is from 1 to 65,536.
 pub fn write_report(alloc: Global, answer: Answer, scale: i64) -> Result<Vec<u8>, OutOfMemory>
     requires scale { IsScale scale }
     requires printable { IsPrintable answer }

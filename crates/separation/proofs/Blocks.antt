@@ -1,4 +1,8 @@
 -- The values of the columns of coalitions with plain excess, 256 at a time.
+--
+-- The 256 coalitions of a block have the players past the first eight and the level in common, so each costs one
+-- addition (`block_value`). Per head the level counts as often as the coalition has members, and each value is found by
+-- itself.
 use Rattle.std.proofs.Common.{◌≡◌, ℕ, ◌+◌, ◌*◌, ◌/◌, ◌%◌, ◌<◌, ◌≤◌, List, length}
 use Rattle.std.proofs.Common.{ℤ, pos, ◌+ℤ◌, sym}
 use Rattle.std.proofs.Common.{ap, ◌∙◌, arith, slice_index_or, Option, Some, None, false}

@@ -1,4 +1,8 @@
 -- The sizes of the entries of a column per head sum to at most 14 for 8 players.
+--
+-- So the programs per head are in band B: of at most 8 players there are at most 15 rows. A column with a level row is
+-- of at most 7 members (ProperColumns.antt), so its sizes sum to at most 7 + 7, and those of the others to at most 8. 9
+-- players would be too many for the band, and that is why the solver stops at 8.
 use Rattle.std.specs.Prelude.{◌≡◌, ◌⊎◌, ℕ, zero, suc, ◌+◌, ◌-◌, ◌^◌, ◌<◌, ◌≤◌}
 use Rattle.std.specs.Prelude.{Bool, true, false, IsTrue, cond}
 use Rattle.std.specs.Prelude.{nat_eq, nat_lt, length, ℤ, pos, Option, Some, None, refl, unsigned_abs}

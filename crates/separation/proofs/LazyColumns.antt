@@ -1,4 +1,8 @@
 -- The columns that are found by their numbers: what stands under each, and that they are the programs'.
+--
+-- A `Lazy` keeps no column. Its program is that of the list that `Listed` would have kept (`lazy_columns`), so the laws
+-- and lemmas on lists serve both. First are the columns in front of those of the coalitions (`lazy-front`), then the
+-- marked coalitions (`lazy-marked`), then nothing (`lazy-past`).
 use Rattle.std.proofs.Common.{◌≡◌, ℕ, ◌+◌, ◌-◌, ◌<◌, ◌≤◌, ◌^◌, Bool, true, false}
 use Rattle.std.proofs.Common.{List, [], ◌∷◌, ◌++◌, length, length-append, refl, ◌∙◌, arith, if◌then◌else◌}
 use Rattle.std.proofs.Common.{Option, Some, None, IsTrue, ◌↔◌}

@@ -1,4 +1,9 @@
 -- A search for the best column that rises, number by number.
+--
+-- Any column that rises may enter, and the least is a bad choice: on games whose players are numbered by their strength
+-- it took very many steps. So a search asks the columns in front first, then goes round in blocks of 256 coalitions,
+-- from the block in which it found the last one. Of the first block that has any, it takes the one whose cost is most
+-- above its value. No answer rests on that choice, but `IsMost` says it, since only time would show a bad one.
 use Rattle.std.proofs.Common.{◌≡◌, ◌↔◌, ◌⊎◌, inl, inr, ℕ, ◌+◌, ◌<◌, ◌≤◌, ℤ}
 use Rattle.std.proofs.Common.{◌+ℤ◌, ◌≤ℤ◌, ◌<ℤ◌, int_lt, Bool, true, false}
 use Rattle.std.proofs.lemmas.Int.{ints}

@@ -1,4 +1,7 @@
 -- Peaks and least numbers are as small as what they are taken from.
+--
+-- The search passes over 64 coalitions if the greatest worth of their block of 256, over the denominator, less the
+-- least of their own sums isn't higher than what was found. The greatest worths are found once for all stages.
 use Rattle.std.proofs.Common.{◌-◌, ◌*◌, ◌^◌, ◌-ℤ◌, ◌<◌, ◌≤◌, ℕ, List, ℤ, pos, arith}
 use Rattle.std.proofs.Common.{unsigned_abs, slice_index_or}
 use Rattle.std.proofs.lemmas.Int.{ints}

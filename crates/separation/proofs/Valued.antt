@@ -1,4 +1,8 @@
 -- The value of a column from two tables of sums and one multiplier.
+--
+-- The value is the sum over the members, and the multiplier of the column's level with its sign; per head as often as
+-- the coalition has members. The sums over the first eight and the next eight players are in two tables of 256 numbers,
+-- so a column costs two look-ups.
 use Rattle.std.proofs.Common.{◌≡◌, ℕ, zero, suc, ◌+◌, ◌-◌, ◌/◌, ◌%◌, ◌<◌, ◌≤◌}
 use Rattle.std.proofs.Common.{Bool, true, false, cond, List, length, ℤ, pos, ◌+ℤ◌, ◌*ℤ◌}
 use Rattle.std.proofs.Common.{refl, sym, ap, ◌∙◌, inl, inr, arith, nat_eq, nat_lt, if◌then◌else◌}

@@ -39,9 +39,9 @@ fn balanced_columns<W: Worth>(alloc: Global, game: &W) -> Result<Vec<Option<Colu
 }
 
 impl Listed {
-    /// The balanced program of a game of at most 16 players (Bondareva 1963, Shapley 1967): the greatest worth that
-    /// coalitions have by weights that hold each player once. Where that is the worth of all, the multipliers are a
-    /// point of the core; where it is more, the weights show that there is none. The one error is want of memory.
+    /// Makes the balanced program of a game of at most 16 players (Bondareva 1963, Shapley 1967): the greatest worth
+    /// that coalitions have by weights that hold each player once. If that is the worth of all, the multipliers are a
+    /// point of the core. If it is more, the weights show that there is none. Fails only if memory runs out.
     pub fn balanced<W: Worth>(alloc: Global, game: &W) -> Result<Listed, OutOfMemory>
         requires { (W.game game.now).players ≤ 16 }
         ensures { IfOk result (λ l. (⟦<Listed as Columns>⟧.players l ≡ (W.game game.now).players)

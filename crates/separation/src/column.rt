@@ -10,6 +10,8 @@ use worth_core::Measure;
 pub(crate) type ColumnPlace = u64;
 
 /// What a column has in its level row: what the measure divides the excess of its coalition by.
+///
+/// It is the measure's `divisor` without its condition that the coalition isn't empty: no maker of columns knows that.
 pub(crate) fn level_entry(measure: Measure, s: Coalition) -> u32
     ensures value { result ≡ divisor measure s }
     ensures small { result ≤ 64 }
@@ -22,6 +24,8 @@ pub(crate) fn level_entry(measure: Measure, s: Coalition) -> u32
 
 /// The vector of a coalition in the player rows and, in one level row or none, what a measure divides the excess of the
 /// coalition by, and the worth of the coalition as cost; or all this negated.
+///
+/// The divisor is found where it is read (`entry`), so no maker of columns knows of measures.
 #[derive(Clone, Copy)]
 pub(crate) struct Column {
     pub(crate) coalition: Coalition,

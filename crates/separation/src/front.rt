@@ -15,7 +15,7 @@ use kohlberg::{Family, Level};
 use simplex::ColumnId;
 use worth_core::Worth;
 
-/// The number of coalitions of the levels.
+/// Returns the number of coalitions of the levels.
 pub fn coalition_count(levels: &[Level]) -> u64
     requires few { length levels.now ≤ 14 }
     requires small { AllByRecursion (λ l. length l.coalitions ≤ 65536) levels.now }

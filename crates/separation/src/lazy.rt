@@ -62,9 +62,9 @@ impl<'a, W: Worth> Lazy<'a, W> {
     ghost use Rattle.separation.specs.Same.{IsSame, IsSpanOf, IsStage};
     ghost use Rattle.separation.specs.Balanced.{balanced_program};
 
-    /// The stage program of a game of 2 to 16 players behind levels (Kopelowitz 1967; per head Grotte 1970): its
-    /// weights are those of the next level, and its multipliers the shares and the measured excesses of the levels. Per
-    /// head there are at most 8 players. It keeps one bit for each coalition.
+    /// Makes the stage program of a game of 2 to 16 players after some levels (Kopelowitz 1967; per head Grotte 1970):
+    /// its weights are those of the next level, and its multipliers the shares and the measured excesses of the levels.
+    /// Per head there are at most 8 players. It keeps one bit for each coalition.
     ///
     /// There are at most n - 2 levels, in the form of a certificate. `span` holds exactly the coalitions that the
     /// levels fix in span mode. There is no error, since no memory is taken.
@@ -90,7 +90,8 @@ impl<'a, W: Worth> Lazy<'a, W> {
         Ok(Lazy::stage_with(game, &peaks, family, measure, levels, span))
     }
 
-    /// The same stage program, where the greatest worths of the game are known from a stage before.
+    /// Makes the stage program that `stage` makes, when the greatest worths of the game are known from an earlier
+    /// stage.
     pub fn stage_with(
         game: &'a W,
         peaks: &[i64; 256],
@@ -125,10 +126,9 @@ impl<'a, W: Worth> Lazy<'a, W> {
         }
     }
 
-    /// The balanced program of a game of at most 16 players (Bondareva 1963, Shapley 1967): the greatest worth that
-    /// coalitions have by weights that hold each player once. Where that is the worth of all, the multipliers are a
-    /// point of the core; where it is more, the weights show that there is none. There is no error, since no memory is
-    /// taken.
+    /// Makes the balanced program of a game of at most 16 players (Bondareva 1963, Shapley 1967): the greatest worth
+    /// that coalitions have by weights that hold each player once. If that is the worth of all, the multipliers are a
+    /// point of the core. If it is more, the weights show that there is none. It takes no memory and never fails.
     pub fn balanced(_alloc: Global, game: &'a W) -> Result<Lazy<'a, W>, OutOfMemory>
         requires { (W.game game.now).players ≤ 16 }
         ensures always { IsOk result }

@@ -1,4 +1,7 @@
 //! A program whose columns are kept in a list, each under its number.
+//!
+//! No command asks for it: it says column by column, in a list that can be looked at, what `Lazy` finds by number. The
+//! tests of `Lazy` compare the two, and a caller who wants the columns of a small game has them here.
 
 ghost use Rattle.std.specs.Prelude.{◌≡◌, ◌≤◌};
 ghost use Rattle.separation.specs.Kept.{column_at, kept_program, AreSmall, AreShort};

@@ -31,7 +31,7 @@ pub(crate) fn minus<W: Worth>(game: &W, s: Coalition, level: Option<u32>) -> Col
     Column::minus(s, level, game.worth(s))
 }
 
-/// Adds both columns of the coalition of all players. Its one error is want of memory; then the first few are added.
+/// Adds both columns of the coalition of all players. Fails only if memory runs out; then the first few are added.
 pub(crate) fn push_whole<W: Worth>(
     columns: &mut Vec<Option<Column>>,
     game: &W,
@@ -47,7 +47,7 @@ pub(crate) fn push_whole<W: Worth>(
     Ok(())
 }
 
-/// Adds both columns of each coalition of level `k`. Its one error is want of memory; then the first few are added.
+/// Adds both columns of each coalition of level `k`. Fails only if memory runs out; then the first few are added.
 fn push_level<W: Worth>(
     columns: &mut Vec<Option<Column>>,
     game: &W,
@@ -67,7 +67,7 @@ fn push_level<W: Worth>(
     Ok(())
 }
 
-/// Adds both columns of each coalition of the levels. Its one error is want of memory; then the first few are added.
+/// Adds both columns of each coalition of the levels. Fails only if memory runs out; then the first few are added.
 pub(crate) fn push_earlier<W: Worth>(
     columns: &mut Vec<Option<Column>>,
     game: &W,
@@ -112,7 +112,7 @@ pub(crate) fn bound<W: Worth>(game: &W, family: Family, levels: &[Level], i: u32
     }
 }
 
-/// Adds the column of each player alone. Its one error is want of memory; then the first few are added.
+/// Adds the column of each player alone. Fails only if memory runs out; then the first few are added.
 pub(crate) fn push_singles<W: Worth>(
     columns: &mut Vec<Option<Column>>,
     game: &W,
@@ -129,7 +129,7 @@ pub(crate) fn push_singles<W: Worth>(
     Ok(())
 }
 
-/// Adds the column of each player alone, negated. Its one error is want of memory; then the first few are added.
+/// Adds the column of each player alone, negated. Fails only if memory runs out; then the first few are added.
 pub(crate) fn push_bounds<W: Worth>(
     columns: &mut Vec<Option<Column>>,
     game: &W,

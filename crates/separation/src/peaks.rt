@@ -32,7 +32,7 @@ fn peak<W: Worth>(game: &W, players: u32, block: u64) -> i64
     most
 }
 
-/// The greatest worth of each 256 coalitions of a game of at most 16 players, or 0 where that is more.
+/// Returns the greatest worth of each 256 coalitions of a game of at most 16 players, or 0 if that is more.
 pub fn peaks_of<W: Worth>(game: &W) -> [i64; 256]
     requires { (W.game game.now).players ≤ 16 }
     ensures { ArePeaks (W.game game.now) result }

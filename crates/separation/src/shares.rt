@@ -8,8 +8,8 @@ use simplex::Multipliers;
 use std::alloc::Global;
 use worth_core::Shares;
 
-/// The multipliers of the rows of `n` players, 1 to 16, as shares of a worth over the multipliers' denominator. The one
-/// error is want of memory.
+/// Returns the multipliers of the rows of `n` players, 1 to 16, as shares of a worth over the multipliers' denominator.
+/// Fails only if memory runs out.
 pub fn shares_of(alloc: Global, multipliers: &Multipliers, n: u32) -> Result<Shares, OutOfMemory>
     requires some { 1 ≤ n }
     requires few { n ≤ 16 }

@@ -35,7 +35,7 @@ fn outer<W: Worth>(game: &W, levels: &[Level], outside: &Outside, s: Coalition) 
     }
 }
 
-/// Adds the columns of the coalitions outside, each under its mask. Its one error is want of memory; then those below
+/// Adds the columns of the coalitions outside, each under its mask. Fails only if memory runs out; then those below
 /// some mask are added.
 fn push_outer<W: Worth>(
     columns: &mut Vec<Option<Column>>,
@@ -84,12 +84,12 @@ fn stage_columns<W: Worth>(
 }
 
 impl Listed {
-    /// The stage program of a game of 2 to 16 players behind levels, with every column kept (Kopelowitz 1967; per head
-    /// Grotte 1970): its weights are those of the next level, and its multipliers the shares and the measured excesses
-    /// of the levels. Per head there are at most 8 players.
+    /// Makes the stage program of a game of 2 to 16 players after some levels, with every column kept (Kopelowitz 1967;
+    /// per head Grotte 1970): its weights are those of the next level, and its multipliers the shares and the measured
+    /// excesses of the levels. Per head there are at most 8 players.
     ///
     /// There are at most n - 2 levels, in the form of a certificate. `span` holds exactly the coalitions that the
-    /// levels fix in span mode. The one error is want of memory.
+    /// levels fix in span mode. Fails only if memory runs out.
     pub fn stage<W: Worth>(
         alloc: Global,
         game: &W,

@@ -1,4 +1,7 @@
 -- The worths of all coalitions, each counted for its members and against the others, add to the Shapley total.
+--
+-- The worth of s counts for each member (|s| - 1)! (n - |s|)! times, and against every other player |s|! (n - 1 - |s|)!
+-- times. So each worth is asked for once.
 use Rattle.std.proofs.Common.{◌≡◌, ℕ, ◌+◌, ◌-◌, ◌^◌, ◌<◌, Bool, true, false, cond}
 use Rattle.std.proofs.Common.{ℤ, pos, ◌+ℤ◌}
 use Rattle.std.proofs.Common.{◌-ℤ◌, ◌*ℤ◌, neg_ℤ, refl, ap, ◌∙◌, arith, if◌then◌else◌}

@@ -1,4 +1,8 @@
 -- The sum over all orders of what a player adds is a sum over the coalitions in front of it.
+--
+-- An order of n players is one of the others with the last player put into some place. So the total is a sum over the
+-- coalitions s without the player: what it adds to s, times the number of orders in which exactly s is before it, |s|!
+-- (n - 1 - |s|)! (`orders_are_subsets`). No step needs that an order has no player twice. EachOnce.antt has that.
 use Rattle.std.proofs.Common.{◌≡◌, ℕ, zero, suc, ◌+◌, ◌-◌, ◌*◌, ◌^◌, ◌<◌, ◌≤◌}
 use Rattle.std.proofs.Common.{Bool, true, false, cond}
 use Rattle.std.proofs.Common.{List, [], ◌∷◌, ◌++◌, length, map, ℤ, pos, ◌+ℤ◌, ◌-ℤ◌}

@@ -1,4 +1,6 @@
 -- The steps of the costs, and the common denominator.
+--
+-- Over 144403552893600, which each of 1 to 32 divides, all shares are whole numbers.
 use Rattle.std.proofs.Common.{◌≡◌, ℕ, zero, suc, ◌+◌, ◌-◌, ◌*◌, ◌/◌, ◌<◌, ◌≤◌}
 use Rattle.std.proofs.Common.{Bool, true}
 use Rattle.std.proofs.Common.{List, length, ℤ, pos, ◌+ℤ◌, ◌*ℤ◌, neg_ℤ, refl, sym, ap}

@@ -104,12 +104,12 @@ fn step_shares(alloc: Global, game: &AirportGame) -> Result<Shares, AllocError>
     Ok(Shares::new(num, COMMON as i128).unwrap())
 }
 
-/// The Shapley shares of an airport game of at most 32 players, as worths over the least common multiple of 1 to 32:
-/// each step of the sorted costs is shared equally by the players at or above it (Littlechild and Owen 1973).
+/// Returns the Shapley shares of an airport game of at most 32 players, as worths over the least common multiple of 1
+/// to 32: each step of the sorted costs is shared equally by the players at or above it (Littlechild and Owen 1973).
 ///
 /// # Errors
 ///
-/// `TooMany` exactly where there are more than 32 players; `Memory` where there was no memory for the shares.
+/// `TooMany` exactly if there are more than 32 players; `Memory` if memory for the shares runs out.
 pub fn airport_shapley(alloc: Global, game: &AirportGame) -> Result<Shares, ShapleyFault>
     ensures value { IfOk result (IsShapley (airport_game game.now)) }
     ensures den { IfOk result (λ x. x.den ≡ pos common) }

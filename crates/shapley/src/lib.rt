@@ -1,5 +1,5 @@
 //! The Shapley value: for each player the mean, over all orders of the players, of what it adds to the worth of those
-//! in front of it (Shapley 1953).
+//! before it (Shapley 1953).
 #![tactic(auto)]
 
 mod airport_steps;
@@ -32,4 +32,6 @@ pub fn orders_are_all()
 // For the crates above.
 
 /// The least common multiple of 1 to 32, over which the shares of classes with bodies of their own stand.
+///
+/// Other shares are kept over n!. A report prints each share in lowest terms.
 pub const COMMON: u64 = 144403552893600;

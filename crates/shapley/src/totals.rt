@@ -136,12 +136,12 @@ fn mean_shares<W: Worth>(alloc: Global, game: &W) -> Result<Shares, AllocError>
     Ok(Shares::new(totals, factorial(game.players()) as i128).unwrap())
 }
 
-/// The Shapley shares of a game of at most 16 players, as worths over the number of orders: for each player the mean,
-/// over all orders, of what it adds to the worth of those in front of it (Shapley 1953).
+/// Returns the Shapley shares of a game of at most 16 players, as worths over the number of orders: for each player the
+/// mean, over all orders, of what it adds to the worth of those before it (Shapley 1953).
 ///
 /// # Errors
 ///
-/// `TooMany` exactly where there are more than 16 players; `Memory` where there was no memory for the shares.
+/// `TooMany` exactly if there are more than 16 players; `Memory` if memory for the shares runs out.
 pub fn shapley<W: Worth>(alloc: Global, game: &W) -> Result<Shares, ShapleyFault>
     ensures value { IfOk result (IsShapley (W.game game.now)) }
     ensures den { IfOk result (λ x. x.den ≡ pos (factorial (W.game game.now).players)) }

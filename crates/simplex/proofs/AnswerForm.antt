@@ -1,4 +1,8 @@
 -- The weights of the last basis in lowest terms: they and its multipliers are an answer.
+--
+-- At the end of the second part each column costs at most its value under the multipliers. Both values are the costs of
+-- the basis times its weights, so the answer is optimal (`is_optimal`). The columns are distinct: the weight of a
+-- basis's own column is d at its position and 0 at the others (`own_at` in FreshRows.antt).
 use Rattle.std.proofs.Common.{◌≡◌, ℕ, zero, suc, ◌*◌, ◌^◌, ◌<◌, ◌≤◌, IsTrue, List}
 use Rattle.std.proofs.Common.{arith, refl, sym, ap, ◌∙◌, ℤ, pos, negsuc, ◌*ℤ◌, ◌<ℤ◌}
 use Rattle.std.proofs.Common.{◌≤ℤ◌, unsigned_abs, mul_comm}

@@ -1,4 +1,10 @@
 -- What the end of the first part means, and that no ray stands beside bounds.
+--
+-- In the first part costs are 0 or -1. It always has an end: at an entering column without a positive weight, the
+-- objective's value would be negative, and it is a sum of products that aren't negative (`no_first_direction`). If an
+-- added unit keeps a weight, the multipliers bound the program without costs, and their value at the right sides is
+-- negative. By weak duality nothing solves the program (`no_solution`). Weak duality for right sides 0 is that no ray
+-- exists beside multipliers that bound the program (`no_ray`).
 use Rattle.std.proofs.Common.{◌≡◌, ◌⊎◌, inl, inr, ℕ, zero, suc, ◌<◌, false, List}
 use Rattle.std.proofs.Common.{[], ◌∷◌, Option, Some, None, slice_index_or, arith, refl, sym, ap}
 use Rattle.std.proofs.Common.{subst, ◌∙◌, ℤ, pos, negsuc, ◌+ℤ◌, ◌*ℤ◌, neg_ℤ, ◌<ℤ◌, ◌≤ℤ◌}

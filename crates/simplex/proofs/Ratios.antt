@@ -1,4 +1,7 @@
 -- The lexicographic comparison of ratios, and the least of them.
+--
+-- Ratios are compared without a division. Of three rows the comparisons go through (`ratios_transitive`), so one pass
+-- finds the least.
 use Rattle.std.proofs.Common.{◌≡◌, inl, inr, ℕ, zero, suc, ◌+◌, ◌<◌, List, arith}
 use Rattle.std.proofs.Common.{refl, ap, subst, ◌∙◌, ℤ, pos, ◌+ℤ◌, ◌-ℤ◌, ◌*ℤ◌, ◌<ℤ◌}
 use Rattle.std.proofs.Common.{◌≤ℤ◌, Option, Some, None}

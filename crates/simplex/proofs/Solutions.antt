@@ -1,4 +1,8 @@
 -- The weights of a basis solve the program, and a direction of its second part is a ray.
+--
+-- d times an entry of the right sides is the sum over the basis with the weights of the right sides (`spread`), and
+-- added units have weight 0. A column that improves the objective and lowers no weight gives a ray: d of it, and minus
+-- its weights of the basis (`has_ray`).
 use Rattle.std.proofs.Common.{◌≡◌, ◌≢◌, ℕ, zero, suc, ◌-◌, ◌<◌, false, IsTrue, List}
 use Rattle.std.proofs.Common.{◌∷◌, nat_eq, Option, Some, None, arith, refl, sym, ap, subst}
 use Rattle.std.proofs.Common.{◌∙◌, ℤ, pos, ◌+ℤ◌, ◌-ℤ◌, ◌*ℤ◌, neg_ℤ, ◌<ℤ◌, ◌≤ℤ◌}

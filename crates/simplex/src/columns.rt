@@ -33,32 +33,32 @@ pub trait Columns {
 
     ghost players: { Self → ℕ };
 
-    /// The number of rows.
+    /// Returns the number of rows.
     fn rows(&self) -> u32
         ensures { result ≡ (program self.now).rows };
 
-    /// The right side of a row.
+    /// Returns the right side of a row.
     fn right(&self, row: u32) -> i32
         requires { row < (program self.now).rows }
         ensures { result ≡ (program self.now).right row };
 
-    /// Whether `id` is the number of a column.
+    /// Returns whether `id` is the number of a column.
     fn has(&self, id: u64) -> bool
         ensures { result ≡ (program self.now).is_column id };
 
-    /// The entry of a column in a row.
+    /// Returns the entry of a column in a row.
     fn entry(&self, id: u64, row: u32) -> i32
         requires column { IsTrue ((program self.now).is_column id) }
         requires row { row < (program self.now).rows }
         ensures { result ≡ (program self.now).entry id row };
 
-    /// The cost of a column.
+    /// Returns the cost of a column.
     fn cost(&self, id: u64) -> i64
         requires { IsTrue ((program self.now).is_column id) }
         ensures { result ≡ (program self.now).cost id };
 
-    /// The column of least number that costs more than its value under the multipliers; none exactly where no column
-    /// does. Without costs each column counts as costing 0.
+    /// Returns the column of least number that costs more than its value under the multipliers, and none exactly if no
+    /// column does. Without costs each column counts as costing 0.
     fn entering(&mut self, m: &Multipliers, with_costs: bool) -> Option<u64>
         requires { array_vec_len m.now.num ≡ (program self.old).rows }
         ensures same { program self.new ≡ program self.old }
@@ -67,8 +67,11 @@ pub trait Columns {
             (Bounds (priced (program self.old) with_costs) m.now.num.items m.now.den)
             (λ id. IsEntering (priced (program self.old) with_costs) m.now.num.items m.now.den id) };
 
-    /// A column that costs more than its value under the multipliers; none exactly where no column does. Without costs
+    /// Returns a column that costs more than its value by the multipliers; none exactly if none does. Without costs
     /// each column counts as costing 0. Any such column serves: the choice makes `solve` take fewer steps or more.
+    ///
+    /// No proof that the simplex ends asks for the least one: only where an added unit is driven out is `entering`
+    /// called. So an implementation needn't write a body.
     fn rising(&mut self, m: &Multipliers, with_costs: bool) -> Option<u64>
         requires { array_vec_len m.now.num ≡ (program self.old).rows }
         ensures same { program self.new ≡ program self.old }

@@ -5,9 +5,10 @@
 //! B·M = d·I (Edmonds 1967, Bareiss 1968). The weights of a column s are y = M·s, those of the right sides are W = M·b,
 //! and the multipliers are m = c·M with the costs c of the basis, all over d.
 //!
-//! The first part begins with one added unit column for each row, of cost -1 where every other column is free, and
-//! looks for a solution. Then added units give way to columns where a column has a weight at their position, and the
-//! second part looks for the best solution with the program's own costs. `improve` serves both parts.
+//! The first part begins with one added unit column for each row, of cost -1 while every other column is free, and
+//! looks for a solution. Then each added unit left in the basis is replaced by a column with a nonzero weight at its
+//! position, if there is one, and the second part looks for the best solution with the program's own costs. `improve`
+//! serves both parts.
 #![tactic(auto)]
 
 mod answer;

@@ -1,8 +1,8 @@
 //! The ratio test by the lexicographic rule (Dantzig, Orden and Wolfe 1955).
 //!
-//! Of the positions k with a positive weight y_k the one of the lexicographically least row T_k / y_k is replaced,
-//! where T_k is the tracked row. The row of k is less than that of p where y_p·T_k - y_k·T_p is negative at the first
-//! place that isn't 0. Two rows are never equal in all places, since a reference basis stands in them.
+//! Among the positions k with y_k > 0, replaces the one whose row T_k / y_k is lexicographically least; T_k is the
+//! tracked row. The row of k is less than that of p if y_p·T_k - y_k·T_p is negative at the first place that isn't 0.
+//! Two rows are never equal in all places, since a reference basis is in them.
 
 ghost use Rattle.std.specs.Prelude.{◌<◌, ◌≤◌, ◌+◌, suc, MatchBool};
 ghost use Rattle.determinants.specs.Lexicographic.{IsLexPositive, IsLexNonnegative};

@@ -39,7 +39,7 @@ impl Model for Workspace {
 }
 
 impl Workspace {
-    /// A workspace for programs of `rows` rows, from 1 to 31.
+    /// Makes a workspace for programs of `rows` rows, from 1 to 31.
     pub fn new(alloc: Global, rows: u32) -> Result<Workspace, OutOfMemory>
         requires some { 1 ≤ rows }
         requires few { rows ≤ 31 }
@@ -80,11 +80,11 @@ fn solve_in<C: Columns>(work: &mut State, columns: &mut C) -> Result<Optimal, Lp
     Ok(answer_of(work, multipliers))
 }
 
-/// The best weights of a program, and multipliers that show that they are best: the weights solve the program, the
-/// multipliers bound it, and both have one value.
+/// Returns the best weights of a program, and multipliers that show that they are best: the weights solve the program,
+/// the multipliers bound it, and both have one value.
 ///
-/// `NoSolution` exactly where nothing solves the program. `Unbounded` exactly where something does, and a ray, which
-/// adds nothing in any row, has a cost above 0.
+/// Fails with `NoSolution` exactly if nothing solves the program. Fails with `Unbounded` exactly if something does, and
+/// a ray, which adds nothing in any row, has a cost above 0.
 pub fn solve<C: Columns>(workspace: &mut Workspace, columns: &mut C) -> Result<Optimal, LpFault>
     requires { workspace.old ≡ (C.program columns.old).rows }
     ensures same { C.program columns.new ≡ C.program columns.old }

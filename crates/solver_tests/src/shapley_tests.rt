@@ -22,7 +22,7 @@ fn airport(alloc: Global, costs: &[i64]) -> Result<AirportGame, Fail> {
     )
 }
 
-/// The same, in the form for airports.
+/// Whether the Shapley shares of an airport game, by the form for airports, are the wanted ones.
 fn is_airport_shapley(
     alloc: Global,
     game: &AirportGame,

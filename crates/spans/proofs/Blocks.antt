@@ -1,4 +1,8 @@
 -- Marks of coalitions by blocks of 256, which are four words.
+--
+-- A block is the 256 coalitions with the same members past the first eight players. Those without a weight at a place
+-- are where the first table holds minus the number of the second. Chains of the places whose numbers have the same
+-- lowest bits find them (`silent_block`; Chains.antt).
 use Rattle.std.proofs.Common.{◌≡◌, ◌≢◌, ◌∙◌, ℕ, ◌*◌, ◌+◌, ◌/◌, ◌%◌, ◌<◌, ◌≤◌}
 use Rattle.std.proofs.Common.{◌^◌, Bool, false, not, ◌&&◌, ◌||◌, nat_eq, IsTrue, List, ℤ}
 use Rattle.std.proofs.Common.{pos, ◌-ℤ◌, ◌+ℤ◌, bit_and, min, slice_index_or, inl, inr, to_z, of_z}

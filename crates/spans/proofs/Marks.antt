@@ -1,4 +1,9 @@
 -- Marks of coalitions, word by word and bit by bit.
+--
+-- All coalitions that a span holds lose their mark at once. The weight of a coalition at a place is the sum of two
+-- numbers from tables, of the first eight players and of the others (EightSums.antt). One pass is for the sum of all
+-- places, then one for each place (`sifted_first`, `sifted_more`): a coalition stays marked if it has a weight at some
+-- place that isn't fixed.
 use Rattle.std.proofs.Common.{◌≡◌, ◌≢◌, ℕ, zero, suc, replicate, ◌+◌, ◌-◌, ◌*◌}
 use Rattle.std.proofs.Common.{◌/◌, ◌%◌, ◌^◌, ◌<◌, ◌≤◌, Bool}
 use Rattle.std.proofs.Common.{true, false, not, ◌&&◌, nat_eq, List, length}

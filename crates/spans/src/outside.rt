@@ -1,5 +1,7 @@
 //! The coalitions outside of a span, found all at once. A coalition's weight at a place is the sum of two numbers from
 //! tables, one for the members among the first eight players and one for those among the rest.
+//!
+//! So the coalitions are cleared place by place, 256 at a time, and the span isn't asked for each mask.
 
 ghost use Rattle.std.specs.Prelude.{◌≡◌, ◌↔◌, ◌&&◌, ◌||◌, not, false, IsTrue, slice_index_or};
 ghost use Rattle.std.specs.Prelude.{ℕ, ◌*◌, ◌/◌, ◌%◌, ◌+◌, ◌^◌, ◌<◌, ◌≤◌, nat_eq};
@@ -101,7 +103,7 @@ fn take_out(words: &mut [u64; 1024], others: &[u64; 1024])
 }
 
 impl Outside {
-    /// Every coalition of `n` players but the empty one and that of all.
+    /// Makes the set of every coalition of `n` players except the empty one and that of all.
     pub fn all(n: u32) -> Outside
         requires { n ≤ 16 }
         ensures { (s : ℕ) → (IsTrue (is_marked result s) ↔ ((0 < s) × (s < grand_coalition n))) }
@@ -113,7 +115,7 @@ impl Outside {
         Outside { words }
     }
 
-    /// Whether the coalition is still there.
+    /// Returns whether the coalition is still there.
     pub fn contains(&self, s: Coalition) -> bool
         requires { s < 2 ^ 16 }
         ensures { result ≡ is_marked self.now s }
@@ -121,7 +123,7 @@ impl Outside {
         Coalition(self.words[(s.0 / 64) as usize]).contains((s.0 % 64) as u32)
     }
 
-    /// Which of the 64 coalitions from 64 * `place` on are still there, a bit for each.
+    /// Returns which of the 64 coalitions from 64 * `place` on are still there, a bit for each.
     pub fn word(&self, place: usize) -> u64
         requires { place < 1024 }
         ensures { (j : ℕ) → j < 64 → has_player result j ≡ is_marked self.now (64 * place + j) }

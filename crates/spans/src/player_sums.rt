@@ -40,7 +40,7 @@ pub fn fill_sums(sums: &mut [i64; 256], numbers: &[i64; 16], first: u32)
 }
 
 impl PlayerSums {
-    /// The sums over coalitions of 16 players of a number for each player, at most 2^58 in size.
+    /// Makes the sums over coalitions of 16 players of a number for each player, at most 2^58 in size.
     pub fn of(numbers: &[i64; 16]) -> PlayerSums
         requires { (i : ℕ) → unsigned_abs (number_at numbers.now i) ≤ 2 ^ 58 }
         ensures { AreEightSums numbers.now result.low result.high }

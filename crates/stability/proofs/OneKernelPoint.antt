@@ -1,8 +1,14 @@
--- Two points of the prekernel of a convex game are one. Some coalition has the greatest excess at both of those
--- that
--- split a part, so its members get the same together at both, and the others of the part too; and then so on in
--- each
+-- Two points of the prekernel of a convex game are one. Some coalition has the greatest excess at both of those that
+-- split a part, so its members get the same together at both, and the others of the part too; and then so on in each
 -- (Maschler, Peleg and Shapley 1972).
+--
+-- By induction on the number of players of a part; the first part is all players. At a point, consider the coalitions
+-- of greatest excess among those that split the part. Of two that meet there and leave somebody out, the union and the
+-- common players have the greatest excess too, since the game is convex. For one with i and without j there is one with
+-- j and without i, since surpluses are equal (NearRings.antt). If the members in the part of each such coalition got
+-- more at the other point, so would the part, but the part gets the same (NoNearRing.antt). So one such coalition gets
+-- no more, and has no less excess at the other point (SplitCoalitions.antt). From both sides the greatest excesses are
+-- one number, had at both points by some coalition. It leaves two smaller parts (Narrowing.antt).
 use Rattle.std.proofs.Common.{◌≡◌, ◌≢◌, ℕ, zero, suc, ◌^◌, ◌<◌, Bool, true, false, ◌&&◌, ◌||◌, not, nat_eq, ℤ, pos}
 use Rattle.std.proofs.Common.{neg_ℤ, ◌+ℤ◌, ◌-ℤ◌, ◌*ℤ◌, ◌≤ℤ◌, refl, sym, ap, ◌∙◌, inl, inr, arith}
 use Rattle.std.proofs.lemmas.Int.{ints}

@@ -26,12 +26,12 @@ pub fn convex_kernel_is_one_point()
     ensures { ConvexKernelIsOnePoint }
 {}
 
-/// That point is the nucleolus (Maschler, Peleg and Shapley 1972).
+/// The one point of the kernel of a convex game is its nucleolus (Maschler, Peleg and Shapley 1972).
 pub fn convex_kernel_is_nucleolus()
     ensures { ConvexKernelIsNucleolus }
 {}
 
-/// So shares of a convex game lie in the prekernel just where they are the prenucleolus: equal surpluses of any two
+/// Shares of a convex game lie in the prekernel exactly if they are the prenucleolus: equal surpluses of any two
 /// players show it.
 pub fn convex_prekernel_is_prenucleolus()
     ensures { ConvexPrekernelIsPrenucleolus }

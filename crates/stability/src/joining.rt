@@ -9,13 +9,14 @@ pub fn convex_is_zero_monotonic()
     ensures { ConvexIsZeroMonotonic }
 {}
 
-/// Where each player adds to each coalition at least its worth alone, the kernel is the prekernel (Maschler, Peleg and
+/// If each player adds to each coalition at least its worth alone, the kernel is the prekernel (Maschler, Peleg and
 /// Shapley 1972).
 pub fn kernel_is_prekernel()
     ensures { KernelIsPrekernel }
 {}
 
-/// There the prenucleolus gives nobody less than its worth alone, so it is the nucleolus.
+/// If each player adds to each coalition at least its worth alone, the prenucleolus gives nobody less than its worth
+/// alone, so it is the nucleolus.
 pub fn prenucleolus_is_nucleolus()
     ensures { PrenucleolusIsNucleolus }
 {}

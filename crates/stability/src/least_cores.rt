@@ -13,7 +13,7 @@ pub fn least_core_isnt_empty()
     ensures { LeastCoreIsntEmpty }
 {}
 
-/// Where the core isn't empty, the least core lies in it, plain and per head.
+/// If the core isn't empty, the least core lies in it, plain and per head.
 pub fn least_core_is_in_core()
     ensures { LeastCoreIsInCore }
 {}

@@ -3,20 +3,20 @@
 ghost use Rattle.stability.specs.Majority.{MajorityShares, MajorityObjections};
 ghost use Rattle.stability.specs.TwoVoters.{TwoVoters};
 
-/// Of three who vote by majority, a third each lies in the kernel, in the bargaining set and in the least core. Where
-/// the first is to have all, the shares lie in none of the three.
+/// If three vote by majority, a third each lies in the kernel, in the bargaining set and in the least core. If the
+/// first is to have all, the shares lie in none of the three.
 pub fn majority_shares()
     ensures { MajorityShares }
 {}
 
-/// Of three who vote by majority: who outweighs whom, an objection that can't be countered, one that can, and the
-/// greatest excess; and where each of these doesn't hold.
+/// Examples with three who vote by majority: who outweighs whom, an objection that can't be countered, one that can,
+/// and the greatest excess; and a case of each that doesn't hold.
 pub fn majority_objections()
     ensures { MajorityObjections }
 {}
 
-/// Of two voters: a game in which joining does no harm, and one in which it does; shares that are free of subsidies,
-/// and shares that aren't.
+/// Examples with two voters: a game in which joining does no harm, and one in which it does; shares that are free of
+/// subsidies, and shares that aren't.
 pub fn two_voters()
     ensures { TwoVoters }
 {}

@@ -9,12 +9,13 @@ pub fn kernel_is_in_bargaining_set()
     ensures { KernelIsInBargainingSet }
 {}
 
-/// So the nucleolus does: at the nucleolus each objection of a player against another can be countered.
+/// The nucleolus lies in the bargaining set: at the nucleolus each objection of a player against another can be
+/// countered.
 pub fn nucleolus_is_in_bargaining_set()
     ensures { NucleolusIsInBargainingSet }
 {}
 
-/// Where there is an imputation, some shares lie in the bargaining set.
+/// If there is an imputation, some shares lie in the bargaining set.
 pub fn bargaining_set_isnt_empty()
     ensures { BargainingSetIsntEmpty }
 {}

@@ -1,4 +1,9 @@
 -- The excesses at the shares of the rule.
+--
+-- What a player gets is its share, and what it loses is the cut claim less the share. If the members of a coalition get
+-- at least z, and the others lose at least z, its excess is at most -z. A player alone has minus its share, if the
+-- estate is at most the sum of the other claims; that is so for each half player (`enough`). All but one player have
+-- minus what that one loses.
 use Rattle.std.proofs.Common.{◌≡◌, ◌≢◌, ◌⊎◌, ℕ, ◌-◌, ◌^◌, ◌<◌, ◌≤◌, Bool, true}
 use Rattle.std.proofs.Common.{false, not, List, length, ℤ, pos}
 use Rattle.std.proofs.Common.{◌+ℤ◌, ◌-ℤ◌, ◌*ℤ◌, neg_ℤ, ◌≤ℤ◌, refl, sym, ap, ◌∙◌, inl}

@@ -1,4 +1,9 @@
 -- Coalitions of places in mask order, and their weights.
+--
+-- A half level lists, for each half player of one claim, that player alone and all the others. One of the two holds any
+-- player, so the weights balance in one line (`weight-both`). The level of the rest lists either of the two for each
+-- other player, and weighs the half players as earlier coalitions. For two players the one level lists both players
+-- once.
 use Rattle.std.proofs.Common.{◌≡◌, ◌≢◌, ◌⊎◌, ℕ, zero, suc, ◌+◌, ◌<◌, ◌≤◌, Bool}
 use Rattle.std.proofs.Common.{true, false, not, cond, []}
 use Rattle.std.proofs.Common.{◌∷◌, length, ℤ, pos, ◌+ℤ◌, refl, sym, ap, ◌∙◌, inl}

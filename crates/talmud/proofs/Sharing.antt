@@ -1,4 +1,7 @@
 -- How many players get half of their claims, and that the shares made of it are those of the rule.
+--
+-- The code finds how many players, from the least claim on, get half of it, and what is the same for all others
+-- (`Division`). Claims are cut to the estate first, which changes no worth (Worths.antt).
 use Rattle.std.proofs.Common.{◌≡◌, ◌⊎◌, ℕ, zero, suc, ◌+◌, ◌-◌, ◌*◌, ◌<◌, ◌≤◌}
 use Rattle.std.proofs.Common.{Bool, length, get_or}
 use Rattle.std.proofs.Common.{min, ℤ, pos, ◌+ℤ◌, ◌*ℤ◌, ◌≤ℤ◌, refl, sym, ap, ◌∙◌}

@@ -26,16 +26,16 @@ use kohlberg::Mode;
 use std::alloc::Global;
 use worth_core::{Shares, Worth};
 
-/// The shares of the Talmud rule for an estate and 1 to 64 claims, and the certificate that they are the nucleolus of
-/// the bankruptcy game, in mode players and with no bounds (O'Neill 1982, Aumann and Maschler 1985). They are the
-/// prenucleolus too and lie in the core.
+/// Returns the shares of the Talmud rule for an estate and 1 to 64 claims, with the certificate that they are the
+/// nucleolus of the bankruptcy game, in mode players and with no bounds (O'Neill 1982, Aumann and Maschler 1985). The
+/// shares are the prenucleolus too, and lie in the core.
 ///
-/// Each claim is first cut to the estate. Where the estate is at most half of the claims, each player gets half of its
-/// claim or an amount that is the same for all, whichever is less; elsewhere each loses so much of its claim.
+/// Each claim is first cut to the estate. If the estate is at most half of the claims, each player gets half of its
+/// claim or an amount that is the same for all, whichever is less. Otherwise each loses such a part of its claim.
 ///
 /// The excess of each level is a fraction in lowest terms with parts of 128 bits.
 ///
-/// Its one error is want of memory.
+/// Fails only if memory runs out.
 pub fn solve(alloc: Global, game: &BankruptcyGame) -> Result<(Shares, Certificate), OutOfMemory>
     ensures solved { IfOk result
         (λ solution. (family : Family)

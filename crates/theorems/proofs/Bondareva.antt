@@ -1,4 +1,7 @@
 -- A balanced collection of excess worth leaves no core point.
+--
+-- Add the weighted amounts of the collection. By balance that is k times what all players get, which is k times the
+-- worth of all. At a core point each amount is at least the worth, so the weighted worths are at most that sum.
 use Rattle.std.proofs.Common.{◌≡◌, ℕ, ◌^◌, ◌<◌, List, [], ◌∷◌, ℤ, pos, ◌*ℤ◌, ◌≤ℤ◌, sym, ap, ◌∙◌, arith}
 use Rattle.std.specs.List.{AllByRecursion}
 use Rattle.std.proofs.lemmas.Int.{by_lt_z}

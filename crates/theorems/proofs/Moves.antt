@@ -1,5 +1,9 @@
 -- Over twice the denominator, some units more for one player and as many less for another, and when the excesses
 -- then come first.
+--
+-- Let m be the greatest measured excess over the coalitions that hold i and lack j. Say c units go from j to i, and
+-- each coalition with j and without i ends below 2m. Then the new shares beat the old ones, so at a nucleolus there is
+-- no such move.
 use Rattle.std.proofs.Common.{◌≡◌, ◌≢◌, ◌⊎◌, ℕ, ◌+◌, ◌-◌, ◌^◌, ◌<◌, ◌≤◌, Bool, true, false, ◌&&◌, not, cond, length}
 use Rattle.std.proofs.Common.{map, ℤ, pos, ◌+ℤ◌, ◌-ℤ◌, ◌*ℤ◌, ◌≤ℤ◌, ◌<ℤ◌, refl, sym, ap, ◌∙◌, inl, inr, arith}
 use Rattle.std.specs.List.{range_with_len}

@@ -1,4 +1,8 @@
 -- A certificate has at most one first failure.
+--
+-- The tests of a certificate are a chain of stages. A reason says at which stage the chain fails first, and where: at
+-- the least player, the first pair or the greatest excess. Two first failures are at one stage, and there each of these
+-- is one thing (`failures_same`).
 use Rattle.std.proofs.Common.{◌≡◌, ◌⊎◌, ℕ, ◌+◌, ◌^◌, ◌<◌, List, [], ◌∷◌, ◌++◌, ℤ, pos, ◌*ℤ◌, ◌≤ℤ◌, refl, sym, ap, ◌∙◌}
 use Rattle.std.proofs.Common.{inl, inr, arith}
 use Rattle.std.specs.List.{AllByRecursion}

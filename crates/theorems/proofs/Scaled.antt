@@ -1,4 +1,8 @@
 -- A game over a scale and the game of its whole numbers: shares, excesses, families, the nucleolus and the core.
+--
+-- Over the scale k an excess is the excess of the whole game at the shares times k (`excess_times`). So most is
+-- substitution. One direction isn't: a rival y in the whole game is k times the allocation `part` k y, over k times y's
+-- denominator. The lists of y times k are in the order of those of y (`order_kept` in ScaledLists.antt).
 use Rattle.std.proofs.Common.{◌≡◌, ℕ, Bool, cond, List, length, map, ℤ, pos, ◌-ℤ◌, ◌*ℤ◌, ◌<ℤ◌, ◌≤ℤ◌, sym, ap, subst}
 use Rattle.std.proofs.Common.{◌∙◌, inl, inr, arith}
 use Rattle.std.proofs.lemmas.List.{get_or_past, get_or-map, length-map}

@@ -1,8 +1,12 @@
 -- A small transfer from one player to another, by which the prenucleolus balances every two players (Schmeidler
 -- 1969; Peleg and Sudhölter).
 --
--- Where the surplus of i against j is the greater, half a unit of the denominator from j to i gives a preimputation
--- whose excesses come first.
+-- Say the surplus m of i against j is above k, that of j against i. Over twice the denominator each excess counts
+-- double. Move one unit from j to i. A coalition with both or neither keeps its excess. One with i only had at most 2m,
+-- and loses 1. One with j only had at most 2k, and gains 1, which makes at most 2m - 1. So all that changes ends below
+-- 2m, and a coalition that had 2m falls. By the lemma on sorted lists the new shares come first, and of two lists only
+-- one comes before the other (OneWay.antt). Each surplus exists, since i alone holds i and lacks j
+-- (`measured_surplus_of`).
 use Rattle.std.proofs.Common.{◌≡◌, ◌≢◌, ◌⊎◌, ℕ, zero, suc, ◌^◌, ◌<◌, Bool, true, false, not, ℤ, pos, ◌<ℤ◌, refl, sym}
 use Rattle.std.proofs.Common.{ap, subst, ◌∙◌, inl, inr, arith}
 use Rattle.std.proofs.lemmas.Bool.{false≢true}

@@ -12,9 +12,9 @@ pub fn measures_divide()
     ensures { MeasuresDivide }
 {}
 
-/// A certificate that meets its form and its conditions certifies the nucleolus, for both families (Kohlberg 1971):
-/// of any number of players in mode players, and of at most 16 in mode span, as the form asks, and for excess per
-/// head. Of more players in mode span `kohlberg` of `duality` says it.
+/// A certificate that meets its form and its conditions certifies the nucleolus, for both families (Kohlberg 1971): for
+/// any number of players in mode players, and for at most 16 in mode span, as the form asks, and for excess per head.
+/// For more players in mode span, see `kohlberg` of `duality`.
 pub fn certificates_are_sound()
     ensures { CertificatesAreSound }
 {}
@@ -30,9 +30,9 @@ pub fn prenucleolus_balances()
     ensures { PrenucleolusBalances }
 {}
 
-/// Multiplying all worths and all shares by one positive number changes no comparison: a game whose worths are
+/// Multiplying all worths and all shares by one positive number changes no comparison. A game whose worths are
 /// fractions over a scale, and the game of its whole numbers, have the same imputations, excesses, nucleolus, core,
-/// blockers and certificates, where the shares and the excesses of levels are times the scale.
+/// blockers and certificates, if the shares and the excesses of levels are times the scale.
 pub fn scales_change_nothing()
     ensures { ScalesChangeNothing }
 {}

@@ -1,4 +1,7 @@
 -- What the loop of the Bird plan keeps.
+--
+-- At each step two points are taken: the first connected point from which the nearest waiting point is nearest, and the
+-- first such waiting point. They are the least pair by cost, end and player (`next_is`).
 use Rattle.std.proofs.Common.{◌≡◌, ◌≢◌, ◌⊎◌, ℕ, zero, suc, ◌+◌, ◌-◌, ◌*◌, ◌^◌}
 use Rattle.std.proofs.Common.{◌<◌, ◌≤◌, Bool, true, false}
 use Rattle.std.proofs.Common.{not, cond, ◌&&◌, ◌||◌, nat_eq, List, [], ◌∷◌, ◌++◌, length}

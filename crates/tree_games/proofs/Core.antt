@@ -1,5 +1,8 @@
 -- The Bird plan's shares lie in the core: a plan of a coalition, followed by the Bird pairs of the other players,
 -- is a plan of all.
+--
+-- Each Bird link of another player still ends at a connected point. The Bird plan is least, so the members' links cost
+-- no more than the coalition's own plan (`paid-least`). And all players together pay the whole plan.
 use Rattle.std.proofs.Common.{◌≡◌, ℕ, zero, suc, ◌+◌, ◌-◌, ◌^◌, ◌<◌, ◌≤◌, Bool}
 use Rattle.std.proofs.Common.{true, false, not, cond, ◌&&◌}
 use Rattle.std.proofs.Common.{◌||◌, nat_eq, List, [], ◌∷◌, ◌++◌, length, ℤ, pos, ◌+ℤ◌}

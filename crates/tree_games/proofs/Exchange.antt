@@ -1,5 +1,10 @@
 -- A plan is turned round so that a waiting point comes first: the path that leads to the point runs the other way,
 -- and the pair that leads from the connected points to that path is left out.
+--
+-- Take any plan, and a waiting point whose link to a connected point costs least. A path of the plan leads from the
+-- connected points to that point. It is run through the other way, and the link that led from the connected points onto
+-- it is left out (`turned`). What is left is a plan that begins with the point, and the link left out costs no less
+-- than the least one (`exchange`). So step by step no plan costs less than Prim's.
 use Rattle.std.proofs.Common.{◌≡◌, ◌≢◌, ◌⊎◌, ℕ, ◌+◌, ◌≤◌, Bool, true, false, not}
 use Rattle.std.proofs.Common.{◌&&◌, ◌||◌, nat_eq, List}
 use Rattle.std.proofs.Common.{[], ◌∷◌, ◌++◌, refl, sym, ap, subst, ◌∙◌, inl, inr}

@@ -1,4 +1,7 @@
 -- What the loop of Prim's steps keeps.
+--
+-- The loop keeps the array of distances to the connected points (`PrimState`). Of equal distances the first point is
+-- taken. The steps find a plan of least links (`prim-found` in Nearest.antt), so its cost is the worth.
 use Rattle.std.proofs.Common.{◌≡◌, ℕ, zero, suc, ◌+◌, ◌-◌, ◌*◌, ◌/◌, ◌^◌, ◌<◌}
 use Rattle.std.proofs.Common.{◌≤◌, Bool, true, false}
 use Rattle.std.proofs.Common.{not, ◌&&◌, ◌||◌, nat_eq, List, length, ◌%◌, refl, sym}

@@ -30,10 +30,10 @@ impl Model for Tree {
 }
 
 impl TreeGame {
-    /// The Bird plan, and the shares in which each player pays for its link, as worth: each step takes the link of
-    /// least (cost, connected end, new player). No plan costs less, and the shares lie in the core.
+    /// Returns the Bird plan, and the shares by which each player pays for its link, as worth: each step takes the link
+    /// of least (cost, connected end, new player). No plan costs less, and the shares lie in the core.
     ///
-    /// Its one error is want of memory.
+    /// Fails only if memory runs out.
     pub fn bird(&self, alloc: Global) -> Result<(Shares, Tree), OutOfMemory>
         ensures { IfOk result (λ r. IsBird self.now r.0 r.1) }
     {

@@ -25,6 +25,7 @@ pub enum TreeFault {
     /// a point to itself isn't 0.
     Matrix,
     /// There was no memory.
+    /// `TreeGame::new` takes none and never gives this: it is part of a promised signature.
     Memory,
 }
 
@@ -47,9 +48,9 @@ impl Model for TreeGame {
 }
 
 impl TreeGame {
-    /// The game of a source and 1 to 16 players whose links have these costs, each from 0 to below 2^40: the matrix is
-    /// square, the same in both directions, and 0 from a point to itself; else the first cause in the order of
-    /// `TreeFault`. No memory is taken.
+    /// Makes the game of a source and 1 to 16 players from the costs of their links, each from 0 to below 2^40. The
+    /// matrix is square, the same in both directions, and 0 from a point to itself. Otherwise returns the first cause
+    /// in the order of `TreeFault`. It takes no memory.
     pub fn new(_alloc: Global, matrix: Vec<Vec<i64>>) -> Result<TreeGame, TreeFault>
         ensures { let rows = map (λ row. row.items) matrix.items in MatchResult result
             (λ game. (game ≡ rows) × IsTree rows × IsTreeGame (entries_of rows) (tree_game rows))
@@ -67,7 +68,7 @@ impl TreeGame {
         Ok(TreeGame { matrix })
     }
 
-    /// The number of points: the players and the source.
+    /// Returns the number of points: the players and the source.
     pub fn points(&self) -> u32
         ensures count { result ≡ length self.now }
         ensures some { 2 ≤ result }
@@ -78,7 +79,7 @@ impl TreeGame {
         self.matrix.len() as u32
     }
 
-    /// The cost of the link between points `i` and `j`, where point 0 is the source and point `i + 1` is player `i`.
+    /// Returns the cost of the link between points `i` and `j`. Point 0 is the source, and point `i + 1` is player `i`.
     pub fn cost(&self, i: u32, j: u32) -> u64
         requires row { i < length self.now }
         requires column { j < length self.now }

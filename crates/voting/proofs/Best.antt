@@ -1,4 +1,9 @@
 -- The set of greatest sum among the sets of a kind, and of those with the same the one with the least mask.
+--
+-- The coalitions of one weight are worth the same, so the one that is paid least has the greatest excess. With one
+-- player more, a set lacks that player, or is one of before with it. The better of two best sets is the best of both
+-- kinds (`IsBest-better`). Adding the player to all sets of a kind keeps the best one (`IsBest-joined`). No order of
+-- the players matters, and losing coalitions need no case of their own.
 use Rattle.std.proofs.Common.{◌≡◌, ◌⊎◌, ℕ, ◌+◌, ◌^◌, ◌<◌, ◌≤◌, Bool, true, false}
 use Rattle.std.proofs.Common.{◌&&◌, ◌||◌, nat_lt, ℤ, ◌+ℤ◌, ◌≤ℤ◌}
 use Rattle.std.proofs.Common.{◌<ℤ◌, int_lt, Option, None, Some, refl, sym, ap, ◌∙◌, inl}

@@ -1,4 +1,8 @@
 -- The Shapley total of a voting game by the coalitions that its player makes winning.
+--
+-- The player adds 1 to exactly those coalitions that weigh less than the quota, and at least the quota less its weight
+-- (`adds`). Its total is a sum over the coalitions without it (`orders_are_subsets` of shapley). `ways` counts these by
+-- size and weight, one player after the other (`ways-count` in Counting.antt).
 use Rattle.std.proofs.Common.{◌≡◌, ℕ, ◌+◌, ◌-◌, ◌*◌, ◌^◌, ◌<◌, ◌≤◌, Bool, true}
 use Rattle.std.proofs.Common.{false, cond, nat_le}
 use Rattle.std.proofs.Common.{List, length, get_or, ℤ, pos, ◌-ℤ◌, ◌*ℤ◌, int_le, refl, sym}

@@ -1,4 +1,8 @@
 -- The sets of a kind with one player more.
+--
+-- A split bound has four layers of best sets: those that have to hold some seen free player or not, and to lack one or
+-- not. With one free player more, a set with it has to hold no other, and one without it has to lack no other. So each
+-- of the four follows from two of the four (`IsOfKind-cases`).
 use Rattle.std.proofs.Common.{◌≡◌, ◌≢◌, ◌⊎◌, ℕ, ◌+◌, ◌^◌, ◌<◌, Bool, true, false}
 use Rattle.std.proofs.Common.{not, ◌&&◌, ◌||◌}
 use Rattle.std.proofs.Common.{ℤ, pos, ◌+ℤ◌, ◌≤ℤ◌, refl, sym, ap, ◌∙◌, inl}

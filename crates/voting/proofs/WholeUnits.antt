@@ -1,4 +1,7 @@
 -- The least common multiple of 1 to 32 as a common denominator of Shapley shares.
+--
+-- That number is 144403552893600. Times k! (n - 1 - k)! it is a multiple of n!, for each n up to 32 and each k below n:
+-- this is computed here. So no share is refused.
 use Rattle.std.proofs.Common.{◌≡◌, ℕ, zero, suc, ◌+◌, ◌-◌, ◌*◌, ◌/◌, ◌%◌, ◌<◌}
 use Rattle.std.proofs.Common.{◌≤◌, Bool, true}
 use Rattle.std.proofs.Common.{◌&&◌, ◌||◌, nat_eq, nat_le, refl, ap, ◌∙◌, inl, inr, arith}

@@ -50,8 +50,8 @@ impl Model for VotingGame {
 impl VotingGame {
     ghost use Rattle.voting.specs.Voting.{IsVoting, IsRefused};
 
-    /// The game of a quota and of 1 to 32 weights, which are from 0 and add to at most 1,000, where the quota is from 1
-    /// to that sum; else the first cause in the order of `VotingFault`.
+    /// Makes the game of a quota and 1 to 32 weights. The weights are from 0 and add to at most 1,000, and the quota is
+    /// from 1 to their sum. Otherwise returns the first cause in the order of `VotingFault`.
     pub fn new(alloc: Global, quota: i64, weights: Vec<i64>) -> Result<VotingGame, VotingFault>
         ensures { MatchResult result (λ g. (pos g.quota ≡ quota) × (map pos g.weights ≡ weights.items))
             (IsRefused quota weights.items) }
@@ -75,7 +75,7 @@ impl VotingGame {
         })
     }
 
-    /// The number of players, 1 to 32.
+    /// Returns the number of players, 1 to 32.
     pub fn len(&self) -> u32
         ensures value { result ≡ length self.now.weights }
         ensures laws { IsVoting self.now }
@@ -83,7 +83,7 @@ impl VotingGame {
         self.weights.len() as u32
     }
 
-    /// The sum of weights that a coalition needs to be worth 1.
+    /// Returns the sum of weights that a coalition needs to be worth 1.
     pub fn quota(&self) -> i64
         ensures value { result ≡ pos self.now.quota }
         ensures laws { IsVoting self.now }
@@ -91,7 +91,7 @@ impl VotingGame {
         self.quota as i64
     }
 
-    /// The weight of player `i`.
+    /// Returns the weight of player `i`.
     pub fn weight(&self, i: u32) -> i64
         requires { i < length self.now.weights }
         ensures value { result ≡ pos (slice_index self.now.weights i) }

@@ -1,5 +1,5 @@
-//! Weighted voting games: a coalition is worth 1 where its weights sum to at least the quota, and 0 otherwise (Shapley
-//! and Shubik 1954).
+//! Weighted voting games: a coalition is worth 1 if its weights sum to at least the quota, and 0 otherwise (Shapley and
+//! Shubik 1954).
 //!
 //! The weights sum to at most 1,000, so the blocker and the bounds go over sums of weights and not over coalitions.
 #![tactic(auto)]

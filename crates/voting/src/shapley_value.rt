@@ -10,8 +10,8 @@ use shapley::COMMON;
 use std::alloc::Global;
 use worth_core::Shares;
 
-/// The Shapley value of a voting game, over the least common multiple of 1 to 32. It goes over sizes and sums of
-/// weights and not over orders. It always answers, want of memory aside.
+/// Returns the Shapley value of a voting game, over the least common multiple of 1 to 32. It goes over sizes and sums
+/// of weights, not over orders. Fails only if memory runs out.
 #[inline(never)]
 pub fn voting_shapley(alloc: Global, game: &VotingGame) -> Result<Shares, OutOfMemory>
     ensures value { IfOk result (IsShapley (voting_game game.now)) }

@@ -1,4 +1,9 @@
 -- What a scan over the masks in ascending order knows of the masks behind it.
+--
+-- The scan keeps the greatest excess so far, and the first mask that has it. A mask takes its place only if its own
+-- excess is greater (`IsBestBelow-next`). So at the end the kept mask is the least one of the greatest positive excess.
+-- If none was kept, no coalition blocks (`blocker-from_scan`). What the members get is kept from mask to mask: the
+-- first player who isn't there joins, and those before it leave (Amounts.antt).
 use Rattle.std.proofs.Common.{◌≡◌, ℕ, ◌+◌, ◌^◌, ◌<◌, ℤ, pos, ◌-ℤ◌, ◌*ℤ◌, ◌<ℤ◌}
 use Rattle.std.proofs.Common.{◌≤ℤ◌, ◌-◌, unsigned_abs, Option}
 use Rattle.std.proofs.Common.{Some, None, MatchOption, arith, refl, sym, ap, ◌∙◌, inl, inr}

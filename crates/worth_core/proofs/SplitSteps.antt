@@ -1,4 +1,9 @@
 -- The greatest sums over the sets of seen players of a kind, with one more player seen.
+--
+-- There are four kinds of sets of seen players: by whether a set holds some seen player of f, and whether it lacks one.
+-- One more player stays out of each set or joins it, so the greatest sum of each kind follows from at most four others
+-- (`AreSplitSums-free`, `AreSplitSums-other`). A set with the new player is a set without it, and that player
+-- (SeenSets.antt).
 use Rattle.std.proofs.Common.{◌≡◌, ◌⊎◌, ℕ, ◌+◌, ◌^◌, ◌<◌, Bool, true, false, not}
 use Rattle.std.proofs.Common.{◌&&◌}
 use Rattle.std.proofs.Common.{◌||◌, ℤ, pos, ◌+ℤ◌, ◌≤ℤ◌, Option, None, Some, MatchOption, refl}

@@ -17,6 +17,8 @@ abbrev pub IsWholeTimes : ℕ → Fraction → Type 0
 IsWholeTimes m f = unsigned_abs f.den ∣ m * unsigned_abs f.num
 
 -- d times each fraction is a whole number, and d divides every number of which this is true
+-- (said by what it is, for the refusal TooFine and the shares that are read; reading computes it by least common
+-- multiples)
 pub record IsLeastDenominator (fs : List Fraction) (d : ℤ) : Type 0 where
   pub positive : pos 1 ≤ℤ d
   pub common : All (IsWholeTimes (unsigned_abs d)) fs

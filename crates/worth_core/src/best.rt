@@ -11,7 +11,7 @@ pub struct Best {
 }
 
 impl Best {
-    /// No coalition yet.
+    /// Returns no coalition, as before the first one is seen.
     pub fn none() -> Best
         ensures coalition { result.coalition ≡ None }
         ensures excess { result.excess ≡ pos 0 }
@@ -22,7 +22,7 @@ impl Best {
         }
     }
 
-    /// The coalition with that excess where it is greater, and what was the best elsewhere.
+    /// Returns the coalition with that excess if its excess is greater, and otherwise what was best before.
     pub fn or(self, s: Coalition, excess: i128) -> Best
         ensures more { self.excess <ℤ excess → (result.coalition ≡ Some s) × (result.excess ≡ excess) }
         ensures no_more { excess ≤ℤ self.excess → (result.coalition ≡ self.coalition) × (result.excess ≡ self.excess) }

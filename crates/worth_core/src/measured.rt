@@ -16,8 +16,10 @@ use fractions::Frac;
 use std::marker::Model;
 
 /// What a measure divides the excess of a coalition by.
+///
+/// It is a trait, since a type of another crate takes no methods of its own, and `Coalition` is above `definitions`.
 pub trait Divisor {
-    /// 1, or the number of members of a coalition that isn't empty.
+    /// Returns 1, or the number of members of a coalition that isn't empty.
     fn divisor(self, s: Coalition) -> u32
         requires { 0 < s };
 }
@@ -54,7 +56,7 @@ impl Model for Divided {
 }
 
 impl Divided {
-    /// An excess, over the denominator of shares, and what it is divided by.
+    /// Makes the measured excess of an excess, over the denominator of shares, and what it is divided by.
     pub fn new(excess: i128, divisor: u32) -> Divided
         requires small { unsigned_abs excess < 2 ^ 118 }
         requires some { 1 ≤ divisor }
@@ -64,7 +66,7 @@ impl Divided {
         Divided { excess, divisor }
     }
 
-    /// The excess of a coalition that isn't empty, and what the measure divides it by.
+    /// Returns the excess of a coalition that isn't empty, and what the measure divides it by.
     pub fn of<W: Worth>(game: &W, x: &Shares, measure: Measure, s: Coalition) -> Divided
         requires shares { length x.now.shares ≡ (W.game game.now).players }
         requires some { 0 < s }
@@ -74,7 +76,8 @@ impl Divided {
         Divided::of_paid(game, x, measure, s, x.sum_of(s))
     }
 
-    /// The same, where it is known what the members get together, over the denominator.
+    /// Returns the excess of a coalition that isn't empty, and what the measure divides it by, if it is known what the
+    /// members get together, over the denominator.
     pub fn of_paid<W: Worth>(
         game: &W,
         x: &Shares,
@@ -96,14 +99,14 @@ impl Divided {
         }
     }
 
-    /// Whether the excess over its divisor is less than another over its own.
+    /// Returns whether the excess over its divisor is less than another over its own.
     pub fn is_below(&self, other: &Divided) -> bool
         ensures { result ≡ is_below self.now other.now }
     {
         self.excess * (other.divisor as i128) < other.excess * (self.divisor as i128)
     }
 
-    /// The measured excess in lowest terms, where this is the denominator of the shares.
+    /// Returns the measured excess in lowest terms. `den` is the denominator of the shares.
     pub fn over(self, den: i128) -> Frac
         requires positive { pos 1 ≤ℤ den }
         requires common { den ≤ℤ pos (2 ^ 63) }
@@ -113,7 +116,7 @@ impl Divided {
     }
 }
 
-/// Whether a measured excess is more than the greatest so far, or the first.
+/// Returns whether a measured excess is more than the greatest so far, or the first.
 pub fn is_more(most: &Option<Divided>, here: &Divided) -> bool
     ensures { MatchOption most.now (result ≡ true) (λ m. result ≡ is_below m here.now) }
 {
@@ -123,7 +126,7 @@ pub fn is_more(most: &Option<Divided>, here: &Divided) -> bool
     }
 }
 
-/// The new one where it is taken, and otherwise the one before.
+/// Returns the new excess if it is taken, and otherwise the one before.
 pub fn kept_or_new(most: Option<Divided>, here: Divided, is_taken: bool) -> Option<Divided>
     ensures taken { is_taken ≡ true → result ≡ Some here }
     ensures kept { is_taken ≡ false → result ≡ most }
@@ -131,8 +134,8 @@ pub fn kept_or_new(most: Option<Divided>, here: Divided, is_taken: bool) -> Opti
     if is_taken { Some(here) } else { most }
 }
 
-/// The greatest measured excess over the coalitions that hold some but not all of the players of
-/// `free`: over the denominator of the shares, and per head over the number of members too.
+/// Returns the greatest measured excess over the coalitions that hold some but not all of the players of `free`: over
+/// the denominator of the shares, and per head over the number of members too.
 pub fn measured_bound<W: Worth>(game: &W, x: &Shares, free: Coalition, measure: Measure) -> Frac
     requires shares { length x.now.shares ≡ (W.game game.now).players }
     requires within { free < 2 ^ (W.game game.now).players }

@@ -4,7 +4,7 @@ ghost use Rattle.fractions.specs.Fraction.{IsRatio};
 
 use fractions::Frac;
 
-/// The value of `num` over a positive denominator, in lowest terms.
+/// Returns the value of `num` over a positive denominator, in lowest terms.
 pub fn ratio(num: i128, den: i128) -> Frac
     requires { pos 1 ≤ℤ den }
     ensures { IsRatio result num den }

@@ -33,7 +33,8 @@ impl Model for Shares {
 }
 
 impl Shares {
-    /// The shares with these numerators over this denominator; none exactly where a number is beyond its limit.
+    /// Makes the shares with these numerators over this denominator. Returns none exactly if a number is beyond its
+    /// limit.
     pub fn new(num: Vec<i128>, den: i128) -> Option<Shares>
         ensures { let x = allocation num.items den in MatchOption result (¬ IsShares x) (λ y. (y ≡ x) × IsShares x) }
     {
@@ -49,7 +50,7 @@ impl Shares {
         Some(Shares { num, den })
     }
 
-    /// The number of shares.
+    /// Returns the number of shares.
     pub fn players(&self) -> u32
         ensures count { result ≡ length self.now.shares }
         ensures shares { IsShares self.now }
@@ -57,7 +58,7 @@ impl Shares {
         self.num.len() as u32
     }
 
-    /// The numerator of player `i`'s share.
+    /// Returns the numerator of player `i`'s share.
     pub fn num(&self, i: u32) -> i128
         requires { i < length self.now.shares }
         ensures value { result ≡ share self.now i }
@@ -66,7 +67,7 @@ impl Shares {
         self.num[i as usize]
     }
 
-    /// The common denominator.
+    /// Returns the common denominator.
     pub fn den(&self) -> i128
         ensures value { result ≡ self.now.den }
         ensures positive { pos 1 ≤ℤ result }
@@ -75,7 +76,7 @@ impl Shares {
         self.den
     }
 
-    /// What the members of a coalition get together, over the denominator.
+    /// Returns what the members of a coalition get together, over the denominator.
     pub fn sum_of(&self, s: Coalition) -> i128
         ensures value { result ≡ amount self.now s }
         ensures small { unsigned_abs result < 2 ^ 117 }
@@ -89,8 +90,8 @@ impl Shares {
         sum
     }
 
-    /// What the members of a coalition get together, from what those of the coalition with the mask before get: its
-    /// first member comes, and the players in front of that member go. Nothing changes at the empty coalition.
+    /// Returns what the members of a coalition get together, from what those of the coalition with the mask before get:
+    /// its first member comes, and the players before that member go. Nothing changes at the empty coalition.
     ///
     /// Over all masks in ascending order that is two players a coalition at most, on average.
     pub fn sum_after(&self, before: i128, s: Coalition) -> i128
@@ -112,8 +113,8 @@ impl Shares {
         sum + self.num(i)
     }
 
-    /// What a coalition of that worth, whose members get `paid` together over the denominator, could do better by
-    /// itself, over the denominator.
+    /// Returns what a coalition of that worth, whose members get `paid` together over the denominator, could do better
+    /// by itself, over the denominator.
     pub fn excess_from(&self, worth: i64, paid: i128) -> i128
         requires worth { unsigned_abs worth < 2 ^ 46 }
         requires paid { unsigned_abs paid < 2 ^ 117 }
@@ -123,7 +124,7 @@ impl Shares {
         scaled(self.den(), worth) - paid
     }
 
-    /// What a coalition of that worth could do better by itself, over the denominator.
+    /// Returns what a coalition of that worth could do better by itself, over the denominator.
     pub fn excess_over(&self, worth: i64, s: Coalition) -> i128
         requires { unsigned_abs worth < 2 ^ 46 }
         ensures value { result ≡ self.now.den *ℤ worth -ℤ amount self.now s }
@@ -140,7 +141,7 @@ fn all_small(num: &[i128]) -> bool
     num.iter().all(|z| z.unsigned_abs() < NUMERATOR_LIMIT)
 }
 
-/// A worth over a denominator.
+/// Returns a worth over a denominator.
 pub fn scaled(den: i128, worth: i64) -> i128
     requires positive { pos 1 ≤ℤ den }
     requires common { den ≤ℤ pos (2 ^ 63) }

@@ -35,7 +35,7 @@ impl Model for SplitSums {
 }
 
 impl SplitSums {
-    /// Nobody is seen: the empty set alone, whose sum is 0.
+    /// Makes the sums when nobody is seen: the empty set alone, whose sum is 0.
     pub fn new() -> SplitSums
         ensures count { result.count ≡ 0 }
         ensures sums { (n : ℕ) (a : ℕ → ℤ) (f : ℕ) → AreSplitSums n a f 0 result }
@@ -49,7 +49,7 @@ impl SplitSums {
         }
     }
 
-    /// One more player is seen, of that number and in `F` or not: each set comes without it and with it.
+    /// Adds one more player, with that number, in `F` or not: each set comes without it and with it.
     pub fn add(&mut self, is_free: bool, weight: i128)
         requires room { self.old.count < 64 }
         requires small { unsigned_abs weight < 2 ^ 112 }
@@ -63,8 +63,8 @@ impl SplitSums {
         };
     }
 
-    /// The greatest sum over the sets that hold some of `F` and lack some of it, where `others_free` says that some
-    /// player of `F` isn't seen yet. None exactly where there is no such set.
+    /// Returns the greatest sum over the sets that hold some of `F` and lack some of it; `others_free` says whether
+    /// some player of `F` isn't seen yet. Returns none exactly if there is no such set.
     pub fn best(&self, others_free: bool) -> Option<i128>
         ensures sum { (n : ℕ) (a : ℕ → ℤ) (f seen : ℕ) → AreSplitSums n a f seen self.now
             → IsGreatestSum n a f seen (λ holds lacks. holds && (lacks || others_free)) result }

@@ -19,7 +19,7 @@ pub(crate) fn splits(s: Coalition, free: Coalition, players: u32) -> bool
     holds && lacks
 }
 
-/// The greater of a number and the greatest so far, where there is one.
+/// Returns the greater of a number and the greatest so far, if there is one.
 pub fn raised(most: Option<i128>, excess: i128) -> Option<i128>
     ensures { result ≡ Some (max_so_far most excess) }
 {

@@ -9,23 +9,27 @@ use crate::{Shares, scaled};
 use coalitions::Coalition;
 
 /// A game with transferable worth.
+///
+/// A class may have a faster body of its own for `blocker` and `split_bound`. It takes the clauses as they are, and
+/// they leave one answer: so no test compares it with the default body, but tries it at shares worked by hand and at
+/// its greatest size.
 pub trait Worth {
     /// The game that is meant.
     ghost game: { Self → Game };
 
-    /// The number of players, 1 to 64.
+    /// Returns the number of players, 1 to 64.
     fn players(&self) -> u32
         ensures count { result ≡ (game self.now).players }
         ensures laws { IsGame (game self.now) };
 
-    /// The worth of a coalition: 0 for the empty one, and below 2^46 in size.
+    /// Returns the worth of a coalition: 0 for the empty one, and below 2^46 in size.
     fn worth(&self, s: Coalition) -> i64
         requires { s < 2 ^ (game self.now).players }
         ensures { result ≡ (game self.now).worth s };
 
-    /// The coalition that blocks the shares most: it is worth more than its members get, no coalition has a greater
-    /// excess, and no lesser mask has as great a one. None exactly where no coalition blocks, as at a point of the
-    /// core (Gillies 1959).
+    /// Returns the coalition that blocks the shares most: it is worth more than its members get, no coalition has a
+    /// greater excess, and no lesser mask has as great a one. Returns none exactly if no coalition blocks, as at a
+    /// point of the core (Gillies 1959).
     fn blocker(&self, x: &Shares) -> Option<Coalition>
         requires { length x.now.shares ≡ (game self.now).players }
         ensures { MatchOption result
@@ -41,7 +45,7 @@ pub trait Worth {
         best.coalition
     }
 
-    /// The greatest excess over the coalitions that hold some but not all of the players of `free`, over the
+    /// Returns the greatest excess over the coalitions that hold some but not all of the players of `free`, over the
     /// denominator of the shares.
     fn split_bound(&self, x: &Shares, free: Coalition) -> i128
         requires shares { length x.now.shares ≡ (game self.now).players }
@@ -62,7 +66,7 @@ pub trait Worth {
     }
 }
 
-/// What a coalition could do better by itself, over the denominator of the shares.
+/// Returns what a coalition could do better by itself, over the denominator of the shares.
 pub fn scaled_excess<W: Worth>(game: &W, x: &Shares, s: Coalition) -> i128
     requires shares { length x.now.shares ≡ (W.game game.now).players }
     requires within { s < 2 ^ (W.game game.now).players }
@@ -72,7 +76,7 @@ pub fn scaled_excess<W: Worth>(game: &W, x: &Shares, s: Coalition) -> i128
     x.excess_over(game.worth(s), s)
 }
 
-/// Whether shares are efficient: they add to the worth of all.
+/// Returns whether shares are efficient: they add to the worth of all.
 pub fn is_efficient<W: Worth>(game: &W, x: &Shares) -> bool
     ensures { IsTrue result ↔ IsEfficient (W.game game.now) x.now }
 {

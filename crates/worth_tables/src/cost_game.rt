@@ -18,7 +18,7 @@ impl<W: Worth> Model for CostGame<W> {
 impl<W: Worth> CostGame<W> {
     ghost use Rattle.std.specs.Prelude.{◌≡◌};
 
-    /// The game of minus the worths of that game.
+    /// Makes the game of minus the worths of that game.
     pub fn new(inner: W) -> CostGame<W>
         ensures { result ≡ inner }
     {

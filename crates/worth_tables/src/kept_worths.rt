@@ -39,7 +39,7 @@ fn worths_of<W: Worth>(alloc: Global, game: &W) -> Result<Vec<i64>, AllocError>
 }
 
 impl<'a, W: Worth> KeptWorths<'a, W> {
-    /// The same game, with each worth kept. The one error is want of memory.
+    /// Keeps each worth of that game in a table; the game is the same. Fails only if memory runs out.
     pub fn new(alloc: Global, inner: &'a W) -> Result<KeptWorths<'a, W>, OutOfMemory>
         requires { (W.game inner.now).players ≤ 16 }
         ensures { IfOk result (λ k. k ≡ inner.now) }

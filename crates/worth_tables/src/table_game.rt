@@ -14,6 +14,7 @@ pub enum TableFault {
     /// A worth is 2^40 or more in size.
     Number,
     /// There was no memory.
+    /// `TableGame::new` takes none and never gives this: it is part of a promised signature.
     Memory,
 }
 
@@ -37,7 +38,8 @@ impl Model for TableGame {
 impl TableGame {
     ghost use Rattle.worth_tables.specs.Tables.{table, IsTable, IsRefused};
 
-    /// The game of `n` players with these worths, in mask order from 1; no memory is taken.
+    /// Makes the game of 1 to 16 players with these worths, each below 2^40 in size, in mask order from 1. Otherwise
+    /// returns the first cause in the order of `TableFault`. It takes no memory.
     pub fn new(_alloc: Global, n: u32, worths: Vec<i64>) -> Result<TableGame, TableFault>
         ensures { let kept = table n worths.items in
             MatchResult result (λ t. (t ≡ kept) × IsTable kept) (IsRefused kept) }

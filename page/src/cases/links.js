@@ -1,5 +1,21 @@
 // A network that was pasted, in any of the shapes in which people have one: a square, a triangle, or a list of links.
 // What is read is points, links between them, and which point is the source; or a fault in words.
+//
+// A block is tried as each of these, in this order (page/test/shapes.mjs has 18 shapes of one network):
+//
+// - A list of from, to and cost: its headings say so, or two columns are words and one is numbers. The points are in
+//   the order of the rows.
+// - Names above and before: words in the first row and column, or 0, 1, 2 .. or 1, 2, 3 .. in both. First come the
+//   points of the one whose first name isn't in the other, then the rest.
+// - Names before each row. A square has as many columns as rows, and a diagonal that is empty, zero or a dash. In the
+//   lower half row k has at most k - 1 numbers. The upper half has one column less than rows, and the first cells of
+//   each row are empty or the rows get shorter. In the page's own triangle row k has at most k numbers, so the source
+//   has no row and comes first.
+// - Numbers only, a square as above: its points have no names.
+//
+// The numbers of any other block go to the cells where they were pasted. The source is the point that has the source's
+// name already; otherwise the only one with a name such as reservoir or Wasserwerk; otherwise the first of a half. If
+// there is none, the page asks.
 import { readNumber } from "../exact/decimals.js";
 import { isSumWord, withEscapes } from "../game/names.js";
 import { plural } from "../tell/words.js";

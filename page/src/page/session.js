@@ -46,7 +46,8 @@ export class Session {
     this.file = file;
   }
 
-  /** Something was typed, or chosen, that changes the game. Before it was read it was no more that of its file. */
+  /** Something was typed, or chosen, that changes the game. A file that hasn't been read yet is forgotten: the case no
+   * longer counts as that file. */
   changed(wait = WAIT) {
     if (!this.file?.made) this.file = null;
     this.turn += 1;

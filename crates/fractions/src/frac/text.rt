@@ -15,11 +15,11 @@ use itoa::Buffer;
 use std::alloc::AllocError;
 
 impl Frac {
-    /// The fraction that a text writes. None exactly where it is no fraction's text, or where its numerator or its
-    /// denominator is out of the range of `i128`.
+    /// Returns the fraction that a text writes. Returns none exactly if it is no fraction's text, or its numerator or
+    /// its denominator is out of the range of `i128`.
     ///
-    /// A fraction's text is an optional `-`, decimal digits without a leading zero (but for `0`), and perhaps a `/` and
-    /// the digits of a number above 1 that has no divisor in common with the first. `-0` is none.
+    /// A fraction's text is an optional `-`, decimal digits without a leading zero (except `0` itself), and perhaps a
+    /// `/` and the digits of a number above 1 that has no divisor in common with the first. `-0` is none.
     pub fn parse(text: &[u8]) -> Option<Frac>
         ensures value { result ≡ parsed text.now }
         ensures unique { IfSome result (λ f. fraction_text f ≡ text.now) }
@@ -34,7 +34,7 @@ impl Frac {
         Some(Frac { num, den })
     }
 
-    /// Appends the text of the fraction. Where memory is short, `out` is as before.
+    /// Appends the text of the fraction. If memory runs out, `out` is as before.
     pub fn write_to(&self, out: &mut Vec<u8>) -> Result<(), OutOfMemory>
         ensures written { OnOk result (out.new.items ≡ out.old.items ++ fraction_text self.now) }
         ensures read_back { parsed (fraction_text self.now) ≡ Some self.now }

@@ -36,6 +36,7 @@ abbrev pub is_linked : ℕ → List (List ℤ) → ℕ → Bool
 is_linked n rows i = (entries_of rows i i == 0) && list_all (is_turned rows i) (range_with_len 0 n)
 
 -- a square, the same in both directions, and 0 from each point to itself
+-- (the class's own test, and no part of its description: rows that don't fit it describe something all the same)
 abbrev pub are_links : List (List ℤ) → Bool
 are_links rows =
     have_length (length rows) rows && list_all (is_linked (length rows) rows) (range_with_len 0 (length rows))

@@ -1,5 +1,5 @@
 -- Weighted voting games in a document: a quota, and a weight for each player. They are integers in both versions, so
--- the scale is 1.
+-- the scale is 1: none of the keys that the scale is taken from is a key of a voting game.
 --
 --   voting_keys          the keys of a voting game
 --   is_voting_shaped     the keys and kinds

@@ -25,8 +25,8 @@ pub enum SharesFault {
 }
 
 impl Shares {
-    /// The fractions over their least common denominator. `TooFine` exactly where it is more than 2^63, or where some
-    /// numerator over it isn't below 2^110 in size.
+    /// Makes shares of these fractions, over their least common denominator. Fails with `TooFine` exactly if that is
+    /// more than 2^63, or some numerator over it isn't below 2^110 in size.
     pub fn from_fracs(alloc: Global, shares: &[Frac]) -> Result<Shares, SharesFault>
         requires some { 1 ≤ length shares.now }
         requires few { length shares.now ≤ 64 }
@@ -45,7 +45,7 @@ impl Shares {
         Ok(Shares { num, den })
     }
 
-    /// The share of player `i` in lowest terms.
+    /// Returns the share of player `i` in lowest terms.
     pub fn share(&self, i: u32) -> Frac
         requires { i < length self.now.shares }
         ensures { IsRatio result (share self.now i) self.now.den }
@@ -53,14 +53,14 @@ impl Shares {
         Frac::new(self.num(i), self.den()).unwrap()
     }
 
-    /// What all players get together, in lowest terms.
+    /// Returns what all players get together, in lowest terms.
     pub fn sum(&self) -> Frac
         ensures { IsRatio result (amount self.now (grand_coalition (length self.now.shares))) self.now.den }
     {
         Frac::new(self.sum_of(Coalition::all(self.players())), self.den()).unwrap()
     }
 
-    /// The least common denominator of the shares.
+    /// Returns the least common denominator of the shares.
     pub fn least_den(&self) -> i128
         ensures { IsLeastDenominator (as_fractions self.now) result }
     {
