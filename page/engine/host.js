@@ -151,9 +151,9 @@ class Heap {
     this.waiting = [];
     this.bytes = new Uint8Array(0);
     this.imports = {
-      rattle_alloc: (to, size) => this.tell(to, () => this.take(numberOf(size))),
+      rattle_alloc: (to, size) => this.tell(to, this.isRefused() ? 0 : this.take(numberOf(size))),
       rattle_realloc: (to, at, kept, size) =>
-        this.tell(to, () => this.move(numberOf(at), numberOf(kept), numberOf(size))),
+        this.tell(to, this.isRefused() ? 0 : this.move(numberOf(at), numberOf(kept), numberOf(size))),
       rattle_dealloc: (at) => this.give(numberOf(at)),
     };
   }
@@ -226,13 +226,20 @@ class Heap {
     return to;
   }
 
-  // Answers a request: whether there is a block, and where.
-  tell(to, find) {
+  // Counts a request: whether it is the one that is refused.
+  isRefused() {
     this.requests += 1;
-    const at = this.requests === this.refused ? 0 : find();
-    const place = numberOf(to);
-    this.view.setBigUint64(place, at === 0 ? 0n : 1n, true);
-    this.view.setBigUint64(place + 8, BigInt(at || NOWHERE), true);
+    return this.requests === this.refused;
+  }
+
+  // Answers a request: whether there is a block, and where. These are two numbers of 64 bits, written as halves, since
+  // a BigInt takes memory.
+  tell(to, at) {
+    const place = numberOf(to), { view } = this;
+    view.setUint32(place, at === 0 ? 0 : 1, true);
+    view.setUint32(place + 4, 0, true);
+    view.setUint32(place + 8, at || NOWHERE, true);
+    view.setUint32(place + 12, 0, true);
   }
 }
 

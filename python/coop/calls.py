@@ -140,7 +140,7 @@ def answer_from(command: str, status: int, data: bytes, document: bytes, game: G
         raise fault_of(command, status, line, document)
     try:
         return answers.answer_of(line, status, game)
-    except (ValueError, KeyError, TypeError) as fault:
+    except (ValueError, KeyError, TypeError, AttributeError, ZeroDivisionError) as fault:
         raise Fault(f"the line isn't one of coop: {line[:80]!r} ({fault})", status, line) from None
 
 
@@ -160,10 +160,13 @@ def fault_of(command: str, status: int, line: str, document: bytes) -> NoAnswer:
 
 
 def refusal(line: str, number: int, name: str, command: str, document: bytes) -> Refused:
-    """The exception of a refused document, with the place of the slip."""
+    """The exception of a refused document, with the place of the slip where that was found."""
     from .slips import slip_in
 
-    slip = slip_in(document, command)
+    try:
+        slip = slip_in(document, command)
+    except BadInput:  # it has more parts than any document
+        slip = None
     where = slip if slip and slip.number == number else None
     sentence = f"refused, {number} {name}" + (f": {where}" if where else "")
     return Refused(sentence, line, number, name, where)

@@ -48,8 +48,13 @@ def require_form(tree: Any, players: int, scale: int) -> None:
         )
         here = ascending(level["coalitions"], f"{where}.coalitions", players)
         for k, group in enumerate(ascending(level["earlier"], f"{where}.earlier", players)):
-            sentence = f"{brief(level['earlier'][k][0])} isn't in an earlier level"
-            need(group in listed, Refusal.Certificate, f"{where}.earlier[{k}]", sentence)
+            coalition = level["earlier"][k][0]
+            need(
+                group in listed,
+                Refusal.Certificate,
+                f"{where}.earlier[{k}]",
+                lambda: f"{brief(coalition)} isn't in an earlier level",
+            )
         bounds(level["bounds"], f"{where}.bounds", players)
         listed.update(here)
 
@@ -73,7 +78,7 @@ def require_excess(text: str, place: str, scale: int) -> None:
 def weight(tree: Any, place: str) -> None:
     """A weight is an integer below 2^63 in size."""
     fits = type(tree) is int and abs(tree) < 2**63
-    need(fits, Refusal.Certificate, place, f"{brief(tree)} is no integer below 2^63 in size")
+    need(fits, Refusal.Certificate, place, lambda: f"{brief(tree)} is no integer below 2^63 in size")
 
 
 def ascending(tree: Any, place: str, players: int) -> list[int]:
@@ -82,15 +87,18 @@ def ascending(tree: Any, place: str, players: int) -> list[int]:
     for k, (coalition, number) in enumerate(tree):
         where = f"{place}[{k}]"
         ids = all(type(player) is int and 1 <= player <= players for player in coalition)
-        need(ids, Refusal.Certificate, where, f"{brief(coalition)} has a member that isn't from 1 to {players}")
+        need(ids, Refusal.Certificate, where, lambda: f"{brief(coalition)} has a member that isn't from 1 to {players}")
         need(
             coalition == sorted(set(coalition)),
             Refusal.Certificate,
             where,
-            f"the members of {brief(coalition)} don't ascend",
+            lambda: f"the members of {brief(coalition)} don't ascend",
         )
         need(
-            0 < len(coalition) < players, Refusal.Certificate, where, f"{brief(coalition)} is empty, or has all players"
+            0 < len(coalition) < players,
+            Refusal.Certificate,
+            where,
+            lambda: f"{brief(coalition)} is empty, or has all players",
         )
         weight(number, where)
         group = mask_of(player - 1 for player in coalition)
@@ -98,7 +106,7 @@ def ascending(tree: Any, place: str, players: int) -> list[int]:
             not groups or groups[-1] < group,
             Refusal.Certificate,
             where,
-            f"{brief(coalition)} isn't in ascending mask order",
+            lambda: f"{brief(coalition)} isn't in ascending mask order",
         )
         groups.append(group)
     return groups

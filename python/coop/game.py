@@ -26,6 +26,7 @@ LISTS = {"airport": "costs", "bankruptcy": "claims", "voting": "weights"}
 SINGLE = {"bankruptcy": "estate", "voting": "quota"}
 MOST_IN_A_TABLE = 16
 FRACTION = re.compile("-?[0-9]{1,39}(/[1-9][0-9]{0,38})?")
+WRITER = json.JSONEncoder(ensure_ascii=False, separators=(",", ":"))
 
 
 def encoded(text: str, what: str) -> bytes:
@@ -206,5 +207,4 @@ class Game:
 
     def document(self, **others: Any) -> bytes:
         """The bytes of a document of this game, with other keys beside it, as `shares`."""
-        text = json.dumps({"game": self.tree, **others}, ensure_ascii=False, separators=(",", ":"))
-        return encoded(text, "a name")
+        return encoded(WRITER.encode({"game": self.tree, **others}), "a name")

@@ -37,7 +37,7 @@ def is_number(tree: Any) -> bool:
 
 def require_shape(tree: Any, needs: Sequence[str]) -> None:
     """Ends with the first slip of shape."""
-    need(type(tree) is dict, Refusal.Shape, "$", f"a document is an object, not {brief(tree)}")
+    need(type(tree) is dict, Refusal.Shape, "$", lambda: f"a document is an object, not {brief(tree)}")
     if "game" not in tree and "class" in tree:
         raise Found(Refusal.Shape, "$", 'this is only the game: write {"game":..} around it')
     keys(tree, [needs], ALL, "$", "the document")
@@ -97,7 +97,7 @@ def share(tree: Any, place: str) -> None:
         is_number(tree) or type(tree) is str,
         Refusal.Shape,
         place,
-        f"{brief(tree)} is no number, and no text of a fraction",
+        lambda: f"{brief(tree)} is no number, and no text of a fraction",
     )
 
 
@@ -144,7 +144,7 @@ def member(tree: Any, place: str) -> None:
 
 def game(tree: Any) -> None:
     """The shape of a game."""
-    need(type(tree) is dict, Refusal.Shape, "$.game", f"{brief(tree)} is no object")
+    need(type(tree) is dict, Refusal.Shape, "$.game", lambda: f"{brief(tree)} is no object")
     need("class" in tree, Refusal.Shape, "$.game", "the game lacks the key class")
     word(tree["class"], list(KEYS), "$.game.class")
     kind = tree["class"]
@@ -204,7 +204,7 @@ def listed(tree: Any, place: str, amount: Callable[[Any, str], None]) -> None:
 
 def certificate(tree: Any, place: str) -> None:
     """The shape of a certificate."""
-    need(type(tree) is dict, Refusal.Shape, place, f"{brief(tree)} is no object")
+    need(type(tree) is dict, Refusal.Shape, place, lambda: f"{brief(tree)} is no object")
     keys(tree, [("mode", "levels")], (), place, "a certificate")
     word(tree["mode"], ("players", "span"), f"{place}.mode")
     items(tree["levels"], f"{place}.levels", level)
@@ -212,7 +212,7 @@ def certificate(tree: Any, place: str) -> None:
 
 def level(tree: Any, place: str) -> None:
     """The shape of a level."""
-    need(type(tree) is dict, Refusal.Shape, place, f"{brief(tree)} is no object")
+    need(type(tree) is dict, Refusal.Shape, place, lambda: f"{brief(tree)} is no object")
     keys(tree, [LEVEL_KEYS], (), place, "a level")
     text(tree["excess"], f"{place}.excess")
     number(tree["total"], f"{place}.total")

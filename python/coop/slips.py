@@ -12,6 +12,7 @@ from dataclasses import dataclass, replace
 from enum import IntEnum
 from typing import Any, Callable, Iterator, Optional, Union
 
+from .errors import BadInput
 from .names import visible
 from .places import in_words
 
@@ -38,6 +39,9 @@ NAMES = {refusal.value: refusal.name for refusal in Refusal}
 """The names by the numbers."""
 
 MOST_BYTES, MOST_TO_CHECK, MOST_DEPTH = 2097152, 8388608, 127
+MOST_ARRAYS, MOST_OBJECTS = 1_400_000, 100_000
+"""No document within the limits has more. A certificate of 8 MB has room for 1,325,000 arrays: two for each coalition,
+and at each of 63 levels of 64 players the shortest coalitions first. It has an object for each level."""
 MOST_SHOWN = 80  # characters of a place and of a key
 GAME, SHARES, ALL = ("game",), ("game", "shares"), ("answer", "certificate", "game", "shares")
 COMMANDS = (
@@ -55,7 +59,8 @@ COMMANDS = (
 NEEDS = {"propose": SHARES, "kernel": SHARES, "check": ALL}
 """What the document of a command needs, where that isn't the game alone."""
 
-STRING = re.compile(r'"[^"\\]*(?:\\.[^"\\]*)*"', re.DOTALL)
+STRING = re.compile(r'"[^"\\]*(?:\\.[^"\\]*)*(?:"|\\?\Z)', re.DOTALL)
+"""A string; one that isn't closed ends with the text, so that no other is looked for in it."""
 
 
 @dataclass(frozen=True)
@@ -92,8 +97,9 @@ def need(fact: object, refusal: Refusal, place: str, sentence: Union[str, Callab
 
 
 def slip_in(data: bytes, command: str = "nucleolus", most: Optional[int] = None) -> Optional[Slip]:
-    """The first slip for a command in the bytes of a document; None where there is none. It may have as many bytes as
-    the command takes, unless another number is named."""
+    """Returns the first slip for a command in the bytes of a document, or None if there is none. The document may have
+    as many bytes as the command takes, unless another number is named. Raises `BadInput` for more arrays or objects
+    than any document within the limits has."""
     from .refusals import refuse
     from .shapes import require_shape
 
@@ -130,8 +136,8 @@ class Repeated:
 
 
 def repeated(data: bytes) -> Optional[Repeated]:
-    """The first object of a document in which a key stands twice; None where each stands once, or it is no JSON, or it
-    is longer than any document."""
+    """Returns the first object of a document in which a key stands twice. Returns None if no key does, and for what
+    can't be a document: it is no JSON, is too long, or has too many arrays or objects."""
     if len(data) > MOST_TO_CHECK:
         return None
     found: list[tuple[dict[str, Any], str]] = []
@@ -147,8 +153,12 @@ def repeated(data: bytes) -> Optional[Repeated]:
         return tree
 
     try:
-        tree = json.loads(data.decode(), object_pairs_hook=made, parse_int=str, parse_float=str)
-    except (ValueError, RecursionError):
+        text = data.decode()
+        require_few(text)
+        tree = json.loads(text, object_pairs_hook=made, parse_int=str, parse_float=str)
+    except (BadInput, ValueError, RecursionError):
+        return None
+    if not found:
         return None
     keys = {id(some): key for some, key in found}
     return next((Repeated(place, keys[id(part)]) for place, part in parts_of(tree) if id(part) in keys), None)
@@ -183,6 +193,7 @@ def read_json(data: bytes) -> Any:
         line = data.count(b"\n", 0, fault.start) + 1
         raise Found(Refusal.NotJson, f"line {line}", "a byte isn't UTF-8: save the file as UTF-8") from None
     need(text.strip(), Refusal.NotJson, "the document", "it is empty")
+    require_few(text)
     require_depth(text)
     try:
         tree = json.loads(text, parse_int=integer, parse_float=real, parse_constant=constant)
@@ -228,6 +239,18 @@ def advice(fault: str, text: str, place: int) -> str:
     if rest == "/" or rest == "#":
         return "JSON has no comments"
     return fault[:1].lower() + fault[1:] if rest else "the document ends there, before it is whole"
+
+
+def require_few(text: str) -> None:
+    """Refuses a text with more arrays or objects than any document within the limits has: each would take from 70 to
+    250 bytes of memory."""
+    for bracket, most, what in (("[", MOST_ARRAYS, "arrays"), ("{", MOST_OBJECTS, "objects")):
+        count = text.count(bracket)
+        if count > most:
+            count -= sum(string[0].count(bracket) for string in STRING.finditer(text))
+        if count > most:
+            told = f"the document has {count:,} {what}, and none within the limits has more than {most:,}"
+            raise BadInput(f"{told}: its mistake isn't looked for")
 
 
 def brackets(text: str) -> Iterator[tuple[int, str]]:

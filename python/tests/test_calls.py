@@ -182,6 +182,9 @@ class Statuses(unittest.TestCase):
             (0, "no line", coop.Fault, "isn't one of coop"),
             (0, '{"answer":"maybe"}', coop.Fault, "isn't one of coop"),
             (0, '{"answer":"shapley"}', coop.Fault, "isn't one of coop"),
+            (0, '{"answer":"shapley","shares":["1","1/0"]}', coop.Fault, "isn't one of coop"),
+            (0, '{"answer":"shapley","shares":["1","1.5"]}', coop.Fault, "isn't one of coop"),
+            (0, '{"answer":"shapley","shares":["1",1]}', coop.Fault, "isn't one of coop"),
         ]
         for status, line, kind, sentence in cases:
             with self.assertRaisesRegex(kind, sentence) as raised:

@@ -57,6 +57,8 @@ class Answers(unittest.TestCase):
     def test_shares(self) -> None:
         found = self.shown(coop.nucleolus(THREE))
         self.assertLessEqual({"table", "svg"}, found.seen)
+        white = '<rect width="100%" height="100%" fill="#fff"/>'  # for notebooks that are dark
+        self.assertIn(white, coop.nucleolus(THREE)._repr_html_())
         for word in ("nucleolus", "pays", "light", "3/2", "7/2", "3.50", "together"):
             self.assertIn(word, found.text)
         thirds = self.shown(coop.shapley(coop.airport([1, 1, 1]))).text

@@ -1,9 +1,12 @@
 """Processes that stay: their answers, threads and forks, and how they end."""
+import contextlib
 import os
 import pickle
+import shutil
 import signal
 import subprocess
 import sys
+import tempfile
 import threading
 import time
 import unittest
@@ -42,6 +45,12 @@ def is_gone(process: int, seconds: float = 10) -> bool:
     while is_alive(process) and time.monotonic() < end:
         time.sleep(0.02)
     return not is_alive(process)
+
+
+def end(process: int) -> None:
+    """Ends a process that may have ended."""
+    with contextlib.suppress(ProcessLookupError):
+        os.kill(process, signal.SIGKILL)
 
 
 @needs_node
@@ -154,7 +163,10 @@ class Ends(unittest.TestCase):
         server.run(["core"], AIRPORT)
         process, server.seconds = server.free[0].process.pid, 0.3
         os.kill(process, signal.SIGSTOP)
+        late = threading.Timer(20, os.kill, (process, signal.SIGKILL))  # so that a server without a limit fails here
+        late.start()
         self.assertEqual(server.run(["core"], AIRPORT), (124, b""))
+        late.cancel()
         self.assertTrue(is_gone(process))
         server.seconds = 30
         self.assertEqual(server.run(["core"], AIRPORT), (0, CORE))
@@ -200,9 +212,10 @@ class Ends(unittest.TestCase):
         parent = self.begun_by("import time; time.sleep(60)")
         assert parent.stdout is not None
         process = int(parent.stdout.readline())
+        self.addCleanup(end, process)
         self.assertTrue(is_alive(process))
         parent.kill()
-        parent.communicate()
+        parent.communicate(timeout=30)  # it ends as soon as nobody has its ports
         self.assertTrue(is_gone(process))
 
     def test_at_exit(self) -> None:
@@ -233,6 +246,32 @@ class Frames(unittest.TestCase):
         longest = HEAD.pack(4, (8 << 20) + 1) + b"core" + b" " * ((8 << 20) + 1)
         refused = b'{"number":1,"refused":"TooLong"}\n'
         self.assertEqual(ended(longest), (0, READY + HEAD.pack(3, len(refused)) + refused))
+
+    def test_ports_that_fail(self) -> None:
+        """Nobody reads the answer, as after the end of a parent that was killed; or the input is a folder."""
+        request = HEAD.pack(4, len(AIRPORT)) + b"core" + AIRPORT
+        cases: list[tuple[list[str], bytes]] = [([], request), (["--lines", "core"], AIRPORT)]
+        for options, data in cases:
+            reading, writing = os.pipe()
+            os.close(reading)
+            done = subprocess.run([*COMMAND, *options], input=data, stdout=writing, stderr=subprocess.PIPE)
+            os.close(writing)
+            self.assertEqual((done.returncode, done.stderr), (6, b""))
+        folder = os.open(TOP, os.O_RDONLY)
+        done = subprocess.run(COMMAND, stdin=folder, stdout=subprocess.PIPE, stderr=subprocess.PIPE)
+        os.close(folder)
+        self.assertEqual((done.returncode, done.stdout), (5, READY))
+
+    def test_a_file_that_is_missing(self) -> None:
+        page = os.path.dirname(COMMAND[1])
+        for name in ("coop.html", "engine/host.js"):
+            with tempfile.TemporaryDirectory() as folder:
+                copy = shutil.copytree(page, os.path.join(folder, "page"), ignore=shutil.ignore_patterns("src", "test"))
+                os.unlink(os.path.join(copy, name))
+                words = [COMMAND[0], os.path.join(copy, "serve.mjs")]
+                done = subprocess.run(words, input=b"", stdout=subprocess.PIPE, stderr=subprocess.PIPE)
+            self.assertEqual((done.returncode, done.stdout), (70, b""))
+            self.assertTrue(done.stderr.startswith(b"coop: no answer: "))
 
     def test_lines(self) -> None:
         options, core, no = ["--lines", "core,shapley"], b"0 " + CORE, b'3 {"number":2,"refused":"NotJson"}\n'

@@ -1,14 +1,21 @@
 """Slips: by what is written here, and against the program."""
 import copy
 import json
+import os
 import random
+import subprocess
+import sys
 import unittest
+from itertools import combinations
 from typing import Any, Iterator
+from unittest.mock import patch
 
-from coop.program import find
-from coop.slips import COMMANDS, Repeated, repeated, slip_in
+import coop
+from coop.errors import BadInput
+from coop.program import TOP, find
+from coop.slips import COMMANDS, MOST_ARRAYS, MOST_TO_CHECK, STRING, Repeated, repeated, slip_in
 
-from .asking import needs_program
+from .asking import Answering, needs_program
 
 SLIPS = {
     '{"game":{"class":"airport","cost":[2,4,6]}}': (
@@ -269,6 +276,12 @@ class Slips(unittest.TestCase):
         many = "{" + ",".join(f'"k{i}":1' for i in range(100000)) + ',"k99999":2}'
         self.assertEqual(repeated(many.encode()), Repeated("$", "k99999"))
 
+    def test_a_text_that_is_not_closed(self) -> None:
+        """It is one string to its end, so that no search begins anew at each of its quotes: that takes hours."""
+        for text in ('"', '"a', '"\\', '"' + '\\"' * 9, '"' + '\\"' * 9 + "\\"):
+            self.assertEqual([string.span() for string in STRING.finditer("[" + text)], [(1, len(text) + 1)])
+            self.assertEqual(str(slip_in(("[" * 128 + text).encode()))[:15], "character 128: ")
+
     @needs_program
     def test_the_program_refuses_the_same(self) -> None:
         program, seen = find(), set()
@@ -282,6 +295,64 @@ class Slips(unittest.TestCase):
             self.assertEqual(slip and slip.number, wanted, (command, text, slip))
             seen.add(wanted)
         self.assertEqual(seen, {None, *range(1, 14)})
+
+
+def most_arrays(players: int) -> int:
+    """How many arrays the coalitions of a certificate of 8 MB may have, the shortest first: two each, at each level and
+    once more as earlier ones."""
+    texts = sorted(len(json.dumps([group, 1], separators=(",", ":"))) + 1
+                   for size in (1, 2, 3) for group in combinations(range(1, players + 1), size))
+    arrays, left = 0, MOST_TO_CHECK
+    for length in texts:
+        count = min(2 * players, left // length)
+        arrays, left = arrays + 2 * count, left - count * length
+    return arrays
+
+
+class Many(unittest.TestCase):
+    """Documents of more parts than any that the program takes aren't read, as each part takes memory."""
+
+    def test_memory(self) -> None:
+        """In a process that may have 300 MB."""
+        slip = os.path.join(TOP, "scripts", "slip")
+        for part, told in (("[]", "2,796,201 arrays"), ("{}", "2,796,200 objects"), ('{"a":1}', "1,048,574 objects")):
+            count = MOST_TO_CHECK // (len(part) + 1) - 2
+            data = b"[" + b",".join([part.encode()] * count) + b"]"
+            done = self.limited([slip, "--command", "check"], data)
+            said = f"slip: the document has {told}, and none within the limits has more than ".encode()
+            self.assertEqual((done.returncode, done.stdout, done.stderr[: len(said)]), (2, b"", said))
+        too_long = self.limited([slip], b"[" + b"[]," * 2700000 + b"[]]")
+        self.assertEqual((too_long.returncode, too_long.stderr), (1, b""))
+        self.assertTrue(too_long.stdout.startswith(b"1 TooLong, at the document: "))
+
+    def limited(self, words: list[str], data: bytes) -> "subprocess.CompletedProcess[bytes]":
+        """How a script ends that may have 300 MB."""
+        room = 300 << 20
+        limit = f"import resource, runpy, sys; resource.setrlimit(resource.RLIMIT_AS, ({room}, {room})); "
+        run = "sys.argv[:1] = []; runpy.run_path(sys.argv[0], run_name='__main__')"
+        return subprocess.run([sys.executable, "-c", limit + run, *words], input=data, capture_output=True)
+
+    def test_counts(self) -> None:
+        """Brackets in texts don't count, and a document at the limit is read."""
+        text = '{"game":{"class":"airport","costs":[1],"names":["[{[{\\"[{"]}}'.encode()
+        with patch("coop.slips.MOST_ARRAYS", 2), patch("coop.slips.MOST_OBJECTS", 2):
+            self.assertIsNone(slip_in(text))
+            for more, told in ((b"[[]]", "4 arrays"), (b'{"a":{}}', "4 objects")):
+                with self.assertRaisesRegex(BadInput, f"has {told}, and none"):
+                    slip_in(text + more)
+            self.assertIsNone(repeated(b'[{"a":1,"a":1},[],[]]'))
+        self.assertEqual(str(repeated(b'[{"a":1,"a":1},[],[]]'))[:5], "$[0]:")
+
+    def test_none_within_the_limits_has_more(self) -> None:
+        arrays = [most_arrays(players) for players in (16, 40, 63, 64)]
+        self.assertEqual(max(arrays), arrays[-1])
+        self.assertTrue(0.9 * MOST_ARRAYS < arrays[-1] < MOST_ARRAYS, arrays)
+
+    def test_the_package_refuses(self) -> None:
+        """The exception has no place then."""
+        with patch("coop.slips.MOST_ARRAYS", 0), self.assertRaises(coop.Refused) as found:
+            coop.core(coop.airport([1]), program=Answering(3, '{"number":3,"refused":"Shape"}'))
+        self.assertEqual((str(found.exception), found.exception.where), ("refused, 3 Shape", None))
 
 
 if __name__ == "__main__":

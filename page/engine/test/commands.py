@@ -81,14 +81,17 @@ const status = (engine, words = []) => {
 const large = ["gen", "table", "16", "1"], small = ["gen", "airport", "3", "1"];
 const [kept, trapped] = [keeping, trapping].map((text) => new Engine(module(Buffer.from(text, "base64"))));
 const [narrow, brief] = [new Engine(own, { most: 1 << 21 }), new Engine(own, { kept: 1 << 21 })];
+const often = new Engine(own), lengths = Array.from({ length: 100 }, () => [status(often, small), often.memory.length]);
 console.log(JSON.stringify([
   [status(kept), status(kept)], [status(trapped), status(trapped)],
   [status(narrow, large), status(narrow, small)], [status(brief, large), status(brief, small)],
+  [...new Set(lengths.map(([, length]) => length === lengths[0][1]))],
 ]));
 """
+# The last: a hundred calls take no more memory than one.
 ANSWERS = [
     [[0, True], [0, True]], [["EngineFault", False], ["EngineFault", False]],
-    [[7, False], [0, True]], [[0, False], [0, True]],
+    [[7, False], [0, True]], [[0, False], [0, True]], [True],
 ]
 
 
