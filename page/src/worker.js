@@ -1,7 +1,7 @@
 // What runs beside the page, so that nothing freezes it: the engine, the checker of the page's own, all that reads long
 // texts, and the sentences.
 import { checkAnew } from "./check/check-anew.js";
-import { spoken } from "./exact/decimals.js";
+import { spoken } from "./exact/marks.js";
 import { parseJson } from "./exact/json.js";
 import { Game } from "./game/game.js";
 import { explain } from "./tell/explain.js";

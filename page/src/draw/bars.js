@@ -1,7 +1,7 @@
 // Bars of what each gets or pays, with marks at what it is worth alone and at what it adds to all others.
 import { shortText } from "../exact/decimals.js";
 import { Rational, ZERO } from "../exact/rational.js";
-import { spoken } from "../exact/decimals.js";
+import { spoken } from "../exact/marks.js";
 import { chart } from "./chart.js";
 import { figure } from "./figure.js";
 

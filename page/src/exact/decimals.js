@@ -1,8 +1,6 @@
 // Decimals: those that people type, and those that are shown.
+import { isMark, onlyMark, spoken } from "./marks.js";
 import { Rational } from "./rational.js";
-
-/** The decimal mark of sentences: that of the page, which each worker is told. */
-export const spoken = { mark: "." };
 
 const HALF = new Rational(1n, 2n);
 const NARROW = "\u202f";
@@ -100,7 +98,7 @@ export function placesOf(value) {
 /** A value as one would type it: a decimal where four places do, else a fraction. It can be read in one way only, so
  * 1.708 gets a fourth decimal. */
 export function typedText(value, by = ".") {
-  const places = placesOf(value), mark = by.length === 1 ? by : ".";
+  const places = placesOf(value), mark = isMark(by) ? by : ".";
   if (places < 0) return value.toString();
   const text = (count) => decimal(value, count, { mark, grouped: false }).replace("−", "-");
   return text(readNumber(text(places)).doubt ? places + 1 : places);
@@ -138,6 +136,14 @@ export function readNumber(typed, mark = ".") {
   if (/^\(\d[\d.,]*\)$/.test(text)) return readNumber("-" + text.slice(1, -1), mark);
   if (!/^-?[\d.,]*\d[\d.,]*$/.test(text)) return scientific(text) ?? { fault: "is no number" };
   return marked(text, mark);
+}
+
+/** Texts that are read by one mark: the one that some of them show, or else the given one. `isSettled` says that they
+ * show it. */
+export function readTogether(texts, mark) {
+  const first = texts.map((text) => readNumber(text, mark)), shown = onlyMark(first.map(({ by }) => by));
+  const isSettled = shown !== null, by = shown ?? mark;
+  return { isSettled, by, read: by === mark ? first : texts.map((text) => readNumber(text, by)) };
 }
 
 /** The number of a cell, in which one may add and multiply, too: "27400*1.12 + 300". `isWorkedOut` says so. */

@@ -1,5 +1,6 @@
 // The panels below a case: the answer, its settings, the reasons and the evidence.
 import { sourceName } from "../cases/matrices.js";
+import { MARKS } from "../exact/marks.js";
 import { answerParts, morePictures } from "./answer.js";
 import { beyondParts } from "./beyond.js";
 import { beyondPower } from "./beyond-power.js";
@@ -10,7 +11,6 @@ import { button, copy, el, refill } from "./dom.js";
 import { evidenceParts } from "./evidence.js";
 import { excessesPart } from "./excesses.js";
 import { filledLines, filledText, isFilled } from "./filled.js";
-import { formatOf } from "./format.js";
 import { meanings, monotonic, words } from "./meanings.js";
 import { otherAmounts } from "./other-amounts.js";
 import { paperPart } from "./paper.js";
@@ -26,7 +26,6 @@ import { whyParts } from "./why.js";
 import { pairPart } from "./why-pair.js";
 
 const PLACES = [0, 1, 2, 3, 4, 6];
-const MARKS = [[".", "point"], [",", "comma"]];
 const MEASURES = [["plain", "as a whole"], ["per-head", "per head"]];
 
 const WIDE = 1000; // pixels of the page above which the reasons have pictures beside them
@@ -42,10 +41,6 @@ export class AnswerView {
     this.session = session;
     this.typed = {}; // what was typed into the parts of the answer, of this case
     this.isHidden = false; // whether the case alone is shown, and printed
-  }
-
-  format() {
-    return formatOf(this.session.places, this.session.mark);
   }
 
   /** What was typed for another case is of no use here; `typed` is what was for this one. */
@@ -93,7 +88,7 @@ export class AnswerView {
       setAll: (texts) => session.setProposal(texts),
     };
     return {
-      rows, format: this.format(), proposal, wide, filled: filledText(session), today: todayOf(session, rows),
+      rows, format: session.format(), proposal, wide, filled: filledText(session), today: todayOf(session, rows),
       pinned: pinnedOf(session, rows), labelOfCell: (cell) => labelOfCell(cell, session), result,
       remark: filledLines(session, rows), source: sourceName(session.typed),
       coarse: session.typed.coarse, typed: this.typed, ask: (task, what) => session.checker.ask(task, what),
@@ -171,15 +166,15 @@ export class AnswerView {
   /** Saving: `made` are the case and its document, as the panel of the case has them. */
   showFiles(made) {
     this.made = made;
-    const { reading, result, kind } = this.session, hasMade = made.childElementCount > 0;
-    const points = result?.points ?? [], tables = () => tablesOf(this.session.result, {
-      rows: this.session.reading.rows, format: this.format(), coarse: this.session.typed.coarse,
+    const { session } = this, { reading, result, kind } = session, hasMade = made.childElementCount > 0;
+    const points = result?.points ?? [], format = session.format(), tables = () => tablesOf(session.result, {
+      rows: session.reading.rows, format, coarse: session.typed.coarse,
     });
     at("files").hidden = !hasMade;
     if (!hasMade || !reading) return;
     const isShown = points.length > 0 && !this.isHidden, copied = (event) => copy(tabbed(tables()[0]), event.target);
     refill(at("files-body"), made, isShown && el("p", { class: "tools" },
-      csvButton(`${kind.id}-answer`, tables, this.format()), button("Copy the table", copied, { class: "quiet" }),
+      csvButton(`${kind.id}-answer`, tables, format), button("Copy the table", copied, { class: "quiet" }),
       pictureButtons([at("answer-body"), at("why-body")])));
   }
 
@@ -218,7 +213,7 @@ export class AnswerView {
     for (const id of ["why", "evidence", "what-if"]) at(id).hidden = true;
     refill(at("answer-settings"), this.formats(), this.hiding());
     refill(at("answer-measure"));
-    const today = todayOf(this.session, beyond.rows), format = this.format();
+    const today = todayOf(this.session, beyond.rows), format = this.session.format();
     const wide = at("answer-body").clientWidth || 640;
     refill(at("answer-body"), beyond.power ? beyondPower(beyond, { format, wide })
       : beyondParts(beyond, { format, today }));
@@ -249,7 +244,7 @@ export class AnswerView {
    * */
   showMore(result, { rows, format, filled }) {
     const { session } = this;
-    const mark = session.readMark(), isSettled = session.reading.settled !== null;
+    const mark = session.marks.beside(), isSettled = session.reading.settled !== null;
     this.showPaper();
     const key = [result.text, format.places, format.mark, filled, mark, isSettled].join("\n");
     if (this.shownMore === key) return;
@@ -277,7 +272,7 @@ export class AnswerView {
       session.places = Number(value);
       this.show();
     });
-    const mark = choice("Decimal mark", MARKS, session.mark, (value) => session.setMark(value));
+    const mark = choice("Decimal mark", MARKS, session.marks.shown, (value) => session.setMark(value));
     return [places, mark];
   }
 

@@ -4,6 +4,7 @@ import { withEscapes } from "../game/names.js";
 import { coarseNumbers, coarseText } from "../tell/coarse-text.js";
 import { Rational } from "../exact/rational.js";
 import { countText, typedText } from "../exact/decimals.js";
+import { DECIMALS, WHOLE, writtenBy } from "../exact/marks.js";
 import { plural } from "../tell/words.js";
 import { markFaults, markOdds } from "./cells.js";
 import { button, cellOf, copy, download, el, refill } from "./dom.js";
@@ -53,7 +54,7 @@ export function casePanel(kind, typed, settings) {
       reading.isTooFine && finenessHelp(settings));
     const isBeyond = reading.beyond?.points && !reading.text; // more landings than a document has
     refill(made, reading.text && documentOf(kind, reading.text, typed, settings),
-      isBeyond && landingsList(typed, reading.beyond, reading.settled ?? reading.mark));
+      isBeyond && landingsList(typed, reading.beyond, writtenBy(reading)));
   }
 
   return { element, tell, made, goTo: (cell) => goTo(grid, cell), choices: () => grid.choices?.() };
@@ -91,7 +92,7 @@ function mixedQuestion({ typed, value, whole, proof, count }, { settled, mark },
   return el("p", { class: "note" },
     `${quoted(proof)} shows which mark comes before decimals. So ${quoted(typed)}${more} `,
     `would be ${shown}, with decimals. Or are these whole numbers, as ${countText(whole)}? `,
-    way(`${countText(whole)}, whole`, ""), way(`${shown}, with decimals`, settled ?? ".,"));
+    way(`${countText(whole)}, whole`, WHOLE), way(`${shown}, with decimals`, settled ?? DECIMALS));
 }
 
 /** A vote by two quotas stays one. */

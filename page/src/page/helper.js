@@ -1,5 +1,5 @@
 // A helper is a worker of the page's own code. It does one task after the other; stopping it ends what it does.
-import { spoken } from "../exact/decimals.js";
+import { spoken } from "../exact/marks.js";
 
 const SLOW = 150; // milliseconds after which a task that nobody needs any more is ended
 

@@ -1,6 +1,7 @@
 // The same game with other amounts: several estates side by side, and who bears an overrun.
 import { Rational } from "../exact/rational.js";
 import { fractionText } from "../exact/decimals.js";
+import { nameOfMark } from "../exact/marks.js";
 import { listed } from "../tell/words.js";
 import { changesOf, changesTable, movedHint, ruleIn } from "./changes.js";
 import { button, el, refill } from "./dom.js";
@@ -70,9 +71,7 @@ function estatesTable(found, { rows, format, setEntry }) {
   const faults = found.filter(({ fault }) => fault).map(({ amount, fault }) => {
     return el("p", { class: "bad" }, amount ? `${format.show(Rational.of(amount))}: ${fault}` : fault);
   });
-  const way = (mark) => button(`No, the ${mark === "." ? "point" : "comma"}`, () => setEntry(mark), {
-    class: "quiet",
-  });
+  const way = (mark) => button(`No, the ${nameOfMark(mark)}`, () => setEntry(mark), { class: "quiet" });
   const notes = found.filter(({ note }) => note).map(({ note, other }) => {
     return el("p", { class: "note" }, note, " ", other && setEntry && way(other));
   });

@@ -1,5 +1,6 @@
 // The case that is worked on: what was typed, what was read of it, and the answers of the program.
-import { spoken } from "../exact/decimals.js";
+import { Marks } from "../exact/marks.js";
+import { formatOf } from "./format.js";
 import { Helper } from "./helper.js";
 import { proposalOf } from "./proposal.js";
 import { askAll, judge } from "./questions.js";
@@ -17,11 +18,7 @@ export class Session {
     this.kind = null;
     this.turn = 0;
     this.isStale = false; // whether something was typed that the answer doesn't know yet
-    this.mark = new Intl.NumberFormat().format(0.5).includes(",") ? "," : "."; // by which numbers are shown
-    this.own = this.mark; // by which those that are typed are read, where they don't show it themselves
-    spoken.mark = this.mark;
-    this.chosen = null; // the mark that the user has chosen
-    this.isChosen = false; // whether what is shown has that one, or the one of a file
+    this.marks = new Marks(new Intl.NumberFormat().format(0.5).includes(",") ? "," : ".");
     this.isTyped = false; // whether the cells aren't those of a worked example
   }
 
@@ -31,17 +28,13 @@ export class Session {
   }
 
   /** `doubt` is why the game isn't taken for the agreed one, in words; `file` is that which was opened: {name, digest},
-   * and `made`, the document that the page makes of it. What `isFile` has no mark of the case before; its `mark` was
-   * chosen. */
+   * and `made`, the document that the page makes of it. The marks are those of `Marks.open`. */
   open(kind, typed, { isFile = false, isTyped = isFile, ...settings } = {}) {
     const { measure = "plain", texts = [], todays = null, pinned = null, doubt = "", file = null } = settings;
-    const { places = kind.places ?? 2, mark = isFile ? this.usualMark() : this.mark } = settings;
-    const { entry = isFile ? mark : this.own } = settings;
-    Object.assign(this, { kind, typed, measure, texts, todays, pinned, entry, doubt, places, mark, isTyped });
-    this.isFresh = isFile;
-    this.isChosen = Boolean(settings.mark) || (isFile ? this.chosen !== null : this.isChosen);
-    spoken.mark = mark;
-    Object.assign(this, { reading: null, result: null, judged: {}, proposal: proposalOf([], [], entry) });
+    const { places = kind.places ?? 2, mark, entry } = settings;
+    Object.assign(this, { kind, typed, measure, texts, todays, pinned, doubt, places, isTyped });
+    this.marks.open({ isFile, mark, entry });
+    Object.assign(this, { reading: null, result: null, judged: {}, proposal: proposalOf([], [], this.marks.entry) });
     this.changed(0);
     this.file = file;
   }
@@ -58,51 +51,20 @@ export class Session {
 
   /** The mark of what is shown; no number is read anew by it. */
   setMark(mark) {
-    this.isChosen = true;
-    this.chosen = this.mark = mark;
-    spoken.mark = mark;
+    this.marks.choose(mark);
     this.changed(0);
-  }
-
-  /** Where no cell of a file shows a mark, what is typed beside them is read by the one that the answer is shown with:
-   * {reading} with that. */
-  ofFile(reading) {
-    const isOpen = this.isFresh && reading.settled === null && !reading.doubts?.length;
-    this.isFresh = false;
-    if (!isOpen) return reading;
-    this.entry = this.mark;
-    return { ...reading, entry: this.mark, mark: this.mark };
-  }
-
-  /** What is shown has the mark that the typed numbers show, until the user chooses one. */
-  follow({ settled }) {
-    if (this.isChosen || !this.isTyped || !settled || settled === this.mark) return false;
-    this.mark = spoken.mark = settled;
-    this.changed(0);
-    return true;
   }
 
   /** The mark of the numbers of this case that can be read both ways, as the user says. */
   setEntry(mark) {
-    this.entry = mark;
+    this.marks.entry = mark;
     this.typed.isMarked = true;
     this.changed(0);
   }
 
-  /** The mark of files, which show none themselves. */
-  usualMark() {
-    return this.chosen ?? this.own;
-  }
-
-  /** The mark by which numbers beside the cells are read: the one that these show, but those of a worked example. */
-  readMark() {
-    const { settled = null, mark = this.own } = this.reading ?? {};
-    return (this.isTyped ? settled : null) ?? mark;
-  }
-
-  /** How the cells were read: that mark, or what the user chose in its place for those that can be read both ways. */
-  entryMark() {
-    return this.reading?.entry ?? this.entry;
+  /** How numbers are shown. */
+  format() {
+    return formatOf(this.places, this.marks.shown);
   }
 
   setMeasure(measure) {
@@ -123,13 +85,13 @@ export class Session {
     for (const helper of [this.engine, this.checker]) helper.stopIfSlow();
     const slow = setTimeout(() => isMine() && this.on.busy(true), BUSY), { engine, checker } = this.asking(mine);
     try {
-      const { kind, entry: mark, measure } = this, typed = kind.pack?.(this.typed) ?? this.typed;
-      const { isMarked } = this.typed;
-      const reading = await engine("readCase", { id: kind.id, typed, mark, measure, isMarked });
+      const { kind, marks, measure } = this, typed = kind.pack?.(this.typed) ?? this.typed;
+      const { isMarked } = this.typed, { shown } = marks;
+      const read = await engine("readCase", { id: kind.id, typed, mark: marks.entry, measure, isMarked });
       if (!isMine()) return;
-      this.reading = this.ofFile(reading);
+      const reading = this.reading = marks.take(read, this.isTyped);
       if (this.file) this.file.made ??= reading.text;
-      if (this.follow(reading)) return;
+      if (marks.shown !== shown) return void this.changed(0); // the notes are to have that mark, too
       this.judged = {};
       this.on.read();
       if (reading.isRight) await this.ask(engine, checker, isMine);
@@ -146,7 +108,7 @@ export class Session {
   async ask(engine, checker, isMine) {
     if (!this.reading.facts) { // the program takes no such game, and the page has calculated what it can
       this.result = { beyond: this.reading.beyond, points: [] };
-      this.proposal = proposalOf([], [], this.readMark());
+      this.proposal = proposalOf([], [], this.marks.beside());
       return;
     }
     this.readProposal();
@@ -176,7 +138,7 @@ export class Session {
 
   readProposal() {
     const canBe = this.reading.facts.kind !== "market";
-    this.proposal = { canBe, ...proposalOf(this.texts, this.reading.rows, this.readMark()), ...this.judged };
+    this.proposal = { canBe, ...proposalOf(this.texts, this.reading.rows, this.marks.beside()), ...this.judged };
   }
 
   setProposal(texts) {

@@ -17,7 +17,7 @@ import { el, refill } from "./dom.js";
 import { knownDigest } from "./files.js";
 import { fitOnPaper } from "./fit.js";
 import { filledLines, filledText, givenText } from "./filled.js";
-import { formatOf, movedText, totalsOf, withSum } from "./format.js";
+import { movedText, totalsOf, withSum } from "./format.js";
 import { labelOfCell } from "./cell-names.js";
 import { pinnedOf, pinnedText } from "./pinned.js";
 import { contextOf, ownSum, sameText } from "./shares-table.js";
@@ -58,7 +58,7 @@ export function showSheet(session, typed = {}) {
 function fillSheet(sheet, session, typed) {
   const { result, reading } = session;
   if (result?.beyond && !result.game) {
-    const format = formatOf(session.places, session.mark), today = todayOf(session, result.beyond.rows);
+    const format = session.format(), today = todayOf(session, result.beyond.rows);
     const view = { ...session, ...typed, format, today };
     sheet.className = "tight";
     const { beyond } = result;
@@ -69,7 +69,7 @@ function fillSheet(sheet, session, typed) {
     refill(sheet);
     return;
   }
-  const { rows } = reading, format = formatOf(session.places, session.mark), today = todayOf(session, rows);
+  const { rows } = reading, format = session.format(), today = todayOf(session, rows);
   const { heading, unit, withProposal } = typed, { coarse } = session.typed, pinned = pinnedOf(session, rows);
   const labelOf = (cell) => labelOfCell(cell, session);
   const view = { ...session, heading, unit, withProposal, result, rows, format, today, coarse, pinned,

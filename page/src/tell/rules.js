@@ -1,7 +1,8 @@
 // The rules that give the nucleolus of a runway and of an estate, told with the numbers of a game. A rule is worked out
 // anew, and told only where its shares are those of the answer.
 import { Rational, ZERO } from "../exact/rational.js";
-import { decimal, fullText, shortText, spoken } from "../exact/decimals.js";
+import { decimal, fullText, shortText } from "../exact/decimals.js";
+import { spoken } from "../exact/marks.js";
 
 /** The rule as {title, sentences, items}; null where the class has none. */
 export function ruleOf(game, shares, namer) {

@@ -2,6 +2,7 @@
 import { parseJson, writeJson } from "../exact/json.js";
 import { Rational } from "../exact/rational.js";
 import { typedText } from "../exact/decimals.js";
+import { isMark } from "../exact/marks.js";
 import { caseNamed, caseOfClass } from "../cases/cases.js";
 import { cellsOf } from "../cases/pasting.js";
 import { packed, tableOf } from "../cases/tables.js";
@@ -45,17 +46,15 @@ export function readCase({ id, typed, mark, measure, isMarked = typed.isMarked }
  * user chose how these are read, by a `mark` of none or of both. */
 function readByOneMark(kind, typed, mark) {
   const first = kind.read(typed, mark), settled = first.reading.settles();
-  const isSettled = first.reading.doubts.size > 0 && settled !== null && isOne(mark);
+  const isSettled = first.reading.doubts.size > 0 && settled !== null && isMark(mark);
   return isSettled && settled !== mark ? kind.read(typed, settled) : first;
 }
-
-const isOne = (mark) => mark.length === 1;
 
 /** By which mark the numbers were read (`entry`; `mark` where one is needed to write them), which of them could be read
  * otherwise, and which show the mark; `settled` is the one that they show, if it is one. */
 function marksOf(reading) {
   const { mark: entry, doubts, shown } = reading, settled = reading.settles();
-  const mark = isOne(entry) ? entry : settled ?? ".";
+  const mark = isMark(entry) ? entry : settled ?? ".";
   return { entry, mark, settled, doubts: [...doubts.values()], shown: [...shown.entries()] };
 }
 
