@@ -91,7 +91,7 @@ export class AnswerView {
       rows, format: session.format(), proposal, wide, filled: filledText(session), today: todayOf(session, rows),
       pinned: pinnedOf(session, rows), labelOfCell: (cell) => labelOfCell(cell, session), result,
       remark: filledLines(session, rows), source: sourceName(session.typed),
-      coarse: session.typed.coarse, typed: this.typed, ask: (task, what) => session.checker.ask(task, what),
+      coarse: session.typed.coarse, typed: this.typed, ask: session.askAbout(result),
     };
   }
 
@@ -242,7 +242,7 @@ export class AnswerView {
 
   /** The parts with fields of their own are kept while answers come, and made anew for another game or other decimals.
    * */
-  showMore(result, { rows, format, filled }) {
+  showMore(result, { rows, format, filled, ask }) {
     const { session } = this;
     const mark = session.marks.beside(), isSettled = session.reading.settled !== null;
     this.showPaper();
@@ -251,7 +251,7 @@ export class AnswerView {
     this.shownMore = key;
     const settings = {
       rows, format, mark, typed: this.typed, setEntry: isSettled ? null : (other) => session.setEntry(other),
-      ask: (task, what) => session.checker.ask(task, what), assumed: (groups) => isFilled(session, groups),
+      ask, assumed: (groups) => isFilled(session, groups),
       fills: fillsAsked(session, mark), network: filledNetwork(session, mark),
     };
     session.pair = "";

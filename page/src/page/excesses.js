@@ -14,7 +14,7 @@ export function excessesPart({ game, text, points: solved }, { rows, format, typ
   const points = [...solved, ...ownPoint(game, proposal)];
   if (!canBe || points.length < 2) return null;
   const memory = (typed.excesses ??= { most: FEW }), found = el("div"), divisions = points.map(sharesOf);
-  const asked = (most) => ask("excessLists", { text, rows, divisions, most });
+  const asked = (most) => ask("excessLists", { divisions, most });
   const key = JSON.stringify([text, divisions, rows.map(({ label }) => label)]);
   const show = async () => {
     if (memory.key !== key + memory.most) {

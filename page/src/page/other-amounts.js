@@ -13,8 +13,8 @@ const MOST_OVERRUN = 12; // players of other games than tables
 
 /** The parts for this game. `settings` are {rows, format, typed, mark, ask, assumed}: `ask(task, what)` goes to a
  * worker, `typed` keeps what was typed, and `assumed(groups)` says whether the page filled the number of any. */
-export function otherAmounts({ game, text }, settings) {
-  const view = { game, text, ...settings };
+export function otherAmounts({ game }, settings) {
+  const view = { game, ...settings };
   if (game.kind === "bankruptcy") return estatesPart(view);
   const isTable = game.isTable(), isOther = ["airport", "tree"].includes(game.kind) && game.n <= MOST_OVERRUN;
   if ((isTable || isOther) && !game.ballots && game.n > 1) return [overrunPart(view), leavingPart(view)];
@@ -24,13 +24,13 @@ export function otherAmounts({ game, text }, settings) {
 }
 
 /** A part that opens, with one field, and what comes of it. */
-function part({ title, hint, label, key, task, show, placeholder = "" }, { text, rows, typed, mark, ask }) {
+function part({ title, hint, label, key, task, show, placeholder = "" }, { typed, mark, ask }) {
   const found = el("div", { class: "found", "aria-live": "polite" });
   const workOut = async () => {
     const put = (...parts) => (found.classList.remove("stale"), refill(found, parts)), now = typed[key] ?? "";
     if (!now.trim()) return put();
     try {
-      const answer = await ask(task, { text, rows, typed: now, mark });
+      const answer = await ask(task, { typed: now, mark });
       return now === typed[key] && put(show(answer));
     } catch (fault) {
       return fault.message === "stopped" || refill(found, el("p", { class: "bad" }, fault.message));

@@ -72,29 +72,35 @@ export class Session {
     this.changed(0);
   }
 
-  /** The helpers as functions that ask; a question that nobody needs any more isn't asked. */
-  asking(turn) {
+  /** The helpers as functions that ask about a case; a question that nobody needs any more isn't asked. */
+  asking(turn, about) {
     const one = (helper) => (task, what) => {
-      return this.turn === turn ? helper.ask(task, what) : Promise.reject(new Error("stopped"));
+      return this.turn === turn ? helper.ask(task, what, about) : Promise.reject(new Error("stopped"));
     };
     return { engine: one(this.engine), checker: one(this.checker) };
+  }
+
+  /** The helper that the parts of an answer ask about its case: `ask(task, what)`. */
+  askAbout({ about }) {
+    return (task, what) => this.checker.ask(task, what, about);
   }
 
   async work() {
     const mine = (this.turn += 1), isMine = () => this.turn === mine;
     for (const helper of [this.engine, this.checker]) helper.stopIfSlow();
-    const slow = setTimeout(() => isMine() && this.on.busy(true), BUSY), { engine, checker } = this.asking(mine);
+    const slow = setTimeout(() => isMine() && this.on.busy(true), BUSY), about = { number: mine };
+    const { engine, checker } = this.asking(mine, about);
     try {
       const { kind, marks, measure } = this, typed = kind.pack?.(this.typed) ?? this.typed;
       const { isMarked } = this.typed, { shown } = marks;
-      const read = await engine("readCase", { id: kind.id, typed, mark: marks.entry, measure, isMarked });
+      const read = await engine("read", { id: kind.id, typed, mark: marks.entry, measure, isMarked });
       if (!isMine()) return;
       const reading = this.reading = marks.take(read, this.isTyped);
       if (this.file) this.file.made ??= reading.text;
       if (marks.shown !== shown) return void this.changed(0); // the notes are to have that mark, too
       this.judged = {};
       this.on.read();
-      if (reading.isRight) await this.ask(engine, checker, isMine);
+      if (reading.isRight) await this.ask(about, { engine, checker }, isMine);
       else this.result = null;
       if (isMine()) this.answered();
     } catch (fault) {
@@ -105,7 +111,7 @@ export class Session {
     }
   }
 
-  async ask(engine, checker, isMine) {
+  async ask(about, helpers, isMine) {
     if (!this.reading.facts) { // the program takes no such game, and the page has calculated what it can
       this.result = { beyond: this.reading.beyond, points: [] };
       this.proposal = proposalOf([], [], this.marks.beside());
@@ -117,7 +123,7 @@ export class Session {
       this.result = result;
       this.answered();
     };
-    await askAll(this.reading, { engine, checker, onPart });
+    await askAll(this.reading, about, { ...helpers, onPart });
     if (isMine()) await this.judge();
   }
 
@@ -166,7 +172,8 @@ export class Session {
   async judge() {
     const { result, turn, texts } = this, { shares } = this.proposal;
     if (!shares || !result || result.refusal || this.isStale) return; // the next answer has it judged
-    const isMine = () => this.turn === turn && this.texts === texts, { engine, checker } = this.asking(turn);
+    const isMine = () => this.turn === turn && this.texts === texts;
+    const { engine, checker } = this.asking(turn, result.about);
     try {
       const judged = await judge(result, shares, engine), [solution] = result.points;
       const isComparable = judged.verdict && !judged.verdict.sum && result.line;
@@ -181,7 +188,6 @@ export class Session {
   }
 
   compared(checker, shares, solution) {
-    const [one, other] = [shares, solution.shares].map((list) => list.map(String));
-    return checker("compare", { text: this.result.text, rows: this.reading.rows, one, other });
+    return checker("compare", { divisions: [shares, solution.shares].map((list) => list.map(String)) });
   }
 }

@@ -20,7 +20,7 @@ const TOO_MANY = "With so many different second votes the page counts the power 
 const ANSWERS = ["nucleolus", "prenucleolus", "shapley"];
 const MOST_BYTES = 2097152;
 
-/** What the cells say: the rows of the answer, what is wrong, and, where nothing is, the document and its facts. */
+/** What the cells say: the rows of the answer, what is wrong, and, if nothing is, the document, its facts and game. */
 export function readCase({ id, typed, mark, measure, isMarked = typed.isMarked }) {
   const { reading, rows, tree, ballots, landings, isBeyond } = readByOneMark(caseNamed(id), typed, mark);
   reading.askOfMixed(isMarked);
@@ -38,8 +38,8 @@ export function readCase({ id, typed, mark, measure, isMarked = typed.isMarked }
   if (!tree) return read; // the program takes no such game
   const players = rows.reduce((sum, row) => sum + row.players.length, 0), isMeasured = measure === "per-head";
   const { class: name, ...others } = tree, canBe = players <= MOST_PER_HEAD && name !== "market";
-  const game = isMeasured && canBe ? { class: name, excess: "per-head", ...others } : tree;
-  return { ...read, text: writeJson({ game }), facts: factsOf(new Game(game), ballots) };
+  const game = new Game(isMeasured && canBe ? { class: name, excess: "per-head", ...others } : tree);
+  return { ...read, text: writeJson({ game: game.tree }), facts: factsOf(game, ballots), game };
 }
 
 /** All cells are read by one mark: where some show which, that one settles those that can be read both ways, unless the

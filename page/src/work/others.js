@@ -1,11 +1,8 @@
 // The same game with another amount to divide: several estates side by side, and an overrun.
-import { parseJson } from "../exact/json.js";
 import { Rational } from "../exact/rational.js";
 import { readNumber, readTogether, shortText } from "../exact/decimals.js";
 import { nameOfMark, otherMark } from "../exact/marks.js";
-import { Game } from "../game/game.js";
 import { withEscapes } from "../game/names.js";
-import { nameByRows, Namer } from "../tell/words.js";
 import { solutionOf } from "./answers.js";
 import { amountsOf, byEachRule, isStable, sideOf, worstOf } from "./changes.js";
 
@@ -42,8 +39,7 @@ function amountOf(text, { value, fault, doubt }, mark, { isOne, isSettled }) {
 
 /** The shares of an estate for several amounts: [{amount, shares, note, other}], or a fault in the place of one's
  * shares. */
-export function estates({ text, typed, mark }) {
-  const { game } = parseJson(text);
+export function estates({ typed, mark }, { tree: game }) {
   return amountsIn(typed, mark).map(({ value, fault, ...told }) => {
     if (fault) return { fault };
     const { version, ...others } = game, estate = value.toDocument();
@@ -67,9 +63,8 @@ function changeOf(typed, whole, mark) {
 
 /** Who bears it where the whole costs, or is worth, more: for each rule the shares before and after, and whether a
  * group does better by itself. */
-export function overrun({ text, rows, typed, mark }) {
-  const game = nameByRows(new Game(parseJson(text).game), rows), amounts = amountsOf(game);
-  const { more, fault } = changeOf(typed, game.whole(), mark);
+export function overrun({ typed, mark }, game) {
+  const amounts = amountsOf(game), { more, fault } = changeOf(typed, game.whole(), mark);
   if (fault) return { fault };
   const after = [...amounts.slice(0, -1), amounts.at(-1).plus(more)];
   const sides = [amounts, after].map((one) => sideOf(game, one)), [wasStable, isStableNow] = sides.map(isStable);
