@@ -32,6 +32,11 @@ const WIDE = 1000; // pixels of the page above which the reasons have pictures b
 const PARTS = ["why", "what-if", "evidence", "paper", "files"];
 const BODIES = ["answer-measure", "answer-settings", "answer-body", "own-body", "answer-more", "why-body",
   "evidence-body", "paper-body", "files-body"];
+/** Which parts of an answer are drawn anew as something comes: all at first, or if it isn't named here. */
+const DRAWN = {
+  reasons: ["body", "why"], divisions: ["body", "why", "own", "evidence", "files"], verdicts: ["body", "why"],
+  checks: ["evidence"], proposal: ["body", "why", "own"], todays: ["body", "own"], pinned: ["body"],
+};
 const LINKS = { "what-if": "What if", evidence: "Evidence", paper: "On paper", files: "Files" };
 
 const at = (id) => document.getElementById(id);
@@ -46,7 +51,7 @@ export class AnswerView {
   /** What was typed for another case is of no use here; `typed` is what was for this one. */
   clear(typed = {}) {
     this.typed = typed;
-    this.shownMore = this.shownPaper = null;
+    this.shownMore = this.shownPaper = this.drawn = null;
     for (const id of BODIES) refill(at(id));
     this.hush();
   }
@@ -55,28 +60,39 @@ export class AnswerView {
     for (const id of ["answer", "parts"]) at(id).classList.add("stale");
   }
 
-  show() {
-    const { session } = this, { result, isStale } = session;
+  /** Shows the answer: all of it, or the parts in which it is seen what `came`. */
+  show(came) {
+    const { result, isStale } = this.session;
     for (const id of ["answer", "parts"]) at(id).classList.toggle("stale", !result || isStale);
     if (result && isStale) return; // what stands there is of the old cells; the next answer is drawn anew
     this.showPanels(result);
     if (!result) return this.hush();
     if (this.isHidden && !result.refusal) return this.showHidden();
     if (!result.game) return this.showBeyond(result);
-    const view = this.viewOf(result);
+    this.draw(result, this.viewOf(result), this.drawn === result ? DRAWN[came] : undefined);
+    this.drawn = result;
+  }
+
+  /** Draws some parts of an answer, or all. */
+  draw(result, view, some) {
+    const parts = {
+      settings: () => this.showSettings(result),
+      body: () => (refill(at("answer-body"), answerParts(result, view)), this.say()),
+      more: () => this.showMore(result, view),
+      why: () => this.showWhy(result, view),
+      own: () => refill(at("own-body"), this.ownParts(result, view)),
+      evidence: () => refill(at("evidence-body"), evidenceParts(result, this.session, view.filled)),
+      files: () => this.made && this.showFiles(this.made),
+      links: () => this.showLinks(),
+    };
+    for (const part of result.refusal ? ["settings", "body"] : some ?? Object.keys(parts)) parts[part]();
+  }
+
+  showSettings(result) {
     const measures = !result.refusal && takesPerHead(result.game) && this.measures(result.game);
     const isAside = result.game.ballots || result.game.isMarket(); // there it is a question that few ask
     refill(at("answer-settings"), result.refusal ? [] : [isAside && measures, this.settings()]);
     refill(at("answer-measure"), !isAside && measures);
-    refill(at("answer-body"), answerParts(result, view));
-    this.say();
-    if (result.refusal) return;
-    this.showMore(result, view);
-    this.showWhy(result, view);
-    refill(at("own-body"), this.ownParts(result, view));
-    refill(at("evidence-body"), evidenceParts(result, session, view.filled));
-    if (this.made) this.showFiles(this.made);
-    this.showLinks();
   }
 
   /** What all parts of the answer are drawn by. */
@@ -181,6 +197,7 @@ export class AnswerView {
   /** Hides the answer, with the reasons, the evidence and the check of a line, or shows it again. */
   hide(isHidden) {
     this.isHidden = isHidden;
+    this.drawn = null;
     document.body.classList.toggle("answer-hidden", isHidden);
     this.shownMore = null;
     if (isHidden) this.showHidden();
@@ -301,7 +318,7 @@ export class AnswerView {
     at("waiting").hidden = true;
     for (const id of ["answer", "parts"]) at(id).classList.remove("stale");
     for (const id of ["answer-measure", "answer-settings", "answer-more", "next"]) refill(at(id));
-    this.shownMore = null;
+    this.shownMore = this.drawn = null;
     refill(at("answer-body"), el("div", { class: "notice bad", role: "alert" }, el("p", {}, sentence),
       button("Try again", () => this.session.changed(0))));
   }

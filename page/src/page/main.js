@@ -29,7 +29,7 @@ const session = new Session({
     view.showWaiting(session.reading, panel);
     verify.beside(session.reading.text ?? null);
   },
-  answer: () => view.show(),
+  answer: (came) => view.show(came),
   busy: (isBusy) => view.busy(isBusy),
   fault: (fault) => view.fault(fault),
 });

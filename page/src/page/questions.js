@@ -31,7 +31,7 @@ export function takesPerHead(game) {
 }
 
 /** Asks all that is asked of a game. `read` is what a worker read of the case `about`, as helpers are told of it;
- * `onPart(result)` is called as answers come. */
+ * `onPart(result, came)` is called as answers come, with the word for what came: at first that is all. */
 export async function askAll(read, about, { engine, checker, onPart }) {
   const { rows, text, beyond, odds } = read, game = nameByRows(new Facts(read.facts), rows);
   const result = { about: Object.assign(about, { text, rows }), game, text, beyond, points: [], checks: {}, odds };
@@ -42,14 +42,16 @@ export async function askAll(read, about, { engine, checker, onPart }) {
   const beside = result.line ? askBeside(result, checker, onPart) : null;
   beside?.catch(() => 0); // it is told where it is waited for
   await askOthers(result, ask);
-  onPart(result);
+  onPart(result, "divisions");
   for (const point of result.points) Object.assign(point, await judge(result, point.shares, engine));
   if (takes("convex", result.game) && !result.game.ballots && result.game.n > 1) {
     result.convexity = await engine("convexity");
   }
-  onPart(result);
-  if (result.line) result.checks.program = await settled(ask("check"));
-  onPart(result);
+  onPart(result, "verdicts");
+  if (result.line) {
+    result.checks.program = await settled(ask("check"));
+    onPart(result, "checks");
+  }
   await beside;
   return result;
 }
@@ -57,9 +59,9 @@ export async function askAll(read, about, { engine, checker, onPart }) {
 /** What another worker does meanwhile: the sentences, and the second checker's word. */
 async function askBeside(result, checker, onPart) {
   result.reasons = await checker("explain");
-  onPart(result);
+  onPart(result, "reasons");
   result.checks.anew = await settled(checker("checkLine"));
-  onPart(result);
+  onPart(result, "checks");
 }
 
 /** A checker that fails is told as a fault, and doesn't keep the other from its word. */

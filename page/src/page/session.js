@@ -9,7 +9,7 @@ const WAIT = 200; // milliseconds between the last key and the question
 const BUSY = 400; // milliseconds after which the page says that it is at work
 
 export class Session {
-  /** `on` is called as things happen: `stale`, `read`, `answer`, `busy(isBusy)` and `fault(fault)`. */
+  /** `on` is called as things happen: `stale`, `read`, `answer(came)`, `busy(isBusy)` and `fault(fault)`. */
   constructor(on) {
     this.on = on;
     this.engine = new Helper();
@@ -100,9 +100,8 @@ export class Session {
       if (marks.shown !== shown) return void this.changed(0); // the notes are to have that mark, too
       this.judged = {};
       this.on.read();
-      if (reading.isRight) await this.ask(about, { engine, checker }, isMine);
-      else this.result = null;
-      if (isMine()) this.answered();
+      if (reading.facts) await this.ask(about, { engine, checker }, isMine);
+      else this.withoutProgram(reading);
     } catch (fault) {
       if (isMine() && fault.message !== "stopped") this.on.fault(fault);
     } finally {
@@ -112,24 +111,23 @@ export class Session {
   }
 
   async ask(about, helpers, isMine) {
-    if (!this.reading.facts) { // the program takes no such game, and the page has calculated what it can
-      this.result = { beyond: this.reading.beyond, points: [] };
-      this.proposal = proposalOf([], [], this.marks.beside());
-      return;
-    }
     this.readProposal();
-    const onPart = (result) => {
-      if (!isMine()) return;
-      this.result = result;
-      this.answered();
-    };
+    const onPart = (result, came) => isMine() && this.answered(result, came);
     await askAll(this.reading, about, { ...helpers, onPart });
     if (isMine()) await this.judge();
   }
 
-  answered() {
+  /** If the program takes no such game, the page has calculated what it can; otherwise the cells aren't right. */
+  withoutProgram({ isRight, beyond }) {
+    if (isRight) this.proposal = proposalOf([], [], this.marks.beside());
+    this.answered(isRight ? { beyond, points: [] } : null);
+  }
+
+  /** `came` says what of the answer is new: all, unless it is named. */
+  answered(result, came) {
+    this.result = result;
     this.isStale = false;
-    this.on.answer();
+    this.on.answer(came);
   }
 
   stop() {
@@ -151,7 +149,7 @@ export class Session {
     this.texts = Array.from(texts, (text) => text ?? "");
     this.judged = {};
     this.readProposal();
-    this.on.answer();
+    this.on.answer("proposal");
     clearTimeout(this.judging);
     this.judging = setTimeout(() => this.judge().catch(this.on.fault), WAIT);
   }
@@ -160,13 +158,13 @@ export class Session {
   setPinned(pinned) {
     this.pinned = pinned;
     this.on.read();
-    this.on.answer();
+    this.on.answer("pinned");
   }
 
   /** What each pays or has today, a text for each row; null where the user doesn't compare. No answer changes. */
   setTodays(texts) {
     this.todays = texts && Array.from(texts, (text) => text ?? "");
-    this.on.answer();
+    this.on.answer("todays");
   }
 
   async judge() {
@@ -181,7 +179,7 @@ export class Session {
       if (!isMine()) return;
       this.judged = judged;
       this.readProposal();
-      this.on.answer();
+      this.on.answer("proposal");
     } catch (fault) {
       if (fault.message !== "stopped") throw fault;
     }
