@@ -53,11 +53,10 @@ async function besideNucleolus(page, expect) {
   expect("the first pair alone", await page.text(".holds"), /Yes, for example \S+/);
 }
 
-/** Tab leads from a claim to the button that removes its row; what it removes can be had back. */
+/** A key removes the row of a claim; what it removes can be had back. */
 async function keysThatRemove(page, expect) {
   await page.run(`document.querySelector('[data-cell="rows.1.claim"]').focus()`);
-  await page.key("Tab");
-  await page.key(" ", { text: " " });
+  await page.key("Delete", { alt: true });
   await page.until(`document.querySelector('[data-cell="rows.1.name"]').value === "Chopra"`);
   await page.click("Undo “Remove Brandt”");
   await page.until(`document.querySelector('[data-cell="rows.1.name"]').value === "Brandt"`);

@@ -1,5 +1,5 @@
-// Scenarios: what goes to the workers while an answer comes, and what is drawn anew. A document goes to each worker once,
-// and a part of the page is drawn when something came that is seen in it.
+// Scenarios: what goes to the workers while an answer comes, and what is drawn anew. A document goes to each worker
+// once, and a part of the page is drawn when something came that is seen in it.
 import { READY, settle, told } from "./harness.mjs";
 
 /** Keeps what is sent to the workers from now on, as texts. */
@@ -17,7 +17,8 @@ const WATCH_DRAWN = `(() => {
   window.drawn = {};
   for (const id of ["answer-body", "why-body", "own-body", "evidence-body"]) {
     drawn[id] = 0;
-    new MutationObserver((all) => { drawn[id] += all.length; }).observe(document.getElementById(id), { childList: true });
+    const watch = new MutationObserver((all) => { drawn[id] += all.length; });
+    watch.observe(document.getElementById(id), { childList: true });
   }
 })()`;
 

@@ -19,6 +19,7 @@ import { markChanged } from "./pinned.js";
 import { tableGrid } from "./table-grid.js";
 
 const MOST_FAULTS = 6;
+const KEYS = { player: " Alt+Delete in a name removes the player.", row: " Alt+Delete in a row removes it." };
 
 /** `settings` are {mark, setEntry, notes, onReset, onUndo} and what the grids need. */
 export function casePanel(kind, typed, settings) {
@@ -31,7 +32,8 @@ export function casePanel(kind, typed, settings) {
   const faults = el("div", { class: "faults", role: "status" }), made = el("div", { class: "made" });
   const coarse = el("div");
   const element = el("div", { class: "case" },
-    el("p", { class: "help" }, kind.help, el("span", { class: "screen" }, " You can paste from a spreadsheet.")),
+    el("p", { class: "help" }, kind.help, el("span", { class: "screen" }, " You can paste from a spreadsheet.",
+      el("span", { class: "keys" }, kind.isTable ? KEYS.player : KEYS.row))),
     notes.map((note) => el("p", { class: "note" }, note)), coarse, grid, faults,
     el("div", { class: "tools bottom" }, el("details", { class: "inline more-tools" },
       el("summary", {}, "More for the cells"), grid.more, el("p", { class: "tools" },
