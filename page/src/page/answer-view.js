@@ -230,10 +230,8 @@ export class AnswerView {
     for (const id of ["why", "evidence", "what-if"]) at(id).hidden = true;
     refill(at("answer-settings"), this.formats(), this.hiding());
     refill(at("answer-measure"));
-    const today = todayOf(this.session, beyond.rows), format = this.session.format();
-    const wide = at("answer-body").clientWidth || 640;
-    refill(at("answer-body"), beyond.power ? beyondPower(beyond, { format, wide })
-      : beyondParts(beyond, { format, today }));
+    const view = this.viewOf(this.session.result);
+    refill(at("answer-body"), beyond.game ? beyondPower(beyond, view) : beyondParts(beyond, view));
     this.showPaper();
     this.showLinks();
     this.say();

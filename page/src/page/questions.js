@@ -3,6 +3,7 @@ import { Rational } from "../exact/rational.js";
 import { Facts } from "../game/facts.js";
 import { ruleName } from "../tell/rule-names.js";
 import { capital, nameByRows } from "../tell/words.js";
+import { calculated } from "./calculated.js";
 
 /** The greatest numbers of players that the commands take, by class; README.md of the program has them all. */
 const LIMITS = {
@@ -34,7 +35,8 @@ export function takesPerHead(game) {
  * `onPart(result, came)` is called as answers come, with the word for what came: at first that is all. */
 export async function askAll(read, about, { engine, checker, onPart }) {
   const { rows, text, beyond, odds } = read, game = nameByRows(new Facts(read.facts), rows);
-  const result = { about: Object.assign(about, { text, rows }), game, text, beyond, points: [], checks: {}, odds };
+  const result = { about: Object.assign(about, { text, rows }), game, text, points: [], checks: {}, odds };
+  result.beyond = calculated(beyond);
   const ask = async (word) => checked(await engine("ask", { word }));
   await askSolution(result, ask);
   if (result.refusal) return onPart(result), result;

@@ -1,5 +1,6 @@
 // The case that is worked on: what was typed, what was read of it, and the answers of the program.
 import { Marks } from "../exact/marks.js";
+import { calculated } from "./calculated.js";
 import { formatOf } from "./format.js";
 import { Helper } from "./helper.js";
 import { proposalOf } from "./proposal.js";
@@ -120,7 +121,7 @@ export class Session {
   /** If the program takes no such game, the page has calculated what it can; otherwise the cells aren't right. */
   withoutProgram({ isRight, beyond }) {
     if (isRight) this.proposal = proposalOf([], [], this.marks.beside());
-    this.answered(isRight ? { beyond, points: [] } : null);
+    this.answered(isRight ? { beyond: calculated(beyond), points: [] } : null);
   }
 
   /** `came` says what of the answer is new: all, unless it is named. */

@@ -57,28 +57,27 @@ export function showSheet(session, typed = {}) {
 
 function fillSheet(sheet, session, typed) {
   const { result, reading } = session;
-  if (result?.beyond && !result.game) {
-    const format = session.format(), today = todayOf(session, result.beyond.rows);
-    const view = { ...session, ...typed, format, today };
-    sheet.className = "tight";
-    const { beyond } = result;
-    refill(sheet, headOf(view), beyond.power ? beyondPower(beyond, { format, wide: WIDE }) : beyondSheet(beyond, view));
-    return;
-  }
-  if (!result || result.refusal || !result.points.length) {
-    refill(sheet);
-    return;
-  }
+  const isBeyond = result?.beyond && !result.game;
+  if (!isBeyond && (!result || result.refusal || !result.points.length)) return refill(sheet);
   const { rows } = reading, format = session.format(), today = todayOf(session, rows);
   const { heading, unit, withProposal } = typed, { coarse } = session.typed, pinned = pinnedOf(session, rows);
   const labelOf = (cell) => labelOfCell(cell, session);
   const view = { ...session, heading, unit, withProposal, result, rows, format, today, coarse, pinned,
     labelOfCell: labelOf };
+  if (isBeyond) return beyondOn(sheet, view);
   const reasons = reasonsOf(view), isLong = rows.length > MANY_ROWS || reasons.textContent.length > LONG;
   const isTight = isLong || Boolean(withProposal || coarse || pinned.pin || result.core?.collection);
   sheet.className = isTight ? "tight" : "";
-  refill(sheet, headOf(view), notices(result, format, coarse), answerOf(view), pictureOf(view), reasons,
+  return refill(sheet, headOf(view), notices(result, format, coarse), answerOf(view), pictureOf(view), reasons,
     agreedOf(view), checkOf(view));
+}
+
+/** What the page calculates by itself. */
+function beyondOn(sheet, view) {
+  const { result: { beyond } } = view;
+  sheet.className = "tight";
+  refill(sheet, headOf(view), beyond.game ? beyondPower(beyond, { ...view, wide: WIDE, isPaper: true })
+    : beyondSheet(beyond, view));
 }
 
 function headOf({ heading, kind }) {
@@ -125,7 +124,7 @@ function answerOf(view) {
     coarse?.times && [{ title, totals }, ...beside].map((one) => {
       return el("p", { class: "hint" }, dividedText(coarse, one.title, rows, one.totals));
     }),
-    kept && el("p", { class: "hint" }, pinnedText(pinned, { points: [point] }, rows, view)),
+    kept && el("p", { class: "hint" }, pinnedText(pinned, { ...point, totals }, rows, view)),
     saidOfAll(view, point, beside));
 }
 
