@@ -49,9 +49,9 @@ function caseOf(number, known) {
   return kept;
 }
 
-self.onmessage = async ({ data: { id, task, what, mark, number, known } }) => {
+self.onmessage = async ({ data: { id, task, what, spoken: spelling, number, known } }) => {
   await started;
-  spoken.mark = mark;
+  Object.assign(spoken, spelling);
   try {
     self.postMessage({ id, result: TASKS[task](what, number && caseOf(number, known)) });
   } catch (fault) {

@@ -119,7 +119,7 @@ async function marksThatContradict(page, expect) {
     expect("why", note, new RegExp(proof));
     await settle(page);
     expect("read", await page.text(".lead"), /together 120.00/);
-    await page.click(`Read “${estate}” as 120000`);
+    await page.click(`Read “${estate}” as the whole number 120000`);
     await noted(page, /as you chose/);
     await settle(page);
     expect("by the other", await page.text(".lead"), /together 120\u202f000.00/);

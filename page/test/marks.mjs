@@ -1,6 +1,7 @@
 // The decimal marks of a page and its case: what is shown, and by which numbers in and beside the cells are read.
-import { readTogether } from "../src/exact/decimals.js";
-import { Marks, onlyMark, spoken, writtenBy } from "../src/exact/marks.js";
+import { decimal, readTogether } from "../src/exact/decimals.js";
+import { BLANK, Marks, onlyMark, spoken, writtenBy } from "../src/exact/marks.js";
+import { Rational } from "../src/exact/rational.js";
 
 const FREE = { entry: ".", mark: ".", settled: null, doubts: [] }; // cells that show no mark, read by the point
 const COMMAS = { ...FREE, settled: "," }; // 12,50
@@ -45,6 +46,24 @@ for (const [what, steps, shown, cells, beside] of STEPS) {
   expect(what, [marks.shown, marks.ofCells(), marks.beside()], [shown, cells, beside]);
   expect(`${what}: sentences`, spoken.mark, shown);
 }
+
+/** The sign between thousands that is shown after cells that show one. */
+const SIGNS = [
+  ["as typed", [example, typed({ ...COMMAS, thousands: "." })], "."],
+  ["of a worked example", [example, ["take", { ...COMMAS, thousands: "." }, false]], BLANK],
+  ["none typed", [example, typed({ ...COMMAS, thousands: null })], BLANK],
+  ["that is the mark now", [example, typed({ ...COMMAS, thousands: "." }), ["choose", "."]], BLANK],
+  ["that is no mark now", [["choose", ","], example, typed({ ...FREE, thousands: "," }), ["choose", "."]], ","],
+  ["in the next case", [example, typed({ ...COMMAS, thousands: "." }), example], BLANK],
+];
+for (const [what, steps, wanted] of SIGNS) {
+  const marks = new Marks(".");
+  for (const [step, ...words] of steps) marks[step](...words);
+  expect(`the sign between thousands ${what}`, spoken.thousands, wanted);
+  expect(`${what}, as numbers are shown`, decimal(Rational.of("12345/2"), 1, spoken),
+    `6${wanted === BLANK ? "" : wanted}172${spoken.mark}5`);
+}
+
 const german = new Marks(",");
 german.open({});
 expect("where the system has the comma", [german.shown, german.ofCells(), german.beside()], [",", ",", ","]);

@@ -1,6 +1,6 @@
 // Reads what a person typed into the cells of a case, and keeps what is wrong, cell by cell.
 import { lcm } from "../exact/rational.js";
-import { cellNumber, countText, readNumber, shortText } from "../exact/decimals.js";
+import { cellNumber, countText, readNumber, shortText, thousandsIn } from "../exact/decimals.js";
 import { isMark, MARKS, onlyMark, otherMark } from "../exact/marks.js";
 import { remarksOf, withEscapes } from "../game/names.js";
 
@@ -15,6 +15,7 @@ export class Reading {
     this.count = 0; // of faults
     this.empty = { count: 0, first: null }; // cells that are empty and may not be
     this.doubts = new Map(); // of numbers that the decimal mark decides, by how they were read: the first, and how many
+    this.thousands = new Set(); // signs between thousands
     this.shown = new Map(); // marks that stand in front of decimals beyond doubt, each with a text that shows it
     this.asked = null; // a row that may be the sum of the others: {r, name}
     this.mixed = null; // a number that would have decimals, though it hardly looks so: {typed, proof, count, value}
@@ -30,6 +31,7 @@ export class Reading {
   known(typed) {
     if (!this.texts.has(typed)) {
       const found = cellNumber(typed, this.mark), { value, by, isWorkedOut } = found;
+      if (value && !isWorkedOut) this.thousands.add(thousandsIn(typed, found));
       if (by && !new RegExp(`\\${by}\\d{3}\\D*$`).test(typed)) this.isUneven = true;
       if (isWorkedOut) this.notes.push(`“${withEscapes(typed.trim())}” is worked out: ${shortText(value)}.`);
       this.texts.set(typed, found);

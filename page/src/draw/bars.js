@@ -64,6 +64,6 @@ function byType({ amounts }, rows) {
 }
 
 export function tickText(tick) {
-  return Number(tick.toPrecision(10)).toLocaleString("en").replace(/,/g, "\u202f")
-    .replace(".", spoken.mark).replace("-", "−");
+  const spelled = (sign) => (sign === "," ? spoken.thousands : spoken.mark);
+  return Number(tick.toPrecision(10)).toLocaleString("en").replace(/[,.]/g, spelled).replace("-", "−");
 }

@@ -1,4 +1,8 @@
-// The decimal mark: what one is, what texts show of it, and by which numbers are read and shown.
+// The decimal mark: what one is, what texts show of it, and by which numbers are read and shown. With it goes the sign
+// between thousands, by which nothing is read.
+
+/** The usual sign between thousands: a narrow blank, so that it is no decimal mark. */
+export const BLANK = "\u202f";
 
 const POINT = ".", COMMA = ",", NAMES = { [POINT]: "point", [COMMA]: "comma" };
 
@@ -8,8 +12,8 @@ export const WHOLE = "", DECIMALS = POINT + COMMA;
 /** The marks to choose from, each with its name. */
 export const MARKS = Object.entries(NAMES);
 
-/** The mark of sentences: that by which numbers are shown, which each worker is told. */
-export const spoken = { mark: POINT };
+/** How numbers are spelled in sentences, as those of the answer are; each worker is told. */
+export const spoken = { mark: POINT, thousands: BLANK };
 
 /** Whether it is one of the two, and not a way to read numbers against both. */
 export const isMark = (text) => text === POINT || text === COMMA;
@@ -31,43 +35,52 @@ export const writtenBy = ({ settled, mark }) => settled ?? mark;
 export class Marks {
   /** `own` is that of the user's system. */
   constructor(own) {
-    Object.assign(this, { own, chosen: null, isChosen: false });
+    Object.assign(this, { own, chosen: null, shown: own, isChosen: false });
     this.open({});
-    this.show(own);
   }
 
   /** A case is opened. `mark` and `entry` are those of a saved case, or of the cells before a step. A file has no mark
    * of the case before. */
   open({ isFile = false, mark, entry }) {
+    this.thousands = null; // the sign that the typed numbers show
     if (mark || isFile) {
-      this.show(mark ?? this.usual());
+      this.shown = mark ?? this.usual();
       this.isChosen = Boolean(mark ?? this.chosen); // by the user, or in the file
     }
     this.entry = entry ?? (isFile ? this.shown : this.own); // by which the next reading is made
     this.isFresh = isFile;
     this.reading = null;
+    this.speak();
   }
 
-  show(mark) {
-    this.shown = spoken.mark = mark;
+  /** How numbers are shown. A sign between thousands that is the decimal mark now gives way to the usual one. */
+  spelling() {
+    const isClear = this.thousands && this.thousands !== this.shown;
+    return { mark: this.shown, thousands: isClear ? this.thousands : BLANK };
+  }
+
+  speak() {
+    Object.assign(spoken, this.spelling());
   }
 
   /** The user chooses by which numbers are shown. */
   choose(mark) {
     this.isChosen = true;
-    this.chosen = mark;
-    this.show(mark);
+    this.chosen = this.shown = mark;
+    this.speak();
   }
 
-  /** Takes over what a reading says of its marks, and returns the reading: numbers are then shown by the one that the
-   * cells show, if they are typed and no worked example (`isTyped`), until the user chooses one. */
+  /** Takes over what a reading says of its marks, and returns the reading: numbers are then shown as the cells show it,
+   * if they are typed and no worked example (`isTyped`), by their mark until the user chooses one. */
   take(reading, isTyped) {
     const { settled, doubts } = reading, isOpen = this.isFresh && settled === null && !doubts?.length;
     this.isFresh = false;
     if (isOpen) this.entry = this.shown; // no cell of a file shows one, so all beside them is read by what is shown
     this.isTyped = isTyped;
     this.reading = isOpen ? { ...reading, entry: this.shown, mark: this.shown } : reading;
-    if (!this.isChosen && isTyped && settled) this.show(settled);
+    if (!this.isChosen && isTyped && settled) this.shown = settled;
+    this.thousands = isTyped ? reading.thousands : null;
+    this.speak();
     return this.reading;
   }
 

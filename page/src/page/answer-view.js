@@ -183,7 +183,7 @@ export class AnswerView {
   showFiles(made) {
     this.made = made;
     const { session } = this, { reading, result, kind } = session, hasMade = made.childElementCount > 0;
-    const points = result?.points ?? [], format = session.format(), tables = () => tablesOf(session.result, {
+    const points = result?.points ?? [], format = session.format().plain(), tables = () => tablesOf(session.result, {
       rows: session.reading.rows, format, coarse: session.typed.coarse,
     });
     at("files").hidden = !hasMade;
@@ -261,7 +261,8 @@ export class AnswerView {
     const { session } = this;
     const mark = session.marks.beside(), isSettled = session.reading.settled !== null;
     this.showPaper();
-    const key = [result.text, format.places, format.mark, filled, mark, isSettled].join("\n");
+    const { places, mark: shown, thousands } = format;
+    const key = [result.text, places, shown, thousands, filled, mark, isSettled].join("\n");
     if (this.shownMore === key) return;
     this.shownMore = key;
     const settings = {

@@ -40,8 +40,8 @@ function roundedTo(value, places) {
 /** The parts of the answer that the page calculates. */
 export function beyondParts(beyond, { format, today, pinned, labelOfCell }) {
   const { isAll, rows, points } = beyond;
-  const tables = () => [shareLines(rows, points, format), airlineLines(rows, points, format),
-    typeLines(rows, points, format), roundingLines(points, format)];
+  const plain = format.plain(), tables = () => [shareLines(rows, points, plain), airlineLines(rows, points, plain),
+    typeLines(rows, points, plain), roundingLines(points, plain)];
   return el("div", { class: "beyond" }, isAll && leadOf(beyond, format),
     el("h3", {}, isAll ? "Above 64 landings" : "Shapley shares above 32 landings"),
     el("div", { class: "notice" }, beyondTexts(beyond).map((text) => el("p", {}, text))),

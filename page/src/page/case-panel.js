@@ -3,7 +3,7 @@ import { fileNames } from "../cases/coarse.js";
 import { withEscapes } from "../game/names.js";
 import { coarseNumbers, coarseText } from "../tell/coarse-text.js";
 import { Rational } from "../exact/rational.js";
-import { countText, typedText } from "../exact/decimals.js";
+import { countText, quotedText } from "../exact/decimals.js";
 import { DECIMALS, WHOLE, writtenBy } from "../exact/marks.js";
 import { plural } from "../tell/words.js";
 import { markFaults, markOdds } from "./cells.js";
@@ -90,7 +90,7 @@ function eitherQuestion({ typed, ways: [[less, one], [more, other]] }, { setEntr
 function mixedQuestion({ typed, value, whole, proof, count }, { settled, mark }, { setEntry }) {
   const quoted = (text) => `“${withEscapes(text.trim())}”`, more = count > 1 ? ` and ${count - 1} like it` : "";
   const way = (text, by) => button(text, () => setEntry(by), { class: "quiet" });
-  const shown = typedText(Rational.of(value), mark);
+  const shown = quotedText(Rational.of(value), mark);
   return el("p", { class: "note" },
     `${quoted(proof)} shows which mark comes before decimals. So ${quoted(typed)}${more} `,
     `would be ${shown}, with decimals. Or are these whole numbers, as ${countText(whole)}? `,

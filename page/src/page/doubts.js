@@ -1,6 +1,6 @@
 // What is said where numbers can be read in two ways, or show two marks, and the buttons that read them otherwise.
 import { Rational } from "../exact/rational.js";
-import { readNumber, typedText } from "../exact/decimals.js";
+import { quotedText, readNumber } from "../exact/decimals.js";
 import { DECIMALS, isMark, nameOfMark, otherMark, WHOLE } from "../exact/marks.js";
 import { withEscapes } from "../game/names.js";
 import { listed } from "../tell/words.js";
@@ -31,11 +31,14 @@ export function doubtNotes({ doubts: found, entry, mark, shown }, { setEntry }) 
 /** Of several kinds of readings each says how many are like it. */
 function readAs({ typed, value: text, how, count }, mark, kinds) {
   const value = Rational.of(text), like = kinds > 1 && count > 1 ? ` (and ${count - 1} like it)` : "";
-  const number = how === "whole" ? `the whole number ${value}` : `${typedText(value, mark)}, with decimals`;
-  return `${quoted(typed)}${like} is read as ${number}`;
+  return `${quoted(typed)}${like} is read as ${toldAs(value, how, mark)}`;
 }
 
-/** Where nothing shows the mark the other may be it; else the first of the kinds is read otherwise. */
+function toldAs(value, how, mark) {
+  return how === "whole" ? `the whole number ${value}` : `${quotedText(value, mark)}, with decimals`;
+}
+
+/** If nothing shows the mark, it may be the other one; otherwise the first of the kinds is read otherwise. */
 function waysOut({ doubts, mark, proof, isChosen }, setEntry) {
   const way = (title, by) => button(title, () => setEntry(by), { class: "quiet" });
   if (isChosen) return [way("Read them by one mark again", mark)];
@@ -44,6 +47,6 @@ function waysOut({ doubts, mark, proof, isChosen }, setEntry) {
   const others = odd.count > 1 ? ", and all like it" : "";
   return [
     !proof && way(`No, the ${nameOfMark(otherMark(mark))}`, otherMark(mark)),
-    (proof || doubts.length > 1) && way(`Read ${quoted(odd.typed)} as ${typedText(value, mark)}${others}`, BY[how]),
+    (proof || doubts.length > 1) && way(`Read ${quoted(odd.typed)} as ${toldAs(value, how, mark)}${others}`, BY[how]),
   ];
 }

@@ -77,7 +77,8 @@ function differsText([{ title }, ...others], [, ...differs]) {
 }
 
 /** All places for a spreadsheet: tabs between, plain decimals, and the exact fractions beside them. */
-function tableText(points, lists, { show }) {
+function tableText(points, lists, format) {
+  const { show } = format.plain();
   const heads = ["Place", ...points.flatMap(({ title }) => [title, `${title}, exact`, "by whom"])];
   const cells = ({ group, excess }) => [show(Rational.of(excess)), excess, group.replace(/[\u2068\u2069\t]/g, "")];
   const lines = lists[0].map((_, k) => [k + 1, ...lists.flatMap((list) => cells(list[k]))]);

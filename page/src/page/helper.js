@@ -37,7 +37,7 @@ export class Helper {
     if (!this.waiting.size) this.since = performance.now();
     return new Promise((resolve, reject) => {
       this.waiting.set(id, { resolve, reject });
-      this.worker.postMessage({ id, task, what, mark: spoken.mark, ...about });
+      this.worker.postMessage({ id, task, what, spoken, ...about });
     });
   }
 

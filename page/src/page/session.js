@@ -65,7 +65,7 @@ export class Session {
 
   /** How numbers are shown. */
   format() {
-    return formatOf(this.places, this.marks.shown);
+    return formatOf(this.places, this.marks.spelling());
   }
 
   setMeasure(measure) {
@@ -93,12 +93,12 @@ export class Session {
     const { engine, checker } = this.asking(mine, about);
     try {
       const { kind, marks, measure } = this, typed = kind.pack?.(this.typed) ?? this.typed;
-      const { isMarked } = this.typed, { shown } = marks;
+      const { isMarked } = this.typed, before = JSON.stringify(marks.spelling());
       const read = await engine("read", { id: kind.id, typed, mark: marks.entry, measure, isMarked });
       if (!isMine()) return;
       const reading = this.reading = marks.take(read, this.isTyped);
       if (this.file) this.file.made ??= reading.text;
-      if (marks.shown !== shown) return void this.changed(0); // the notes are to have that mark, too
+      if (JSON.stringify(marks.spelling()) !== before) return void this.changed(0); // for the notes, too
       this.judged = {};
       this.on.read();
       if (reading.facts) await this.ask(about, { engine, checker }, isMine);

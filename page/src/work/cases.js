@@ -2,7 +2,7 @@
 import { parseJson, writeJson } from "../exact/json.js";
 import { Rational } from "../exact/rational.js";
 import { typedText } from "../exact/decimals.js";
-import { isMark } from "../exact/marks.js";
+import { isMark, onlyMark } from "../exact/marks.js";
 import { caseNamed, caseOfClass } from "../cases/cases.js";
 import { cellsOf } from "../cases/pasting.js";
 import { packed, tableOf } from "../cases/tables.js";
@@ -51,11 +51,12 @@ function readByOneMark(kind, typed, mark) {
 }
 
 /** By which mark the numbers were read (`entry`; `mark` where one is needed to write them), which of them could be read
- * otherwise, and which show the mark; `settled` is the one that they show, if it is one. */
+ * otherwise, and which show the mark; `settled` is the one that they show, if it is one, and `thousands` the sign
+ * between thousands. */
 function marksOf(reading) {
-  const { mark: entry, doubts, shown } = reading, settled = reading.settles();
+  const { mark: entry, doubts, shown } = reading, settled = reading.settles(), thousands = onlyMark(reading.thousands);
   const mark = isMark(entry) ? entry : settled ?? ".";
-  return { entry, mark, settled, doubts: [...doubts.values()], shown: [...shown.entries()] };
+  return { entry, mark, settled, thousands, doubts: [...doubts.values()], shown: [...shown.entries()] };
 }
 
 /** The rows of what was pasted. */
