@@ -34,7 +34,7 @@ async function cents(page, expect) {
   expect("on paper", sheet, rule);
   expect("the claims on paper", sheet, /together259.501.00184.300.50/);
   expect("decimals as in the table", sheet, /The estate of 184.300.50 is/);
-  const where = /project’s repository, at the commit named below[^.]*give you its address/;
+  const where = /project’s repository, at the commit named below[^.]*give you the address of the repository/;
   expect("where the page is", sheet, where);
   expect("by typing", sheet, /simply type the numbers into that page: the answer has to be the same/);
   const steps = await page.text("#evidence .steps");

@@ -1,34 +1,30 @@
 // The panels below a case: the answer, its settings, the reasons and the evidence.
 import { sourceName } from "../cases/matrices.js";
 import { MARKS } from "../exact/marks.js";
-import { answerParts, morePictures } from "./answer.js";
+import { answerParts } from "./answer.js";
 import { beyondParts } from "./beyond.js";
 import { beyondPower } from "./beyond-power.js";
 import { labelOfCell } from "./cell-names.js";
-import { comparisonPart } from "./comparison.js";
 import { pictureButtons } from "../draw/figure.js";
 import { button, copy, el, refill } from "./dom.js";
 import { evidenceParts } from "./evidence.js";
-import { excessesPart } from "./excesses.js";
 import { filledLines, filledText, isFilled } from "./filled.js";
-import { meanings, monotonic, words } from "./meanings.js";
 import { otherAmounts } from "./other-amounts.js";
+import { ownDivision } from "./own-division.js";
 import { paperPart } from "./paper.js";
 import { pinnedOf } from "./pinned.js";
-import { proposalTools } from "./proposal-cells.js";
 import { takesPerHead } from "./questions.js";
-import { holdsPart, roundingPart, sameText, tablesOf } from "./shares-table.js";
+import { tablesOf } from "./shares-table.js";
 import { csvButton, tabbed } from "./table-lines.js";
-import { todayOf, todayTools } from "./today.js";
+import { todayOf } from "./today.js";
 import { waitingParts } from "./waiting.js";
 import { fillsAsked, fillsPart } from "./two-fills.js";
-import { whyParts } from "./why.js";
+import { whyBody } from "./why.js";
 import { pairPart } from "./why-pair.js";
 
 const PLACES = [0, 1, 2, 3, 4, 6];
 const MEASURES = [["plain", "as a whole"], ["per-head", "per head"]];
 
-const WIDE = 1000; // pixels of the page above which the reasons have pictures beside them
 const PARTS = ["why", "what-if", "evidence", "paper", "files"];
 const BODIES = ["answer-measure", "answer-settings", "answer-body", "own-body", "answer-more", "why-body",
   "evidence-body", "paper-body", "files-body"];
@@ -79,8 +75,8 @@ export class AnswerView {
       settings: () => this.showSettings(result),
       body: () => (refill(at("answer-body"), answerParts(result, view)), this.say()),
       more: () => this.showMore(result, view),
-      why: () => this.showWhy(result, view),
-      own: () => refill(at("own-body"), this.ownParts(result, view)),
+      why: () => refill(at("why-body"), whyBody(result, { ...view, pair: this.pair })),
+      own: () => refill(at("own-body"), ownDivision(result, { ...view, onBegin: () => this.show("proposal") })),
       evidence: () => refill(at("evidence-body"), evidenceParts(result, this.session, view.filled)),
       files: () => this.made && this.showFiles(this.made),
       links: () => this.showLinks(),
@@ -125,43 +121,6 @@ export class AnswerView {
   showWaiting(reading, { goTo, choices }) {
     const labelOf = (cell) => labelOfCell(cell, this.session);
     refill(at("waiting"), waitingParts(reading, { goTo, labelOf, choices }));
-  }
-
-  showWhy(result, { rows, format, filled, ...view }) {
-    const settings = { rows, format, filled, ...view }, { game, points } = result;
-    const why = whyParts(result), hasHolds = points.some(({ hold }) => hold), main = document.querySelector("main");
-    const half = main.clientWidth > WIDE ? 2 : 1, wide = Math.min(900, Math.max(280, main.clientWidth / half - 110));
-    const pictures = morePictures(result, { ...settings, wide }), same = why.length > 0 && sameText(result);
-    const beside = [pictures, why.length > 0 && [holdsPart(result, settings), this.pair]].flat(2).filter(Boolean);
-    refill(at("why-body"),
-      el("div", { class: beside.length ? "halves-of-part" : "" }, el("div", {}, why),
-        beside.length > 0 && el("div", {}, beside)),
-      why.length > 0 && excessesPart(result, settings), same && el("p", { class: "hint" }, same),
-      meanings(points, hasHolds, game), !game.ballots && !game.isMarket() && monotonic(),
-      roundingPart(result, settings), words());
-  }
-
-  /** Another division beside the answer: the user's own, and what each pays today. */
-  ownParts(result, { rows, format, proposal, today, typed }) {
-    const { game, points } = result;
-    if (!proposal.canBe && !today.canBe) return [];
-    const begin = () => {
-      typed.isProposing = true;
-      this.show();
-      const cell = document.querySelector('[data-cell="proposal.0"]');
-      cell?.scrollIntoView({ block: "center" });
-      cell?.focus();
-    };
-    const isOpen = typed.isProposing || proposal.texts?.some(Boolean);
-    return [
-      proposal.canBe && el("h3", {}, "Your own division"),
-      proposal.canBe && el("p", { class: "hint" }, "Put it beside the answer, and see which group could do better by ",
-        "itself."),
-      proposal.canBe && !isOpen && el("p", { class: "tools" }, button("Type your own division", begin)),
-      proposal.canBe && proposalTools(result, { rows, proposal, format }),
-      points.length > 0 && comparisonPart(proposal, points[0], game, { rows, typed }),
-      todayTools(game, today),
-    ];
   }
 
   /** The way on from the answer: one step that most want, and the other parts. */
