@@ -96,10 +96,10 @@ export class Session {
       const { isMarked } = this.typed, before = JSON.stringify(marks.spelling());
       const read = await engine("read", { id: kind.id, typed, mark: marks.entry, measure, isMarked });
       if (!isMine()) return;
-      const reading = this.reading = marks.take(read, this.isTyped);
+      const reading = marks.take(read, this.isTyped);
       if (this.file) this.file.made ??= reading.text;
       if (JSON.stringify(marks.spelling()) !== before) return void this.changed(0); // for the notes, too
-      this.judged = {};
+      Object.assign(this, { reading, judged: {} });
       this.on.read();
       if (reading.facts) await this.ask(about, { engine, checker }, isMine);
       else this.withoutProgram(reading);
