@@ -125,7 +125,7 @@ function estateRule(game, shares, namer) {
 function greatestText(parts, isCapped, t, amount) {
   const many = isCapped.filter(Boolean).length, few = parts.length - many, equal = `in ${many} equal parts`;
   if (!many) return [];
-  if (!few) return [`No half is lower: these are ${shortText(amount)} ${equal}.`];
+  if (!few) return [`No half is lower, so ${shortText(amount)} is split ${equal}.`];
   const halves = Rational.sum(parts.filter((_, i) => !isCapped[i])), left = shortText(amount.minus(halves));
   const those = few === 1 ? "One half is no greater:" : `${few} halves are no greater, together`;
   const rest = many > 1 ? `The rest is ${left}, ${equal} of ${fullText(t)}.` : `The rest is ${left}.`;
