@@ -1,14 +1,13 @@
 // What runs beside the page, so that nothing freezes it: the engine, the checker of the page's own, all that reads long
 // texts, and the sentences.
 import { checkAnew } from "./check/check-anew.js";
-import { spoken } from "./exact/decimals.js";
+import { spoken } from "./exact/marks.js";
 import { parseJson } from "./exact/json.js";
-import { Game } from "./game/game.js";
 import { explain } from "./tell/explain.js";
-import { nameByRows } from "./tell/words.js";
 import { answer } from "./work/answers.js";
+import { Case } from "./work/case.js";
 import { openText } from "./work/case-files.js";
-import { readCase, readCells, readList } from "./work/cases.js";
+import { readCells, readList } from "./work/cases.js";
 import { compareFills, leave } from "./work/changes.js";
 import { coarser } from "./work/coarser.js";
 import { compare, excessLists } from "./work/compare.js";
@@ -21,18 +20,19 @@ import { pair } from "./work/pair.js";
 import { fillSplits } from "./work/splits.js";
 import { standardText } from "./work/standard.js";
 
+/** What is asked about texts and cells, and below that about the case that is kept here. */
 const TASKS = {
-  warmUp: () => null, readCase, readCells, readList, lookAtLine, isOfGame, fillLinks, costsOfNetwork, fillSplits,
-  estates, overrun, compare, excessLists, convexity, coarser, standardText, compareFills, leave, pair,
-  openDocument: openText,
+  warmUp: () => null, readCells, readList, lookAtLine, isOfGame, fillLinks, costsOfNetwork, fillSplits, coarser,
+  standardText, compareFills, openDocument: openText,
   solve: ({ word, document }) => answer(word, document),
-  explain: ({ line, rows }) => explained(parseJson(line), rows),
   checkAnew: ({ document }) => anew(document),
-};
 
-function explained(tree, rows) {
-  return explain(nameByRows(new Game(tree.game), rows), tree);
-}
+  read: (what, one) => one.read(what), ask: (what, one) => one.ask(what), convexity: (_, one) => convexity(one),
+  explain: (_, one) => explain(one.named, parseJson(one.line)), checkLine: (_, one) => anew(one.line),
+  compare: (what, one) => compare(what, one.named), excessLists: (what, one) => excessLists(what, one.named),
+  overrun: (what, one) => overrun(what, one.named), estates: (what, one) => estates(what, one.game),
+  leave: (what, one) => leave(what, one.game), pair: (what, one) => pair(what, one.game),
+};
 
 /** The word of the second checker: {tree} with what it says, or {refused} in words. */
 function anew(document) {
@@ -41,12 +41,19 @@ function anew(document) {
 }
 
 const started = warmUp();
+let kept = null; // the case that was asked about last
 
-self.onmessage = async ({ data: { id, task, what, mark } }) => {
+/** The case of a number; `known` comes with the first question about it. */
+function caseOf(number, known) {
+  if (kept?.number !== number) kept = new Case(number, known);
+  return kept;
+}
+
+self.onmessage = async ({ data: { id, task, what, spoken: spelling, number, known } }) => {
   await started;
-  spoken.mark = mark;
+  Object.assign(spoken, spelling);
   try {
-    self.postMessage({ id, result: TASKS[task](what) });
+    self.postMessage({ id, result: TASKS[task](what, number && caseOf(number, known)) });
   } catch (fault) {
     self.postMessage({ id, fault: String(fault?.message ?? fault) });
   }

@@ -10,7 +10,7 @@ const WORDS = [
   "--force-color-profile=srgb", "--disable-extensions", "--no-first-run", "--disable-component-update",
   "--remote-debugging-pipe",
 ];
-const CODES = { Enter: 13, Tab: 9, ArrowDown: 40, ArrowUp: 38, " ": 32 };
+const CODES = { Enter: 13, Tab: 9, Delete: 46, ArrowDown: 40, ArrowUp: 38, " ": 32 };
 const LIMIT = 60000; // milliseconds after which a command of the protocol is given up
 
 export class Browser {
@@ -183,10 +183,11 @@ class Page {
     })()`);
   }
 
-  async key(key, { text, shift = false } = {}) {
+  async key(key, { text, shift = false, alt = false } = {}) {
     for (const type of ["keyDown", "keyUp"]) {
       await this.send("Input.dispatchKeyEvent", {
-        type, key, code: key === " " ? "Space" : key, windowsVirtualKeyCode: CODES[key], modifiers: shift ? 8 : 0,
+        type, key, code: key === " " ? "Space" : key, windowsVirtualKeyCode: CODES[key],
+        modifiers: (shift ? 8 : 0) + (alt ? 1 : 0),
         text: type === "keyDown" ? text : undefined,
       });
     }

@@ -14,7 +14,7 @@ export const casesTyped = [
     await page.paste('[data-cell="rows.0.name"]', sheet);
     await settle(page);
     expect("settled by the others", await page.text("#case .faults"), /is read as the whole number[^“]*“.*shows that/);
-    const lead = /Nord pays .* for 4 landings, Süd pays .* and Ost pays .*together 2000.00/;
+    const lead = /Nord pays .* for 4 landings, Süd pays .* and Ost pays .*together 2\.000,00/;
     expect("lead", await page.text(".lead"), lead);
     expect("words", await page.text(".words"), WORDS);
   }],

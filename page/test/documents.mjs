@@ -20,6 +20,14 @@ const REFUSED = [
   ["3 a misspelt key", game('"class":"airport","cost":[2]'),
     /“cost” has no place here; is it “costs”\?[\s\S]*game.cost/],
   ["3 a game alone", '{"class":"airport","costs":[2]}', /a game alone/],
+  ["3 no row", game('"class":"assignment","matrix":["1/2"]'), /array of rows[\s\S]*game.matrix/],
+  ["3 a row that is a number", game('"class":"assignment","matrix":[5]'), /array of rows[\s\S]*game.matrix/],
+  ["3 a member that is an object", game('"class":"table","players":2,"sparse":[[[{}],5],[[1,2],9]]'),
+    /A member is a number or a name[\s\S]*game.sparse, item 1/],
+  ["3 players that are an object", game('"class":"table","players":{},"sparse":[[[1],5]]'),
+    /players is a whole number, without quotes[\s\S]*game.players/],
+  ["a case without its version", '{"coop-page":{},"document":{"game":{"class":"airport","costs":[1]}}}',
+    /This case isn’t as the page saved it[\s\S]*coop-page/],
   ["4 seventeen players", game('"class":"table","players":17,"worths":[]'), /1 to 16 players, and not 17/],
   ["4 a worth too few", game('"class":"table","players":2,"worths":[1,2]'), /have 3 groups, and worths has 2 items/],
   ["5 a decimal", game('"class":"airport","costs":[2,4.5,6]'), /4.5 is no whole number[\s\S]*game.costs, item 2/],
@@ -34,6 +42,8 @@ const REFUSED = [
 
 /** Refusals that concern checking alone. */
 const REFUSED_LINES = [
+  ["3 players that are an object", `{"game":{"class":"table","players":{},"worths":[1,2,3]},"shares":["1"],${bare}}`,
+    /players is a whole number, without quotes[\s\S]*game.players/],
   ["3 the mode", airport(`"answer":"nucleolus","certificate":{"mode":"player","levels":[${level}]}`),
     /mode is players or span[\s\S]*certificate.mode/],
   ["10 shares", airport(bare, '["1"]'), /There is 1 share for 3 players/],

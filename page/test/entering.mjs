@@ -29,11 +29,11 @@ const marks = [
     await useList(page, "0.1754\n3.922\n1.5\n26.4614\n12.125\n8\n40");
     await settle(page);
     expect("read", await made(page), /"1961\/500"[\s\S]*"97\/8"|3\.922/);
-    const read = /^“3.922” is read as 3.9220, with decimals: “0.1754” shows that the point comes before decimals/;
+    const read = /^“3.922” is read as 3.922, with decimals: “0.1754” shows that the point comes before decimals/;
     expect("and said", await notes(page), read);
     await useList(page, "3.922\n1.234\n5\n6\n7\n8\n40.000");
     await settle(page);
-    expect("told", await notes(page), /“3.922” is read as 3.9220, with decimals[\s\S]*So are the 3 numbers/);
+    expect("told", await notes(page), /“3.922” is read as 3.922, with decimals[\s\S]*So are the 3 numbers/);
     const before = await made(page);
     await page.click("No, the comma");
     await settle(page);
@@ -41,6 +41,23 @@ const marks = [
     await page.click("No, the point");
     await settle(page);
     expect("and back", await made(page), before);
+  }],
+
+  ["thousands are shown as they were typed", "estate", async (page, expect) => {
+    for (const [by, mark, shown] of [[".", ",", "."], [",", ".", ","], ["'", ".", "’"], ["\u00a0", ",", "\u202f"]]) {
+      const typed = (text) => text.replace(/[_;]/g, (sign) => (sign === "_" ? by : mark));
+      await page.click("Clear all");
+      await page.paste('[data-cell="rows.0.name"]', typed("A\t1_200_000;50\nB\t900_000\nC\t700_000;25"));
+      await page.type("estate", typed("2_000_000;00"));
+      const whole = `2${shown}000${shown}000${mark}00`;
+      await page.until(`document.querySelector("#answer .lead")?.textContent.includes("together ${whole}")`);
+      await settle(page);
+      expect(`in the table by ${by}`, (await page.text(".shares tfoot")).includes(whole), true);
+      const claim = `1${shown}200${shown}000${mark}50`;
+      expect(`and in the reasons by ${by}`, (await page.text("#why")).includes(claim), true);
+    }
+    await page.type("estate", "1,900,000.00");
+    await told(page, "#answer .lead", /together 1\u202f900\u202f000,00/);
   }],
 
   ["the decimal mark of what is shown changes no number", "gains", async (page, expect) => {

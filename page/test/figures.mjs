@@ -113,6 +113,12 @@ async function twentyVoters(page, expect) {
   expect("the page's own", await page.text("#answer .notice"),
     /the page itself counted[\s\S]*does NOT come from the proved/i);
   expect("what isn’t there", await page.text("#answer-body"), /no Banzhaf index, and no third condition/);
+  await page.click("Keep this answer to compare");
+  await told(page, ".beyond .pinned", /The shares are those of the kept answer/);
+  await page.type("quota", "75 %");
+  const note = await told(page, ".beyond .pinned", /Against the kept answer, in power: /);
+  expect("what changed", note, /Changed since: Votes needed: 65 % → 75 %/);
+  expect("the kept power", await page.text(".power thead"), /Kept\s+Power/);
 }
 
 async function estates(page, expect) {

@@ -123,7 +123,8 @@ function tryComparison(n, name, excess) {
   const some = () => Array.from({ length: n }, () => `${draw(40) - 9}/${1 + draw(7)}`);
   const game = new Game(parseJson(text).game), [one, other] = [some(), some()];
   const lists = [one, other].map((shares) => excessList(game, shares.map(Rational.of)));
-  const found = compare({ text, one, other }), differs = lists[0].findIndex((value, k) => value !== lists[1][k]);
+  const differs = lists[0].findIndex((value, k) => value !== lists[1][k]), divisions = [one, other];
+  const found = compare({ divisions }, game);
   expect(`the first difference of ${text}`, found.differs, differs + 1);
   found.lists.forEach((list, which) => list.forEach((entry, k) => {
     expect(`place ${k} of ${text}`, entry.excess, lists[which][found.first - 1 + k]);

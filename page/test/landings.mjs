@@ -218,6 +218,26 @@ const beyond = [
     expect("the same again", await page.text(".beyond .lines"), calculated);
   }],
 
+  ["above 64 landings: an answer is kept to compare", "runway", async (page, expect) => {
+    await pasted(page, `${HEADS}${FEW.replace("DH8;3", "DH8;300")}`);
+    await told(page, "#answer-body", /These are 305 landings/);
+    await page.click("Keep this answer to compare");
+    await told(page, ".beyond .pinned", /The shares are those of the kept answer/);
+    await page.type("rows.3.cost", "80");
+    const note = await told(page, ".beyond .pinned", /^Against the kept answer, by the nucleolus: [^.]*Condor[^.]* \+/);
+    expect("which cell", note, /Changed since: [^.]*60 → 80\./);
+    expect("in its place", await page.run(`document.querySelector('[data-cell="rows.3.cost"]').title`), "Kept: 60");
+    expect("a column", await page.text(".beyond thead"), /A landing needs\s+Kept\s+Nucleolus/);
+    expect("together", await page.text(".beyond tfoot"), /305\s+60,00\s+80,00/);
+    expect("on paper", await sheetOf(page), /Kept.*Condor.*Against the kept answer, by the nucleolus/);
+    await page.run("dispatchEvent(new Event('afterprint'))");
+    await page.type("rows.0.count", "3");
+    await settle(page);
+    expect("beside the program's answer", await page.text(".pinned"), /^Against the kept answer, by the nucleolus/);
+    await page.click("Stop comparing");
+    await page.until("!document.querySelector('.pinned')");
+  }],
+
   ["Shapley shares above 32 landings", "runway", async (page, expect) => {
     await page.type("rows.0.count", "30");
     await settle(page);

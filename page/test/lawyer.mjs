@@ -34,7 +34,7 @@ async function cents(page, expect) {
   expect("on paper", sheet, rule);
   expect("the claims on paper", sheet, /together259.501.00184.300.50/);
   expect("decimals as in the table", sheet, /The estate of 184.300.50 is/);
-  const where = /project’s repository, at the commit named below[^.]*give you its address/;
+  const where = /project’s repository, at the commit named below[^.]*give you the address of the repository/;
   expect("where the page is", sheet, where);
   expect("by typing", sheet, /simply type the numbers into that page: the answer has to be the same/);
   const steps = await page.text("#evidence .steps");
@@ -53,11 +53,10 @@ async function besideNucleolus(page, expect) {
   expect("the first pair alone", await page.text(".holds"), /Yes, for example \S+/);
 }
 
-/** Tab leads from a claim to the button that removes its row; what it removes can be had back. */
+/** A key removes the row of a claim; what it removes can be had back. */
 async function keysThatRemove(page, expect) {
   await page.run(`document.querySelector('[data-cell="rows.1.claim"]').focus()`);
-  await page.key("Tab");
-  await page.key(" ", { text: " " });
+  await page.key("Delete", { alt: true });
   await page.until(`document.querySelector('[data-cell="rows.1.name"]').value === "Chopra"`);
   await page.click("Undo “Remove Brandt”");
   await page.until(`document.querySelector('[data-cell="rows.1.name"]').value === "Brandt"`);

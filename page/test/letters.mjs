@@ -81,7 +81,7 @@ async function agreedFileOnPaper(page, expect, line, agreed) {
   await page.until(READY);
   const named = new RegExp(`agreed.json\\. Its SHA-256 is ${digest}`);
   expect("the agreed file", await page.run(PAPER), named);
-  const ofFile = /That is the SHA-256 of the file\. The box below has the same numbers as this page writes them/;
+  const ofFile = /This is the SHA-256 of the file\. The box below contains the same numbers, as this page writes them/;
   expect("of what the sum is", await page.run(PAPER), ofFile);
   expect("and on the screen", await page.text("#evidence .steps"), new RegExp(`agreed.json[^.]*SHA-256 ${digest}`));
   await page.run("dispatchEvent(new Event('afterprint'))");
@@ -89,7 +89,7 @@ async function agreedFileOnPaper(page, expect, line, agreed) {
   await settle(page);
   const own = /file that this page writes, runway-game.json\. Its SHA-256 is [0-9a-f]{64}\. Numbers were changed since/;
   await page.until(`${own}.test(${PAPER})`);
-  const ofText = /That is the SHA-256 of the text in the box below, with a line end after it/;
+  const ofText = /This is the SHA-256 of the text in the box below, with a line end after it/;
   expect("of its own file", await page.run(PAPER), ofText);
   const [shownSum, box] = await page.run("['digest', 'document'].map((part) => "
     + "document.querySelector('#sheet .' + part).textContent)");
@@ -119,7 +119,7 @@ async function marksThatContradict(page, expect) {
     expect("why", note, new RegExp(proof));
     await settle(page);
     expect("read", await page.text(".lead"), /together 120.00/);
-    await page.click(`Read “${estate}” as 120000`);
+    await page.click(`Read “${estate}” as the whole number 120000`);
     await noted(page, /as you chose/);
     await settle(page);
     expect("by the other", await page.text(".lead"), /together 120\u202f000.00/);

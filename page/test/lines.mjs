@@ -181,8 +181,9 @@ function reasons(document, shares) {
   return [...rule.sentences, rule.last].join(" ");
 }
 expect("where the most comes from", reasons(agreed, ["50", "75", "75"]),
-  /The one half that isn’t above it is 50, of 200. That leaves 150; in 2 equal parts that is 75 each/);
-expect("not in proportion", reasons(agreed, ["50", "75", "75"]), /by which each would get 33.33\u202f% of its claim/);
+  /at most 75\. One half is no greater: 50 of the 200\. The rest is 150, in 2 equal parts of 75\./);
+expect("not in proportion", reasons(agreed, ["50", "75", "75"]),
+  /In proportion to the claims, each would get 33.33\u202f% of its claim\. By this rule/);
 expect("just in proportion", /proportion/.test(reasons(agreed.replace(":200", ":300"), ["50", "100", "150"])), false);
 
 console.log(`lines and names: ${tried} expectations, ${faults} faults`);

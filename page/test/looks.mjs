@@ -215,7 +215,7 @@ async function keysAlone(page, expect) {
   await page.key("Enter", { text: "\r" });
   expect("below", await focused(), "rows.1.claim");
   await page.key("Tab");
-  expect("tab", await focused(), "Remove row 2");
+  expect("tab passes the × by", await focused(), "rows.2.name");
   await page.run(`document.querySelector('[data-cell="rows.2.claim"]').focus()`);
   await page.key("Enter", { text: "\r" });
   expect("new row", await focused(), "rows.3.claim");
@@ -234,6 +234,25 @@ async function startByKeys(page, expect) {
   expect("its head has the focus", await page.run("document.activeElement.id"), "case-title");
 }
 
+/** Each × is in no tab order, and a key in its row does the same. */
+async function removedByKey(page, expect, cell, row, before) {
+  const count = `document.querySelectorAll("#case ${row}:has(.remove)").length`;
+  expect("rows", await page.run(count), before);
+  expect("in no tab order", await page.run("document.querySelectorAll('.remove:not([tabindex=\"-1\"])').length"), 0);
+  expect("it is said", await page.text("#case .help"), /Alt\+Delete in a (row removes it|name removes the player)\./);
+  await page.run(`document.querySelector('[data-cell="${cell}"]').focus()`);
+  await page.key("Delete");
+  expect("Delete alone removes nothing", await page.run(count), before);
+  await page.key("Delete", { alt: true });
+  await page.until(`${count} === ${before - 1}`);
+  expect("a cell has the focus", await page.run("document.activeElement.dataset.cell !== undefined"), true);
+  await page.click("Undo “Remove");
+  await page.until(`${count} === ${before}`);
+}
+
+const BY_KEY = [["runway", "rows.1.cost", "tr", 3], ["estate", "rows.2.claim", "tr", 3],
+  ["costs", "names.2", ".player", 3], ["network", "links.1-2", "tr", 4], ["market", "values.1.0", "tr", 3]];
+
 const ROLES = ["button", "textbox", "combobox", "searchbox", "link", "checkbox", "DisclosureTriangle", "spinbutton"];
 
 /** Each control has a name in the tree that screen readers get, and the tab key goes through all of them. */
@@ -246,7 +265,7 @@ async function controls(page, expect) {
   expect("some controls", seen.length > 1, true);
   const pictures = nodes.filter(({ ignored, role }) => !ignored && ["img", "image"].includes(role?.value));
   expect("pictures without a name", pictures.filter(({ name }) => !name?.value).length, 0);
-  const reachable = "button, input:not([aria-hidden]), select, textarea, summary, pre[tabindex]";
+  const reachable = "button:not(.remove), input:not([aria-hidden]), select, textarea, summary, pre[tabindex]";
   const wanted = await page.run(`[...document.querySelectorAll("${reachable}")]
     .filter((one) => one.checkVisibility() && !one.disabled).length`);
   await page.run("document.activeElement.blur(); window.reached = new Set(); scrollTo(0, 0);"
@@ -260,6 +279,9 @@ async function controls(page, expect) {
 
 export const access = [
   ["keys alone", "estate", keysAlone],
+  ...BY_KEY.map(([id, ...row]) => [`a row is removed by a key: ${id}`, id, (page, expect) => {
+    return removedByKey(page, expect, ...row);
+  }]),
   ["the start by keys alone", "", startByKeys],
   ...VIEWS.map((id) => [`each control reached and named: ${id || "start"}`, id, controls]),
 ];

@@ -61,6 +61,8 @@ export function monkey(seed, steps) {
     await page.until(`${isShown} || document.querySelector(".hiding")?.click()`);
     await settle(page);
     expect(`after ${last}`, await page.text("#answer-body .notice.bad"), "");
+    // its part may have been closed
+    await page.run("for (const part of document.querySelectorAll('.part')) part.open = true");
     // what was clicked last may come from a worker still, and then all is asked once more
     await told(page, "#evidence .words", /says yes[\s\S]*says yes/);
     await told(page, "#busy", /^$/);

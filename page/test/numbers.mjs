@@ -1,5 +1,5 @@
 // Numbers and lists as people type them, or other programs give them: what they are read as.
-import { cellNumber, readNumber, typedText } from "../src/exact/decimals.js";
+import { cellNumber, readNumber, thousandsIn, typedText } from "../src/exact/decimals.js";
 import { runway } from "../src/cases/lists.js";
 import { cellsOf, columnsFor, headingsOf, pastedText } from "../src/cases/pasting.js";
 import { tableOf } from "../src/cases/tables.js";
@@ -31,7 +31,20 @@ const WORKED = [
   ["1/3*3", "1"], ["12.50", "25/2"],
 ];
 
+/** The sign between thousands that a number shows, read with a mark. */
+const THOUSANDS = [
+  ["1.234", ",", "."], ["1.234", ".", null], ["1,234", ".", ","], ["1.234,50", ".", "."], ["1,234,567", ",", ","],
+  ["1'234.50", ".", "’"], ["1’234", ".", "’"], ["1 234,50", ",", null], ["1234.567", ".", null], ["0.125", ",", null],
+  ["12,34,567", ".", null], ["1234", ".", null], ["€ 12.000,50", ".", "."],
+];
+
 let faults = 0;
+for (const [text, mark, wanted] of THOUSANDS) {
+  const found = thousandsIn(text, readNumber(text, mark));
+  if (found === wanted) continue;
+  faults += 1;
+  console.log(`${JSON.stringify(text)} with ${mark} shows ${found} between thousands, and not ${wanted}`);
+}
 for (const [text, mark, wanted] of CASES) {
   const { value, fault } = readNumber(text, mark), found = value ? String(value) : null;
   if (found === wanted) continue;
@@ -119,6 +132,6 @@ for (const [text, wanted, told] of PASTED) {
   console.log(`${JSON.stringify(text)}: headings ${JSON.stringify(found)}, and it is told: ${said}`);
 }
 
-const tried = CASES.length + WORKED.length + VALUES.length + LISTS.length + PASTED.length;
+const tried = CASES.length + WORKED.length + THOUSANDS.length + VALUES.length + LISTS.length + PASTED.length;
 console.log(`${tried} numbers and lists as people type them, ${faults} faults`);
 process.exit(faults || !CASES.length ? 1 : 0);

@@ -265,6 +265,15 @@ const lists = [
     expect("how to run many", await page.text("#document-message"), /One game at a time here; for many, scripts\//);
   }],
 
+  ["a name that a spreadsheet would run is quoted", "costs", async (page, expect) => {
+    await page.type("names.0", "-1+cmd|' /C calc'!A0");
+    await page.type("names.1", "\u22121+1");
+    await settle(page);
+    const table = await savedTable(page);
+    expect("a command", table, /^'-1\+cmd\|' \/C calc'!A0,/m);
+    expect("with another minus", table, /^'-1\+1,/m);
+  }],
+
   ["the answer has the mark of the numbers, until one is chosen", "gains", async (page, expect) => {
     await useList(page, "5,5\n3,25\n2\n10\n9\n6\n16,5");
     await told(page, ".lead", /together 16,50/);

@@ -20,6 +20,7 @@ import { lecture } from "./lecture.mjs";
 import { letters } from "./letters.mjs";
 import { access, large, looks } from "./looks.mjs";
 import { monkey } from "./monkey.mjs";
+import { parts } from "./parts.mjs";
 import { precise } from "./precise.mjs";
 import { saying } from "./saying.mjs";
 import { users } from "./users.mjs";
@@ -34,6 +35,7 @@ harness.add(large(slack, told));
 harness.add(desk);
 harness.add(users);
 harness.add(figures);
+harness.add(parts);
 for (const some of [entering, assumed, saying, lecture, landings, bothWays, casesTyped, tables, otherCases,
   documents(top, program), checking(top), checks(top), letters(top), lawyer(top), failing(page, top), looks, access,
   precise]) {

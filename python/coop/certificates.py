@@ -113,7 +113,7 @@ class Explainer:
         """One level."""
         level, before = self.levels[place], self.settled.players()
         self.settled.add_level(level)
-        who = "Each group that is still open" if place else "Every group but all together"
+        who = "Each group that is still open" if place else "Every group except all together"
         sentences = [f"Level {place + 1}.", self.worst_off(level, who), self.why(reduced(level)), self.settles(before)]
         return filled(" ".join(sentences))
 

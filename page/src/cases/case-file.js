@@ -1,11 +1,11 @@
 // A case as the page saves it: the document, and what a document has no place for, as which numbers were assumed.
 import { isObject, writeJson } from "../exact/json.js";
+import { isMark } from "../exact/marks.js";
 import { coarseOf } from "./coarse.js";
 import { maskOf, membersOf } from "../game/groups.js";
 
 const WORD = "coop-page", VERSION = 1n;
 const isText = (one) => typeof one === "string" && one.length <= 200;
-const isMark = (one) => one === "." || one === ",";
 
 /** What may stand beside the document, each with its test. */
 const TESTS = {

@@ -1,11 +1,11 @@
 // Reads what a person typed into the cells of a case, and keeps what is wrong, cell by cell.
 import { lcm } from "../exact/rational.js";
-import { cellNumber, countText, readNumber, shortText } from "../exact/decimals.js";
+import { cellNumber, countText, readNumber, shortText, thousandsIn } from "../exact/decimals.js";
+import { isMark, MARKS, onlyMark, otherMark } from "../exact/marks.js";
 import { remarksOf, withEscapes } from "../game/names.js";
 
 const MOST_SCALE = 65536n;
 const MOST = 2n ** 40n;
-const OTHER = { ".": ",", ",": "." };
 const MOST_KEPT = 200; // faults that are kept with their cells; of the others only the number
 
 export class Reading {
@@ -15,6 +15,7 @@ export class Reading {
     this.count = 0; // of faults
     this.empty = { count: 0, first: null }; // cells that are empty and may not be
     this.doubts = new Map(); // of numbers that the decimal mark decides, by how they were read: the first, and how many
+    this.thousands = new Set(); // signs between thousands
     this.shown = new Map(); // marks that stand in front of decimals beyond doubt, each with a text that shows it
     this.asked = null; // a row that may be the sum of the others: {r, name}
     this.mixed = null; // a number that would have decimals, though it hardly looks so: {typed, proof, count, value}
@@ -30,6 +31,7 @@ export class Reading {
   known(typed) {
     if (!this.texts.has(typed)) {
       const found = cellNumber(typed, this.mark), { value, by, isWorkedOut } = found;
+      if (value && !isWorkedOut) this.thousands.add(thousandsIn(typed, found));
       if (by && !new RegExp(`\\${by}\\d{3}\\D*$`).test(typed)) this.isUneven = true;
       if (isWorkedOut) this.notes.push(`“${withEscapes(typed.trim())}” is worked out: ${shortText(value)}.`);
       this.texts.set(typed, found);
@@ -82,7 +84,7 @@ export class Reading {
 
   /** The one mark that all other numbers show; null where none does, or both stand there. */
   settles() {
-    return this.shown.size === 1 ? [...this.shown.keys()][0] : null;
+    return onlyMark(this.shown.keys());
   }
 
   /** A whole number. One as 1.234 that would have decimals shows that its mark parts thousands; of one as 5.000, which
@@ -102,15 +104,15 @@ export class Reading {
 
   /** The mark that a whole number shows, by which alone it is whole; none if it is whole by both. */
   markOfWhole(typed, isWhole) {
-    if (!isWhole) return OTHER[/[.,]/.exec(typed)[0]];
-    const other = OTHER[this.mark] && readNumber(typed, OTHER[this.mark]).value;
+    if (!isWhole) return otherMark(/[.,]/.exec(typed)[0]);
+    const other = isMark(this.mark) && readNumber(typed, otherMark(this.mark)).value;
     return other && !other.isWhole() ? this.mark : undefined;
   }
 
   /** Where a whole number is one by both marks, no other number shows which comes before decimals, and the user
    * hasn't said it (`isMarked`), it is asked. */
   askOfEither({ isMarked }) {
-    if (isMarked || this.settles() !== null || this.mark.length !== 1) this.either = null;
+    if (isMarked || this.settles() !== null || !isMark(this.mark)) this.either = null;
   }
 
   /** Names, each with its cell; an empty one is the word with its number, or, in a list with names, still open. */
@@ -165,7 +167,7 @@ export class Reading {
 
 /** What a text is by each mark, the lesser number first; null where it isn't whole by both. */
 function eitherOf(typed) {
-  const ways = [".", ","].map((mark) => [readNumber(typed, mark).value, mark]);
+  const ways = MARKS.map(([mark]) => [readNumber(typed, mark).value, mark]);
   if (!ways.every(([value]) => value.isWhole())) return null;
   ways.sort(([one], [other]) => one.compare(other));
   return { typed, ways: ways.map(([value, mark]) => [String(value), mark]) };

@@ -1,7 +1,7 @@
 // Bars of what each gets or pays, with marks at what it is worth alone and at what it adds to all others.
 import { shortText } from "../exact/decimals.js";
 import { Rational, ZERO } from "../exact/rational.js";
-import { spoken } from "../exact/decimals.js";
+import { spoken } from "../exact/marks.js";
 import { chart } from "./chart.js";
 import { figure } from "./figure.js";
 
@@ -64,6 +64,6 @@ function byType({ amounts }, rows) {
 }
 
 export function tickText(tick) {
-  return Number(tick.toPrecision(10)).toLocaleString("en").replace(/,/g, "\u202f")
-    .replace(".", spoken.mark).replace("-", "−");
+  const spelled = (sign) => (sign === "," ? spoken.thousands : spoken.mark);
+  return Number(tick.toPrecision(10)).toLocaleString("en").replace(/[,.]/g, spelled).replace("-", "−");
 }

@@ -5,7 +5,7 @@ import { shortText } from "../exact/decimals.js";
 import { svg } from "../page/dom.js";
 import { listed } from "../tell/words.js";
 import { figure } from "./figure.js";
-import { fitted } from "./measure.js";
+import { fitted, widthOf } from "./measure.js";
 import { Shape } from "./shape.js";
 
 const LETTERS = "abcdef";
@@ -98,8 +98,9 @@ function cornersOf(game, { spots, side, outer, sign, isImputations }, width) {
     const text = fitted(game.shown[i], i === 2 ? width - 20 : side / 2, 15, 600);
     const [name, numbers] = i === 2 ? [-36, -21] : [26, 42];
     const told = outer[i].map((share) => shortText(sign(share))).join("; "), isShort = told.length <= MOST_TOLD;
-    return [svg("text", { class: "strong", x, y: y + name, "text-anchor": "middle" }, text),
-      isImputations && isShort && svg("text", { class: "soft", x, y: y + numbers, "text-anchor": "middle" }, told)];
+    const half = widthOf(told) / 2, middle = Math.min(Math.max(x, half), width - half); // within the picture
+    return [svg("text", { class: "strong", x, y: y + name, "text-anchor": "middle" }, text), isImputations && isShort
+      && svg("text", { class: "soft", x: middle, y: y + numbers, "text-anchor": "middle" }, told)];
   });
 }
 

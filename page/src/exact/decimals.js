@@ -1,11 +1,8 @@
 // Decimals: those that people type, and those that are shown.
+import { BLANK, isMark, onlyMark, spoken } from "./marks.js";
 import { Rational } from "./rational.js";
 
-/** The decimal mark of sentences: that of the page, which each worker is told. */
-export const spoken = { mark: "." };
-
 const HALF = new Rational(1n, 2n);
-const NARROW = "\u202f";
 const MOST_LETTERS = 61; // of a number that is typed: a fraction of 30 digits each
 const MOST_POWER = 40; // of ten, in a number as 1e-05
 const BLANKS = "[\\s\u00a0\u202f'’_]";
@@ -35,10 +32,11 @@ export function stepsOf(value, places) {
 }
 
 /** Steps of the last place as a decimal: 1234567 in two places is "12 345.67". */
-export function decimalOf(steps, places, { mark = ".", grouped = true, least = 4 } = {}) {
+export function decimalOf(steps, places, spelling = {}) {
+  const { mark = ".", thousands = BLANK, grouped = true, least = thousands === BLANK ? 4 : 3 } = spelling;
   const digits = String(steps < 0n ? -steps : steps).padStart(places + 1, "0");
   const whole = digits.slice(0, digits.length - places);
-  const shown = grouped && whole.length > least ? whole.replace(/(?=(\d{3})+$)(?!^)/g, NARROW) : whole;
+  const shown = grouped && whole.length > least ? whole.replace(/(?=(\d{3})+$)(?!^)/g, thousands) : whole;
   return (steps < 0n ? "−" : "") + shown + (places ? mark + digits.slice(-places) : "");
 }
 
@@ -97,10 +95,16 @@ export function placesOf(value) {
   return [0n, 1n, 2n, 3n, 4n].findIndex((places) => 10n ** places % value.den === 0n);
 }
 
+/** A value as a sentence quotes what was typed: a decimal if four places are enough, otherwise a fraction. */
+export function quotedText(value, mark) {
+  const places = placesOf(value);
+  return places < 0 ? fractionText(value) : decimal(value, places, { mark, grouped: false });
+}
+
 /** A value as one would type it: a decimal where four places do, else a fraction. It can be read in one way only, so
  * 1.708 gets a fourth decimal. */
 export function typedText(value, by = ".") {
-  const places = placesOf(value), mark = by.length === 1 ? by : ".";
+  const places = placesOf(value), mark = isMark(by) ? by : ".";
   if (places < 0) return value.toString();
   const text = (count) => decimal(value, count, { mark, grouped: false }).replace("−", "-");
   return text(readNumber(text(places)).doubt ? places + 1 : places);
@@ -138,6 +142,21 @@ export function readNumber(typed, mark = ".") {
   if (/^\(\d[\d.,]*\)$/.test(text)) return readNumber("-" + text.slice(1, -1), mark);
   if (!/^-?[\d.,]*\d[\d.,]*$/.test(text)) return scientific(text) ?? { fault: "is no number" };
   return marked(text, mark);
+}
+
+/** Texts that are read by one mark: the one that some of them show, or else the given one. `isSettled` says that they
+ * show it. */
+export function readTogether(texts, mark) {
+  const first = texts.map((text) => readNumber(text, mark)), shown = onlyMark(first.map(({ by }) => by));
+  const isSettled = shown !== null, by = shown ?? mark;
+  return { isSettled, by, read: by === mark ? first : texts.map((text) => readNumber(text, by)) };
+}
+
+/** The sign between the thousands of a number that was read, {by, doubt}; null if that is a blank, or there is none. */
+export function thousandsIn(typed, { by, doubt }) {
+  const [, sign] = /\d(['’.,])\d{3}(?!\d)/.exec(typed) ?? [];
+  if (!sign || sign === by || doubt === "decimals" || LAKHS.test(typed.trim())) return null;
+  return sign === "'" ? "’" : sign;
 }
 
 /** The number of a cell, in which one may add and multiply, too: "27400*1.12 + 300". `isWorkedOut` says so. */

@@ -1,38 +1,38 @@
 // The panels below a case: the answer, its settings, the reasons and the evidence.
 import { sourceName } from "../cases/matrices.js";
-import { answerParts, morePictures } from "./answer.js";
+import { MARKS } from "../exact/marks.js";
+import { answerParts } from "./answer.js";
 import { beyondParts } from "./beyond.js";
 import { beyondPower } from "./beyond-power.js";
 import { labelOfCell } from "./cell-names.js";
-import { comparisonPart } from "./comparison.js";
 import { pictureButtons } from "../draw/figure.js";
 import { button, copy, el, refill } from "./dom.js";
 import { evidenceParts } from "./evidence.js";
-import { excessesPart } from "./excesses.js";
 import { filledLines, filledText, isFilled } from "./filled.js";
-import { formatOf } from "./format.js";
-import { meanings, monotonic, words } from "./meanings.js";
 import { otherAmounts } from "./other-amounts.js";
+import { ownDivision } from "./own-division.js";
 import { paperPart } from "./paper.js";
 import { pinnedOf } from "./pinned.js";
-import { proposalTools } from "./proposal-cells.js";
 import { takesPerHead } from "./questions.js";
-import { holdsPart, roundingPart, sameText, tablesOf } from "./shares-table.js";
+import { tablesOf } from "./shares-table.js";
 import { csvButton, tabbed } from "./table-lines.js";
-import { todayOf, todayTools } from "./today.js";
+import { todayOf } from "./today.js";
 import { waitingParts } from "./waiting.js";
 import { fillsAsked, fillsPart } from "./two-fills.js";
-import { whyParts } from "./why.js";
+import { whyBody } from "./why.js";
 import { pairPart } from "./why-pair.js";
 
 const PLACES = [0, 1, 2, 3, 4, 6];
-const MARKS = [[".", "point"], [",", "comma"]];
 const MEASURES = [["plain", "as a whole"], ["per-head", "per head"]];
 
-const WIDE = 1000; // pixels of the page above which the reasons have pictures beside them
 const PARTS = ["why", "what-if", "evidence", "paper", "files"];
 const BODIES = ["answer-measure", "answer-settings", "answer-body", "own-body", "answer-more", "why-body",
   "evidence-body", "paper-body", "files-body"];
+/** Which parts of an answer are drawn anew as something comes: all at first, or if it isn't named here. */
+const DRAWN = {
+  reasons: ["body", "why"], divisions: ["body", "why", "own", "evidence", "files"], verdicts: ["body", "why"],
+  checks: ["evidence"], proposal: ["body", "why", "own"], todays: ["body", "own"], pinned: ["body"],
+};
 const LINKS = { "what-if": "What if", evidence: "Evidence", paper: "On paper", files: "Files" };
 
 const at = (id) => document.getElementById(id);
@@ -44,14 +44,10 @@ export class AnswerView {
     this.isHidden = false; // whether the case alone is shown, and printed
   }
 
-  format() {
-    return formatOf(this.session.places, this.session.mark);
-  }
-
   /** What was typed for another case is of no use here; `typed` is what was for this one. */
   clear(typed = {}) {
     this.typed = typed;
-    this.shownMore = this.shownPaper = null;
+    this.shownMore = this.shownPaper = this.drawn = null;
     for (const id of BODIES) refill(at(id));
     this.hush();
   }
@@ -60,28 +56,39 @@ export class AnswerView {
     for (const id of ["answer", "parts"]) at(id).classList.add("stale");
   }
 
-  show() {
-    const { session } = this, { result, isStale } = session;
+  /** Shows the answer: all of it, or the parts in which it is seen what `came`. */
+  show(came) {
+    const { result, isStale } = this.session;
     for (const id of ["answer", "parts"]) at(id).classList.toggle("stale", !result || isStale);
     if (result && isStale) return; // what stands there is of the old cells; the next answer is drawn anew
     this.showPanels(result);
     if (!result) return this.hush();
     if (this.isHidden && !result.refusal) return this.showHidden();
     if (!result.game) return this.showBeyond(result);
-    const view = this.viewOf(result);
+    this.draw(result, this.viewOf(result), this.drawn === result ? DRAWN[came] : undefined);
+    this.drawn = result;
+  }
+
+  /** Draws some parts of an answer, or all. */
+  draw(result, view, some) {
+    const parts = {
+      settings: () => this.showSettings(result),
+      body: () => (refill(at("answer-body"), answerParts(result, view)), this.say()),
+      more: () => this.showMore(result, view),
+      why: () => refill(at("why-body"), whyBody(result, { ...view, pair: this.pair })),
+      own: () => refill(at("own-body"), ownDivision(result, { ...view, onBegin: () => this.show("proposal") })),
+      evidence: () => refill(at("evidence-body"), evidenceParts(result, this.session, view.filled)),
+      files: () => this.made && this.showFiles(this.made),
+      links: () => this.showLinks(),
+    };
+    for (const part of result.refusal ? ["settings", "body"] : some ?? Object.keys(parts)) parts[part]();
+  }
+
+  showSettings(result) {
     const measures = !result.refusal && takesPerHead(result.game) && this.measures(result.game);
     const isAside = result.game.ballots || result.game.isMarket(); // there it is a question that few ask
     refill(at("answer-settings"), result.refusal ? [] : [isAside && measures, this.settings()]);
     refill(at("answer-measure"), !isAside && measures);
-    refill(at("answer-body"), answerParts(result, view));
-    this.say();
-    if (result.refusal) return;
-    this.showMore(result, view);
-    this.showWhy(result, view);
-    refill(at("own-body"), this.ownParts(result, view));
-    refill(at("evidence-body"), evidenceParts(result, session, view.filled));
-    if (this.made) this.showFiles(this.made);
-    this.showLinks();
   }
 
   /** What all parts of the answer are drawn by. */
@@ -93,10 +100,10 @@ export class AnswerView {
       setAll: (texts) => session.setProposal(texts),
     };
     return {
-      rows, format: this.format(), proposal, wide, filled: filledText(session), today: todayOf(session, rows),
+      rows, format: session.format(), proposal, wide, filled: filledText(session), today: todayOf(session, rows),
       pinned: pinnedOf(session, rows), labelOfCell: (cell) => labelOfCell(cell, session), result,
       remark: filledLines(session, rows), source: sourceName(session.typed),
-      coarse: session.typed.coarse, typed: this.typed, ask: (task, what) => session.checker.ask(task, what),
+      coarse: session.typed.coarse, typed: this.typed, ask: session.askAbout(result),
     };
   }
 
@@ -114,43 +121,6 @@ export class AnswerView {
   showWaiting(reading, { goTo, choices }) {
     const labelOf = (cell) => labelOfCell(cell, this.session);
     refill(at("waiting"), waitingParts(reading, { goTo, labelOf, choices }));
-  }
-
-  showWhy(result, { rows, format, filled, ...view }) {
-    const settings = { rows, format, filled, ...view }, { game, points } = result;
-    const why = whyParts(result), hasHolds = points.some(({ hold }) => hold), main = document.querySelector("main");
-    const half = main.clientWidth > WIDE ? 2 : 1, wide = Math.min(900, Math.max(280, main.clientWidth / half - 110));
-    const pictures = morePictures(result, { ...settings, wide }), same = why.length > 0 && sameText(result);
-    const beside = [pictures, why.length > 0 && [holdsPart(result, settings), this.pair]].flat(2).filter(Boolean);
-    refill(at("why-body"),
-      el("div", { class: beside.length ? "halves-of-part" : "" }, el("div", {}, why),
-        beside.length > 0 && el("div", {}, beside)),
-      why.length > 0 && excessesPart(result, settings), same && el("p", { class: "hint" }, same),
-      meanings(points, hasHolds, game), !game.ballots && !game.isMarket() && monotonic(),
-      roundingPart(result, settings), words());
-  }
-
-  /** Another division beside the answer: the user's own, and what each pays today. */
-  ownParts(result, { rows, format, proposal, today, typed }) {
-    const { game, points } = result;
-    if (!proposal.canBe && !today.canBe) return [];
-    const begin = () => {
-      typed.isProposing = true;
-      this.show();
-      const cell = document.querySelector('[data-cell="proposal.0"]');
-      cell?.scrollIntoView({ block: "center" });
-      cell?.focus();
-    };
-    const isOpen = typed.isProposing || proposal.texts?.some(Boolean);
-    return [
-      proposal.canBe && el("h3", {}, "Your own division"),
-      proposal.canBe && el("p", { class: "hint" }, "Put it beside the answer, and see which group could do better by ",
-        "itself."),
-      proposal.canBe && !isOpen && el("p", { class: "tools" }, button("Type your own division", begin)),
-      proposal.canBe && proposalTools(result, { rows, proposal, format }),
-      points.length > 0 && comparisonPart(proposal, points[0], game, { rows, typed }),
-      todayTools(game, today),
-    ];
   }
 
   /** The way on from the answer: one step that most want, and the other parts. */
@@ -171,21 +141,22 @@ export class AnswerView {
   /** Saving: `made` are the case and its document, as the panel of the case has them. */
   showFiles(made) {
     this.made = made;
-    const { reading, result, kind } = this.session, hasMade = made.childElementCount > 0;
-    const points = result?.points ?? [], tables = () => tablesOf(this.session.result, {
-      rows: this.session.reading.rows, format: this.format(), coarse: this.session.typed.coarse,
+    const { session } = this, { reading, result, kind } = session, hasMade = made.childElementCount > 0;
+    const points = result?.points ?? [], format = session.format().plain(), tables = () => tablesOf(session.result, {
+      rows: session.reading.rows, format, coarse: session.typed.coarse,
     });
     at("files").hidden = !hasMade;
     if (!hasMade || !reading) return;
     const isShown = points.length > 0 && !this.isHidden, copied = (event) => copy(tabbed(tables()[0]), event.target);
     refill(at("files-body"), made, isShown && el("p", { class: "tools" },
-      csvButton(`${kind.id}-answer`, tables, this.format()), button("Copy the table", copied, { class: "quiet" }),
+      csvButton(`${kind.id}-answer`, tables, format), button("Copy the table", copied, { class: "quiet" }),
       pictureButtons([at("answer-body"), at("why-body")])));
   }
 
   /** Hides the answer, with the reasons, the evidence and the check of a line, or shows it again. */
   hide(isHidden) {
     this.isHidden = isHidden;
+    this.drawn = null;
     document.body.classList.toggle("answer-hidden", isHidden);
     this.shownMore = null;
     if (isHidden) this.showHidden();
@@ -218,10 +189,8 @@ export class AnswerView {
     for (const id of ["why", "evidence", "what-if"]) at(id).hidden = true;
     refill(at("answer-settings"), this.formats(), this.hiding());
     refill(at("answer-measure"));
-    const today = todayOf(this.session, beyond.rows), format = this.format();
-    const wide = at("answer-body").clientWidth || 640;
-    refill(at("answer-body"), beyond.power ? beyondPower(beyond, { format, wide })
-      : beyondParts(beyond, { format, today }));
+    const view = this.viewOf(this.session.result);
+    refill(at("answer-body"), beyond.game ? beyondPower(beyond, view) : beyondParts(beyond, view));
     this.showPaper();
     this.showLinks();
     this.say();
@@ -247,16 +216,17 @@ export class AnswerView {
 
   /** The parts with fields of their own are kept while answers come, and made anew for another game or other decimals.
    * */
-  showMore(result, { rows, format, filled }) {
+  showMore(result, { rows, format, filled, ask }) {
     const { session } = this;
-    const mark = session.readMark(), isSettled = session.reading.settled !== null;
+    const mark = session.marks.beside(), isSettled = session.reading.settled !== null;
     this.showPaper();
-    const key = [result.text, format.places, format.mark, filled, mark, isSettled].join("\n");
+    const { places, mark: shown, thousands } = format;
+    const key = [result.text, places, shown, thousands, filled, mark, isSettled].join("\n");
     if (this.shownMore === key) return;
     this.shownMore = key;
     const settings = {
       rows, format, mark, typed: this.typed, setEntry: isSettled ? null : (other) => session.setEntry(other),
-      ask: (task, what) => session.checker.ask(task, what), assumed: (groups) => isFilled(session, groups),
+      ask, assumed: (groups) => isFilled(session, groups),
       fills: fillsAsked(session, mark), network: filledNetwork(session, mark),
     };
     session.pair = "";
@@ -277,7 +247,7 @@ export class AnswerView {
       session.places = Number(value);
       this.show();
     });
-    const mark = choice("Decimal mark", MARKS, session.mark, (value) => session.setMark(value));
+    const mark = choice("Decimal mark", MARKS, session.marks.shown, (value) => session.setMark(value));
     return [places, mark];
   }
 
@@ -306,7 +276,7 @@ export class AnswerView {
     at("waiting").hidden = true;
     for (const id of ["answer", "parts"]) at(id).classList.remove("stale");
     for (const id of ["answer-measure", "answer-settings", "answer-more", "next"]) refill(at(id));
-    this.shownMore = null;
+    this.shownMore = this.drawn = null;
     refill(at("answer-body"), el("div", { class: "notice bad", role: "alert" }, el("p", {}, sentence),
       button("Try again", () => this.session.changed(0))));
   }

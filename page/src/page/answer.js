@@ -106,19 +106,25 @@ function pictures({ game, bird }, points, { rows, format, wide, remark, source, 
   return [bird && plan(game, bird.tree, { ...format, wide, source }), ...drawn].filter(Boolean);
 }
 
-function votes({ game, points }, { rows, format, wide, pinned, labelOfCell }) {
+function votes({ game, points }, settings) {
   const shapley = points.find(({ key }) => key === "shapley"), solution = solutionOf({ points });
-  const percents = percentsOf(format), kept = shapley && pinned?.pin ? keptPower(pinned, percents) : undefined;
-  const parts = [shapley && powerLead(game, shapley.shares, format),
-    kept && pinnedNote(pinned, { points: [{ ...shapley, title: "Power" }] }, rows, { format: percents, labelOfCell }),
-    shapley && power(game, shapley.shares, { ...format, wide, kept }),
-    shapley && pinned && el("p", { class: "tools" }, pinTools(pinned))];
+  const parts = shapley ? [powerLead(game, shapley.shares, settings.format),
+    ...powerTable(game, shapley.shares, settings)] : [];
   if (solution) {
     parts.push(el("h3", {}, "Dividing a prize of 1 among the voters"),
       el("p", { class: "hint" }, "That is another question than power: a voter may get nothing of the prize and have ",
         "influence all the same."));
   }
   return parts;
+}
+
+/** The power of each voter beside what was kept. */
+export function powerTable(game, shares, { rows, format, wide, pinned, labelOfCell, isPaper = false }) {
+  const percents = percentsOf(format), kept = pinned?.pin ? keptPower(pinned, percents) : undefined;
+  const column = { key: "shapley", title: "Power", totals: shares };
+  return [kept && pinnedNote(pinned, column, rows, { format: percents, labelOfCell }),
+    power(game, shares, { ...format, wide, kept }),
+    pinned && !isPaper && el("p", { class: "tools" }, pinTools(pinned))];
 }
 
 /** How power is shown: in per cent, with one decimal. */

@@ -1,9 +1,9 @@
 // Runways of more landings than the program takes: what the page calculates by itself, and that it says so.
 import { Rational } from "../exact/rational.js";
-import { typedText } from "../exact/decimals.js";
 import { extremes } from "./extremes.js";
-import { button, el } from "./dom.js";
+import { el } from "./dom.js";
 import { movedText, withSum } from "./format.js";
+import { pinnedNote, pinnedText, pinTools, sinceKept } from "./pinned.js";
 import { linesOf, ownSum, shareCell } from "./shares-table.js";
 import { ownInput } from "./proposal-cells.js";
 import { airlineLines, csvButton, roundingLines, shareLines } from "./table-lines.js";
@@ -19,18 +19,6 @@ const THEOREMS = {
 };
 const SCALED = "Don’t scale the landings down to have fewer: by the nucleolus airlines may pay other shares then. (By "
   + "the Shapley shares each airline pays the same, where all are scaled alike.)";
-
-/** What a worker has calculated, sent as texts. */
-function read({ isAll, all, rows, points }) {
-  const counts = rows.map(({ count }) => Rational.of(count));
-  return {
-    isAll, all, rows: rows.map((row) => ({ ...row, cost: Rational.of(row.cost) })),
-    points: points.map(({ key, title, each }) => {
-      const shares = each.map(Rational.of);
-      return { key, title, each: shares, totals: shares.map((share, r) => share.times(counts[r])) };
-    }),
-  };
-}
 
 /** What has to be said of these numbers: that they aren't the program's, and why they are those of the rule. */
 export function beyondTexts({ isAll, all, points }) {
@@ -50,20 +38,19 @@ function roundedTo(value, places) {
 }
 
 /** The parts of the answer that the page calculates. */
-export function beyondParts(sent, { format, today }) {
-  const beyond = read(sent), { isAll, rows, points } = beyond;
-  const tables = () => [shareLines(rows, points, format), airlineLines(rows, points, format),
-    typeLines(rows, points, format), roundingLines(points, format)];
+export function beyondParts(beyond, { format, today, pinned, labelOfCell }) {
+  const { isAll, rows, points } = beyond;
+  const plain = format.plain(), tables = () => [shareLines(rows, points, plain), airlineLines(rows, points, plain),
+    typeLines(rows, points, plain), roundingLines(points, plain)];
   return el("div", { class: "beyond" }, isAll && leadOf(beyond, format),
     el("h3", {}, isAll ? "Above 64 landings" : "Shapley shares above 32 landings"),
     el("div", { class: "notice" }, beyondTexts(beyond).map((text) => el("p", {}, text))),
-    el("div", { class: "scroll" }, table(beyond, { format, today, own: (row, r) => {
+    isAll && pinnedNote(pinned, points[0], rows, { format, labelOfCell }),
+    el("div", { class: "scroll" }, table(beyond, { format, today, pinned, own: (row, r) => {
       return ownInput(row, r, today, "today", todayTitle(COSTS));
     } })),
     points.some(({ totals }) => format.isMoved(totals, rows)) && el("p", { class: "hint moved" }, movedText(rows)),
-    isAll && !today.texts && el("p", { class: "tools" }, button("Keep this answer to compare", () => {
-      today.setAll(points[0].totals.map((total) => typedText(roundedTo(total, format.places), format.mark)));
-    }, { class: "quiet" })),
+    isAll && el("p", { class: "tools" }, pinTools(pinned)),
     isAll && todayTools(COSTS, today),
     isAll && typesTable(rows, points, format),
     isAll && alikeTexts(beyond, format).map((text) => el("p", { class: "alike" }, text)),
@@ -112,37 +99,48 @@ function feesTexts({ rows, points }, { places, show, by }) {
   });
 }
 
-/** `own(row, r)` is what stands in the column of today; where the program answers too, that stands in its own table. */
-function table({ isAll, rows, points }, { format, today, own }, kind = "shares") {
-  const columns = points.map((point) => ({ ...point, steps: format.steps(point.totals, rows) }));
+/** `own(row, r)` is in the column of today. If the program answers too, what each pays today and the kept answer are in
+ * its table. */
+function table({ isAll, rows, points }, { format, today, pinned, own }, kind = "shares") {
+  const columns = points.map((point) => {
+    return { ...point, steps: format.steps(point.totals, rows), kept: pinned.pin && pinned.kept(point.key, format) };
+  });
   const head = (title, side = "number") => el("th", { scope: "col", class: side }, title);
   const hasToday = isAll && today.texts;
-  const view = { rows, columns, format, values: today.texts ? today.values : [], own: hasToday && own };
+  const isKept = isAll && pinned.pin, view = {
+    rows, columns, format, values: today.texts ? today.values : [], own: hasToday && own, isKept,
+  };
   return el("table", { class: kind },
     el("thead", {}, el("tr", {}, head("Who pays", ""), head("Landings"), head("A landing needs", "number context"),
-      hasToday && head(todayTitle(COSTS), "number today"),
+      hasToday && head(todayTitle(COSTS), "number today"), isKept && head("Kept", "number kept"),
       columns.map(({ key, title }) => el("th", { scope: "col", class: "number", "data-point": key }, title,
         el("small", {}, "calculated by the page"))))),
     el("tbody", {}, linesOf(rows).map((line) => (line.of ? sumRow(line, view) : rowOf(line, view)))),
     el("tfoot", {}, sumRow({ of: rows.map((_, r) => r) }, view)));
 }
 
-function rowOf({ row, r }, { columns, format, values, own }) {
+function rowOf({ row, r }, { columns, format, values, own, isKept }) {
+  const before = columns[0].kept?.values[r];
   return el("tr", {}, el("th", { scope: "row" }, row.label),
     el("td", { class: "number" }, String(row.count)), el("td", { class: "number context" }, format.show(row.cost)),
     own && el("td", { class: "number today" }, own(row, r)),
-    columns.map(({ steps, each }) => {
-      return shareCell(format.text(steps[r]), each[r], row.count, format, changeBelow(steps[r], values[r], format));
+    isKept && el("td", { class: "number kept" }, before ? format.show(before) : "–"),
+    columns.map(({ steps, each, totals, kept }) => {
+      const since = sinceKept(steps[r], totals[r], kept, r, format);
+      const changes = [changeBelow(steps[r], values[r], format), since];
+      return shareCell(format.text(steps[r]), each[r], row.count, format, changes);
     }));
 }
 
 /** The sum of the rows of an airline, or of all. */
-function sumRow({ sum, of }, { rows, columns, format, values, own }) {
+function sumRow({ sum, of }, { rows, columns, format, values, own, isKept }) {
   const count = of.reduce((all, r) => all + rows[r].count, 0), now = ownSum(of, { values });
   return el("tr", { class: sum === undefined ? "sum" : "subtotal" },
     el("th", { scope: "row" }, sum === undefined ? "together" : `${sum}, together`),
     el("td", { class: "number" }, String(count)), el("td", { class: "context" }),
     own && el("td", { class: "number today" }, now ? format.show(now) : "–"),
+    isKept && el("td", { class: "number kept" }, sum === undefined && columns[0].kept
+      ? format.show(columns[0].kept.sum) : ""),
     columns.map(({ steps, totals }) => {
       const step = withSum(of.map((r) => steps[r])).at(-1), exact = Rational.sum(of.map((r) => totals[r]));
       return shareCell(format.text(step), exact, 1, format, changeBelow(step, now, format));
@@ -150,12 +148,14 @@ function sumRow({ sum, of }, { rows, columns, format, values, own }) {
 }
 
 /** The same on the one page; what one landing pays stands there by its type, where each has one. */
-export function beyondSheet(sent, { format, unit, today }) {
-  const beyond = read(sent), { rows, points } = beyond, shown = today.texts?.some(Boolean) ? today : {};
+export function beyondSheet(beyond, { format, unit, today, pinned, labelOfCell }) {
+  const { rows, points } = beyond, shown = today.texts?.some(Boolean) ? today : {};
   const own = (_, r) => shown.values[r] && format.show(shown.values[r]);
+  const kind = `shares dense${rows.every(({ type }) => type) ? " whole" : ""}`;
   return [
     el("section", {}, unit?.trim() && el("p", { class: "hint" }, `All amounts are in ${unit.trim()}.`),
-      table(beyond, { format, today: shown, own }, `shares dense${rows.every(({ type }) => type) ? " whole" : ""}`),
+      table(beyond, { format, today: shown, pinned, own }, kind),
+      pinned.pin && el("p", { class: "hint" }, pinnedText(pinned, points[0], rows, { format, labelOfCell })),
       points.some(({ totals }) => format.isMoved(totals, rows)) && el("p", { class: "hint" }, movedText(rows))),
     el("section", {}, typesTable(rows, points, format)),
     el("section", {}, el("h2", {}, "How it was found"), beyondTexts(beyond).map((text) => el("p", {}, text))),

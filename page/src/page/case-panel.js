@@ -3,7 +3,8 @@ import { fileNames } from "../cases/coarse.js";
 import { withEscapes } from "../game/names.js";
 import { coarseNumbers, coarseText } from "../tell/coarse-text.js";
 import { Rational } from "../exact/rational.js";
-import { countText, typedText } from "../exact/decimals.js";
+import { countText, quotedText } from "../exact/decimals.js";
+import { DECIMALS, WHOLE, writtenBy } from "../exact/marks.js";
 import { plural } from "../tell/words.js";
 import { markFaults, markOdds } from "./cells.js";
 import { button, cellOf, copy, download, el, refill } from "./dom.js";
@@ -18,6 +19,7 @@ import { markChanged } from "./pinned.js";
 import { tableGrid } from "./table-grid.js";
 
 const MOST_FAULTS = 6;
+const KEYS = { player: " Alt+Delete in a name removes the player.", row: " Alt+Delete in a row removes it." };
 
 /** `settings` are {mark, setEntry, notes, onReset, onUndo} and what the grids need. */
 export function casePanel(kind, typed, settings) {
@@ -30,7 +32,8 @@ export function casePanel(kind, typed, settings) {
   const faults = el("div", { class: "faults", role: "status" }), made = el("div", { class: "made" });
   const coarse = el("div");
   const element = el("div", { class: "case" },
-    el("p", { class: "help" }, kind.help, el("span", { class: "screen" }, " You can paste from a spreadsheet.")),
+    el("p", { class: "help" }, kind.help, el("span", { class: "screen" }, " You can paste from a spreadsheet.",
+      el("span", { class: "keys" }, kind.isTable ? KEYS.player : KEYS.row))),
     notes.map((note) => el("p", { class: "note" }, note)), coarse, grid, faults,
     el("div", { class: "tools bottom" }, el("details", { class: "inline more-tools" },
       el("summary", {}, "More for the cells"), grid.more, el("p", { class: "tools" },
@@ -53,7 +56,7 @@ export function casePanel(kind, typed, settings) {
       reading.isTooFine && finenessHelp(settings));
     const isBeyond = reading.beyond?.points && !reading.text; // more landings than a document has
     refill(made, reading.text && documentOf(kind, reading.text, typed, settings),
-      isBeyond && landingsList(typed, reading.beyond, reading.settled ?? reading.mark));
+      isBeyond && landingsList(typed, reading.beyond, writtenBy(reading)));
   }
 
   return { element, tell, made, goTo: (cell) => goTo(grid, cell), choices: () => grid.choices?.() };
@@ -87,11 +90,11 @@ function eitherQuestion({ typed, ways: [[less, one], [more, other]] }, { setEntr
 function mixedQuestion({ typed, value, whole, proof, count }, { settled, mark }, { setEntry }) {
   const quoted = (text) => `“${withEscapes(text.trim())}”`, more = count > 1 ? ` and ${count - 1} like it` : "";
   const way = (text, by) => button(text, () => setEntry(by), { class: "quiet" });
-  const shown = typedText(Rational.of(value), mark);
+  const shown = quotedText(Rational.of(value), mark);
   return el("p", { class: "note" },
     `${quoted(proof)} shows which mark comes before decimals. So ${quoted(typed)}${more} `,
     `would be ${shown}, with decimals. Or are these whole numbers, as ${countText(whole)}? `,
-    way(`${countText(whole)}, whole`, ""), way(`${shown}, with decimals`, settled ?? ".,"));
+    way(`${countText(whole)}, whole`, WHOLE), way(`${shown}, with decimals`, settled ?? DECIMALS));
 }
 
 /** A vote by two quotas stays one. */

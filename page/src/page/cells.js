@@ -1,6 +1,6 @@
 // What the grids of all cases share: a cell to type in, moving by keys, and pasting.
 import { cellsOf } from "../cases/pasting.js";
-import { cellOf, el } from "./dom.js";
+import { button, cellOf, el } from "./dom.js";
 
 const MOST_LETTERS = 200; // of a cell: longer names and numbers are refused anyway
 const LONG = 20000; // letters of a pasted text that a worker reads
@@ -14,8 +14,31 @@ export function cellInput({ cell, value, label, placeholder = "", isNumber = fal
   });
 }
 
+/** The × that removes a row, or a player; `next` names the cell of `element` that has the focus then. Tab passes it by,
+ * so that the way through the cells is short: Alt+Delete in the cells does the same. */
+export function removal(element, { label, title = label, remove, next }) {
+  const onClick = () => {
+    remove();
+    cellOf(element, next)?.focus();
+  };
+  return button("×", onClick, {
+    class: "remove", tabindex: "-1", "aria-label": label, "aria-keyshortcuts": "Alt+Delete", title,
+  });
+}
+
+/** Alt+Delete removes the row, or the player, of a cell. */
+export function removeByKey(element) {
+  element.addEventListener("keydown", (event) => {
+    const isKey = event.key === "Delete" && event.altKey, row = isKey && event.target.closest("tr, .player");
+    if (!row) return;
+    event.preventDefault();
+    row.querySelector(".remove")?.click();
+  });
+}
+
 /** Enter and the arrows up and down go to the cell below or above; `neighbour(cell, step)` names it. */
 export function moveByKeys(element, neighbour) {
+  removeByKey(element);
   element.addEventListener("keydown", (event) => {
     const step = { Enter: event.shiftKey ? -1 : 1, ArrowDown: 1, ArrowUp: -1 }[event.key];
     if (!step || event.altKey || event.ctrlKey || event.metaKey || event.target.dataset.cell === undefined) return;

@@ -1,13 +1,12 @@
 // What is said where numbers can be read in two ways, or show two marks, and the buttons that read them otherwise.
 import { Rational } from "../exact/rational.js";
-import { readNumber, typedText } from "../exact/decimals.js";
+import { quotedText, readNumber } from "../exact/decimals.js";
+import { DECIMALS, isMark, nameOfMark, otherMark, WHOLE } from "../exact/marks.js";
 import { withEscapes } from "../game/names.js";
 import { listed } from "../tell/words.js";
 import { button, el } from "./dom.js";
 
-const NAMES = { ".": "point", ",": "comma" };
-const OTHER = { ".": ",", ",": "." };
-const BY = { whole: "", decimals: ".," }; // how all are read, whatever the others show, where the user chose it
+const BY = { whole: WHOLE, decimals: DECIMALS }; // how all are read, whatever the others show, if the user chose it
 
 const quoted = (typed) => `“${withEscapes(typed.trim())}”`;
 
@@ -19,8 +18,8 @@ export function doubtNotes({ doubts: found, entry, mark, shown }, { setEntry }) 
   const clash = isClash && el("p", { class: "note" }, `In ${quoted(one)} and ${quoted(two)} the point and the comma `,
     "change places. Each of the two can be read in one way only, so it is read as it shows.");
   if (!doubts.length) return clash;
-  const proof = isClash ? undefined : one, isChosen = entry.length !== 1;
-  const why = isChosen ? "as you chose" : `${proof ? `${quoted(proof)} shows that ` : ""}the ${NAMES[mark]} comes `
+  const proof = isClash ? undefined : one, isChosen = !isMark(entry);
+  const why = isChosen ? "as you chose" : `${proof ? `${quoted(proof)} shows that ` : ""}the ${nameOfMark(mark)} comes `
     + "before decimals";
   const read = listed(doubts.map((doubt) => readAs(doubt, mark, doubts.length)));
   const [{ count }] = doubts, isMany = doubts.length === 1 && count > 1;
@@ -32,11 +31,14 @@ export function doubtNotes({ doubts: found, entry, mark, shown }, { setEntry }) 
 /** Of several kinds of readings each says how many are like it. */
 function readAs({ typed, value: text, how, count }, mark, kinds) {
   const value = Rational.of(text), like = kinds > 1 && count > 1 ? ` (and ${count - 1} like it)` : "";
-  const number = how === "whole" ? `the whole number ${value}` : `${typedText(value, mark)}, with decimals`;
-  return `${quoted(typed)}${like} is read as ${number}`;
+  return `${quoted(typed)}${like} is read as ${toldAs(value, how, mark)}`;
 }
 
-/** Where nothing shows the mark the other may be it; else the first of the kinds is read otherwise. */
+function toldAs(value, how, mark) {
+  return how === "whole" ? `the whole number ${value}` : `${quotedText(value, mark)}, with decimals`;
+}
+
+/** If nothing shows the mark, it may be the other one; otherwise the first of the kinds is read otherwise. */
 function waysOut({ doubts, mark, proof, isChosen }, setEntry) {
   const way = (title, by) => button(title, () => setEntry(by), { class: "quiet" });
   if (isChosen) return [way("Read them by one mark again", mark)];
@@ -44,7 +46,7 @@ function waysOut({ doubts, mark, proof, isChosen }, setEntry) {
   const { value } = readNumber(odd.typed, BY[how]);
   const others = odd.count > 1 ? ", and all like it" : "";
   return [
-    !proof && way(`No, the ${NAMES[OTHER[mark]]}`, OTHER[mark]),
-    (proof || doubts.length > 1) && way(`Read ${quoted(odd.typed)} as ${typedText(value, mark)}${others}`, BY[how]),
+    !proof && way(`No, the ${nameOfMark(otherMark(mark))}`, otherMark(mark)),
+    (proof || doubts.length > 1) && way(`Read ${quoted(odd.typed)} as ${toldAs(value, how, mark)}${others}`, BY[how]),
   ];
 }

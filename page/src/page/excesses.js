@@ -14,7 +14,7 @@ export function excessesPart({ game, text, points: solved }, { rows, format, typ
   const points = [...solved, ...ownPoint(game, proposal)];
   if (!canBe || points.length < 2) return null;
   const memory = (typed.excesses ??= { most: FEW }), found = el("div"), divisions = points.map(sharesOf);
-  const asked = (most) => ask("excessLists", { text, rows, divisions, most });
+  const asked = (most) => ask("excessLists", { divisions, most });
   const key = JSON.stringify([text, divisions, rows.map(({ label }) => label)]);
   const show = async () => {
     if (memory.key !== key + memory.most) {
@@ -77,7 +77,8 @@ function differsText([{ title }, ...others], [, ...differs]) {
 }
 
 /** All places for a spreadsheet: tabs between, plain decimals, and the exact fractions beside them. */
-function tableText(points, lists, { show }) {
+function tableText(points, lists, format) {
+  const { show } = format.plain();
   const heads = ["Place", ...points.flatMap(({ title }) => [title, `${title}, exact`, "by whom"])];
   const cells = ({ group, excess }) => [show(Rational.of(excess)), excess, group.replace(/[\u2068\u2069\t]/g, "")];
   const lines = lists[0].map((_, k) => [k + 1, ...lists.flatMap((list) => cells(list[k]))]);

@@ -27,6 +27,7 @@ export function isFilled({ kind, typed }, groups) {
 
 /** Whose line in the picture of what each adds stands on a filled number, in a sentence. */
 export function filledLines(session, rows) {
+  if (!session.kind.isTable) return "";
   const everyone = rows.flatMap(({ players }) => players), names = (some) => listed(some.map(({ label }) => label));
   const isIn = ({ players }) => isFilled(session, [everyone.filter((i) => !players.includes(i))]);
   const whose = rows.filter(isIn), others = rows.filter((row) => !isIn(row));

@@ -2,23 +2,26 @@
 import { Rational, ZERO } from "../exact/rational.js";
 import { apartTexts, decimalOf, placesOf, roundedSteps, stepsOf } from "../exact/decimals.js";
 
-export function formatOf(places, mark) {
-  const text = (steps) => decimalOf(steps, places, { mark });
+/** `spelling` are the decimal mark and the sign between thousands. */
+export function formatOf(places, spelling) {
+  const text = (steps) => decimalOf(steps, places, spelling);
   // one column parts thousands alike
   const texts = (all) => {
-    const isLong = all.some((steps) => text(steps) !== decimalOf(steps, places, { mark, grouped: false }));
-    return all.map((steps) => decimalOf(steps, places, { mark, least: isLong ? 3 : 4 }));
+    const isLong = all.some((steps) => text(steps) !== decimalOf(steps, places, { ...spelling, grouped: false }));
+    return all.map((steps) => decimalOf(steps, places, { ...spelling, least: isLong ? 3 : 4 }));
   };
   const stepsIn = (values, rows) => (rows ? stepsOfRows(values, rows, places) : roundedSteps(values, places));
   return {
     places,
-    mark,
+    ...spelling,
     text,
+    /** For files and spreadsheets, which know no thousands. */
+    plain: () => formatOf(places, { mark: spelling.mark }),
     show: (value) => text(stepsOf(value, places)),
     /** Numbers that a sentence compares: with more decimals where they would look the same. */
-    apart: (...values) => apartTexts(values, places, { mark }),
+    apart: (...values) => apartTexts(values, places, spelling),
     /** By how much: what isn't 0 isn't shown as 0. */
-    by: (value) => apartTexts([value, ZERO], places, { mark })[0],
+    by: (value) => apartTexts([value, ZERO], places, spelling)[0],
     /** Values as decimals that add up, and their sum as the last; those of rows to what each airline pays, too. */
     column: (values, rows) => texts(withSum(stepsIn(values, rows))),
     texts,

@@ -1,5 +1,5 @@
 // A helper is a worker of the page's own code. It does one task after the other; stopping it ends what it does.
-import { spoken } from "../exact/decimals.js";
+import { spoken } from "../exact/marks.js";
 
 const SLOW = 150; // milliseconds after which a task that nobody needs any more is ended
 
@@ -13,6 +13,7 @@ export class Helper {
     const code = ["shared-code", "worker-code"].map((id) => document.getElementById(id).textContent);
     const url = URL.createObjectURL(new Blob(code, { type: "text/javascript" }));
     this.worker = new Worker(url);
+    this.kept = null; // the number of the case that it keeps
     this.worker.onmessage = ({ data: { id, result, fault } }) => {
       const { resolve, reject } = this.waiting.get(id) ?? {};
       this.waiting.delete(id);
@@ -27,14 +28,16 @@ export class Helper {
     URL.revokeObjectURL(url);
   }
 
-  /** Does a task of worker.js: `what` are its settings. */
-  ask(task, what = {}) {
+  /** Does a task of worker.js: `what` are its settings. A task may be about a case, {number, text, rows, line}: its
+   * number is sent, and the rest only to a worker that doesn't keep the case. */
+  ask(task, what = {}, { number, ...known } = {}) {
     if (!this.worker) this.start();
-    const id = (this.next += 1);
+    const id = (this.next += 1), about = number && { number, known: number === this.kept ? undefined : known };
+    this.kept = number ?? this.kept;
     if (!this.waiting.size) this.since = performance.now();
     return new Promise((resolve, reject) => {
       this.waiting.set(id, { resolve, reject });
-      this.worker.postMessage({ id, task, what, mark: spoken.mark });
+      this.worker.postMessage({ id, task, what, spoken, ...about });
     });
   }
 

@@ -1,8 +1,8 @@
 // The grid of a list: a runway, an estate, a vote. A row is added while the last one is filled.
 import { columnsFor, headingsOf, pastedText, ROW_NUMBERS, withoutRowNumbers } from "../cases/pasting.js";
 import { withEscapes } from "../game/names.js";
-import { cellInput, moveByKeys, pasteCells } from "./cells.js";
-import { button, cellOf, el, refill } from "./dom.js";
+import { cellInput, moveByKeys, pasteCells, removal } from "./cells.js";
+import { button, el, refill } from "./dom.js";
 
 export function listGrid(kind, typed, settings) {
   return new ListGrid(kind, typed, settings).element;
@@ -63,13 +63,12 @@ class ListGrid {
 
   rowOf(row, r) {
     const { rows } = this.typed, canGo = rows.length > 1 && !(this.isBlank(row) && r === rows.length - 1);
-    const remove = canGo && button("×", () => {
+    const remove = canGo && removal(this.body, { label: `Remove row ${r + 1}`, remove: () => {
       this.remember(`Remove ${withEscapes((row.name ?? "").trim()) || `row ${r + 1}`}`);
       rows.splice(r, 1);
       this.show();
       this.onChange();
-      cellOf(this.body, `rows.${Math.min(r, rows.length - 1)}.${this.keys[0]}`)?.focus();
-    }, { class: "remove", "aria-label": `Remove row ${r + 1}`, title: "Remove this row" });
+    }, next: `rows.${r}.${this.keys[0]}` });
     const cells = this.columns().map((column) => this.cellIn(row, r, column));
     return el("tr", { class: this.isBlank(row) ? "blank" : "" }, cells, el("td", { class: "tool" }, remove));
   }

@@ -3,6 +3,7 @@ import { caseText } from "../cases/case-file.js";
 import { caseNamed } from "../cases/cases.js";
 import { coarseOfSums, coarserStill } from "../cases/coarse.js";
 import { costs } from "../cases/tables.js";
+import { writtenBy } from "../exact/marks.js";
 import { AnswerView } from "./answer-view.js";
 import { casePanel } from "./case-panel.js";
 import { Documents } from "./documents.js";
@@ -28,7 +29,7 @@ const session = new Session({
     view.showWaiting(session.reading, panel);
     verify.beside(session.reading.text ?? null);
   },
-  answer: () => view.show(),
+  answer: (came) => view.show(came),
   busy: (isBusy) => view.busy(isBusy),
   fault: (fault) => view.fault(fault),
 });
@@ -53,8 +54,8 @@ function openCase(kind, typed, { before = null, notes = [], doubt = "", paper, .
     },
     onWide: (isWide) => at("desk").classList.toggle("wide", isWide),
     onReset: (next, what, isSame = false) => {
-      const { entry, isTyped, pinned } = session, marks = isSame ? { entry, isTyped, pinned } : {};
-      openCase(kind, next, { ...marks, before: { what, ...nowTyped() } });
+      const { entry, isTyped, pinned } = cellsNow(), same = isSame ? { entry, isTyped, pinned } : {};
+      openCase(kind, next, { ...same, before: { what, ...nowTyped() } });
     },
     onUndo: (back) => undo(kind, back),
     snapshot: () => structuredClone(cellsNow()),
@@ -74,14 +75,13 @@ function openCase(kind, typed, { before = null, notes = [], doubt = "", paper, .
 function asked(kind) {
   return {
     changed: () => session.pinned && changedCells(session.pinned.typed, session.typed),
-    mark: () => session.entryMark(), setEntry: (mark) => session.setEntry(mark),
-    readList: (what) => session.reader.ask("readList", { ...what, mark: session.entryMark() }),
+    mark: () => session.marks.ofCells(), setEntry: (mark) => session.setEntry(mark),
+    readList: (what) => session.reader.ask("readList", { ...what, mark: session.marks.ofCells() }),
     readCells: (text) => session.reader.ask("readCells", { text }),
     help: (task, what) => session.reader.ask(task, what),
     caseText: () => {
-      const { shown: [[by] = [], other], mark, text } = session.reading;
-      const { pinned } = session, kept = pinned ? keptTree(pinned, session.typed) : undefined;
-      return caseText({ ...nowTyped(), kept, mark: session.mark, entry: by && !other ? by : mark, text });
+      const { pinned, reading, marks } = session, kept = pinned ? keptTree(pinned, session.typed) : undefined;
+      return caseText({ ...nowTyped(), kept, mark: marks.shown, entry: writtenBy(reading), text: reading.text });
     },
   };
 }
@@ -101,7 +101,7 @@ function replaced(kind, what) {
 /** Makes the numbers of a case coarser, as the user chose, or gives a fault in words. */
 async function coarsen(kind, how) {
   const before = cellsNow(), { typed, measure, entry, doubt, isTyped } = before, { paper, places } = nowTyped();
-  const what = { id: kind.id, typed: kind.pack?.(typed) ?? typed, mark: session.entryMark(), how };
+  const what = { id: kind.id, typed: kind.pack?.(typed) ?? typed, mark: session.marks.ofCells(), how };
   const { typed: changed, coarse: fresh, fault } = await session.reader.ask("coarser", what);
   if (fault || session.typed !== typed) return fault;
   const next = { ...typed, ...(kind.unpack?.(changed) ?? changed), coarse: coarserStill(typed.coarse, fresh) };
@@ -111,7 +111,7 @@ async function coarsen(kind, how) {
 
 /** What stands in the cells of the case that is shown. */
 function cellsNow() {
-  const { typed, measure, texts, todays, pinned, entry, doubt, file, isTyped } = session;
+  const { typed, measure, texts, todays, pinned, doubt, file, isTyped, marks: { entry } } = session;
   return { typed, measure, texts, todays, pinned, entry, doubt, file, isTyped };
 }
 
@@ -170,14 +170,14 @@ function begin() {
     onCase: (kind) => show(kind.id), onDocument: () => show("document"), onCheck: () => show("verify"),
   }));
   const documents = new Documents({
-    mark: () => session.usualMark(), onLine: (text, from) => verify.setLine(text, from),
+    mark: () => session.marks.usual(), onLine: (text, from) => verify.setLine(text, from),
     onOpen: (kind, typed, settings) => {
       const { kept: tree, ...others } = settings, pinned = tree ? pinOfTree(tree, typed) : null;
       openCase(kind, typed, { ...others, pinned, isFile: true, before: replaced(kind, "Open a document") });
     },
   });
   verify = verifyPanel({
-    format: () => view.format(),
+    format: () => session.format(),
     onOpen: (text, doubt, from) => documents.open(text, { doubt, isChecked: true, from }),
     onPrint: () => paper.print("check"),
   });

@@ -1,8 +1,8 @@
 // The grid of a market: what each buyer gains with each seller.
 import { readNumber } from "../exact/decimals.js";
 import { withEscapes } from "../game/names.js";
-import { cellInput, moveByKeys, pasteCells } from "./cells.js";
-import { button, cellOf, el, refill } from "./dom.js";
+import { cellInput, moveByKeys, pasteCells, removal } from "./cells.js";
+import { button, el, refill } from "./dom.js";
 
 export function marketGrid(kind, typed, settings) {
   return new MarketGrid(kind, typed, settings).element;
@@ -47,15 +47,12 @@ class MarketGrid {
 
   removal(i, name) {
     const { buyers, values } = this.typed, label = `Remove ${withEscapes(name) || `buyer ${i + 1}`}`;
-    const remove = () => {
+    const remove = () => this.change(() => {
       this.remember(label);
       buyers.splice(i, 1);
       values.splice(i, 1);
-    };
-    return button("×", () => {
-      this.change(remove);
-      cellOf(this.holder, `buyers.${Math.min(i, buyers.length - 1)}`)?.focus();
-    }, { class: "remove", "aria-label": label });
+    });
+    return removal(this.holder, { label, remove, next: `buyers.${Math.min(i, buyers.length - 2)}` });
   }
 
   showTools() {

@@ -3,7 +3,7 @@ import { readNumber } from "../exact/decimals.js";
 import { cellsOfNetwork, networkOf, takenText, withoutPlace, withSource } from "../cases/links.js";
 import { sourceName } from "../cases/matrices.js";
 import { withEscapes } from "../game/names.js";
-import { cellInput, moveByKeys, pasteCells } from "./cells.js";
+import { cellInput, moveByKeys, pasteCells, removal } from "./cells.js";
 import { button, cellOf, el, refill } from "./dom.js";
 import { noLinkHelp } from "./no-link.js";
 
@@ -164,7 +164,8 @@ class NetworkGrid {
       this.change(() => this.remove(k));
       if (Object.values(this.typed.filled ?? {}).includes("way")) this.help.again();
     };
-    return button("×", remove, { class: "remove", "aria-label": `Remove ${name}` });
+    const next = `names.${Math.min(k, this.typed.names.length - 2)}`;
+    return removal(this.holder, { label: `Remove ${name}`, remove, next });
   }
 
   add() {

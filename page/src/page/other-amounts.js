@@ -1,6 +1,7 @@
 // The same game with other amounts: several estates side by side, and who bears an overrun.
 import { Rational } from "../exact/rational.js";
 import { fractionText } from "../exact/decimals.js";
+import { nameOfMark } from "../exact/marks.js";
 import { listed } from "../tell/words.js";
 import { changesOf, changesTable, movedHint, ruleIn } from "./changes.js";
 import { button, el, refill } from "./dom.js";
@@ -12,8 +13,8 @@ const MOST_OVERRUN = 12; // players of other games than tables
 
 /** The parts for this game. `settings` are {rows, format, typed, mark, ask, assumed}: `ask(task, what)` goes to a
  * worker, `typed` keeps what was typed, and `assumed(groups)` says whether the page filled the number of any. */
-export function otherAmounts({ game, text }, settings) {
-  const view = { game, text, ...settings };
+export function otherAmounts({ game }, settings) {
+  const view = { game, ...settings };
   if (game.kind === "bankruptcy") return estatesPart(view);
   const isTable = game.isTable(), isOther = ["airport", "tree"].includes(game.kind) && game.n <= MOST_OVERRUN;
   if ((isTable || isOther) && !game.ballots && game.n > 1) return [overrunPart(view), leavingPart(view)];
@@ -23,13 +24,13 @@ export function otherAmounts({ game, text }, settings) {
 }
 
 /** A part that opens, with one field, and what comes of it. */
-function part({ title, hint, label, key, task, show, placeholder = "" }, { text, rows, typed, mark, ask }) {
+function part({ title, hint, label, key, task, show, placeholder = "" }, { typed, mark, ask }) {
   const found = el("div", { class: "found", "aria-live": "polite" });
   const workOut = async () => {
     const put = (...parts) => (found.classList.remove("stale"), refill(found, parts)), now = typed[key] ?? "";
     if (!now.trim()) return put();
     try {
-      const answer = await ask(task, { text, rows, typed: now, mark });
+      const answer = await ask(task, { typed: now, mark });
       return now === typed[key] && put(show(answer));
     } catch (fault) {
       return fault.message === "stopped" || refill(found, el("p", { class: "bad" }, fault.message));
@@ -70,9 +71,7 @@ function estatesTable(found, { rows, format, setEntry }) {
   const faults = found.filter(({ fault }) => fault).map(({ amount, fault }) => {
     return el("p", { class: "bad" }, amount ? `${format.show(Rational.of(amount))}: ${fault}` : fault);
   });
-  const way = (mark) => button(`No, the ${mark === "." ? "point" : "comma"}`, () => setEntry(mark), {
-    class: "quiet",
-  });
+  const way = (mark) => button(`No, the ${nameOfMark(mark)}`, () => setEntry(mark), { class: "quiet" });
   const notes = found.filter(({ note }) => note).map(({ note, other }) => {
     return el("p", { class: "note" }, note, " ", other && setEntry && way(other));
   });

@@ -8,9 +8,14 @@ import { totalsOf, withSum } from "./format.js";
 
 const MOST_NAMED = 4; // changed cells that a sentence names
 
+/** What each row pays or gets by each rule, also by those that the page calculates: {key, title, totals}. */
+function columnsOf({ points, beyond }, rows) {
+  return [...points.map((point) => ({ ...point, totals: totalsOf(rows, point.shares) })), ...(beyond?.points ?? [])];
+}
+
 /** What is kept of the answer that a session shows: the rows' names, what each pays or gets by each rule, the cells. */
-export function pinOf({ result: { points }, reading: { rows }, typed }) {
-  const shares = points.map(({ key, shares: own }) => [key, totalsOf(rows, own).map(String)]);
+function pinOf({ result, reading: { rows }, typed }) {
+  const shares = columnsOf(result, rows).map(({ key, totals }) => [key, totals.map(String)]);
   const names = rows.map(({ label }) => label), sums = rows.map(({ sum = "" }) => sum);
   return { names, sums, shares: Object.fromEntries(shares), typed: structuredClone(typed) };
 }
@@ -18,7 +23,7 @@ export function pinOf({ result: { points }, reading: { rows }, typed }) {
 /** What was kept, for these rows, and how to keep another; `pin` is null if nothing is kept. `kept(key, format)` are
  * the kept numbers of a rule as they were shown, {values, sum}, null for a row that wasn't there. */
 export function pinnedOf(session, rows) {
-  const { pinned: pin, result, typed } = session, canBe = Boolean(result.game) && result.points.length > 0;
+  const { pinned: pin, result, typed } = session, canBe = columnsOf(result, rows).length > 0;
   const set = (next) => session.setPinned(next);
   if (!canBe || !pin) return { canBe, pin: null, keep: () => set(pinOf(session)) };
   const gone = pin.names.filter((name) => rows.every(({ label }) => label !== name));
@@ -99,10 +104,9 @@ export function sinceKept(step, total, kept, r, format) {
   return isSame ? el("small", { class: "same" }, "as before") : changeBelow(step, before, format);
 }
 
-/** Who bears the change, in sentences: by the first rule, for the numbers that are shown. */
-export function pinnedText({ changed, gone, kept }, { points: [first] }, rows, { format, labelOfCell }) {
-  const { values: before = rows.map(() => null), exact = [] } = kept(first.key, format) ?? {};
-  const totals = totalsOf(rows, first.shares);
+/** Who bears the change, in sentences: by one rule, {key, title, totals}, for the numbers that are shown. */
+export function pinnedText({ changed, gone, kept }, { key, title, totals }, rows, { format, labelOfCell }) {
+  const { values: before = rows.map(() => null), exact = [] } = kept(key, format) ?? {};
   const steps = format.steps(totals, rows), unit = new Rational(10n ** BigInt(format.places));
   const by = rows.map((_, r) => before[r] && new Rational(steps[r]).over(unit).minus(before[r]));
   const isOther = (r) => by[r] && !by[r].isZero() && !totals[r].equals(exact[r]);
@@ -113,7 +117,7 @@ export function pinnedText({ changed, gone, kept }, { points: [first] }, rows, {
   });
   const more = (changed ?? []).length - cells.length;
   return [
-    told.length ? `Against the kept answer, ${ruled(first)}: ${listed(told)}`
+    told.length ? `Against the kept answer, ${ruled(title)}: ${listed(told)}`
       + `${told.length < known ? "; the others as before" : ""}.` : "The shares are those of the kept answer.",
     cells.length > 0 && `Changed since: ${cells.join("; ")}${more ? `; and ${plural(more, "more cell")}` : ""}.`,
     fresh.length > 0 && `New: ${fresh.join(", ")}.`,
@@ -121,7 +125,7 @@ export function pinnedText({ changed, gone, kept }, { points: [first] }, rows, {
   ].filter(Boolean).join(" ");
 }
 
-function ruled({ title }) {
+function ruled(title) {
   return title === "Power" ? "in power" : `by the ${title.replace(/^[NP]/, (letter) => letter.toLowerCase())}`;
 }
 
@@ -130,8 +134,8 @@ function signed(label, by, { show }) {
 }
 
 /** The same beside the table. */
-export function pinnedNote(pinned, result, rows, settings) {
-  return pinned.pin && el("p", { class: "note pinned", role: "status" }, pinnedText(pinned, result, rows, settings));
+export function pinnedNote(pinned, column, rows, settings) {
+  return pinned.pin && el("p", { class: "note pinned", role: "status" }, pinnedText(pinned, column, rows, settings));
 }
 
 /** The buttons below the table. */

@@ -1,9 +1,9 @@
 // What the page asks the program about a game, and the answers in the order in which they come.
 import { Rational } from "../exact/rational.js";
-import { writeJson } from "../exact/json.js";
 import { Facts } from "../game/facts.js";
 import { ruleName } from "../tell/rule-names.js";
 import { capital, nameByRows } from "../tell/words.js";
+import { calculated } from "./calculated.js";
 
 /** The greatest numbers of players that the commands take, by class; README.md of the program has them all. */
 const LIMITS = {
@@ -31,35 +31,39 @@ export function takesPerHead(game) {
   return game.n > 1 && game.n <= MOST_PER_HEAD && game.kind !== "market";
 }
 
-/** Asks all that is asked of a game. `read` is what a worker read; `onPart(result)` is called as answers come. */
-export async function askAll(read, { engine, checker, onPart }) {
-  const { rows, text, beyond } = read, game = nameByRows(new Facts(read.facts), rows);
-  const result = { game, text, beyond, points: [], checks: {}, odds: read.odds };
-  const ask = async (word, document = read.text) => checked(await engine("solve", { word, document }));
+/** Asks all that is asked of a game. `read` is what a worker read of the case `about`, as helpers are told of it;
+ * `onPart(result, came)` is called as answers come, with the word for what came: at first that is all. */
+export async function askAll(read, about, { engine, checker, onPart }) {
+  const { rows, text, beyond, odds } = read, game = nameByRows(new Facts(read.facts), rows);
+  const result = { about: Object.assign(about, { text, rows }), game, text, points: [], checks: {}, odds };
+  result.beyond = calculated(beyond);
+  const ask = async (word) => checked(await engine("ask", { word }));
   await askSolution(result, ask);
   if (result.refusal) return onPart(result), result;
   if (result.line) onPart(result);
-  const beside = result.line ? askBeside(result, read.rows, checker, onPart) : null;
+  const beside = result.line ? askBeside(result, checker, onPart) : null;
   beside?.catch(() => 0); // it is told where it is waited for
   await askOthers(result, ask);
-  onPart(result);
+  onPart(result, "divisions");
   for (const point of result.points) Object.assign(point, await judge(result, point.shares, engine));
   if (takes("convex", result.game) && !result.game.ballots && result.game.n > 1) {
-    result.convexity = await engine("convexity", { text: read.text, rows: read.rows });
+    result.convexity = await engine("convexity");
   }
-  onPart(result);
-  if (result.line) result.checks.program = await settled(ask("check", result.line));
-  onPart(result);
+  onPart(result, "verdicts");
+  if (result.line) {
+    result.checks.program = await settled(ask("check"));
+    onPart(result, "checks");
+  }
   await beside;
   return result;
 }
 
 /** What another worker does meanwhile: the sentences, and the second checker's word. */
-async function askBeside(result, rows, checker, onPart) {
-  result.reasons = await checker("explain", { line: result.line, rows });
-  onPart(result);
-  result.checks.anew = await settled(checker("checkAnew", { document: result.line }));
-  onPart(result);
+async function askBeside(result, checker, onPart) {
+  result.reasons = await checker("explain");
+  onPart(result, "reasons");
+  result.checks.anew = await settled(checker("checkLine"));
+  onPart(result, "checks");
 }
 
 /** A checker that fails is told as a fault, and doesn't keep the other from its word. */
@@ -89,7 +93,7 @@ async function askSolution(result, ask) {
     result.noImputation = { singles: Rational.of(singles), total: Rational.of(total) };
     answer = await ask("prenucleolus");
   }
-  result.line = answer.line;
+  result.line = result.about.line = answer.line;
   result.answer = answer.tree.answer;
   result.rule = ruleName(result.answer, result.game.perHead);
   addPoint(result, result.answer, capital(result.rule), answer.tree.shares);
@@ -110,8 +114,7 @@ async function askOthers(result, ask) {
   }
   if (game.kind === "bankruptcy") addProportion(result);
   if (game.isMarket()) {
-    const document = result.text.replace('{"game":{"class":"assignment"', '{"game":{"class":"market"');
-    result.matching = (await ask("matching", document)).tree;
+    result.matching = (await ask("matching")).tree;
     addPoint(result, "buyers", "Best for buyers", result.matching["buyers best"]);
     addPoint(result, "sellers", "Best for sellers", result.matching["sellers best"]);
   }
@@ -136,16 +139,13 @@ function addPoint(result, key, title, shares) {
 
 /** What the program says of shares: whether a group could do better by itself (`verdict`), and whether one of two has
  * the stronger hold on the other (`hold`); null for what it doesn't say. */
-export async function judge({ game, text }, shares, engine) {
-  const document = withShares(text, shares), found = { verdict: null, hold: null };
-  if (takes("propose", game)) found.verdict = verdictOf(checked(await engine("solve", { word: "propose", document })));
+export async function judge({ game }, values, engine) {
+  const shares = values.map(String), ask = async (word) => checked(await engine("ask", { word, shares }));
+  const found = { verdict: null, hold: null };
+  if (takes("propose", game)) found.verdict = verdictOf(await ask("propose"));
   const isHeld = takes("kernel", game) && !game.ballots && game.n > 1 && game.n <= MOST_HELD;
-  if (isHeld) found.hold = holdOf(checked(await engine("solve", { word: "kernel", document })).tree);
+  if (isHeld) found.hold = holdOf((await ask("kernel")).tree);
   return found;
-}
-
-function withShares(text, shares) {
-  return `${text.slice(0, -1)},"shares":${writeJson(shares.map((share) => share.toDocument()))}}`;
 }
 
 function verdictOf({ tree, refusal }) {

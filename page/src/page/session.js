@@ -1,5 +1,7 @@
 // The case that is worked on: what was typed, what was read of it, and the answers of the program.
-import { spoken } from "../exact/decimals.js";
+import { Marks } from "../exact/marks.js";
+import { calculated } from "./calculated.js";
+import { formatOf } from "./format.js";
 import { Helper } from "./helper.js";
 import { proposalOf } from "./proposal.js";
 import { askAll, judge } from "./questions.js";
@@ -8,7 +10,7 @@ const WAIT = 200; // milliseconds between the last key and the question
 const BUSY = 400; // milliseconds after which the page says that it is at work
 
 export class Session {
-  /** `on` is called as things happen: `stale`, `read`, `answer`, `busy(isBusy)` and `fault(fault)`. */
+  /** `on` is called as things happen: `stale`, `read`, `answer(came)`, `busy(isBusy)` and `fault(fault)`. */
   constructor(on) {
     this.on = on;
     this.engine = new Helper();
@@ -17,11 +19,7 @@ export class Session {
     this.kind = null;
     this.turn = 0;
     this.isStale = false; // whether something was typed that the answer doesn't know yet
-    this.mark = new Intl.NumberFormat().format(0.5).includes(",") ? "," : "."; // by which numbers are shown
-    this.own = this.mark; // by which those that are typed are read, where they don't show it themselves
-    spoken.mark = this.mark;
-    this.chosen = null; // the mark that the user has chosen
-    this.isChosen = false; // whether what is shown has that one, or the one of a file
+    this.marks = new Marks(new Intl.NumberFormat().format(0.5).includes(",") ? "," : ".");
     this.isTyped = false; // whether the cells aren't those of a worked example
   }
 
@@ -31,17 +29,13 @@ export class Session {
   }
 
   /** `doubt` is why the game isn't taken for the agreed one, in words; `file` is that which was opened: {name, digest},
-   * and `made`, the document that the page makes of it. What `isFile` has no mark of the case before; its `mark` was
-   * chosen. */
+   * and `made`, the document that the page makes of it. The marks are those of `Marks.open`. */
   open(kind, typed, { isFile = false, isTyped = isFile, ...settings } = {}) {
     const { measure = "plain", texts = [], todays = null, pinned = null, doubt = "", file = null } = settings;
-    const { places = kind.places ?? 2, mark = isFile ? this.usualMark() : this.mark } = settings;
-    const { entry = isFile ? mark : this.own } = settings;
-    Object.assign(this, { kind, typed, measure, texts, todays, pinned, entry, doubt, places, mark, isTyped });
-    this.isFresh = isFile;
-    this.isChosen = Boolean(settings.mark) || (isFile ? this.chosen !== null : this.isChosen);
-    spoken.mark = mark;
-    Object.assign(this, { reading: null, result: null, judged: {}, proposal: proposalOf([], [], entry) });
+    const { places = kind.places ?? 2, mark, entry } = settings;
+    Object.assign(this, { kind, typed, measure, texts, todays, pinned, doubt, places, isTyped });
+    this.marks.open({ isFile, mark, entry });
+    Object.assign(this, { reading: null, result: null, judged: {}, proposal: proposalOf([], [], this.marks.entry) });
     this.changed(0);
     this.file = file;
   }
@@ -59,51 +53,20 @@ export class Session {
 
   /** The mark of what is shown; no number is read anew by it. */
   setMark(mark) {
-    this.isChosen = true;
-    this.chosen = this.mark = mark;
-    spoken.mark = mark;
+    this.marks.choose(mark);
     this.changed(0);
-  }
-
-  /** Where no cell of a file shows a mark, what is typed beside them is read by the one that the answer is shown with:
-   * {reading} with that. */
-  ofFile(reading) {
-    const isOpen = this.isFresh && reading.settled === null && !reading.doubts?.length;
-    this.isFresh = false;
-    if (!isOpen) return reading;
-    this.entry = this.mark;
-    return { ...reading, entry: this.mark, mark: this.mark };
-  }
-
-  /** What is shown has the mark that the typed numbers show, until the user chooses one. */
-  follow({ settled }) {
-    if (this.isChosen || !this.isTyped || !settled || settled === this.mark) return false;
-    this.mark = spoken.mark = settled;
-    this.changed(0);
-    return true;
   }
 
   /** The mark of the numbers of this case that can be read both ways, as the user says. */
   setEntry(mark) {
-    this.entry = mark;
+    this.marks.entry = mark;
     this.typed.isMarked = true;
     this.changed(0);
   }
 
-  /** The mark of files, which show none themselves. */
-  usualMark() {
-    return this.chosen ?? this.own;
-  }
-
-  /** The mark by which numbers beside the cells are read: the one that these show, but those of a worked example. */
-  readMark() {
-    const { settled = null, mark = this.own } = this.reading ?? {};
-    return (this.isTyped ? settled : null) ?? mark;
-  }
-
-  /** How the cells were read: that mark, or what the user chose in its place for those that can be read both ways. */
-  entryMark() {
-    return this.reading?.entry ?? this.entry;
+  /** How numbers are shown. */
+  format() {
+    return formatOf(this.places, this.marks.spelling());
   }
 
   setMeasure(measure) {
@@ -111,31 +74,36 @@ export class Session {
     this.changed(0);
   }
 
-  /** The helpers as functions that ask; a question that nobody needs any more isn't asked. */
-  asking(turn) {
+  /** The helpers as functions that ask about a case; a question that nobody needs any more isn't asked. */
+  asking(turn, about) {
     const one = (helper) => (task, what) => {
-      return this.turn === turn ? helper.ask(task, what) : Promise.reject(new Error("stopped"));
+      return this.turn === turn ? helper.ask(task, what, about) : Promise.reject(new Error("stopped"));
     };
     return { engine: one(this.engine), checker: one(this.checker) };
+  }
+
+  /** The helper that the parts of an answer ask about its case: `ask(task, what)`. */
+  askAbout({ about }) {
+    return (task, what) => this.checker.ask(task, what, about);
   }
 
   async work() {
     const mine = (this.turn += 1), isMine = () => this.turn === mine;
     for (const helper of [this.engine, this.checker]) helper.stopIfSlow();
-    const slow = setTimeout(() => isMine() && this.on.busy(true), BUSY), { engine, checker } = this.asking(mine);
+    const slow = setTimeout(() => isMine() && this.on.busy(true), BUSY), about = { number: mine };
+    const { engine, checker } = this.asking(mine, about);
     try {
-      const { kind, entry: mark, measure } = this, typed = kind.pack?.(this.typed) ?? this.typed;
-      const { isMarked } = this.typed;
-      const reading = await engine("readCase", { id: kind.id, typed, mark, measure, isMarked });
+      const { kind, marks, measure } = this, typed = kind.pack?.(this.typed) ?? this.typed;
+      const { isMarked } = this.typed, before = JSON.stringify(marks.spelling());
+      const read = await engine("read", { id: kind.id, typed, mark: marks.entry, measure, isMarked });
       if (!isMine()) return;
-      this.reading = this.ofFile(reading);
+      const reading = marks.take(read, this.isTyped);
       if (this.file) this.file.made ??= reading.text;
-      if (this.follow(reading)) return;
-      this.judged = {};
+      if (JSON.stringify(marks.spelling()) !== before) return void this.changed(0); // for the notes, too
+      Object.assign(this, { reading, judged: {} });
       this.on.read();
-      if (reading.isRight) await this.ask(engine, checker, isMine);
-      else this.result = null;
-      if (isMine()) this.answered();
+      if (reading.facts) await this.ask(about, { engine, checker }, isMine);
+      else this.withoutProgram(reading);
     } catch (fault) {
       if (isMine() && fault.message !== "stopped") this.on.fault(fault);
     } finally {
@@ -144,25 +112,24 @@ export class Session {
     }
   }
 
-  async ask(engine, checker, isMine) {
-    if (!this.reading.facts) { // the program takes no such game, and the page has calculated what it can
-      this.result = { beyond: this.reading.beyond, points: [] };
-      this.proposal = proposalOf([], [], this.readMark());
-      return;
-    }
+  async ask(about, helpers, isMine) {
     this.readProposal();
-    const onPart = (result) => {
-      if (!isMine()) return;
-      this.result = result;
-      this.answered();
-    };
-    await askAll(this.reading, { engine, checker, onPart });
+    const onPart = (result, came) => isMine() && this.answered(result, came);
+    await askAll(this.reading, about, { ...helpers, onPart });
     if (isMine()) await this.judge();
   }
 
-  answered() {
+  /** If the program takes no such game, the page has calculated what it can; otherwise the cells aren't right. */
+  withoutProgram({ isRight, beyond }) {
+    if (isRight) this.proposal = proposalOf([], [], this.marks.beside());
+    this.answered(isRight ? { beyond: calculated(beyond), points: [] } : null);
+  }
+
+  /** `came` says what of the answer is new: all, unless it is named. */
+  answered(result, came) {
+    this.result = result;
     this.isStale = false;
-    this.on.answer();
+    this.on.answer(came);
   }
 
   stop() {
@@ -177,14 +144,14 @@ export class Session {
 
   readProposal() {
     const canBe = this.reading.facts.kind !== "market";
-    this.proposal = { canBe, ...proposalOf(this.texts, this.reading.rows, this.readMark()), ...this.judged };
+    this.proposal = { canBe, ...proposalOf(this.texts, this.reading.rows, this.marks.beside()), ...this.judged };
   }
 
   setProposal(texts) {
     this.texts = Array.from(texts, (text) => text ?? "");
     this.judged = {};
     this.readProposal();
-    this.on.answer();
+    this.on.answer("proposal");
     clearTimeout(this.judging);
     this.judging = setTimeout(() => this.judge().catch(this.on.fault), WAIT);
   }
@@ -193,19 +160,20 @@ export class Session {
   setPinned(pinned) {
     this.pinned = pinned;
     this.on.read();
-    this.on.answer();
+    this.on.answer("pinned");
   }
 
   /** What each pays or has today, a text for each row; null where the user doesn't compare. No answer changes. */
   setTodays(texts) {
     this.todays = texts && Array.from(texts, (text) => text ?? "");
-    this.on.answer();
+    this.on.answer("todays");
   }
 
   async judge() {
     const { result, turn, texts } = this, { shares } = this.proposal;
     if (!shares || !result || result.refusal || this.isStale) return; // the next answer has it judged
-    const isMine = () => this.turn === turn && this.texts === texts, { engine, checker } = this.asking(turn);
+    const isMine = () => this.turn === turn && this.texts === texts;
+    const { engine, checker } = this.asking(turn, result.about);
     try {
       const judged = await judge(result, shares, engine), [solution] = result.points;
       const isComparable = judged.verdict && !judged.verdict.sum && result.line;
@@ -213,14 +181,13 @@ export class Session {
       if (!isMine()) return;
       this.judged = judged;
       this.readProposal();
-      this.on.answer();
+      this.on.answer("proposal");
     } catch (fault) {
       if (fault.message !== "stopped") throw fault;
     }
   }
 
   compared(checker, shares, solution) {
-    const [one, other] = [shares, solution.shares].map((list) => list.map(String));
-    return checker("compare", { text: this.result.text, rows: this.reading.rows, one, other });
+    return checker("compare", { divisions: [shares, solution.shares].map((list) => list.map(String)) });
   }
 }

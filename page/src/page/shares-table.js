@@ -21,8 +21,8 @@ export function sharesTable(result, settings) {
   const { game, points } = result, { rows, format, proposal } = settings;
   const context = contextOf(game, rows, format);
   const columns = points.map((point) => {
-    const steps = format.steps(totalsOf(rows, point.shares), rows);
-    return { ...point, steps, texts: format.texts(withSum(steps)) };
+    const totals = totalsOf(rows, point.shares), steps = format.steps(totals, rows);
+    return { ...point, totals, steps, texts: format.texts(withSum(steps)) };
   });
   const against = againstOf(points[0], rows, proposal, format), isNarrow = settings.wide < NARROW;
   const beside = [proposal.canBe, against, settings.today.texts, settings.pinned?.pin].filter(Boolean);
@@ -34,7 +34,7 @@ export function sharesTable(result, settings) {
   const kinds = ["shares", isOwn ? "proposing" : "", pinned?.pin ? "comparing" : "",
     proposal.totals ? "" : "unproposed", rows.length <= BRIEF ? "brief" : ""];
   return el("div", {},
-    pinned && pinnedNote(pinned, result, rows, settings),
+    pinned && pinnedNote(pinned, columns[0], rows, settings),
     el("div", { class: "scroll" }, el("table", { class: kinds.filter(Boolean).join(" ") },
       headOf(view), el("tbody", {}, linesOf(rows).map((line) => (line.of ? sumRow(line, view) : shareRow(line, view)))),
       footOf(view))),
@@ -101,9 +101,9 @@ function shareRow({ row, r }, view) {
     context && el("td", { class: "number context" }, context.texts[r]),
     today.texts && el("td", { class: "number today" }, ownInput(row, r, today, "today", todayTitle(game))),
     pinned?.pin && el("td", { class: "number kept" }, kept(columns[0].key) ? format.show(kept(columns[0].key)) : "–"),
-    columns.map(({ key, texts, steps, shares }, k) => {
-      const changes = [changeOf(steps[r], r, today, format),
-        sinceKept(steps[r], shares[row.players[0]].times(Rational.of(count)), view.kept.get(key), r, format)];
+    columns.map(({ key, texts, steps, shares, totals }, k) => {
+      const since = sinceKept(steps[r], totals[r], view.kept.get(key), r, format);
+      const changes = [changeOf(steps[r], r, today, format), since];
       return shareCell(texts[r], shares[row.players[0]], count, format, changes, kindOf(key, k));
     }),
     proposal.canBe && el("td", { class: "number proposed" },

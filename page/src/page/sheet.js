@@ -17,7 +17,7 @@ import { el, refill } from "./dom.js";
 import { knownDigest } from "./files.js";
 import { fitOnPaper } from "./fit.js";
 import { filledLines, filledText, givenText } from "./filled.js";
-import { formatOf, movedText, totalsOf, withSum } from "./format.js";
+import { movedText, totalsOf, withSum } from "./format.js";
 import { labelOfCell } from "./cell-names.js";
 import { pinnedOf, pinnedText } from "./pinned.js";
 import { contextOf, ownSum, sameText } from "./shares-table.js";
@@ -35,20 +35,20 @@ const MOST_TOLD = 800; // characters of the first reason that are printed in ful
 const MOST_LEVELS = 1100; // characters of what the levels behind the first settle
 const MOST_DOCUMENT = 420; // characters of the game's document that are printed
 const MOST_SAVING = 8; // rows of whom each saving is named
-const MOST_ALONE = 900; // the same where there is no picture
+const MOST_ALONE = 900; // the same if there is no picture
 
 const OPEN = "Open coop.html from the project’s repository, at the commit named below (the sender has to give "
-  + "you its address)";
+  + "you the address of the repository)";
 const TYPE_IN = " Or simply type the numbers into that page: the answer has to be the same.";
-const AREA = "The dark area, if there is one, has the divisions by which no group could do better by itself.";
-const OF_FILE = " That is the SHA-256 of the file. The box below has the same numbers as this page writes them.";
-const OF_TEXT = " That is the SHA-256 of the text in the box below, with a line end after it.";
-const POWER = "A voter’s power is the part of all orders of joining in which it is the voter who makes the votes "
-  + "sufficient (Shapley and Shubik 1954).";
-const PRICES = "The pairs are those that gain most together. At these prices no other pair does better.";
+const AREA = "The dark area, if there is one, contains the divisions by which no group could do better by itself.";
+const OF_FILE = " This is the SHA-256 of the file. The box below contains the same numbers, as this page writes them.";
+const OF_TEXT = " This is the SHA-256 of the text in the box below, with a line end after it.";
+const POWER = "A voter’s power is the part of all orders of joining in which the votes become enough when this voter "
+  + "joins (Shapley and Shubik 1954).";
+const PRICES = "These pairs gain most together. At these prices no other pair does better.";
 
-/** Fills the sheet with the answer of a session, and gives the number of sheets of paper that it takes; leaves it empty
- * where there is no answer. */
+/** Fills the sheet with the answer of a session, and returns the number of sheets of paper that it takes. Without an
+ * answer the sheet is empty. */
 export function showSheet(session, typed = {}) {
   const sheet = document.getElementById("sheet");
   fillSheet(sheet, session, typed);
@@ -57,28 +57,27 @@ export function showSheet(session, typed = {}) {
 
 function fillSheet(sheet, session, typed) {
   const { result, reading } = session;
-  if (result?.beyond && !result.game) {
-    const format = formatOf(session.places, session.mark), today = todayOf(session, result.beyond.rows);
-    const view = { ...session, ...typed, format, today };
-    sheet.className = "tight";
-    const { beyond } = result;
-    refill(sheet, headOf(view), beyond.power ? beyondPower(beyond, { format, wide: WIDE }) : beyondSheet(beyond, view));
-    return;
-  }
-  if (!result || result.refusal || !result.points.length) {
-    refill(sheet);
-    return;
-  }
-  const { rows } = reading, format = formatOf(session.places, session.mark), today = todayOf(session, rows);
+  const isBeyond = result?.beyond && !result.game;
+  if (!isBeyond && (!result || result.refusal || !result.points.length)) return refill(sheet);
+  const { rows } = reading, format = session.format(), today = todayOf(session, rows);
   const { heading, unit, withProposal } = typed, { coarse } = session.typed, pinned = pinnedOf(session, rows);
   const labelOf = (cell) => labelOfCell(cell, session);
   const view = { ...session, heading, unit, withProposal, result, rows, format, today, coarse, pinned,
     labelOfCell: labelOf };
+  if (isBeyond) return beyondOn(sheet, view);
   const reasons = reasonsOf(view), isLong = rows.length > MANY_ROWS || reasons.textContent.length > LONG;
   const isTight = isLong || Boolean(withProposal || coarse || pinned.pin || result.core?.collection);
   sheet.className = isTight ? "tight" : "";
-  refill(sheet, headOf(view), notices(result, format, coarse), answerOf(view), pictureOf(view), reasons,
+  return refill(sheet, headOf(view), notices(result, format, coarse), answerOf(view), pictureOf(view), reasons,
     agreedOf(view), checkOf(view));
+}
+
+/** What the page calculates by itself. */
+function beyondOn(sheet, view) {
+  const { result: { beyond } } = view;
+  sheet.className = "tight";
+  refill(sheet, headOf(view), beyond.game ? beyondPower(beyond, { ...view, wide: WIDE, isPaper: true })
+    : beyondSheet(beyond, view));
 }
 
 function headOf({ heading, kind }) {
@@ -125,7 +124,7 @@ function answerOf(view) {
     coarse?.times && [{ title, totals }, ...beside].map((one) => {
       return el("p", { class: "hint" }, dividedText(coarse, one.title, rows, one.totals));
     }),
-    kept && el("p", { class: "hint" }, pinnedText(pinned, { points: [point] }, rows, view)),
+    kept && el("p", { class: "hint" }, pinnedText(pinned, { ...point, totals }, rows, view)),
     saidOfAll(view, point, beside));
 }
 
@@ -138,7 +137,7 @@ function keptsOf(kept, steps, format) {
     { title: "Change", texts: told((now, step) => changeText(step, now, format)) }];
 }
 
-/** The bill: what each airline pays for all its rows, by the columns that are shown; null where none has several. */
+/** The bill: what each airline pays for all its rows, by the columns that are shown; null if no airline has several. */
 function airlinesOf({ result: { points }, rows, format, withProposal, proposal, today }, shown) {
   const others = withProposal ? points.filter((point) => point !== shown) : [];
   const columns = [shown, ...others].map(({ title, shares }) => ({ title, totals: totalsOf(rows, shares) }));
@@ -147,7 +146,7 @@ function airlinesOf({ result: { points }, rows, format, withProposal, proposal, 
   return lines.length ? linesTable("What each airline pays", lines, "shares dense") : null;
 }
 
-/** The same lines with what each airline pays today, and the change, where that was typed for all its rows. */
+/** Adds what each airline pays today, and the change, if the user typed it for all its rows. */
 function withTodays(lines, { rows, format, today, shown }) {
   if (!lines.length || !today.texts?.some(Boolean)) return lines;
   const steps = format.steps(totalsOf(rows, shown.shares), rows), all = rows.map((_, r) => r);
@@ -159,7 +158,7 @@ function withTodays(lines, { rows, format, today, shown }) {
   return lines.map((line, k) => [...line.slice(0, 3), ...told(line, k), ...line.slice(3)]); // behind the first column
 }
 
-/** What each pays or has today, and how much more the share is, where that was typed. */
+/** What each pays or has today, and how much more the share is, if the user typed it. */
 function todaysOf({ texts, values }, steps, game, format) {
   if (!texts?.some(Boolean)) return [];
   const told = (say) => withSum(steps).map((step, r) => (values[r] ? say(values[r], step) : ""));
@@ -167,8 +166,8 @@ function todaysOf({ texts, values }, steps, game, format) {
     { title: "Change", texts: told((now, step) => changeText(step, now, format)) }];
 }
 
-/** A line for each column that is judged: for the one that is always there, too, where others stand beside it, or a
- * group does better by itself. Columns of which the same is said share one. */
+/** A line for each column that is judged. The first column has one if others are beside it, or if a group does better
+ * by itself. Columns with the same verdict share a line. */
 function saidOfAll({ result, format }, { title, ...point }, others) {
   const own = { title, said: result.game.ballots ? "" : saidOf(result.game, point, format) };
   const lines = others.length || point.verdict?.group ? [own, ...others] : [];
@@ -178,8 +177,8 @@ function saidOfAll({ result, format }, { title, ...point }, others) {
   return [...told, same].map((text) => text && el("p", { class: "hint" }, text));
 }
 
-/** The other columns, and the user's proposal, where these are wanted: {title, texts, totals, exact, said}. `exact` is
- * the cell of a row with its fraction, which stands right of the number as that of the first column does. */
+/** The other columns, and the user's proposal, if the user wants them: {title, texts, totals, exact, said}. `exact`
+ * returns the cell of a row with its fraction, which is to the right of the number as in the first column. */
 function othersOf({ result, rows, format, withProposal, proposal, judged }, shown) {
   if (!withProposal || result.game.ballots) return [];
   const { game, points } = result, own = proposal?.totals && { title: "Your proposal", ...proposal, ...judged };
@@ -191,7 +190,7 @@ function othersOf({ result, rows, format, withProposal, proposal, judged }, show
   });
 }
 
-/** Whether a group does better by itself, and, of a proposal, how it stands beside the solution. */
+/** Says whether a group does better by itself, and how a proposal compares with the solution. */
 function saidOf(game, { verdict, comparison }, { by, apart }) {
   const parts = [];
   if (verdict?.isCore) parts.push("no group does better by itself.");
@@ -201,17 +200,18 @@ function saidOf(game, { verdict, comparison }, { by, apart }) {
   }
   if (verdict?.sum) {
     const [sum, total] = apart(verdict.sum, verdict.total);
-    parts.push(`it adds to ${sum}, and not to ${total}.`);
+    parts.push(`it adds to ${sum} instead of ${total}.`);
   }
   if (comparison && comparison.better !== "same") {
     const k = comparison.differs - comparison.first, [mine, theirs] = comparison.lists.map((list) => list[k]);
-    parts.push(`Of what each group could gain by leaving, the greatest first, place ${comparison.differs} is the first `
-      + `that differs: ${mine.excess} (${mine.group}) here, ${theirs.excess} (${theirs.group}) by the division above.`);
+    parts.push(`If what each group could gain by leaving is listed, the greatest first, place ${comparison.differs} is `
+      + `the first that differs: ${mine.excess} (${mine.group}) here, and ${theirs.excess} (${theirs.group}) by the `
+      + "division above.");
   }
   return parts.join(" ");
 }
 
-/** One table; of many rows two, side by side, with the sum below the second. */
+/** One table; if there are many rows two, side by side, with the sum below the second. */
 function halves(count, heads, line, sum) {
   const isLong = count > MOST_ROWS, middle = isLong ? Math.ceil(count / 2) : count;
   const head = () => el("thead", {}, el("tr", {}, heads.map((title, k) => {
@@ -284,7 +284,7 @@ function reasonsOf({ result, pair, rows, format }) {
   const [principle, next] = reasons, levels = reasons.filter(({ isLevel }) => isLevel).length;
   const sentences = [...principle.sentences, ...(next ? toldOf(next) : [])], behind = levelsBehind(reasons, next);
   if (next?.isLevel && levels > 1 && !behind.length) {
-    sentences.push(`That is the first of ${levels} levels. The certificate has all of them.`);
+    sentences.push(`This is the first of ${levels} levels. The certificate contains all of them.`);
   }
   const isCore = points.find(({ key }) => key === answer)?.verdict?.isCore;
   const saved = savingsText(game, points[0], rows, format);
@@ -296,7 +296,7 @@ function reasonsOf({ result, pair, rows, format }) {
     pair && el("p", {}, pair));
 }
 
-/** What the levels behind the first say: who is worst off, and what is settled, or that alone, as there is room. */
+/** What the later levels say: who is worst off and what is settled, or only what is settled, as there is room. */
 function levelsBehind(reasons, next) {
   if (!next?.isLevel) return [];
   const others = reasons.slice(2).filter(({ isLevel }) => isLevel);
@@ -319,7 +319,7 @@ function toldOf({ sentences, items, last = "" }) {
 
 // ---- What is agreed on, and how to check it
 
-/** The numbers by the file that was opened, while they are its own; else by that which the page writes of them. */
+/** Names the file with the numbers: the file that was opened, as long as they are its own, otherwise the page's. */
 function numbersOf({ file, kind, coarse, result: { text } }) {
   const isOpened = file?.made === text, digest = isOpened ? file.digest : knownDigest(`${text}\n`);
   const sum = el("span", { class: "digest" }, digest ?? "(this browser can’t calculate it)");
@@ -344,7 +344,7 @@ function agreedOf(view) {
     !doubt && el("p", { class: "sign" }, "Agreed on by", el("span"), "on", el("span", { class: "short" })));
 }
 
-/** The rules whose shares stand on the page. */
+/** The rules whose shares are on the page. */
 function shownTitles({ result, withProposal }) {
   const own = solutionOf(result) ?? result.points[0];
   return (withProposal ? result.points : [own]).map(({ title }) => title);
@@ -358,7 +358,7 @@ function checkOf({ result: { rule, answer, line, game }, kind, doubt, coarse }) 
       + `${fileNames(kind.id, coarse).line}-${ruleFile(answer, game.perHead)}.json. `
       + `Two independent checkers say whether these shares are the ${rule} of the agreed game. `
       + "You can check by hand, too: the page lists the eight conditions under “What a yes means”."
-    : `${OPEN}, choose “Open a saved case”, and give it the agreed file: it works the answer out anew.`;
+    : `${OPEN}, choose “Open a saved case”, and give it the agreed file. It works out the answer anew.`;
   return el("section", {}, el("h2", {}, "How to check it"), el("p", {}, steps, TYPE_IN),
     el("p", { class: "hint" }, foot));
 }

@@ -3,7 +3,7 @@ import { groupLabel, packed, unpacked, withoutPlayer, withPlayer } from "../case
 import { masksBySize, membersOf } from "../game/groups.js";
 import { countText } from "../exact/decimals.js";
 import { withEscapes } from "../game/names.js";
-import { cellInput, moveByKeys, pasteCells } from "./cells.js";
+import { cellInput, moveByKeys, pasteCells, removal, removeByKey } from "./cells.js";
 import { button, cellOf, copy, el, refill } from "./dom.js";
 import { headingOf, numbersIn } from "../cases/vectors.js";
 import { plural } from "../tell/words.js";
@@ -32,6 +32,7 @@ class TableGrid {
     this.element.more = tools;
     this.order = masksBySize(typed.names.length);
     this.element.addEventListener("show-cell", ({ detail }) => this.showCell(detail));
+    removeByKey(players);
     moveByKeys(list, (cell, step) => `numbers.${this.order[this.placeOf(cell) + step]}`);
     pasteCells(list, (cell, rows, text) => this.paste(cell, rows, text), readCells);
     this.show();
@@ -77,9 +78,9 @@ class TableGrid {
         this.onChange();
       },
     });
-    const remove = this.typed.names.length > 1 && button("×", () => this.remove(i), {
-      class: "remove", "aria-label": `Remove ${withEscapes(name) || `player ${i + 1}`}`,
-      title: "Remove this player, with all its groups",
+    const { length } = this.typed.names, remove = length > 1 && removal(this.players, {
+      label: `Remove ${withEscapes(name) || `player ${i + 1}`}`, title: "Remove this player, with all its groups",
+      remove: () => this.remove(i), next: `names.${Math.min(i, length - 2)}`,
     });
     return el("span", { class: "player" }, input, remove);
   }

@@ -11,7 +11,7 @@ export function todayOf(session, rows) {
   const canBe = !result.game || (!result.game.isMarket() && !result.game.ballots); // of many landings there is no game
   if (!todays || !canBe) return { canBe, texts: null, setAll };
   const set = (r, text) => setAll(Object.assign([...todays], { [r]: text }));
-  const { texts, values, faults } = proposalOf(todays, rows, session.readMark()), isWhole = values.every(Boolean);
+  const { texts, values, faults } = proposalOf(todays, rows, session.marks.beside()), isWhole = values.every(Boolean);
   return { canBe, texts, faults, set, setAll, values: isWhole ? [...values, Rational.sum(values)] : values };
 }
 

@@ -5,16 +5,16 @@ import { changesOf, changesTable, ruleIn } from "./changes.js";
 import { el, refill } from "./dom.js";
 import { fillsOfRest } from "./two-fills.js";
 
-/** `view` are {game, text, rows, format, typed, ask, assumed}; `typed.leaves` keeps who was chosen. */
+/** `view` are {game, rows, format, typed, ask, assumed}; `typed.leaves` keeps who was chosen. */
 export function leavingPart(view) {
-  const { game, text, rows, typed, ask } = view;
+  const { game, rows, typed, ask } = view;
   if (rows.length < 2) return null;
   const found = el("div", { class: "found", "aria-live": "polite" });
   const work = async () => {
     const row = rows.find(({ label }) => label === typed.leaves);
     if (!row) return refill(found);
     try {
-      const { network } = view, answer = await ask("leave", { text, who: row.players, network });
+      const { network } = view, answer = await ask("leave", { who: row.players, network });
       const stay = stayOf(answer, row, rows);
       const byFills = await fillsOfRest(view, row.players, stay, ` of the others without ${row.label}`);
       return typed.leaves === row.label && refill(found, leavingParts(answer, row, stay, byFills, view));

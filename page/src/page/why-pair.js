@@ -6,7 +6,7 @@ import { el, refill } from "./dom.js";
 
 /** `typed.pair` keeps the labels of the two rows; `onSaid(sentence)` is told the one that goes on paper. */
 export function pairPart(result, { rows, format, typed, ask, onSaid }) {
-  const { game, text } = result, solution = solutionOf(result), found = el("div", { "aria-live": "polite" });
+  const { game } = result, solution = solutionOf(result), found = el("div", { "aria-live": "polite" });
   if (!solution || game.ballots || rows.length < 2) return null;
   const labels = rows.map(({ label }) => label), pair = typed.pair ?? [];
   const work = async () => {
@@ -14,7 +14,7 @@ export function pairPart(result, { rows, format, typed, ask, onSaid }) {
     onSaid("");
     if (two.length < 2 || two[0] === two[1]) return refill(found);
     const [i, j] = two.map(({ players }) => players[0]), shares = solution.shares.map(String);
-    const told = await ask("pair", { text, shares, i, j }).catch(() => null);
+    const told = await ask("pair", { shares, i, j }).catch(() => null);
     const sentences = told ? sentencesOf(told, two, { game, solution, format }) : [];
     onSaid(sentences.slice(0, 2).join(" "));
     return refill(found, el("p", {}, sentences.join(" ")));

@@ -1,5 +1,6 @@
 // What is said of numbers that the page rounded, or took times a power of ten, since they were too fine.
-import { decimal, decimalOf, fractionText, spoken } from "../exact/decimals.js";
+import { decimal, decimalOf, fractionText } from "../exact/decimals.js";
+import { spoken } from "../exact/marks.js";
 import { Rational } from "../exact/rational.js";
 import { plural } from "./words.js";
 

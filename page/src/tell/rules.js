@@ -1,9 +1,10 @@
-// The rules that give the nucleolus of a runway and of an estate, told with the numbers of a game. A rule is worked out
-// anew, and told only where its shares are those of the answer.
+// The rules that give the nucleolus of a runway and of an estate, explained with the numbers of a game. A rule is
+// worked out anew, and explained only if its shares are those of the answer.
 import { Rational, ZERO } from "../exact/rational.js";
-import { decimal, fullText, shortText, spoken } from "../exact/decimals.js";
+import { decimal, fullText, shortText } from "../exact/decimals.js";
+import { spoken } from "../exact/marks.js";
 
-/** The rule as {title, sentences, items}; null where the class has none. */
+/** The rule as {title, sentences, items}; null if the class has none. */
 export function ruleOf(game, shares, namer) {
   if (game.perHead) return null;
   if (game.kind === "airport") return runwayRule(game, shares, namer);
@@ -42,9 +43,9 @@ function runwayRule(game, shares, namer) {
     title: "The rule (Littlechild 1974)",
     sentences: [
       "Put the landings in the order of what they need.",
-      "At each step take the cost of a runway for them, less what the earlier ones pay.",
+      "At each step, take the cost of a runway for the next landings too, less what the earlier ones pay.",
       "Split it into equal parts: one for each landing that pays now, and one that is saved.",
-      "Those landings pay now for which this part is least.",
+      "The next landings that make this part least pay now.",
     ],
     items: steps.map((step, k) => runwayStep(game, namer, step, steps[k - 1])),
   };
@@ -77,7 +78,8 @@ function runway(done, end, players) {
 
 // ---- An estate
 
-/** The t for which the halves of the claims, each cut to t, add to the amount, which is at most half of all. */
+/** Returns the t for which the halves of the claims, each at most t, add to the amount. The amount is at most half of
+ * all claims. */
 function greatestPart(claims, amount) {
   const two = Rational.of(2);
   const sorted = [...claims].sort((a, b) => a.compare(b));
@@ -103,11 +105,11 @@ function estateRule(game, shares, namer) {
   const isCut = game.amounts.some((claim) => estate.less(claim));
   const sentences = [
     ...(isCut ? [`A claim above the estate counts as the estate, ${shortText(estate)}.`] : []),
-    `The claims add to ${shortText(total)}, and half of that is ${shortText(half)}.`,
-    `The estate of ${shortText(estate)} is ${isLacking ? "more" : "no more"} than that.`,
+    `The claims add to ${shortText(total)}, and half of this sum is ${shortText(half)}.`,
+    `The estate of ${shortText(estate)} is ${isLacking ? "more" : "no more"} than this half.`,
     `So each ${verb} half of its claim${isCapped.includes(true) ? `, but at most ${fullText(t)}` : ""}.`,
     ...greatestText(parts, isCapped, t, amount),
-    `Together that is ${isLacking ? `the ${shortText(amount)} that the estate lacks` : shortText(amount)}.`,
+    `Together these are ${shortText(amount)}${isLacking ? ", which is what the estate lacks" : ""}.`,
   ];
   const items = claims.map((claim, i) => {
     const halfOf = `Half of ${shortText(claim)} is ${shortText(claim.over(two))}`;
@@ -119,24 +121,24 @@ function estateRule(game, shares, namer) {
   return { title: "The rule (the Talmud’s; Aumann and Maschler 1985)", sentences, items, last };
 }
 
-/** Where the most that one gets, or loses, comes from: what the halves below it leave, in equal parts. */
+/** Why one gets, or loses, at most t: the halves that are no greater leave a rest, which is split into equal parts. */
 function greatestText(parts, isCapped, t, amount) {
   const many = isCapped.filter(Boolean).length, few = parts.length - many, equal = `in ${many} equal parts`;
   if (!many) return [];
-  if (!few) return [`No half is below that: ${shortText(amount)} ${equal}.`];
+  if (!few) return [`No half is lower, so ${shortText(amount)} is split ${equal}.`];
   const halves = Rational.sum(parts.filter((_, i) => !isCapped[i])), left = shortText(amount.minus(halves));
-  const those = few === 1 ? "The one half that isn’t above it is" : `The ${few} halves that aren’t above it come to`;
-  const each = many > 1 ? `; ${equal} that is ${fullText(t)} each` : "";
-  return [`${those} ${shortText(halves)}, of ${shortText(amount)}. That leaves ${left}${each}.`];
+  const those = few === 1 ? "One half is no greater:" : `${few} halves are no greater, together`;
+  const rest = many > 1 ? `The rest is ${left}, ${equal} of ${fullText(t)}.` : `The rest is ${left}.`;
+  return [`${those} ${shortText(halves)} of the ${shortText(amount)}. ${rest}`];
 }
 
-/** That it isn't the division in proportion, and who gets more by which; "" where the two are the same. */
+/** Compares the rule with the division in proportion: who gets more by which; "" if the two are the same. */
 function inProportion({ single, amounts }, shares, isLacking, isCut) {
   const part = single.over(Rational.sum(amounts));
   if (amounts.every((claim, i) => claim.times(part).equals(shares[i]))) return "";
   const percent = `${decimal(part.times(Rational.of(100)), 2, spoken)}\u202f%`;
-  const [more, less] = isLacking ? ["greater", "smaller"] : ["smaller", "greater"];
-  const who = isLacking && isCut ? "" : ` Here the ${more} claims get more than that, and the ${less} ones less.`;
-  return `This isn’t the division in proportion to the claims, by which each would get ${percent} of its claim.${who} `
-    + "A court may be bound to another rule: insolvency law commonly divides in proportion.";
+  const [more, less] = isLacking ? ["larger", "smaller"] : ["smaller", "larger"];
+  const who = isLacking && isCut ? "" : ` By this rule the ${more} claims get more, and the ${less} ones less.`;
+  return `In proportion to the claims, each would get ${percent} of its claim.${who} A court may be bound to another `
+    + "rule: insolvency law commonly divides in proportion.";
 }

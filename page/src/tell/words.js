@@ -26,13 +26,15 @@ export function isOrAre(list) {
   return list.length === 1 ? "is" : "are";
 }
 
-/** Names the landings of a runway as the rows of the answer do: each by its row, and by which part of it. */
+/** The same game, with the landings of a runway named by the rows of the answer: each by its row, and which part of
+ * it. */
 export function nameByRows(game, rows) {
   if (game.kind !== "airport") return game;
-  game.shown = [...game.shown];
-  for (const row of rows) for (const i of row.players) game.shown[i] = partOf(row, 1);
-  game.landings = rows.some(({ players }) => players.length > 1) ? rows : null;
-  return game;
+  const named = Object.create(game);
+  named.shown = [...game.shown];
+  for (const row of rows) for (const i of row.players) named.shown[i] = partOf(row, 1);
+  named.landings = rows.some(({ players }) => players.length > 1) ? rows : null;
+  return named;
 }
 
 function partOf({ label, players }, count) {

@@ -37,10 +37,10 @@ function treeOf(text) {
   }
 }
 
-function openCase(tree, spoken) {
+function openCase(tree, usual) {
   const fault = faultOfCase(tree);
   if (fault) return { refusal: fault };
-  const { entry = spoken, mark = spoken, decimals, heading, unit, source, proposal = [], kept } = tree;
+  const { entry = usual, mark = usual, decimals, heading, unit, source, proposal = [], kept } = tree;
   const found = withMark(openDocument({ text: writeJson(tree.document), mark }), entry);
   if (found.refusal) {
     const { sentence, place } = found.refusal;

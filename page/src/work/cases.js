@@ -2,6 +2,7 @@
 import { parseJson, writeJson } from "../exact/json.js";
 import { Rational } from "../exact/rational.js";
 import { typedText } from "../exact/decimals.js";
+import { isMark, onlyMark } from "../exact/marks.js";
 import { caseNamed, caseOfClass } from "../cases/cases.js";
 import { cellsOf } from "../cases/pasting.js";
 import { packed, tableOf } from "../cases/tables.js";
@@ -19,7 +20,7 @@ const TOO_MANY = "With so many different second votes the page counts the power 
 const ANSWERS = ["nucleolus", "prenucleolus", "shapley"];
 const MOST_BYTES = 2097152;
 
-/** What the cells say: the rows of the answer, what is wrong, and, where nothing is, the document and its facts. */
+/** What the cells say: the rows of the answer, what is wrong, and, if nothing is, the document, its facts and game. */
 export function readCase({ id, typed, mark, measure, isMarked = typed.isMarked }) {
   const { reading, rows, tree, ballots, landings, isBeyond } = readByOneMark(caseNamed(id), typed, mark);
   reading.askOfMixed(isMarked);
@@ -37,26 +38,25 @@ export function readCase({ id, typed, mark, measure, isMarked = typed.isMarked }
   if (!tree) return read; // the program takes no such game
   const players = rows.reduce((sum, row) => sum + row.players.length, 0), isMeasured = measure === "per-head";
   const { class: name, ...others } = tree, canBe = players <= MOST_PER_HEAD && name !== "market";
-  const game = isMeasured && canBe ? { class: name, excess: "per-head", ...others } : tree;
-  return { ...read, text: writeJson({ game }), facts: factsOf(new Game(game), ballots) };
+  const game = new Game(isMeasured && canBe ? { class: name, excess: "per-head", ...others } : tree);
+  return { ...read, text: writeJson({ game: game.tree }), facts: factsOf(game, ballots), game };
 }
 
 /** All cells are read by one mark: where some show which, that one settles those that can be read both ways, unless the
  * user chose how these are read, by a `mark` of none or of both. */
 function readByOneMark(kind, typed, mark) {
   const first = kind.read(typed, mark), settled = first.reading.settles();
-  const isSettled = first.reading.doubts.size > 0 && settled !== null && isOne(mark);
+  const isSettled = first.reading.doubts.size > 0 && settled !== null && isMark(mark);
   return isSettled && settled !== mark ? kind.read(typed, settled) : first;
 }
 
-const isOne = (mark) => mark.length === 1;
-
 /** By which mark the numbers were read (`entry`; `mark` where one is needed to write them), which of them could be read
- * otherwise, and which show the mark; `settled` is the one that they show, if it is one. */
+ * otherwise, and which show the mark; `settled` is the one that they show, if it is one, and `thousands` the sign
+ * between thousands. */
 function marksOf(reading) {
-  const { mark: entry, doubts, shown } = reading, settled = reading.settles();
-  const mark = isOne(entry) ? entry : settled ?? ".";
-  return { entry, mark, settled, doubts: [...doubts.values()], shown: [...shown.entries()] };
+  const { mark: entry, doubts, shown } = reading, settled = reading.settles(), thousands = onlyMark(reading.thousands);
+  const mark = isMark(entry) ? entry : settled ?? ".";
+  return { entry, mark, settled, thousands, doubts: [...doubts.values()], shown: [...shown.entries()] };
 }
 
 /** The rows of what was pasted. */

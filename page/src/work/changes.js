@@ -1,5 +1,5 @@
 // What each rule makes of two games side by side: where some leave, or where other numbers were filled in.
-import { parseJson, writeJson } from "../exact/json.js";
+import { writeJson } from "../exact/json.js";
 import { Rational } from "../exact/rational.js";
 import { caseNamed } from "../cases/cases.js";
 import { withoutPlace } from "../cases/links.js";
@@ -84,8 +84,8 @@ function restOf(game, stay, amounts = amountsOf(game)) {
 /** What those who stay pay or get if `who` leave, by each rule; `own` is what those who leave paid or got. Of a
  * `network` with ways that the page filled, `gone` is the same if nobody may build through their places: null if some
  * place then has no way. */
-export function leave({ text, who, network }) {
-  const game = new Game(parseJson(text).game), stay = without(game.n, who), amounts = amountsOf(game);
+export function leave({ who, network }, game) {
+  const stay = without(game.n, who), amounts = amountsOf(game);
   const found = leaving(game, amounts, { who, stay, small: restOf(game, stay, amounts) });
   if (!network) return found;
   const other = networkWithout(network, who), shown = stay.map((i) => game.shown[i]);

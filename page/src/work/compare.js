@@ -1,18 +1,16 @@
 // Two divisions of a game side by side, as the nucleolus compares them: what the groups lack, from the greatest down.
-import { parseJson } from "../exact/json.js";
 import { lcm, Rational } from "../exact/rational.js";
 import { shortText, shortTexts } from "../exact/decimals.js";
-import { Game } from "../game/game.js";
 import { membersOf } from "../game/groups.js";
-import { nameByRows, Namer } from "../tell/words.js";
+import { Namer } from "../tell/words.js";
 
 const MOST_SHOWN = 8;
 const MOST_PLAYERS = 12; // of other games than tables, whose groups take longer to be worked out
 
-/** `one` and `other` are shares as texts: the first places of both lists, and where they differ first; null where the
- * game has too many groups. */
-export function compare({ text, rows, one, other }) {
-  const { game, unit, lists } = listsOf(text, rows, [one, other]);
+/** `divisions` are the shares of two, as texts: the first places of both lists, and where they differ first; null where
+ * the game has too many groups. */
+export function compare({ divisions }, game) {
+  const { unit, lists } = listsOf(game, divisions);
   if (!lists) return null;
   const differs = lists[0].findIndex(({ excess }, k) => excess !== lists[1][k].excess);
   const namer = new Namer(game), first = Math.max(0, Math.min(differs, lists[0].length - 1) - MOST_SHOWN + 2);
@@ -30,8 +28,8 @@ export function compare({ text, rows, one, other }) {
 
 /** Several divisions side by side: of each the excesses of the `most` first places, as {group, excess}, and the place
  * at which its list differs from the first one's, 0 where it is the same; null where the game has too many groups. */
-export function excessLists({ text, rows, divisions, most }) {
-  const { game, unit, lists } = listsOf(text, rows, divisions);
+export function excessLists({ divisions, most }, game) {
+  const { unit, lists } = listsOf(game, divisions);
   if (!lists) return null;
   const namer = new Namer(game), names = new Map(), [own] = lists;
   const shown = ({ mask, excess }) => {
@@ -45,12 +43,11 @@ export function excessLists({ text, rows, divisions, most }) {
 }
 
 /** The excesses of all groups by each of some divisions; without `lists` where that takes too long. */
-function listsOf(text, rows, divisions) {
-  const game = nameByRows(new Game(parseJson(text).game), rows);
+function listsOf(game, divisions) {
   const all = divisions.map((shares) => shares.map(Rational.of));
   if (game.n < 2 || (!game.isTable() && game.n > MOST_PLAYERS)) return {};
   const unit = unitOf(game, all.flat());
-  return { game, unit, lists: all.map((shares) => excesses(game, shares, unit)) };
+  return { unit, lists: all.map((shares) => excesses(game, shares, unit)) };
 }
 
 /** A common denominator of all that is counted; per head, of the parts too. */

@@ -1,16 +1,12 @@
 // Whether each adds no less where more have joined, in a sentence.
-import { parseJson } from "../exact/json.js";
 import { shortTexts } from "../exact/decimals.js";
-import { Game } from "../game/game.js";
-import { listed, nameByRows, Namer } from "../tell/words.js";
-import { answer } from "./answers.js";
+import { listed, Namer } from "../tell/words.js";
 
-/** {isConvex, sentence} of a game; null where the program doesn't say. */
-export function convexity({ text, rows }) {
-  const { status, tree } = answer("convex", text);
+/** {isConvex, sentence} of a case; null if the program doesn't say. */
+export function convexity(one) {
+  const { status, tree } = one.ask({ word: "convex" });
   if (status > 1) return null;
-  const game = nameByRows(new Game(parseJson(text).game), rows);
-  return { isConvex: status === 0, sentence: status === 0 ? convexSentence(game) : gapOf(game, tree) };
+  return { isConvex: status === 0, sentence: status === 0 ? convexSentence(one.named) : gapOf(one.named, tree) };
 }
 
 function convexSentence({ costs }) {

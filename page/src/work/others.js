@@ -1,10 +1,8 @@
 // The same game with another amount to divide: several estates side by side, and an overrun.
-import { parseJson } from "../exact/json.js";
 import { Rational } from "../exact/rational.js";
-import { readNumber, shortText } from "../exact/decimals.js";
-import { Game } from "../game/game.js";
+import { readNumber, readTogether, shortText } from "../exact/decimals.js";
+import { nameOfMark, otherMark } from "../exact/marks.js";
 import { withEscapes } from "../game/names.js";
-import { nameByRows, Namer } from "../tell/words.js";
 import { solutionOf } from "./answers.js";
 import { amountsOf, byEachRule, isStable, sideOf, worstOf } from "./changes.js";
 
@@ -20,22 +18,20 @@ export function amountsIn(typed, mark) {
   const isOne = !isParted && /\S\s\S/.test(plain) && !readNumber(plain, mark).fault;
   const texts = isOne ? [typed] : plain.split(isParted ? PARTING : /\s+/);
   const found = texts.map((text) => text.trim()).filter(Boolean), kept = found.slice(0, MOST_ESTATES);
-  const shown = new Set(kept.map((text) => readNumber(text.replace(UNIT, ""), mark).by).filter(Boolean));
-  const isSettled = shown.size === 1, by = isSettled ? [...shown][0] : mark;
-  const read = kept.map((text) => amountIn(text, by, { isOne, isSettled }));
+  const all = readTogether(kept.map((text) => text.replace(UNIT, "")), mark);
+  const read = kept.map((text, k) => amountOf(text, all.read[k], all.by, { isOne, isSettled: all.isSettled }));
   if (found.length > MOST_ESTATES) read.push({ fault: `Only the first ${MOST_ESTATES} amounts are shown.` });
   return read;
 }
 
 /** One amount; `note` says how it is read where that could be doubted, and `other` by which mark it would be another.
  * */
-function amountIn(text, mark, { isOne, isSettled }) {
-  const { value, fault, doubt } = readNumber(text.replace(UNIT, ""), mark), shown = withEscapes(text.slice(0, 20));
+function amountOf(text, { value, fault, doubt }, mark, { isOne, isSettled }) {
+  const shown = withEscapes(text.slice(0, 20)), other = otherMark(mark);
   if (fault) return { fault: `“${shown}” ${fault}.` };
-  const other = mark === "." ? "comma" : "point", own = mark === "." ? "point" : "comma";
   if (doubt && !isSettled) {
-    return { value, note: `“${shown}” is read as ${shortText(value)}: the ${own} comes before decimals, and the `
-      + `${other} between thousands.`, other: mark === "." ? "," : "." };
+    return { value, note: `“${shown}” is read as ${shortText(value)}: the ${nameOfMark(mark)} comes before decimals, `
+      + `and the ${nameOfMark(other)} between thousands.`, other };
   }
   const note = isOne && `This is read as one amount, ${shortText(value)}. Part several by semicolons.`;
   return note ? { value, note } : { value };
@@ -43,8 +39,7 @@ function amountIn(text, mark, { isOne, isSettled }) {
 
 /** The shares of an estate for several amounts: [{amount, shares, note, other}], or a fault in the place of one's
  * shares. */
-export function estates({ text, typed, mark }) {
-  const { game } = parseJson(text);
+export function estates({ typed, mark }, { tree: game }) {
   return amountsIn(typed, mark).map(({ value, fault, ...told }) => {
     if (fault) return { fault };
     const { version, ...others } = game, estate = value.toDocument();
@@ -68,9 +63,8 @@ function changeOf(typed, whole, mark) {
 
 /** Who bears it where the whole costs, or is worth, more: for each rule the shares before and after, and whether a
  * group does better by itself. */
-export function overrun({ text, rows, typed, mark }) {
-  const game = nameByRows(new Game(parseJson(text).game), rows), amounts = amountsOf(game);
-  const { more, fault } = changeOf(typed, game.whole(), mark);
+export function overrun({ typed, mark }, game) {
+  const amounts = amountsOf(game), { more, fault } = changeOf(typed, game.whole(), mark);
   if (fault) return { fault };
   const after = [...amounts.slice(0, -1), amounts.at(-1).plus(more)];
   const sides = [amounts, after].map((one) => sideOf(game, one)), [wasStable, isStableNow] = sides.map(isStable);

@@ -1,7 +1,5 @@
 // Why one pays or gets more than another: the best group of each without the other.
-import { parseJson } from "../exact/json.js";
 import { Rational } from "../exact/rational.js";
-import { Game } from "../game/game.js";
 import { membersOf } from "../game/groups.js";
 
 const MOST_PLAYERS = 12; // of games that are no tables, whose groups take longer
@@ -9,8 +7,8 @@ const MOST_PLAYERS = 12; // of games that are no tables, whose groups take longe
 /** Of players i and j by these shares: `alone`, what each is worth or costs alone, and `holds`, the group with each and
  * without the other that gains most by leaving: its members, by how much, and what it would have; null where the game
  * has too many groups. */
-export function pair({ text, shares: texts, i, j }) {
-  const game = new Game(parseJson(text).game), shares = texts.map(Rational.of);
+export function pair({ shares: texts, i, j }, game) {
+  const shares = texts.map(Rational.of);
   if (!game.isTable() && game.n > MOST_PLAYERS) return null;
   return {
     alone: [i, j].map((one) => String(game.alone(one))),

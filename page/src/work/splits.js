@@ -1,6 +1,7 @@
 // Groups that nobody has put a number on: what they cost, or are worth, by their best split into groups that have one.
 import { lcm, Rational } from "../exact/rational.js";
 import { cellNumber, typedText } from "../exact/decimals.js";
+import { onlyMark } from "../exact/marks.js";
 import { groupLabel, packed, unpacked } from "../cases/tables.js";
 import { plural } from "../tell/words.js";
 
@@ -61,9 +62,8 @@ function scaledValues(numbers, mark) {
   let scale = 1n;
   for (const { value } of known.values()) scale = scale > MOST_SCALE ? scale : lcm(scale, value.den);
   if (scale > MOST_SCALE) return { fault: "The numbers are too fine: they have no common denominator to 65,536." };
-  const marks = new Set([...known.values()].map(({ by }) => by).filter(Boolean));
   const values = read.map((one) => one && Number((one.value.num * scale) / one.value.den));
-  return { scale, values, by: marks.size === 1 ? [...marks][0] : mark };
+  return { scale, values, by: onlyMark([...known.values()].map(({ by }) => by)) ?? mark };
 }
 
 /** The best sum of groups with numbers that split each group, which may be its own number; null where there is none. A

@@ -1,0 +1,102 @@
+// The decimal mark: what one is, what texts show of it, and by which numbers are read and shown. With it goes the sign
+// between thousands, by which nothing is read.
+
+/** The usual sign between thousands: a narrow blank, so that it is no decimal mark. */
+export const BLANK = "\u202f";
+
+const POINT = ".", COMMA = ",", NAMES = { [POINT]: "point", [COMMA]: "comma" };
+
+/** How numbers are read that can be read both ways, if the user says that no mark comes before decimals, or each. */
+export const WHOLE = "", DECIMALS = POINT + COMMA;
+
+/** The marks to choose from, each with its name. */
+export const MARKS = Object.entries(NAMES);
+
+/** How numbers are spelled in sentences, as those of the answer are; each worker is told. */
+export const spoken = { mark: POINT, thousands: BLANK };
+
+/** Whether it is one of the two, and not a way to read numbers against both. */
+export const isMark = (text) => text === POINT || text === COMMA;
+
+export const nameOfMark = (mark) => NAMES[mark];
+
+export const otherMark = (mark) => (mark === POINT ? COMMA : POINT);
+
+/** The one mark that these show beyond doubt; null if they show none, or both. */
+export function onlyMark(marks) {
+  const shown = new Set([...marks].filter(Boolean));
+  return shown.size === 1 ? [...shown][0] : null;
+}
+
+/** By which mark the numbers of a reading are written: the one that they show, or else the one they were read by. */
+export const writtenBy = ({ settled, mark }) => settled ?? mark;
+
+/** The marks of the page and its case: by which numbers are shown, and by which those are read that don't show it. */
+export class Marks {
+  /** `own` is that of the user's system. */
+  constructor(own) {
+    Object.assign(this, { own, chosen: null, shown: own, isChosen: false });
+    this.open({});
+  }
+
+  /** A case is opened. `mark` and `entry` are those of a saved case, or of the cells before a step. A file has no mark
+   * of the case before. */
+  open({ isFile = false, mark, entry }) {
+    this.thousands = null; // the sign that the typed numbers show
+    if (mark || isFile) {
+      this.shown = mark ?? this.usual();
+      this.isChosen = Boolean(mark ?? this.chosen); // by the user, or in the file
+    }
+    this.entry = entry ?? (isFile ? this.shown : this.own); // by which the next reading is made
+    this.isFresh = isFile;
+    this.reading = null;
+    this.speak();
+  }
+
+  /** How numbers are shown. A sign between thousands that is the decimal mark now gives way to the usual one. */
+  spelling() {
+    const isClear = this.thousands && this.thousands !== this.shown;
+    return { mark: this.shown, thousands: isClear ? this.thousands : BLANK };
+  }
+
+  speak() {
+    Object.assign(spoken, this.spelling());
+  }
+
+  /** The user chooses by which numbers are shown. */
+  choose(mark) {
+    this.isChosen = true;
+    this.chosen = this.shown = mark;
+    this.speak();
+  }
+
+  /** Takes over what a reading says of its marks, and returns the reading: numbers are then shown as the cells show it,
+   * if they are typed and no worked example (`isTyped`), by their mark until the user chooses one. */
+  take(reading, isTyped) {
+    const { settled, doubts } = reading, isOpen = this.isFresh && settled === null && !doubts?.length;
+    this.isFresh = false;
+    if (isOpen) this.entry = this.shown; // no cell of a file shows one, so all beside them is read by what is shown
+    this.isTyped = isTyped;
+    this.reading = isOpen ? { ...reading, entry: this.shown, mark: this.shown } : reading;
+    if (!this.isChosen && isTyped && settled) this.shown = settled;
+    this.thousands = isTyped ? reading.thousands : null;
+    this.speak();
+    return this.reading;
+  }
+
+  /** By which a file is opened that shows none. */
+  usual() {
+    return this.chosen ?? this.own;
+  }
+
+  /** By which the cells were read: what the user chose for those that can be read both ways, or one mark. */
+  ofCells() {
+    return this.reading?.entry ?? this.entry;
+  }
+
+  /** By which numbers beside the cells are read: the mark that the cells show, unless they are a worked example. */
+  beside() {
+    const { settled, mark } = this.reading ?? { settled: null, mark: this.own };
+    return (this.isTyped ? settled : null) ?? mark;
+  }
+}

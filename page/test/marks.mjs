@@ -1,0 +1,87 @@
+// The decimal marks of a page and its case: what is shown, and by which numbers in and beside the cells are read.
+import { decimal, readTogether } from "../src/exact/decimals.js";
+import { BLANK, Marks, onlyMark, spoken, writtenBy } from "../src/exact/marks.js";
+import { Rational } from "../src/exact/rational.js";
+
+const FREE = { entry: ".", mark: ".", settled: null, doubts: [] }; // cells that show no mark, read by the point
+const COMMAS = { ...FREE, settled: "," }; // 12,50
+const DOUBTFUL = { ...FREE, doubts: [{}] }; // 1,234 only
+const WHOLE = { ...FREE, entry: "", settled: ",", mark: "," }; // 12,50 and 90,000, which the user calls whole
+
+const example = ["open", {}], typed = (reading) => ["take", reading, true];
+const file = (settings) => ["open", { isFile: true, ...settings }];
+
+/** What is done to marks whose system has the point, and what comes of it: the mark of what is shown, that by which the
+ * cells are read, and that of numbers beside them. */
+const STEPS = [
+  ["a worked example", [example, ["take", FREE, false]], ".", ".", "."],
+  ["a worked example isn't followed", [example, ["take", COMMAS, false]], ".", ".", "."],
+  ["typed numbers are followed", [example, typed(COMMAS)], ",", ".", ","],
+  ["but doubtful ones aren't", [example, typed(DOUBTFUL)], ".", ".", "."],
+  ["nor any when the user has chosen", [example, ["choose", "."], typed(COMMAS)], ".", ".", ","],
+  ["a choice changes no reading", [example, ["choose", ","], typed(FREE)], ",", ".", "."],
+  ["read as whole numbers by the user", [example, typed(WHOLE)], ",", "", ","],
+  ["the next case is shown alike", [example, typed(COMMAS), example, typed(FREE)], ",", ".", "."],
+  ["a file is shown by the usual mark", [example, typed(COMMAS), file()], ".", ".", "."],
+  ["a file is shown by the chosen mark", [["choose", ","], file(), typed(FREE)], ",", ",", ","],
+  ["a file that shows a mark keeps it", [["choose", "."], file(), typed(COMMAS)], ".", ".", ","],
+  ["a file with doubtful numbers", [["choose", ","], file(), typed({ ...DOUBTFUL, entry: "," })], ",", ",", "."],
+  ["a saved case has its own", [file({ mark: ",", entry: "," }), typed(FREE)], ",", ",", ","],
+  ["a saved case isn't followed away", [file({ mark: ".", entry: "," }), typed(COMMAS)], ".", ".", ","],
+  ["before anything is read", [file({ entry: "," })], ".", ",", "."],
+  ["an undo brings the cells' mark back", [example, typed(COMMAS), ["open", { entry: "," }]], ",", ",", "."],
+];
+
+let faults = 0, count = 0;
+function expect(what, found, wanted) {
+  count += 1;
+  if (JSON.stringify(found) === JSON.stringify(wanted)) return;
+  faults += 1;
+  console.log(`${what}: ${JSON.stringify(found)}, and not ${JSON.stringify(wanted)}`);
+}
+
+for (const [what, steps, shown, cells, beside] of STEPS) {
+  const marks = new Marks(".");
+  for (const [step, ...words] of steps) marks[step](...words);
+  expect(what, [marks.shown, marks.ofCells(), marks.beside()], [shown, cells, beside]);
+  expect(`${what}: sentences`, spoken.mark, shown);
+}
+
+/** The sign between thousands that is shown after cells that show one. */
+const SIGNS = [
+  ["as typed", [example, typed({ ...COMMAS, thousands: "." })], "."],
+  ["of a worked example", [example, ["take", { ...COMMAS, thousands: "." }, false]], BLANK],
+  ["none typed", [example, typed({ ...COMMAS, thousands: null })], BLANK],
+  ["that is the mark now", [example, typed({ ...COMMAS, thousands: "." }), ["choose", "."]], BLANK],
+  ["that is no mark now", [["choose", ","], example, typed({ ...FREE, thousands: "," }), ["choose", "."]], ","],
+  ["in the next case", [example, typed({ ...COMMAS, thousands: "." }), example], BLANK],
+];
+for (const [what, steps, wanted] of SIGNS) {
+  const marks = new Marks(".");
+  for (const [step, ...words] of steps) marks[step](...words);
+  expect(`the sign between thousands ${what}`, spoken.thousands, wanted);
+  expect(`${what}, as numbers are shown`, decimal(Rational.of("12345/2"), 1, spoken),
+    `6${wanted === BLANK ? "" : wanted}172${spoken.mark}5`);
+}
+
+const german = new Marks(",");
+german.open({});
+expect("where the system has the comma", [german.shown, german.ofCells(), german.beside()], [",", ",", ","]);
+
+expect("one mark", onlyMark([undefined, ",", ",", null]), ",");
+expect("both marks", onlyMark([".", ","]), null);
+expect("no mark", onlyMark([undefined]), null);
+expect("written by the mark that numbers show", [COMMAS, FREE, WHOLE].map(writtenBy), [",", ".", ","]);
+
+/** Texts that are read together, and what they are. */
+const TOGETHER = [
+  [["1.234", "12,50"], ".", ["1234", "25/2"], true], [["1.234", "1,5", "2.5"], ".", ["617/500", "3/2", "5/2"], false],
+  [["1,234", ""], ".", ["1234", null], false], [["1,234"], ",", ["617/500"], false],
+];
+for (const [texts, mark, values, isSettled] of TOGETHER) {
+  const { read, ...found } = readTogether(texts, mark);
+  expect(texts.join("; "), read.map(({ value }) => (value ? String(value) : null)), values);
+  expect(`${texts.join("; ")}: settled`, found.isSettled, isSettled);
+}
+console.log(`decimal marks: ${count} expectations, ${faults} faults`);
+process.exitCode = faults ? 1 : 0;
