@@ -142,7 +142,7 @@ class Bare:
 def faults_unbuilt(page: str) -> Iterator[str]:
     """Where bin/coop answers by another than it should: by the program, by the module, or not at all."""
     module = (1, b'{"answer":"blocked","coalition":[2,3],"excess":"1"}\n', b"coop: answered by page/coop.mjs")
-    native, none = (0, b"the built program\n", b""), (NO_ANSWER, b"", b"coop: not built")
+    native, none = (0, b"the built program\n", b""), (NO_ANSWER, b"", b"coop: the program isn't built")
     steps = [  # what is on the path, what is typed, and what comes of it
         ("", "propose", none), ("node", "propose", module), ("node rt", "propose", module), ("node", "--build", none),
         ("node rt", "--build propose", (NO_ANSWER, b"", b"coop: --build")),
