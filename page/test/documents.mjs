@@ -137,31 +137,35 @@ async function opened(page, expect, program, top, file) {
 const CHECKED = "document.querySelectorAll('#verify .word').length > 0"
   + " && ![...document.querySelectorAll('#verify .word.busy')].some((word) => word.textContent.includes('at work'))";
 
-async function said(page) {
+/** What is said in the end; what was said of the line before may still come while the new one is read. */
+async function said(page, pattern) {
   await page.until(CHECKED);
-  return page.text("#verify .answers");
+  return told(page, "#verify .answers", pattern);
 }
 
 async function lawyer(page, expect, line, agreed) {
   await put(page, 1, agreed);
   await page.until("document.querySelector('#verify .answers .hint')");
   await put(page, 0, line);
-  expect("good", await said(page), /Yes: these shares are the nucleolus of the agreed game[\s\S]*3.50/);
+  const good = /Yes: these shares are the nucleolus of the agreed game[\s\S]*3.50/;
+  expect("good", await said(page, good), good);
   await put(page, 0, line.replace('"-1"', '"-2"'));
   const spoilt = /says no. At level 1: by these shares what light alone would gain[\s\S]*own checker says no/;
-  expect("spoilt", await said(page), spoilt);
+  expect("spoilt", await said(page, spoilt), spoilt);
   await put(page, 0, line.replace("[2,4,6]", "[2,4,7]"));
-  expect("other game", await said(page), /No. What heavy needs \(item 3\): the line has 7, the agreed file 6/);
+  const other = /No. What heavy needs \(item 3\): the line has 7, the agreed file 6/;
+  expect("other game", await said(page, other), other);
   await put(page, 0, '{"game":');
   const unread = /^This line can’t be read[\s\S]*It is no JSON text: it ends too early, in line 1, column 9/;
-  expect("no json", await said(page), unread);
+  expect("no json", await said(page, unread), unread);
   await put(page, 0, '{"answer":"shapley","shares":["1"]}');
   await page.until("document.querySelector('#verify .answers .notice')");
   expect("no certificate", await page.text("#verify .answers"), /no game and no certificate/);
   await put(page, 1, agreed.replace('"costs"', '"costs":[1],"costs"'));
   await page.until("document.querySelector('#verify .answers .notice')");
   await put(page, 0, line);
-  expect("a key twice", await said(page), /In the agreed file a key occurs twice: costs/);
+  const twice = /In the agreed file a key occurs twice: costs/;
+  expect("a key twice", await said(page, twice), twice);
 }
 
 async function tooLong(page, expect) {
@@ -177,7 +181,7 @@ async function tooLong(page, expect) {
 const refusedLines = REFUSED_LINES.map(([name, line, wanted]) => [`refused line: ${name}`, "verify",
   async (page, expect) => {
     await put(page, 0, line);
-    expect(name, await said(page), wanted);
+    expect(name, await said(page, wanted), wanted);
     expect("both", await page.text("#verify .words"), /program’s checker refuses[\s\S]*own checker refuses/);
   }]);
 
@@ -190,7 +194,8 @@ export function checking(top) {
     ...refusedLines,
     ["a line with names that hide", "verify", async (page, expect) => {
       await put(page, 0, hiding);
-      expect("escapes", await said(page), /light\\u202e[\s\S]*medium\\u000aheavy 9.00/);
+      const escapes = /light\\u202e[\s\S]*medium\\u000aheavy 9.00/;
+      expect("escapes", await said(page, escapes), escapes);
     }],
     ["a line above 8 MB is refused at once", "verify", tooLong],
   ];

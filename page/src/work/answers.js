@@ -3,12 +3,16 @@ import { parseJson, writeJson } from "../exact/json.js";
 import { refusalText } from "../tell/refusals.js";
 import { solve } from "./engine.js";
 
+/** The game and the certificate of a line, which may be long. No text in a line has a quote without a stroke before it,
+ * so these keys are keys. */
+const LONG = /"certificate":\{.*\},"game":\{.*\},(?="shares":)/s;
+
 /** The answer of the program to a document: its status, its line, and what the line says without the game and the
- * certificate, which may be long. Of a refusal the sentence and the place stand beside. */
+ * certificate. Of a refusal the sentence and the place are beside. */
 export function answer(word, document) {
   const { status, line } = solve([word], document);
   if (status > 3) return { status, line: "", tree: {} };
-  const { game, certificate, ...tree } = parseJson(line);
+  const { game, certificate, ...tree } = parseJson(line.replace(LONG, ""));
   const refusal = status > 1 ? refusalText(tree, document, word) : undefined;
   return { status, line, tree, refusal };
 }
