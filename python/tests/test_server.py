@@ -53,6 +53,15 @@ def end(process: int) -> None:
         os.kill(process, signal.SIGKILL)
 
 
+def press_ctrl_c(done: threading.Event) -> None:
+    """Presses Ctrl+C half a second from now, and again every five seconds until `done`: Python misses a press that
+    comes right before it begins to wait for a port."""
+    pause = 0.5
+    while not done.wait(pause):
+        os.kill(os.getpid(), signal.SIGINT)
+        pause = 5
+
+
 @needs_node
 class Answers(unittest.TestCase):
     def setUp(self) -> None:
@@ -140,10 +149,13 @@ class Answers(unittest.TestCase):
     def test_ctrl_c_within(self) -> None:
         process = self.first()
         os.kill(process, signal.SIGSTOP)
-        threading.Timer(0.3, os.kill, (os.getpid(), signal.SIGINT)).start()
+        done = threading.Event()
+        threading.Thread(target=press_ctrl_c, args=(done,), daemon=True).start()
         with self.assertRaises(KeyboardInterrupt):
-            self.server.run(["shapley"], AIRPORT)
-            time.sleep(1)
+            try:
+                self.server.run(["shapley"], AIRPORT)
+            finally:
+                done.set()
         self.assertTrue(is_gone(process))
         self.assertEqual(self.server.run(["core"], AIRPORT), (0, CORE))
 
