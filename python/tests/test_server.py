@@ -147,6 +147,8 @@ class Answers(unittest.TestCase):
         self.assertEqual(self.first(), process)
 
     def test_ctrl_c_within(self) -> None:
+        # What a shell begins in the background ignores Ctrl+C.
+        self.addCleanup(signal.signal, signal.SIGINT, signal.signal(signal.SIGINT, signal.default_int_handler))
         process = self.first()
         os.kill(process, signal.SIGSTOP)
         done = threading.Event()
