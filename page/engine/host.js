@@ -40,7 +40,7 @@ export function coop(module, words, document, { most = 1024 * MiB, refused = 0, 
 /**
  * One instance for many calls, made when it is first needed. Each call finds its memory as a new instance has it,
  * except for the memory's length, which the module doesn't ask for (sections.py sees to that). So `run` gives what
- * `coop` gives, in a third of the time.
+ * `coop` gives.
  *
  * After a call that stops or runs out of memory, or that took more than `kept` bytes, the next call has a new instance.
  */
