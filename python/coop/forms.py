@@ -47,14 +47,7 @@ def require_form(tree: Any, players: int, scale: int) -> None:
             f"a level has at most {MOST_ITEMS:,}",
         )
         here = ascending(level["coalitions"], f"{where}.coalitions", players)
-        for k, group in enumerate(ascending(level["earlier"], f"{where}.earlier", players)):
-            coalition = level["earlier"][k][0]
-            need(
-                group in listed,
-                Refusal.Certificate,
-                f"{where}.earlier[{k}]",
-                lambda: f"{brief(coalition)} isn't in an earlier level",
-            )
+        require_listed(level["earlier"], f"{where}.earlier", players, listed)
         bounds(level["bounds"], f"{where}.bounds", players)
         listed.update(here)
 
@@ -73,6 +66,18 @@ def require_excess(text: str, place: str, scale: int) -> None:
     for exact in (Fraction(text), Fraction(text) * scale):
         fits = -(2**127) <= exact.numerator < 2**127 and exact.denominator < 2**127
         need(fits, Refusal.Certificate, place, f"{brief(text)}, times the scale, is longer than 128 bits")
+
+
+def require_listed(tree: Any, place: str, players: int, listed: set[int]) -> None:
+    """Refuses a level's earlier coalitions that no earlier level lists."""
+    for k, group in enumerate(ascending(tree, place, players)):
+        coalition = tree[k][0]
+        need(
+            group in listed,
+            Refusal.Certificate,
+            f"{place}[{k}]",
+            lambda: f"{brief(coalition)} isn't in an earlier level",
+        )
 
 
 def weight(tree: Any, place: str) -> None:
