@@ -2,6 +2,7 @@
 import { decimal, readTogether } from "../src/exact/decimals.js";
 import { BLANK, Marks, onlyMark, spoken, writtenBy } from "../src/exact/marks.js";
 import { Rational } from "../src/exact/rational.js";
+import { beyondTexts } from "../src/page/beyond.js";
 
 const FREE = { entry: ".", mark: ".", settled: null, doubts: [] }; // cells that show no mark, read by the point
 const COMMAS = { ...FREE, settled: "," }; // 12,50
@@ -67,6 +68,9 @@ for (const [what, steps, wanted] of SIGNS) {
 const german = new Marks(",");
 german.open({});
 expect("where the system has the comma", [german.shown, german.ofCells(), german.beside()], [",", ",", ","]);
+
+const [landings] = beyondTexts({ isAll: true, all: 12345, points: [] });
+expect("a count has no comma", landings.startsWith(`These are 12${BLANK}345 landings, `), true);
 
 expect("one mark", onlyMark([undefined, ",", ",", null]), ",");
 expect("both marks", onlyMark([".", ","]), null);

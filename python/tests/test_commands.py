@@ -18,6 +18,7 @@ from .test_reasons import AIRPORT, solved
 
 SCRIPTS = sorted(name for name in os.listdir(os.path.join(TOP, "scripts")) if not name.startswith("_"))
 PROPOSAL = os.path.join(TOP, "examples", "airport-proposal.json")
+MAJORITY = os.path.join("examples", "majority.json")
 
 
 def script(name: str, *words: str, text: str = "", output: Any = subprocess.PIPE) -> tuple[int, str, str]:
@@ -449,54 +450,57 @@ class Scripts(unittest.TestCase):
         self.assertIn("in plain digits", script("many", "--help")[1].split("--places N")[-1])
         self.assertNotIn("thousands separated", script("many", "--help")[1])
 
-    def test_many_and_proposal(self) -> None:
-        majority = os.path.join("examples", "majority.json")
-        status, text, errors = script("many", "core,shapley", majority, "lost.json")
+    def test_many_names_each_line(self) -> None:
+        """A line has its status, its file and its rule; a file that can't be read stops none of the others."""
+        status, text, errors = script("many", "core,shapley", MAJORITY, "lost.json")
         rows = [row.split(" ", 3) for row in text.splitlines()]
         self.assertEqual(
             [row[:3] for row in rows],
             [
-                ["1", majority, "core"],
-                ["0", majority, "shapley"],
+                ["1", MAJORITY, "core"],
+                ["0", MAJORITY, "shapley"],
                 ["-", "lost.json", "core"],
                 ["-", "lost.json", "shapley"],
             ],
         )
         self.assertEqual((status, json.loads(rows[0][3])["answer"], "lost.json" in errors), (1, "empty core", True))
+        self.assertEqual(script("many", "nucleolus-per-head", text="{}")[0], 1)
+        self.refused(script("many", "core,sharply", MAJORITY), "'sharply' isn't one of")
+
+    def test_many_as_csv(self) -> None:
         lines = '{"game":{"class":"airport","costs":[2,4,6]}}\n{"game":{"class":"airport","costs":[1]}}\n'
-        found = script("many", "--csv", "nucleolus", text=lines)[:2]
-        self.assertEqual(
-            found,
-            (
-                0,
-                (
-                    "status,document,command,player 1,player 2,player 3,reason\n"
-                    "0,standard input:1,nucleolus,1,3/2,7/2,\n0,standard input:2,nucleolus,1,,,\n"
-                ),
-            ),
-        )
+        rows = [
+            "status,document,command,player 1,player 2,player 3,reason",
+            "0,standard input:1,nucleolus,1,3/2,7/2,",
+            "0,standard input:2,nucleolus,1,,,",
+        ]
+        self.assertEqual(script("many", "--csv", "nucleolus", text=lines)[:2], (0, "\n".join([*rows, ""])))
         mixed = script("many", "nucleolus", "--places", "1", "--csv", PROPOSAL, "--over", "10")[1]
         self.assertEqual(mixed.splitlines()[1], f"0,{PROPOSAL},nucleolus,0.1,0.2,0.4,")
+        great = '{"game":{"class":"airport","costs":[4000000]}}'
+        row = script("many", "nucleolus", "--csv", "--places", "2", "--unit", "EUR", text=great)[1].splitlines()[1]
+        self.assertEqual(row, "0,standard input,nucleolus,4000000.00,")
+        self.refused(script("many", "core", "--over", "0", MAJORITY), "isn't a whole number from 1 up")
         self.refusals_have_reasons()
+        self.two_lists_have_names(MAJORITY)
+
+    def test_many_wide(self) -> None:
+        """A row a document has each rule's status and shares, and the reasons of all."""
         rules = "nucleolus,nucleolus-per-head,core"
-        wide = script("many", rules, "--wide", PROPOSAL, majority, "lost.json")[1]
+        wide = script("many", rules, "--wide", PROPOSAL, MAJORITY, "lost.json")[1]
         shares = [f"{word} {i}" for word in rules.split(",") for i in ("status", 1, 2, 3)]
         self.assertEqual(
             wide.splitlines(),
             [
                 ",".join(["document", *shares, "reason"]),
                 f"{PROPOSAL},0,1,3/2,7/2,0,4/3,4/3,10/3,0,1,3/2,7/2,",
-                f"{majority},0,1/3,1/3,1/3,0,1/3,1/3,1/3,1,,,,core: empty core",
+                f"{MAJORITY},0,1/3,1/3,1/3,0,1/3,1/3,1/3,1,,,,core: empty core",
                 "lost.json,-,,,,-,,,,-,,,,nucleolus: not read; nucleolus-per-head: not read; core: not read",
             ],
         )
-        self.assertEqual(script("many", "nucleolus-per-head", text="{}")[0], 1)
-        self.two_lists_have_names(majority)
-        great = '{"game":{"class":"airport","costs":[4000000]}}'
-        row = script("many", "nucleolus", "--csv", "--places", "2", "--unit", "EUR", text=great)[1].splitlines()[1]
-        self.assertEqual(row, "0,standard input,nucleolus,4000000.00,")
-        self.refused(script("many", "core", "--over", "0", majority), "isn't a whole number from 1 up")
-        self.refused(script("many", "core,sharply", majority), "'sharply' isn't one of")
+
+    def test_proposal(self) -> None:
+        """Shares come by name, by place or as a document, and there is one for each player."""
         game = script("proposal", PROPOSAL, "heavy=2", "light=0.50", "medium=7/2")
         self.assertEqual(json.loads(game[1])["shares"], ["1/2", "7/2", 2])
         self.assertEqual(json.loads(script("proposal", PROPOSAL, "1", "1.5", "3.5")[1])["shares"], [1, "3/2", "7/2"])

@@ -103,7 +103,7 @@ pub(crate) fn first_weightless(pairs: &[(Coalition, i128)]) -> Option<Coalition>
 }
 
 /// Whether the bound's weight is at least 1, or an earlier level already gave this player such a weight.
-fn weighs(front: &[Level], i: u32, weight: i128) -> bool
+fn has_bound_weight(front: &[Level], i: u32, weight: i128) -> bool
     ensures { IsTrue result ↔ ((pos 1 ≤ℤ weight) ⊎ IsTrue (has_bound front.now i)) }
 {
     weight >= 1 || Level::has_bound(front, i)
@@ -116,7 +116,7 @@ pub(crate) fn first_weightless_bound(front: &[Level], bounds: &[(u32, i128)]) ->
         (IsFirstFailing (BoundWeighs front.now) bounds.now) }
 {
     for (i, w) in bounds {
-        if !weighs(front, *i, *w) {
+        if !has_bound_weight(front, *i, *w) {
             return Some(*i);
         }
     }
@@ -173,7 +173,7 @@ fn is_tight<W: Worth>(game: &W, shares: &Shares, family: Family, i: u32) -> bool
 }
 
 /// The first player in bounds that isn't at its bound.
-pub(crate) fn first_loose<W: Worth>(
+pub(crate) fn first_not_at_bound<W: Worth>(
     game: &W,
     shares: &Shares,
     family: Family,

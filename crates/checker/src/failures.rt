@@ -5,7 +5,7 @@ ghost use Rattle.definitions.specs.Certificates.{Weights, BoundWeights};
 ghost use Rattle.checker.specs.Meaning.{IsWrongSign};
 
 use crate::conditions::{
-    first_loose, first_short, first_unbalanced, first_weightless, first_weightless_bound,
+    first_not_at_bound, first_short, first_unbalanced, first_weightless, first_weightless_bound,
     first_wrong_excess,
 };
 use crate::fixed::Fixed;
@@ -115,7 +115,7 @@ impl<W: Worth> Claim<'_, W> {
             (LevelsFail mode self.now.family self.now.measure game shares 1 [] levels.now)) }
     {
         let players = self.game.players();
-        let mut fixed = Fixed::by_none(mode, players);
+        let mut fixed = Fixed::nothing_fixed(mode, players);
         for i in 0..levels.len() {
             let failure = self.level_failure(&fixed, i as u32 + 1, &levels[..i], &levels[i]);
             if failure.is_some() {
@@ -156,7 +156,12 @@ impl<W: Worth> Claim<'_, W> {
         if let Some(player) = first_unbalanced(self.game.players(), tested) {
             return Some(Reason::Unbalanced { level, player });
         }
-        if let Some(player) = first_loose(self.game, self.shares, self.family, &tested.bounds) {
+        if let Some(player) = first_not_at_bound(
+            self.game,
+            self.shares,
+            self.family,
+            &tested.bounds,
+        ) {
             return Some(Reason::BoundNotTight { level, player });
         }
         let excess = self.outside_above(fixed, tested)?;

@@ -24,7 +24,7 @@ pub(crate) enum Fixed {
 impl Fixed {
     /// What no level at all fixes.
     #[inline(never)] // So that no caller holds a span of its own beside it.
-    pub(crate) fn by_none(mode: Mode, n: u32) -> Fixed
+    pub(crate) fn nothing_fixed(mode: Mode, n: u32) -> Fixed
         requires some { 1 ≤ n }
         requires small { n ≤ 64 }
         requires few { (mode ≡ Mode.Players) ⊎ (n ≤ 16) }

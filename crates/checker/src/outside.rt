@@ -17,7 +17,7 @@ use crate::fixed::Fixed;
 use coalitions::{Coalition, GrayStep};
 use fractions::Frac;
 use kohlberg::{Mode, Outside, first_unspanned};
-use worth_core::{Divided, Measure, Shares, Worth, is_more, kept_or_new, measured_bound};
+use worth_core::{Divided, Measure, Shares, Worth, is_more, measured_bound, replaced_if};
 
 /// The least member from one number on.
 fn first_member(s: Coalition, from: u32, n: u32) -> Option<u32>
@@ -121,7 +121,7 @@ fn greatest_unspanned<W: Worth>(
         if outside.contains(mask) {
             let here = Divided::of_paid(game, shares, measure, mask, paid);
             let is_greatest = is_more(&most, &here);
-            most = kept_or_new(most, here, is_greatest);
+            most = replaced_if(most, here, is_greatest);
         }
     }
     Some(most?.over(shares.den()))

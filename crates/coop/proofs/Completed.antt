@@ -22,7 +22,7 @@ use Rattle.report.specs.declared.answer.Answer.TheVariants.{Convex, Prekernel, N
 use Rattle.report.specs.declared.answer.Answer.TheVariants.{Usage, Refused, Summary}
 use Rattle.report.specs.declared.answer.UsageKind.{UsageKind}
 use Rattle.report.specs.declared.answer.UsageKind.TheVariants.{Words, Class, Players}
-use Rattle.coop.specs.Headline.{Says, AnswersTo, IsAnsweredFor, IsRefusedFor}
+use Rattle.coop.specs.Headline.{IsRightAnswer, AnswersTo, IsAnsweredFor, IsRefusedFor}
 use Rattle.coop.specs.Words.{IsCommand}
 use Rattle.coop.specs.Outcome.{IsLeft, IsRight, status_of}
 use Rattle.coop.specs.Completeness.{ServesPlayers, Serves}
@@ -33,7 +33,7 @@ use Rattle.coop.proofs.OneAnswer.{same_document, not_refused}
 
 -- a document whose class and players are served is answered with no usage
 no_usage_said : (given : Command) (d : Contents) (kind : UsageKind) → ServesPlayers given d
-    → Says given d (Usage kind)
+    → IsRightAnswer given d (Usage kind)
     → ⊥
 no_usage_said command.Nucleolus d Players serves h = omega (arith, serves, h)
 no_usage_said command.Prenucleolus d Players serves h = omega (arith, serves, h)

@@ -47,7 +47,7 @@ use Rattle.kohlberg.specs.Solved.{HasFew, IsLowest, IsSolved}
 use Rattle.document_parts.specs.Excess.{measure_of}
 use Rattle.coop.specs.Classes.{serves_class}
 use Rattle.coop.specs.Limits.{check_limit}
-use Rattle.coop.specs.Headline.{IsTaken}
+use Rattle.coop.specs.Headline.{IsWithinLimit}
 use Rattle.definitions.proofs.Families.{allocation_of}
 use Rattle.coop.proofs.PlayerLimits.{within_check}
 
@@ -73,7 +73,7 @@ all_few n few (l ∷ ls) h = (omega (arith, h.0), all_few n few ls h.1)
 module _ (family : Family) (d : Contents) (value : Value) (are_costs : Bool) (x : Allocation) (c : CertificateData)
     (accepted : IsAccepted d) (same : view value ≡ d.tree) (signs : are_costs ≡ is_cost d.game)
     (s : IsShares x) (h : IsCertificate c) (found : IsSolved c.mode family d.measure (game_of d.game) x c)
-    (taken : IsTaken d) (served : serves_class command.Check d.game ≡ true) where
+    (taken : IsWithinLimit d) (served : serves_class command.Check d.game ≡ true) where
   allocation : IsAllocation (game_of d.game) x
   allocation = allocation_of family (game_of d.game) x found.certifies.0
 

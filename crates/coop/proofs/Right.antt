@@ -22,7 +22,7 @@ use Rattle.report.specs.declared.summary.Summary.{Summary as Summaries}
 use Rattle.report.specs.declared.answer.UsageKind.TheVariants.{Words, Class}
 use Rattle.game_text.proofs.OfClass.{document_of_class}
 use Rattle.coop.specs.Classes.{serves_class}
-use Rattle.coop.specs.Headline.{Says, AnswersTo, IsAnsweredFor}
+use Rattle.coop.specs.Headline.{IsRightAnswer, AnswersTo, IsAnsweredFor}
 use Rattle.coop.specs.Outcome.{IsLeft, IsRight, ReadsAll, ReadsForRefusal}
 use Rattle.coop.specs.GeneratorClaims.{IsSummaryFor}
 use Rattle.coop.specs.Words.{word_of, IsNoCommand, Names}
@@ -76,7 +76,7 @@ module _ (given : Command) where
 -- ---- answers to a document
 
 -- no document of a class that is served is answered with the usage of the class
-no_class : (given : Command) (d : Contents) → Says given d (Usage Class) → ⊥
+no_class : (given : Command) (d : Contents) → IsRightAnswer given d (Usage Class) → ⊥
 no_class command.Propose d h = h.2
 no_class command.Kernel d h = h.says
 no_class command.Core d h = h.1
@@ -84,7 +84,7 @@ no_class given d h = h
 
 -- what is right for a document of a class that is served is right for the document
 pub right_of_served : (given : Command) (d : Contents) → serves_class given d.game ≡ true → (a : Answer)
-    → Says given d a
+    → IsRightAnswer given d a
     → AnswersTo given d a
 right_of_served given d served (Usage Class) h = absurd (no_class given d h)
 right_of_served given d served a h = (served, h)

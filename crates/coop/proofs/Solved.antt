@@ -14,7 +14,7 @@ use Rattle.kohlberg.specs.Solved.{IsSolved}
 use Rattle.game_text.specs.Classes.{Description, game_of, is_cost}
 use Rattle.game_text.specs.Documents.{Contents}
 use Rattle.coop.specs.Classes.{nucleolus_limit, IsChosen}
-use Rattle.coop.specs.Headline.{IsTaken, IsSolution}
+use Rattle.coop.specs.Headline.{IsWithinLimit, IsSolution}
 
 measurable : (measure : Measure) (d : Description) (n : ℕ) → n ≤ nucleolus_limit measure d → IsMeasurable measure n
 measurable Plain d n h = inl refl
@@ -23,7 +23,7 @@ measurable PerHead d n h = inr (omega (arith, h))
 pub is_solution : (family : Family) (d : Contents) (are_costs : Bool) (x : Allocation) (c : CertificateData)
     (levels : List Level)
     → are_costs ≡ is_cost d.game → IsSolved c.mode family d.measure (game_of d.game) x c
-    → IsChosen d.measure d.game x c → IsTaken d
+    → IsChosen d.measure d.game x c → IsWithinLimit d
     → levels ≡ c.levels → HasForm c.mode c.players levels → IsSolution family d d.tree are_costs x c
 is_solution family d are_costs x c levels signs found chosen taken same form =
     let g = game_of d.game in

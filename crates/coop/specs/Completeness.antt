@@ -15,15 +15,15 @@ use Rattle.coop.specs.Words.{IsCommand}
 use Rattle.coop.specs.Classes.{serves_class}
 use Rattle.coop.specs.Limits.{check_limit}
 use Rattle.coop.specs.Classes.{core_limit, shapley_limit}
-use Rattle.coop.specs.Headline.{IsTaken}
+use Rattle.coop.specs.Headline.{IsWithinLimit}
 use Rattle.coop.specs.ConvexClaims.{convex_limit}
 use Rattle.coop.specs.KernelClaims.{kernel_limit}
 use Rattle.coop.specs.declared.status.Status.{Status}
 use Rattle.coop.specs.declared.status.Status.TheVariants as status
 
 abbrev pub ServesPlayers : Command → Contents → Type 0
-ServesPlayers Nucleolus d = IsTaken d
-ServesPlayers Prenucleolus d = IsTaken d
+ServesPlayers Nucleolus d = IsWithinLimit d
+ServesPlayers Prenucleolus d = IsWithinLimit d
 ServesPlayers Propose d = ⊤
 ServesPlayers Core d = (game_of d.game).players ≤ core_limit d.game
 ServesPlayers Check d = (game_of d.game).players ≤ check_limit d.measure

@@ -3,7 +3,7 @@
 -- The answers exclude one another: no core point stands beside a balanced collection of excess worth. No other answer
 -- is right, so the negative answer comes exactly where the core of a game that hasn't too many players is empty.
 --
---   IsSaidOf        what a solver says of the core
+--   IsCoreAnswer    what a solver says of the core
 --   IsCorePoint     a point of the core, among fractions and among real shares, as it is printed
 --   IsEmptyCore     a collection of few coalitions that shows that the core is empty, with both numbers as they
 --                   are printed
@@ -28,9 +28,9 @@ use Rattle.report.specs.declared.answer.UsageKind.TheVariants.{Players}
 use Rattle.coop.specs.Judgement.{printed}
 use Rattle.coop.specs.Classes.{core_limit, IsSchemePoint}
 
-abbrev pub IsSaidOf : Description → CoreAnswer → Type 0
-IsSaidOf d (Point x) = InCore (game_of d) x × IsSchemePoint d x
-IsSaidOf d (Empty c) = ShowsEmpty (game_of d) c
+abbrev pub IsCoreAnswer : Description → CoreAnswer → Type 0
+IsCoreAnswer d (Point x) = InCore (game_of d) x × IsSchemePoint d x
+IsCoreAnswer d (Empty c) = ShowsEmpty (game_of d) c
 
 -- the shares are in the core, among fractions and among real shares, and are printed as payments where the numbers of
 -- the game are costs

@@ -14,11 +14,11 @@
 -- bytes, and the sink took its line (`Ends` in Outcome.antt). That an answer comes is the clause `complete`
 -- (Completeness.antt). What is below says what is right, from the inside out:
 --
---   IsTaken               the game has no more players than are answered by its measure
+--   IsWithinLimit         the game has no more players than are answered by its measure
 --   IsSolution            the nucleolus of the game of a document, with its certificate, as it is printed
 --   IsWithoutImputation   the players alone are worth more than all, and both numbers as they are printed
 --   Solves                the answer is right for the family and the game of a document
---   Says                  the answer is right for a command and a document of a class that it serves
+--   IsRightAnswer         the answer is right for a command and a document of a class that it serves
 --   AnswersTo             the answer is right for a command and its document
 --   IsAnsweredFor         the words are a command, and the answer is right for it and the document of the bytes
 --   IsRefusedFor          the words are a command, and this is the first refusal that applies to the bytes
@@ -72,8 +72,8 @@ use Rattle.coop.specs.ConvexClaims.{SaysOfConvex}
 use Rattle.coop.specs.KernelClaims.{SaysOfKernel}
 use Rattle.coop.specs.MatchingClaims.{SaysOfMatching}
 
-abbrev pub IsTaken : Contents → Type 0
-IsTaken d = (game_of d.game).players ≤ nucleolus_limit d.measure d.game
+abbrev pub IsWithinLimit : Contents → Type 0
+IsWithinLimit d = (game_of d.game).players ≤ nucleolus_limit d.measure d.game
 
 -- The shares are a member of the family whose excesses over all coalitions, by the measure of the document and listed
 -- from the greatest, come before those of every other member: of those in fractions, of those in real shares, and of
@@ -83,7 +83,7 @@ IsTaken d = (game_of d.game).players ≤ nucleolus_limit d.measure d.game
 -- bankruptcy game is its scheme's. They stand beside the tree of the game that was read.
 pub record IsSolution (family : Family) (d : Contents) (printed : Data) (are_costs : Bool)
     (x : Allocation) (c : CertificateData) : Type 0 where
-  pub taken : IsTaken d
+  pub taken : IsWithinLimit d
   pub nucleolus : IsNucleolus family d.measure (game_of d.game) x
   pub for_reals : IsNucleolusForReals family d.measure (game_of d.game) x
   pub over_groups : IsNucleolusOverGroups family d.measure (game_of d.game) x
@@ -108,27 +108,27 @@ pub record IsWithoutImputation (family : Family) (g : Game) (are_costs : Bool) (
 abbrev pub Solves : Family → Contents → Answer → Type 0
 Solves family d (Nucleolus f tree are_costs x c) = (f ≡ family) × IsSolution family d (view tree) are_costs x c
 Solves family d (NoImputation alone total) =
-    IsTaken d × IsWithoutImputation family (game_of d.game) (is_cost d.game) alone total
+    IsWithinLimit d × IsWithoutImputation family (game_of d.game) (is_cost d.game) alone total
 Solves family d (Usage Players) = nucleolus_limit d.measure d.game < (game_of d.game).players
 Solves family d _ = ⊥
 
-abbrev pub Says : Command → Contents → Answer → Type 0
-Says NucleolusWord d answer = Solves Imputations d answer
-Says PrenucleolusWord d answer = Solves Preimputations d answer
-Says Propose d answer = JudgesAll d answer
-Says Core d answer = SaysOfCore d answer
-Says Check d answer = Checks d answer
-Says Shapley d answer = SaysOfShapley d answer
-Says Bird d answer = SaysOfBird d answer
-Says Convex d answer = SaysOfConvex d answer
-Says Kernel d answer = SaysOfKernel d answer
-Says Matching d answer = SaysOfMatching d answer
+abbrev pub IsRightAnswer : Command → Contents → Answer → Type 0
+IsRightAnswer NucleolusWord d answer = Solves Imputations d answer
+IsRightAnswer PrenucleolusWord d answer = Solves Preimputations d answer
+IsRightAnswer Propose d answer = JudgesAll d answer
+IsRightAnswer Core d answer = SaysOfCore d answer
+IsRightAnswer Check d answer = Checks d answer
+IsRightAnswer Shapley d answer = SaysOfShapley d answer
+IsRightAnswer Bird d answer = SaysOfBird d answer
+IsRightAnswer Convex d answer = SaysOfConvex d answer
+IsRightAnswer Kernel d answer = SaysOfKernel d answer
+IsRightAnswer Matching d answer = SaysOfMatching d answer
 
 -- the answer is right for a command and what its document says: the usage of the class exactly where the command
 -- doesn't serve it
 abbrev pub AnswersTo : Command → Contents → Answer → Type 0
 AnswersTo command d (Usage Class) = serves_class command d.game ≡ false
-AnswersTo command d answer = (serves_class command d.game ≡ true) × Says command d answer
+AnswersTo command d answer = (serves_class command d.game ≡ true) × IsRightAnswer command d answer
 
 -- the words are a command, the bytes are a document of it with this scale, whose game has the worths of its class, and
 -- the answer is right for both

@@ -10,7 +10,7 @@ ghost use Rattle.report.specs.Limits.{IsPrintable};
 
 use crate::classes::kept_where_slow;
 use crate::limits::check_limit;
-use crate::solve::keep_their_limits;
+use crate::solve::recall_limits;
 use checker::{Reason, Verdict, check};
 use fractions::OutOfMemory;
 use game_text::{Document, Game};
@@ -41,7 +41,7 @@ pub(crate) fn check_document(alloc: Global, document: &Document) -> Result<Answe
     let measure = document.measure;
     let verdict = verdict_on(alloc, &document.game, family, measure, shares, certificate)?;
     keep_lowest(&verdict);
-    keep_their_limits(shares, certificate);
+    recall_limits(shares, certificate);
     Ok(Answer::Verdict(verdict))
 }
 

@@ -1,6 +1,6 @@
 //! What the commands do with each class of games: the list of classes.
 //!
-//! A new class adds here who solves it (`found_plainly`, `said_of`) and whether its worths are kept for the checker
+//! A new class adds here who solves it (`solve_plain`, `core_answer`) and whether its worths are kept for the checker
 //! (`kept_where_slow`); and, if it isn't as most classes, who serves it, to how many players, and who finds its Shapley
 //! shares.
 ghost use Rattle.std.specs.Prelude.{◌≡◌, ◌≤◌, IfOk, ◌<◌, ◌↔◌, IsErrOf, IfSome};
@@ -10,7 +10,7 @@ ghost use Rattle.game_text.specs.Classes.{description_in, game_of};
 ghost use Rattle.coop.specs.Classes.{is_market, is_tree, is_no_market, serves_class, nucleolus_limit, core_limit};
 ghost use Rattle.coop.specs.Classes.{HasFewPlayers, shapley_limit};
 ghost use Rattle.coop.specs.Finding.{IsFoundFor, IsChosenFound};
-ghost use Rattle.coop.specs.CoreClaims.{IsSaidOf};
+ghost use Rattle.coop.specs.CoreClaims.{IsCoreAnswer};
 
 use crate::core_search::core_point;
 use crate::limits::{FEW_PER_HEAD, FEW_PLAYERS, MANY_PLAYERS};
@@ -86,11 +86,7 @@ pub(crate) fn core_limit(game: &Game) -> u32
 }
 
 /// What the scheme of the game's class finds with plain excess, or else the nested programs.
-pub(crate) fn found_plainly(
-    alloc: Global,
-    game: &Game,
-    family: Family,
-) -> Result<Found, OutOfMemory>
+pub(crate) fn solve_plain(alloc: Global, game: &Game, family: Family) -> Result<Found, OutOfMemory>
     requires { HasFewPlayers (description_in game.now) }
     ensures found { IfOk result (IsFoundFor family Measure.Plain (game_of (description_in game.now))) }
     ensures chosen { IfOk result (IsChosenFound Measure.Plain (description_in game.now)) }
@@ -115,9 +111,9 @@ pub(crate) fn found_plainly(
 }
 
 /// What the scheme of the game's class says, or else the balanced program.
-pub(crate) fn said_of(alloc: Global, game: &Game) -> Result<CoreAnswer, OutOfMemory>
+pub(crate) fn core_answer(alloc: Global, game: &Game) -> Result<CoreAnswer, OutOfMemory>
     requires { HasFewPlayers (description_in game.now) }
-    ensures { IfOk result (IsSaidOf (description_in game.now)) }
+    ensures { IfOk result (IsCoreAnswer (description_in game.now)) }
 {
     match game {
         Game::Airport(game) => Ok(core_point(airport_scheme::solve(alloc, game)?)),

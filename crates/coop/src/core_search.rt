@@ -10,9 +10,9 @@ ghost use Rattle.coop.specs.ReadBack.{IsNoNucleolus};
 ghost use Rattle.balanced_collections.specs.Collections.{ShowsEmpty};
 ghost use Rattle.report.specs.Limits.{IsPrintable};
 
-use crate::classes::{core_limit, said_of};
+use crate::classes::{core_answer, core_limit};
 use crate::judge::printed_amount;
-use crate::solve::keep_their_limits;
+use crate::solve::recall_limits;
 use balanced::{Collection, CoreAnswer};
 use fractions::OutOfMemory;
 use game_text::Document;
@@ -51,7 +51,7 @@ fn core_of_few(alloc: Global, document: &Document) -> Result<Answer, OutOfMemory
     ensures readable { IfOk result IsNoNucleolus }
 {
     let is_cost = document.game.is_cost();
-    match said_of(alloc, &document.game)? {
+    match core_answer(alloc, &document.game)? {
         CoreAnswer::Point(shares) => Ok(Answer::CorePoint { is_cost, shares }),
         CoreAnswer::Empty(collection) => Ok(shown(&document.game, collection, is_cost)),
     }
@@ -62,7 +62,7 @@ pub(crate) fn core_point(solution: (Shares, Certificate)) -> CoreAnswer
     ensures point { result ≡ CoreAnswer.Point solution.0 }
     ensures certificate { IsCertificate solution.1 }
 {
-    keep_their_limits(&solution.0, &solution.1);
+    recall_limits(&solution.0, &solution.1);
     CoreAnswer::Point(solution.0)
 }
 

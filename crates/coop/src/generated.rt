@@ -12,7 +12,7 @@ ghost use Rattle.coop.specs.GeneratorClaims.{IsGreatestExcess, IsSummaryOf};
 ghost use Rattle.drawn_games.specs.Imputations.{HasImputations};
 ghost use Rattle.report.specs.Limits.{IsFineIfThere};
 
-use crate::classes::{found_plainly, kept_where_slow};
+use crate::classes::{kept_where_slow, solve_plain};
 use checker::{Verdict, check};
 use coalitions::Coalition;
 use coop_gen::generate;
@@ -61,7 +61,7 @@ fn solved(alloc: Global, game: &Game) -> Result<(Shares, Option<Frac>), OutOfMem
         let found = solve_few(alloc, &kept, Family::Imputations, Measure::Plain)?;
         return Ok(checked(&kept, found));
     }
-    let found = found_plainly(alloc, game, Family::Imputations)?;
+    let found = solve_plain(alloc, game, Family::Imputations)?;
     Ok(checked(game, found))
 }
 

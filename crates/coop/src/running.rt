@@ -5,7 +5,7 @@ ghost use Rattle.game_text.specs.declared.command.Command.{Command};
 ghost use Rattle.game_text.specs.Classes.{description_in};
 ghost use Rattle.game_text.specs.Readings.{contents_in};
 ghost use Rattle.coop.specs.Classes.{serves_class};
-ghost use Rattle.coop.specs.Headline.{Says};
+ghost use Rattle.coop.specs.Headline.{IsRightAnswer};
 ghost use Rattle.coop.specs.Needs.{HasNeeded};
 ghost use Rattle.coop.specs.GeneratorRuns.{AsksForGame, EndsMade, IsMadeFor};
 ghost use Rattle.coop.specs.Completeness.{IsComplete};
@@ -161,7 +161,7 @@ fn answer_where_served(
 ) -> Result<Answer, OutOfMemory>
     requires needed { HasNeeded command (contents_in document.old) }
     requires class { serves_class command (description_in document.old.game) ≡ true }
-    ensures says { IfOk result (Says command (contents_in document.old)) }
+    ensures says { IfOk result (IsRightAnswer command (contents_in document.old)) }
     ensures printable { IfOk result IsPrintable }
     ensures readable { IfOk result (CanBeRead document.old.scale) }
 {

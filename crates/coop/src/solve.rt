@@ -12,7 +12,7 @@ ghost use Rattle.coop.specs.Finding.{IsFoundFor, IsChosenFound};
 ghost use Rattle.coop.specs.Headline.{Solves};
 ghost use Rattle.report.specs.Limits.{IsPrintable};
 
-use crate::classes::{found_plainly, nucleolus_limit};
+use crate::classes::{nucleolus_limit, solve_plain};
 use crate::judge::printed_worth;
 use fractions::OutOfMemory;
 use game_text::{Document, Game};
@@ -44,7 +44,7 @@ pub(crate) fn solve_document(
     }
     match found_for(alloc, &document.game, family, document.measure)? {
         Found::Point(shares, certificate) => {
-            keep_their_limits(&shares, &certificate);
+            recall_limits(&shares, &certificate);
             Ok(Answer::Nucleolus {
                 family,
                 tree: document.tree.take(),
@@ -73,7 +73,7 @@ fn found_for(
     ensures chosen { IfOk result (IsChosenFound measure (description_in game.now)) }
 {
     match measure {
-        Measure::Plain => found_plainly(alloc, game, family),
+        Measure::Plain => solve_plain(alloc, game, family),
         Measure::PerHead => solve_few(alloc, game, family, measure),
     }
 }
@@ -87,7 +87,7 @@ pub(crate) fn found_point(solution: (Shares, Certificate)) -> Found
 
 /// Does nothing at run time. It calls the accessors whose contracts state the limits of shares and certificates, since
 /// the proofs of the printers need them.
-pub(crate) fn keep_their_limits(shares: &Shares, certificate: &Certificate)
+pub(crate) fn recall_limits(shares: &Shares, certificate: &Certificate)
     ensures shares { IsShares shares.now }
     ensures certificate { IsCertificate certificate.now }
 {

@@ -1,6 +1,6 @@
-//! What is printed of shares is read back as the same shares, what is printed of a certificate as that certificate, and
-//! what is printed of a nucleolus as a document of its game, with its family, its shares and its certificate. Each
-//! function's contract is a theorem, and its body is empty.
+//! What is printed is read back. Printed shares are read as the same shares, and a printed certificate as that
+//! certificate. A printed nucleolus is read as a document of its game, with its family, its shares and its certificate.
+//! Each function's contract is a theorem, and its body is empty.
 #![tactic(auto)]
 
 ghost use Rattle.reading_back.specs.ReadBack.{SharesAreReadBack, ShareListsAreArrays};

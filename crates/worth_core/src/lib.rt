@@ -17,7 +17,7 @@ pub use worth::{Worth, scaled_excess};
 
 // For the crates above.
 pub use best::Best;
-pub use measured::{Divided, is_more, kept_or_new};
+pub use measured::{Divided, is_more, replaced_if};
 pub use ratios::ratio;
 pub use shares::scaled;
 pub use split_sums::SplitSums;

@@ -127,7 +127,7 @@ pub fn is_more(most: &Option<Divided>, here: &Divided) -> bool
 }
 
 /// Returns the new excess if it is taken, and otherwise the one before.
-pub fn kept_or_new(most: Option<Divided>, here: Divided, is_taken: bool) -> Option<Divided>
+pub fn replaced_if(most: Option<Divided>, here: Divided, is_taken: bool) -> Option<Divided>
     ensures taken { is_taken ≡ true → result ≡ Some here }
     ensures kept { is_taken ≡ false → result ≡ most }
 {
@@ -167,7 +167,7 @@ fn greatest_split<W: Worth>(game: &W, x: &Shares, free: Coalition, measure: Meas
         paid = x.sum_after(paid, s);
         let here = Divided::of_paid(game, x, measure, s, paid);
         let is_greatest = is_more(&most, &here) && splits(s, free, players);
-        most = kept_or_new(most, here, is_greatest);
+        most = replaced_if(most, here, is_greatest);
     }
     most.unwrap()
 }

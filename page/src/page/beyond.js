@@ -1,4 +1,5 @@
 // Runways of more landings than the program takes: what the page calculates by itself, and that it says so.
+import { countText } from "../exact/decimals.js";
 import { Rational } from "../exact/rational.js";
 import { extremes } from "./extremes.js";
 import { el } from "./dom.js";
@@ -22,7 +23,7 @@ const SCALED = "Don’t scale the landings down to have fewer: by the nucleolus 
 
 /** What has to be said of these numbers: that they aren't the program's, and why they are those of the rule. */
 export function beyondTexts({ isAll, all, points }) {
-  const limit = isAll ? `These are ${all.toLocaleString("en")} landings, and the program takes 64.`
+  const limit = isAll ? `These are ${countText(all)} landings, and the program takes 64.`
     : `These are ${all} landings, and the program works out Shapley shares up to 32.`;
   const proved = points.map(({ key }) => THEOREMS[key]).join(", and ");
   return [`${limit} ${OURS}`, `That the formula gives the rule, for any number of landings, says ${proved}. What isn’t `

@@ -1,6 +1,6 @@
 // What each group could gain by leaving, from the greatest down, by all divisions side by side.
 import { Rational } from "../exact/rational.js";
-import { fractionText } from "../exact/decimals.js";
+import { countText, fractionText } from "../exact/decimals.js";
 import { listed } from "../tell/words.js";
 import { button, copy, el, refill } from "./dom.js";
 
@@ -47,7 +47,8 @@ function sharesOf({ shares }) {
 }
 
 function partsOf(found, { game, points, format, asked, onAll }) {
-  const { of, lists, differs } = found, [{ length }] = lists, count = (number) => number.toLocaleString("en");
+  const { of, lists, differs } = found, [{ length }] = lists;
+  const copied = of > MOST_COPIED ? `the first ${countText(MOST_COPIED)}` : "all";
   const cells = ({ group, excess }, isMarked) => {
     const value = Rational.of(excess), kind = isMarked ? " differs" : "";
     return [el("td", { class: `number${kind}` }, format.show(value),
@@ -62,9 +63,9 @@ function partsOf(found, { game, points, format, asked, onAll }) {
       el("tbody", {}, lists[0].map((_, k) => el("tr", {}, el("th", { scope: "row", class: "number" }, String(k + 1)),
         lists.map((list, which) => cells(list[k], k + 1 === differs[which]))))))),
     el("p", { class: "tools" },
-      length < Math.min(of, MOST) && button(`All ${count(Math.min(of, MOST))} places`, onAll, { class: "quiet" }),
-      length < of && el("span", { class: "hint" }, `${count(length)} of ${count(of)} places.`),
-      button(`Copy ${of > MOST_COPIED ? "the first 4,094" : "all"} places for a spreadsheet`, async ({ target }) => {
+      length < Math.min(of, MOST) && button(`All ${countText(Math.min(of, MOST))} places`, onAll, { class: "quiet" }),
+      length < of && el("span", { class: "hint" }, `${countText(length)} of ${countText(of)} places.`),
+      button(`Copy ${copied} places for a spreadsheet`, async ({ target }) => {
         copy(tableText(points, (await asked(MOST_COPIED)).lists, format), target);
       }, { class: "quiet" })),
   ];

@@ -1,4 +1,5 @@
 // What was given to be checked: each file by its name, size and SHA-256, so that a printed check can be tied to them.
+import { countText } from "../exact/decimals.js";
 import { el } from "./dom.js";
 import { fingerprint } from "./files.js";
 
@@ -17,5 +18,5 @@ export function givenParts({ line, agreed }, { ofLine, ofGame }) {
 
 function oneGiven(what, text, { ofCase, name = ofCase ? "from your case" : "pasted text", size }) {
   const bytes = size ?? new TextEncoder().encode(text).length;
-  return fingerprint(text, `${what} (${name}, ${bytes.toLocaleString("en")} bytes), as it was given, has the SHA-256 `);
+  return fingerprint(text, `${what} (${name}, ${countText(bytes)} bytes), as it was given, has the SHA-256 `);
 }

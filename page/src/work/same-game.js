@@ -1,6 +1,6 @@
 // Whether two texts are of the same game: number by number and name by name, however they are written.
 import { Rational } from "../exact/rational.js";
-import { shortText } from "../exact/decimals.js";
+import { countText, shortText } from "../exact/decimals.js";
 import { firstDifference, Inexact, isObject, writeJson } from "../exact/json.js";
 import { differenceOf, shownName, withEscapes } from "../game/names.js";
 import { capital } from "../tell/words.js";
@@ -60,7 +60,7 @@ function verdict(line, agreed) {
 }
 
 function firstOf(items) {
-  const more = items.length - MOST_TOLD, count = more === 1 ? "one" : more.toLocaleString("en");
+  const more = items.length - MOST_TOLD, count = more === 1 ? "one" : countText(more);
   return more > 0 ? [...items.slice(0, MOST_TOLD), `and ${count} more ${more === 1 ? "place" : "places"}.`] : items;
 }
 

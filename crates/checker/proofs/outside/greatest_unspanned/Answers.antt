@@ -114,9 +114,9 @@ loop-mask-preserved-then-contains g c =
     let divided = rw here at c.of_paid-here.ensures in
     let top =
     IsTop-next c.args.measure game x (IsMarked c.args.outside.now) gray_mask k c.loop-mask.most
-    c.kept_or_new-most.result c.of_paid-here.result c.is_more-is_greatest.result c.is_more-is_greatest.result
+    c.replaced_if-most.result c.of_paid-here.result c.is_more-is_greatest.result c.is_more-is_greatest.result
     c.requires.measurable c.loop-mask.invariant.top some.0 some.1 divided c.is_more-is_greatest.ensures
-    (λ e. (e, on)) (λ e. inl e) c.kept_or_new-most.ensures.taken c.kept_or_new-most.ensures.kept in
+    (λ e. (e, on)) (λ e. inl e) c.replaced_if-most.ensures.taken c.replaced_if-most.ensures.kept in
     rw (length_push c.loop-mask.yielded c.in-Some.field-0)
     (record { paid = kept ∙ paid-next x k c.paid_after-paid.result paid; top = top })
 

@@ -9,7 +9,7 @@ returns-clause-printable c =
     record {
       fine =
           verdict_fine given.certificate.mode given.family document.measure (game_of (description_in document.game))
-          given.shares given.certificate.levels c.in_ok-verdict.verdict c.keep_their_limits.ensures.shares
+          given.shares given.certificate.levels c.in_ok-verdict.verdict c.recall_limits.ensures.shares
           c.in_ok-verdict.ensures c.keep_lowest.ensures;
       form = tt;
     }

@@ -7,8 +7,8 @@ use Rattle.real_shares.proofs.ForReals.{core_point_for_reals}
 use Rattle.game_text.specs.Readings.{contents_in}
 use Rattle.coop.proofs.core_search.core_of_few.Goals as goal
 
-pub said_of-requires : goal.said_of-requires
-said_of-requires c =
+pub core_answer-requires : goal.core_answer-requires
+core_answer-requires c =
     let accepted = c.requires.accepted in
     let served = subst (λ (d : Description). is_no_market d ≡ true) accepted.described c.requires.class in
     let taken =

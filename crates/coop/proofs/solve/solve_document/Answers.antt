@@ -16,7 +16,7 @@ returns-in-Point-clause-solves c =
           (is_solution c.args.family (contents_in c.args.document.now) c.is_cost-is_cost.result c.in-Point.shares
           c.in-Point.certificate c.in-Point.certificate.levels c.is_cost-is_cost.ensures found chosen
           (omega (arith, c.if-players-nucleolus_limit.false, c.nucleolus_limit.ensures, c.players.ensures.count))
-          refl c.keep_their_limits.ensures.certificate.form),
+          refl c.recall_limits.ensures.certificate.form),
     )
 
 pub returns-in-Point-clause-printable : goal.returns-in-Point-clause-printable
@@ -26,7 +26,7 @@ returns-in-Point-clause-printable c =
       fine =
           fine_levels c.in-Point.certificate.mode c.args.family c.args.document.now.measure
           (game_of (contents_in c.args.document.now).game) c.in-Point.shares c.in-Point.certificate
-          c.keep_their_limits.ensures.shares c.keep_their_limits.ensures.certificate found;
+          c.recall_limits.ensures.shares c.recall_limits.ensures.certificate found;
       form = rw c.take.ensures.taken (c.requires.accepted.whole, c.requires.accepted.shallow);
     }
 
@@ -36,7 +36,7 @@ returns-in-Point-clause-readable c =
     rw c.take.ensures.taken
     (can_be_checked c.args.family (contents_in c.args.document.now) c.args.document.now.tree
     c.is_cost-is_cost.result c.in-Point.shares c.in-Point.certificate c.requires.accepted refl
-    c.is_cost-is_cost.ensures c.keep_their_limits.ensures.shares c.keep_their_limits.ensures.certificate found
+    c.is_cost-is_cost.ensures c.recall_limits.ensures.shares c.recall_limits.ensures.certificate found
     (omega (arith, c.if-players-nucleolus_limit.false, c.nucleolus_limit.ensures, c.players.ensures.count))
     c.requires.class)
 

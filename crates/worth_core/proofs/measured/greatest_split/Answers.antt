@@ -49,10 +49,10 @@ loop-next-preserved g c =
     let sum = c.sum_after-paid.ensures in
     let paid = cast_kept w128 c.sum_after-paid.result (omega arith) ∙ sum.value in (
       within,
-      IsTop-next c.args.measure game c.args.x.now P ascending next c.loop-next.most c.kept_or_new-most.result
+      IsTop-next c.args.measure game c.args.x.now P ascending next c.loop-next.most c.replaced_if-most.result
           c.of_paid-here.result c.is_more.result c.if-is_more.is_greatest c.requires.measurable before
           (omega (arith, step.0)) within c.of_paid-here.ensures c.is_more.ensures on off
-          c.kept_or_new-most.ensures.taken c.kept_or_new-most.ensures.kept,
+          c.replaced_if-most.ensures.taken c.replaced_if-most.ensures.kept,
       paid,
     )
 

@@ -35,12 +35,12 @@ returns-in-Some-first_unbalanced g c =
     let least = rw c.players.ensures.count at (c.in-Some-first_unbalanced.ensures {u = tt}) in
     (refl, c.in_default.ensures {u = tt}, signs.0, signs.1, least)
 
-pub returns-in-Some-first_loose : goal.returns-in-Some-first_loose
-returns-in-Some-first_loose g c =
+pub returns-in-Some-first_not_at_bound : goal.returns-in-Some-first_not_at_bound
+returns-in-Some-first_not_at_bound g c =
     let signs = c.in_default-first_wrong_sign.ensures {u = tt} in
     let balanced = rw c.players.ensures.count at (c.in_default-first_unbalanced.ensures {u = tt}) in
     let bounds = c.deref.ensures.value ∙ ap (λ (l : Level). l.bounds) c.tested.view_is in
-    let loose = rw bounds at (c.in-Some-first_loose.ensures {u = tt}) in
+    let loose = rw bounds at (c.in-Some-first_not_at_bound.ensures {u = tt}) in
     (refl, c.in_default.ensures {u = tt}, signs.0, signs.1, balanced, loose)
 
 pub returns-in_err-excess : goal.returns-in_err-excess
@@ -48,7 +48,7 @@ returns-in_err-excess g c =
     let signs = c.in_default-first_wrong_sign.ensures {u = tt} in
     let balanced = rw c.players.ensures.count at (c.in_default-first_unbalanced.ensures {u = tt}) in
     let bounds = c.deref.ensures.value ∙ ap (λ (l : Level). l.bounds) c.tested.view_is in
-    let tight = rw bounds at (c.in_default-first_loose.ensures {u = tt}) in
+    let tight = rw bounds at (c.in_default-first_not_at_bound.ensures {u = tt}) in
     rw c.from_residual.ensures (record {
       excesses = c.in_default.ensures {u = tt};
       weights = signs.0;
@@ -63,7 +63,7 @@ returns g c =
     let signs = c.in_default-first_wrong_sign.ensures {u = tt} in
     let balanced = rw c.players.ensures.count at (c.in_default-first_unbalanced.ensures {u = tt}) in
     let bounds = c.deref.ensures.value ∙ ap (λ (l : Level). l.bounds) c.tested.view_is in
-    let tight = rw bounds at (c.in_default-first_loose.ensures {u = tt}) in
+    let tight = rw bounds at (c.in_default-first_not_at_bound.ensures {u = tt}) in
     let outside = c.in_ok-excess.ensures c.args.front.now c.requires.fixes in (
       outside.1.0,
       outside.1.2,

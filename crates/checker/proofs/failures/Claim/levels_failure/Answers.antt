@@ -34,8 +34,8 @@ loop-i-init g c =
     let game = g.W.Worth.game c.args.self.now.game.now in (
       SameLevels-start c.args.mode c.args.self.now.family c.args.self.now.measure game c.args.self.now.shares.now
           c.args.levels.now c.requires.form,
-      c.by_none-fixed.ensures.mode,
-      rw c.players-players.ensures.count at c.by_none-fixed.ensures.fixes,
+      c.nothing_fixed-fixed.ensures.mode,
+      rw c.players-players.ensures.count at c.nothing_fixed-fixed.ensures.fixes,
     )
 
 pub loop-i-preserved : goal.loop-i-preserved

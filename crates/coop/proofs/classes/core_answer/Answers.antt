@@ -1,6 +1,6 @@
 use Rattle.definitions.specs.declared.Family.TheVariants.{Imputations}
 use Rattle.coop.proofs.CorePoints.{scheme_point}
-use Rattle.coop.proofs.classes.said_of.Goals as goal
+use Rattle.coop.proofs.classes.core_answer.Goals as goal
 
 pub returns-in_ok-solve-in-Airport : goal.returns-in_ok-solve-in-Airport
 returns-in_ok-solve-in-Airport c =

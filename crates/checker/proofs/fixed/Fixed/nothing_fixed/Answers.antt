@@ -3,7 +3,7 @@ use Rattle.checker.proofs.GrayScan.{proper_within}
 use Rattle.kohlberg.proofs.Marking.{IsMarking-start}
 use Rattle.checker.proofs.Still.{IsFreeSet-start}
 use Rattle.kohlberg.proofs.SpanScan.{SpansFixed-start}
-use Rattle.checker.proofs.fixed.Fixed.by_none.Goals as goal
+use Rattle.checker.proofs.fixed.Fixed.nothing_fixed.Goals as goal
 use Rattle.definitions.proofs.Masks.{grand_coalition-within}
 
 pub clear-requires : goal.clear-requires

@@ -2,7 +2,7 @@ use Rattle.std.proofs.Common.{pos, sym, ◌∙◌}
 use Rattle.std.proofs.lemmas.Bool.{false≢true}
 use Rattle.definitions.specs.Failures.{IsTight}
 use Rattle.checker.proofs.Firsts.{leads_start, leads_more_at, leads_failing_at, leads_end}
-use Rattle.checker.proofs.conditions.first_loose.Goals as goal
+use Rattle.checker.proofs.conditions.first_not_at_bound.Goals as goal
 
 pub loop-i-init : goal.loop-i-init
 loop-i-init g c =

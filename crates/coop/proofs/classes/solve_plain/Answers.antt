@@ -1,5 +1,5 @@
 use Rattle.definitions.specs.declared.Family.TheVariants.{Imputations}
-use Rattle.coop.proofs.classes.found_plainly.Goals as goal
+use Rattle.coop.proofs.classes.solve_plain.Goals as goal
 
 pub returns-in_ok-solution-in-Airport-clause-chosen : goal.returns-in_ok-solution-in-Airport-clause-chosen
 returns-in_ok-solution-in-Airport-clause-chosen c =
