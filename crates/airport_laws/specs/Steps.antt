@@ -59,6 +59,6 @@ abbrev pub ShapleyIsInCore : Type 0
 ShapleyIsInCore =
     (costs : List ℕ) (x : Allocation) → IsShapley (airport_game costs) x → InCore (airport_game costs) x
 
--- whom a player joins, it adds no more to the cost where another one joined before
+-- whom a player joins, it adds no more to the cost if another one joined before
 abbrev pub AirportsAreConvex : Type 0
 AirportsAreConvex = (costs : List ℕ) → IsConvex (airport_game costs)

@@ -4,7 +4,7 @@
 --   pay_at pay k        the payment at place k
 --   IsScheme            what the payments at the places are
 --   IsPaid              shares that give each player minus the payment of its place
---   size_of, IsTerm     what each would pay where a block ended at some place
+--   size_of, IsTerm     what each would pay if a block ended at some place
 --   IsLeastTerm         the block that comes next
 --   IsGrown             the payments with those of the next block
 --   IsPayment           payments of the sizes of shares
@@ -24,7 +24,7 @@ abbrev pub pay_at : List ℤ → ℕ → ℤ
 pay_at pay k = slice_index_or pay k (pos 0)
 
 -- what the players at n places pay over den, where c are the costs at the places: the payments rise, the first k
--- players leave room under their cost for one more payment of the last of them, and leave none where the next pays
+-- players leave room under their cost for one more payment of the last of them, and leave none if the next pays
 -- more
 pub record IsScheme (n : ℕ) (c : ℕ → ℕ) (pay : ℕ → ℤ) (den : ℤ) : Type 0 where
   pub positive : pos 1 ≤ℤ den
@@ -42,7 +42,7 @@ pub record IsPaid (costs : List ℕ) (at : ℕ → ℕ) (pay : ℕ → ℤ) (x :
 
 -- ---- the search for a block
 
--- how many payments the cost at place l has to hold where a block begins at place i: those of the block and one
+-- how many payments the cost at place l has to hold if a block begins at place i: those of the block and one
 -- more, but at the end
 abbrev pub size_of : ℕ → ℕ → ℕ → ℕ
 size_of n i l = if nat_lt (l + 1) n then l + 2 - i else l + 1 - i

@@ -23,7 +23,7 @@ pub(crate) fn times(a: i128, b: i128) -> i128
     a * b
 }
 
-/// What is left of a cost where so much is paid, over the denominator.
+/// What is left of a cost if so much is paid, over the denominator.
 fn rest(den: i128, cost: i64, paid: i128) -> i128
     requires positive { pos 1 ≤ℤ den }
     requires common { den ≤ℤ pos (2 ^ 63) }
@@ -36,7 +36,7 @@ fn rest(den: i128, cost: i64, paid: i128) -> i128
     den * cost as i128 - paid
 }
 
-/// What each pays where the block ends at place `l`: they share what is left of its cost, with one payment more where
+/// What each pays if the block ends at place `l`: they share what is left of its cost, with one payment more if
 /// other players follow.
 fn term(game: &AirportGame, done: u32, l: u32, den: i128, paid: i128) -> Rate
     requires from { done ≤ l }

@@ -2,8 +2,8 @@
 //! Shapley 1967).
 //!
 //! The balanced program asks for the greatest worth that coalitions have by weights that hold each player once. Its
-//! optimal multipliers are shares that no coalition blocks. Where they add to the worth of all they are a point of the
-//! core. Where they add to more, so do the optimal weights: they are a balanced collection of excess worth, beside
+//! optimal multipliers are shares that no coalition blocks. If they add to the worth of all they are a point of the
+//! core. If they add to more, so do the optimal weights: they are a balanced collection of excess worth, beside
 //! which no core point stands.
 #![tactic(auto)]
 

@@ -1,7 +1,7 @@
 //! The excess as the greater of two linear functions of the coalition, its arms.
 //!
 //! With the estate `E`, the claims `d`, the shares `x` over `q` and all players `N`, what the others leave to `S` is
-//! `E - d(N) + d(S)`, or nothing where that is negative. So the excess of `S` is the greater of
+//! `E - d(N) + d(S)`, or nothing if that is negative. So the excess of `S` is the greater of
 //! `f (E - d(N) + d(S)) - x(S)` at the factors `f = 0` and `f = q`.
 ghost use Rattle.std.specs.Prelude.{◌≡◌, Some, None, length};
 ghost use Rattle.std.specs.Prelude.{ℕ, ◌^◌, ◌<◌, pos, ℤ, ◌*ℤ◌, ◌<ℤ◌, ◌≤ℤ◌, unsigned_abs};
@@ -22,14 +22,14 @@ pub(crate) struct Arm {
 }
 
 impl Arm {
-    /// The arm that is the greater one where the others leave nothing.
+    /// The arm that is the greater one if the others leave nothing.
     pub(crate) fn nothing() -> Arm
         ensures { result.factor ≡ pos 0 }
     {
         Arm { factor: 0 }
     }
 
-    /// The arm that is the greater one where the others leave something.
+    /// The arm that is the greater one if the others leave something.
     pub(crate) fn rest(x: &Shares) -> Arm
         ensures factor { result.factor ≡ x.now.den }
         ensures positive { pos 1 ≤ℤ x.now.den }
@@ -120,7 +120,7 @@ impl Candidate {
         self
     }
 
-    /// Its coalition where that blocks, and none where the excess isn't positive.
+    /// Its coalition if that blocks, and none if the excess isn't positive.
     pub(crate) fn blocking(self) -> Option<Coalition>
         ensures blocks { pos 0 <ℤ self.excess → result ≡ Some self.coalition }
         ensures none { self.excess ≤ℤ pos 0 → result ≡ None }

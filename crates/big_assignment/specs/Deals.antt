@@ -24,7 +24,7 @@
 --   IsGain         what each row gains at its column's price
 --   IsContentAt    a row would rather have no other column at some prices than its own at others
 --   NoneWanted     row i would rather have no other column than its own
---   Holds          i is the row that has column k, or 32 where none has
+--   Holds          i is the row that has column k, or 32 if none has
 --   IsOutside      nothing is offered outside of so many rows and columns
 --   IsTurned       rows and columns exchanged
 use Rattle.std.specs.Prelude.{◌≡◌, ◌≢◌, ◌⊎◌, ℕ, ◌+◌, ◌*◌, ◌^◌, ◌<◌, ◌≤◌, List}

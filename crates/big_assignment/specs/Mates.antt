@@ -1,6 +1,6 @@
 -- Matchings given by the column of each row.
 --
---   pairs_from mate columns i k   the pairs of the k rows from i on, each with its column where that is below columns
+--   pairs_from mate columns i k   the pairs of the k rows from i on, each with its column if that is below columns
 --   AreAscending i ps             the first of each pair is at least i, and each greater than the one before
 --   payoff rows u p k             what each player gets: u of a row, and p of a column
 --   total_below n f               what all of n players get

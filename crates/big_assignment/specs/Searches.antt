@@ -3,7 +3,7 @@
 -- place that was reached has a rank, from 1, in the order in which they were reached, and a parent, the row that it was
 -- reached from.
 --
---   rank_of, parent_of   of a search: the rank of a place, 0 where it isn't reached, and the place's parent
+--   rank_of, parent_of   of a search: the rank of a place, 0 if it isn't reached, and the place's parent
 --   unreached    how many places are not reached
 --   IsReached    row i is reached: it is row n, or its column is
 --   IsEarlier    row i was reached before place k

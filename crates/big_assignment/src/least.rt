@@ -1,4 +1,4 @@
-//! The least prices at which each row is content with its column: prices rise from 0, and only where a row would rather
+//! The least prices at which each row is content with its column: prices rise from 0, and only if a row would rather
 //! have another column (Shapley and Shubik 1971; Demange, Gale and Sotomayor 1986).
 ghost use Rattle.std.specs.Prelude.{ℕ, ◌<◌, ◌≤◌, slice_index};
 ghost use Rattle.big_assignment.specs.Deals.{AreColumns, AreDealOffers, IsBelow, IsContentAt, IsFair, IsGain};

@@ -153,7 +153,7 @@ fn hand_over(deal: &Deal, search: &Search, n: usize, last: usize) -> [Option<usi
     }
 }
 
-/// Reaches one column more; true where it was free, and row `n` has a column now.
+/// Reaches one column more; true if it was free, and row `n` has a column now.
 fn advance(deal: &mut Deal, search: &mut Search, n: usize) -> bool
     requires rows { n < 32 }
     requires offers { AreDealOffers deal.old }

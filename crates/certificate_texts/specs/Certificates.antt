@@ -2,7 +2,7 @@
 --
 --   level_trees       the trees of the levels
 --   levels_of         the levels, their excesses times the scale k
---   certificate_of    what the tree of a certificate describes, where no test refuses it
+--   certificate_of    what the tree of a certificate describes, if no test refuses it
 --   allows_mode       the mode is players, or there are at most 16 players
 --   has_few_levels    there are fewer levels than players
 --   lists_coalition   a pair lists a coalition with an integer

@@ -8,7 +8,7 @@
 --   weighted_coalition   a coalition and its weight
 --   first_player         the player that the first of two items names
 --   weighted_player      a player and its weight
---   level_of             what the tree of a level describes, its excess times the scale, where no test refuses it
+--   level_of             what the tree of a level describes, its excess times the scale, if no test refuses it
 use Rattle.std.specs.Prelude.{◌+◌, ◌-◌, ◌^◌, ℕ, ℤ, pos, negsuc, codes, List, []}
 use Rattle.std.specs.Prelude.{◌∷◌, map, ◌&&◌, Option, Some, None}
 use Rattle.std.specs.Prelude.{option_and_then, option_map, unwrap_or, nat_lt, nat_le, if◌then◌else◌}
@@ -47,7 +47,7 @@ coalition_of n ds = option_map mask_by_numbers (numbers_above 0 n ds)
 
 -- ---- pairs
 
--- a coalition and its weight; the empty one where none is listed
+-- a coalition and its weight; the empty one if none is listed
 abbrev pub weighted_coalition : ℕ → Data → ℕ × ℤ
 weighted_coalition n pair = (unwrap_or (coalition_of n (pair_members pair)) 0, second_integer (parts pair))
 
@@ -56,7 +56,7 @@ abbrev pub first_player : ℕ → List Data → Option ℕ
 first_player n (x ∷ y ∷ []) = option_and_then (numbered_player n) (integer x)
 first_player n _ = None
 
--- a player and its weight; the first player where none is named
+-- a player and its weight; the first player if none is named
 abbrev pub weighted_player : ℕ → Data → ℕ × ℤ
 weighted_player n pair = (unwrap_or (first_player n (parts pair)) 0, second_integer (parts pair))
 

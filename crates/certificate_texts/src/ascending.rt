@@ -7,7 +7,7 @@ use coalitions::Coalition;
 use json_trees::integer;
 use serde_json::Value;
 
-/// The number, where it is above `low` and at most `n`.
+/// The number, if it is above `low` and at most `n`.
 fn number_between(low: u32, n: u32, number: i64) -> Option<u32>
     ensures number { result ≡ number_between low n number }
     ensures within { IfSome result (λ k. (low < k) × (k ≤ n)) }

@@ -168,7 +168,7 @@ impl<W: Worth> Claim<'_, W> {
         Some(Reason::OutsideAbove { level, excess })
     }
 
-    /// The greatest measured excess of a coalition outside, where it is above the level's.
+    /// The greatest measured excess of a coalition outside, if it is above the level's.
     fn outside_above(&self, fixed: &Fixed, level: &Level) -> Option<Frac>
         requires measurable { IsMeasurable self.now.measure (W.game self.now.game.now).players }
         requires over { IsOver (W.game self.now.game.now).players fixed.now }

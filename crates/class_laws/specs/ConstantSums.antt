@@ -3,7 +3,7 @@
 --
 --   IsConstantSum g           each coalition and the others are worth together what all are
 --   ConstantSumCores          at a core point of such a game each coalition gets just its worth
---   NucleolusRepresents       of such a vote, in which all together win, a coalition wins just where the nucleolus
+--   NucleolusRepresents       of such a vote, in which all together win, a coalition wins exactly if the nucleolus
 --                             gives it more than half (Peleg 1968)
 --   MajorityIsConstantSum     an example that meets this definition, and one that doesn't
 use Rattle.std.specs.Prelude.{◌≡◌, ◌↔◌, ℕ, ◌-◌, ◌^◌, ◌<◌, List, [], ◌∷◌, pos, ◌+ℤ◌, ◌*ℤ◌, ◌<ℤ◌}
@@ -24,7 +24,7 @@ ConstantSumCores =
     (g : Game) (x : Allocation) (s : ℕ) → IsConstantSum g → InCore g x → s < 2 ^ g.players →
     amount x s ≡ x.den *ℤ g.worth s
 
--- where of each coalition and the others just one wins, the shares of the nucleolus, and of the prenucleolus, are
+-- if of each coalition and the others just one wins, the shares of the nucleolus, and of the prenucleolus, are
 -- weights for the vote, with more than half as quota
 abbrev pub NucleolusRepresents : Type 0
 NucleolusRepresents =

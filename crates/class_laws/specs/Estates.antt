@@ -1,9 +1,9 @@
--- What the Talmud rule promises where somebody else claims as well, or claims more (Aumann and Maschler 1985; Thomson
+-- What the Talmud rule promises if somebody else claims as well, or claims more (Aumann and Maschler 1985; Thomson
 -- 2003). Each law is the contract of a function of this crate.
 --
---   FurtherClaimantsGiveNobodyMore   of one estate nobody gets more where others claim as well
+--   FurtherClaimantsGiveNobodyMore   of one estate nobody gets more if others claim as well
 --   ARisenClaim                      whose claim rises gets no less, and nobody else gets more
---   AGreaterWhole                    where all together are worth more, and each other coalition what it was, nobody
+--   AGreaterWhole                    if all together are worth more, and each other coalition what it was, nobody
 --                                    gets less (aggregate monotonicity: Megiddo 1974)
 use Rattle.std.specs.Prelude.{◌≡◌, ◌≢◌, ℕ, ◌<◌, ◌≤◌, List, length, ◌++◌, ◌*ℤ◌, ◌≤ℤ◌, slice_index}
 use Rattle.definitions.specs.Classes.{bankruptcy_worth}
@@ -28,7 +28,7 @@ ARisenClaim =
     ((share x i *ℤ y.den) ≤ℤ (share y i *ℤ x.den))
     × ((j : ℕ) → j < length claims → j ≢ i → (share y j *ℤ x.den) ≤ℤ (share x j *ℤ y.den))
 
--- All claimants are worth the estate together. So where it is greater, and each other coalition is worth what it was,
+-- All claimants are worth the estate together. So if it is greater, and each other coalition is worth what it was,
 -- the claims differ too
 abbrev pub AGreaterWhole : Type 0
 AGreaterWhole =

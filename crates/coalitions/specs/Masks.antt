@@ -6,7 +6,7 @@ use Rattle.std.specs.List.{range_with_len}
 abbrev pub all_masks : ℕ → List ℕ
 all_masks n = range_with_len 0 (2 ^ n)
 
--- the coalitions of n players from a mask on, in ascending order, and none where there is no mask
+-- the coalitions of n players from a mask on, in ascending order, and none if there is no mask
 abbrev pub masks_from : ℕ → Option ℕ → List ℕ
 masks_from n None = []
 masks_from n (Some s) = range_with_len s (2 ^ n - s)

@@ -17,7 +17,7 @@ pub use gray::{Gray, GrayStep};
 use std::marker::Model;
 pub use subsets::Subsets;
 
-/// A set of players: player i, from 0, is a member where the bit of value 2^i is set.
+/// A set of players: player i, from 0, is a member if the bit of value 2^i is set.
 #[derive(Clone, Copy, Debug, PartialEq, Eq, PartialOrd, Ord)]
 pub struct Coalition(pub u64);
 

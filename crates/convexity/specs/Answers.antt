@@ -1,7 +1,7 @@
 -- What the answers of this crate say of a game.
 --
---   IsTested g answer   convex exactly where the game is, else the first failure
---   IsAnswer g answer   the same, with two points of the core where it is convex
+--   IsTested g answer   convex exactly if the game is, else the first failure
+--   IsAnswer g answer   the same, with two points of the core if it is convex
 use Rattle.definitions.specs.Games.{Game, InCore}
 use Rattle.definitions.specs.Shapley.{IsShapley}
 use Rattle.definitions.specs.Convexity.{IsConvex, IsFirstNonconvexity, IsMarginal}

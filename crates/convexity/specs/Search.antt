@@ -9,7 +9,7 @@ use Rattle.std.specs.Prelude.{◌≡◌, ◌⊎◌, ℕ, ◌<◌, ℤ, ◌-ℤ�
 use Rattle.definitions.specs.Games.{Game}
 use Rattle.definitions.specs.Convexity.{AreOutside, apart, together}
 
--- where both are outside, they add no less together
+-- if both are outside, they add no less together
 abbrev pub HoldsAt : Game → ℕ → ℕ → ℕ → Type 0
 HoldsAt g s i j = AreOutside g.players s i j → apart g s i j ≤ℤ together g s i j
 

@@ -9,7 +9,7 @@ use Rattle.definitions.specs.Convexity.{IsConvex, IsMarginal}
 abbrev pub players_in_order : ℕ → List ℕ
 players_in_order n = range_with_len 0 n
 
--- the Shapley shares, and the marginal shares of the players in ascending order; in the core where the game is convex
+-- the Shapley shares, and the marginal shares of the players in ascending order; in the core if the game is convex
 pub record AreShares (g : Game) (x y : Allocation) : Type 0 where
   pub shapley : IsShapley g x
   pub marginal : IsMarginal g (players_in_order g.players) y

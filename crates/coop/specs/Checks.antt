@@ -4,7 +4,7 @@
 --   IsCheckable       a document gives them for its players
 --   IsCheckedAs       the verdict is the right one
 --   Checks            the answer is the right verdict, or that there are too many players
---   HasLowestExcess   the excess that a verdict carries, where it carries one, is in lowest terms
+--   HasLowestExcess   the excess that a verdict carries, if it carries one, is in lowest terms
 use Rattle.std.specs.Prelude.{◌≡◌, ◌<◌, ◌≤◌, ⊤, length, Some}
 use Rattle.definitions.specs.Games.{Allocation}
 use Rattle.definitions.specs.declared.Family.{Family}
@@ -36,7 +36,7 @@ pub record IsCheckable (d : Contents) : Type 0 where
   pub share_each : length shares.shares ≡ (game_of d.game).players
   pub players : certificate.players ≡ (game_of d.game).players
 
--- yes where the certificate meets all conditions for the shares by the measure of the document, and no with the first
+-- yes if the certificate meets all conditions for the shares by the measure of the document, and no with the first
 -- that fails
 abbrev pub IsCheckedAs : Contents → CheckVerdict → Type 0
 IsCheckedAs d v =

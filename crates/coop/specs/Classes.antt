@@ -1,5 +1,5 @@
--- What the commands do with each class of games: the list of classes. Where a command doesn't serve the class, the
--- usage of the class is the right answer, and where a game has more players than are answered, the usage of players.
+-- What the commands do with each class of games: the list of classes. If a command doesn't serve the class, the
+-- usage of the class is the right answer, and if a game has more players than are answered, the usage of players.
 --
 -- A new class adds its case to `nucleolus_limit`, `shapley_limit`, `HasFewPlayers` and `IsSchemePoint`; and to
 -- `core_limit`, `IsChosen` and `serves_class`, if it isn't as most classes.

@@ -1,4 +1,4 @@
--- When a run answers: always, where its command serves the document, unless memory isn't found or a port fails.
+-- When a run answers: always, if its command serves the document, unless memory isn't found or a port fails.
 --
 --   ServesPlayers   the command answers games of so many players
 --   Serves          the command answers games of this class, and of so many players
@@ -36,7 +36,7 @@ ServesPlayers Matching d = ⊤
 abbrev pub Serves : Command → Contents → Type 0
 Serves command d = (serves_class command d.game ≡ true) × ServesPlayers command d
 
--- where the words are a command, the bytes that were left are a document that it serves, and no count of failures rose,
+-- if the words are a command, the bytes that were left are a document that it serves, and no count of failures rose,
 -- the status is that of a positive or of a negative answer, or says that memory wasn't found
 abbrev pub IsComplete : List (List ℕ) → Option (List ℕ) → ℕ → ℕ → ℕ → ℕ → Status → Type 0
 IsComplete words left reads_before reads_now writes_before writes_now s =

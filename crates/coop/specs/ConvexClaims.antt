@@ -18,7 +18,7 @@ convex_limit = 16
 
 -- the game is convex, and these are its Shapley shares and the marginal shares of its players in their order, both in
 -- the core; or it isn't, and first so at this coalition and these players, by this much worth. The players aren't too
--- many, and shares are printed as payments where the numbers of the game are costs
+-- many, and shares are printed as payments if the numbers of the game are costs
 pub record IsSaidOfConvex (d : Contents) (are_costs : Bool) (answer : ConvexAnswer) : Type 0 where
   pub taken : (game_of d.game).players ≤ convex_limit
   pub says : IsAnswer (game_of d.game) answer

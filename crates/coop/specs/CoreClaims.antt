@@ -1,7 +1,7 @@
 -- The right answer on the core of the game of a document.
 --
 -- The answers exclude one another: no core point stands beside a balanced collection of excess worth. No other answer
--- is right, so the negative answer comes exactly where the core of a game that hasn't too many players is empty.
+-- is right, so the negative answer comes exactly if the core of a game that hasn't too many players is empty.
 --
 --   IsCoreAnswer    what a solver says of the core
 --   IsCorePoint     a point of the core, among fractions and among real shares, as it is printed
@@ -32,7 +32,7 @@ abbrev pub IsCoreAnswer : Description → CoreAnswer → Type 0
 IsCoreAnswer d (Point x) = InCore (game_of d) x × IsSchemePoint d x
 IsCoreAnswer d (Empty c) = ShowsEmpty (game_of d) c
 
--- the shares are in the core, among fractions and among real shares, and are printed as payments where the numbers of
+-- the shares are in the core, among fractions and among real shares, and are printed as payments if the numbers of
 -- the game are costs
 pub record IsCorePoint (d : Contents) (are_costs : Bool) (x : Allocation) : Type 0 where
   pub in_core : InCore (game_of d.game) x

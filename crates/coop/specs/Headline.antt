@@ -1,4 +1,4 @@
--- THE HEADLINE, of every game that was read. Where a nucleolus is printed, it is an imputation; list its excesses over
+-- THE HEADLINE, of every game that was read. If a nucleolus is printed, it is an imputation; list its excesses over
 -- all coalitions from the greatest on, and those of any other imputation alike: at the first place where the lists
 -- differ, its own is the smaller. An excess is plain or per head, as the document says. The printed certificate meets
 -- conditions that are written in Certificates.antt of `definitions`, that `check` decides without the solver, and that
@@ -34,7 +34,7 @@
 -- (`scales_change_nothing`), so the sentence holds of the game of fractional worths too.
 --
 -- No answer that isn't named is right, and the answers exclude one another: a nucleolus is an imputation, which gives
--- each player at least what it is worth alone, so it can't come where the players alone are worth more than all.
+-- each player at least what it is worth alone, so it can't come if the players alone are worth more than all.
 use Rattle.std.specs.Prelude.{◌≡◌, ◌<◌, ◌≤◌, ℕ, List, Bool, true, false, ℤ, pos}
 use Rattle.std.specs.Prelude.{◌<ℤ◌}
 use Rattle.serde_json.specs.Data.{Data}
@@ -124,7 +124,7 @@ IsRightAnswer Convex d answer = SaysOfConvex d answer
 IsRightAnswer Kernel d answer = SaysOfKernel d answer
 IsRightAnswer Matching d answer = SaysOfMatching d answer
 
--- the answer is right for a command and what its document says: the usage of the class exactly where the command
+-- the answer is right for a command and what its document says: the usage of the class exactly if the command
 -- doesn't serve it
 abbrev pub AnswersTo : Command → Contents → Answer → Type 0
 AnswersTo command d (Usage Class) = serves_class command d.game ≡ false
@@ -142,7 +142,7 @@ IsRefusedFor words bytes r = (command : Command) × (IsCommand words command × 
 
 -- the answer is right for the words and the bytes: for words that are no command, the usage of words; for a generated
 -- game its summary; else the first refusal that applies; else what the command says to the document; it is printed over
--- the scale k, which is the document's, and 1 where there is none
+-- the scale k, which is the document's, and 1 if there is none
 abbrev pub Answers : List (List ℕ) → List ℕ → ℤ → Answer → Type 0
 Answers words bytes k (Usage Words) = (k ≡ pos 1) × IsNoCommand words
 Answers words bytes k (Refused r) = (k ≡ pos 1) × IsRefusedFor words bytes r

@@ -23,7 +23,7 @@ use Rattle.report.specs.declared.answer.Answer.TheVariants.{InCore as Core, NotE
 abbrev pub IsAmount : ℤ → Type 0
 IsAmount z = unsigned_abs z < 2 ^ 117
 
--- a number of worth as it is printed: its sign is turned where the numbers of the game are costs
+-- a number of worth as it is printed: its sign is turned if the numbers of the game are costs
 abbrev pub printed : Bool → ℤ → ℤ
 printed are_costs z = if are_costs then neg_ℤ z else z
 

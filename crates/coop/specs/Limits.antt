@@ -1,4 +1,4 @@
--- How many players a game may have for a command. Where it has more, the usage of players is the right answer.
+-- How many players a game may have for a command. If it has more, the usage of players is the right answer.
 --
 --   check_limit      the most players of a game whose certificates are checked, by the measure
 use Rattle.std.specs.Prelude.{ℕ}

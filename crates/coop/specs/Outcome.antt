@@ -1,6 +1,6 @@
 -- What stands when a run has ended: the status, what was printed, how far the input was read, and which call failed.
 --
---   IsLeft                       what the source had left, where it tells
+--   IsLeft                       what the source had left, if it tells
 --   ReadsPastLimit, ReadsAll     how far the input was read
 --   ReadsForRefusal, ReadsFor    how far it was read for an answer
 --   status_number                the number of a status
@@ -35,7 +35,7 @@ use Rattle.coop.specs.Words.{IsCommand}
 use Rattle.coop.specs.declared.status.Status.{Status}
 use Rattle.coop.specs.declared.status.Status.TheVariants as status
 
--- these are the bytes that were left, where the source tells them
+-- these are the bytes that were left, if the source tells them
 abbrev pub IsLeft : Option (List ℕ) → List ℕ → Type 0
 IsLeft None bytes = ⊤
 IsLeft (Some told) bytes = told ≡ bytes

@@ -13,7 +13,7 @@ use Rattle.report.specs.declared.answer.UsageKind.TheVariants.{Players}
 use Rattle.coop.specs.Classes.{shapley_limit}
 
 -- each share is the mean of what its player adds, over all orders of the players, who aren't too many; and the shares
--- are printed as payments where the numbers of the game are costs
+-- are printed as payments if the numbers of the game are costs
 pub record IsShapleyAnswer (d : Contents) (are_costs : Bool) (x : Allocation) : Type 0 where
   pub taken : (game_of d.game).players ≤ shapley_limit d.game
   pub means : IsShapley (game_of d.game) x

@@ -1,4 +1,4 @@
-//! Whether the game of a document is convex, and its shares where it is.
+//! Whether the game of a document is convex, and its shares if it is.
 ghost use Rattle.std.specs.Prelude.{◌≤◌, IfOk};
 ghost use Rattle.convexity.specs.Answers.{IsAnswer};
 ghost use Rattle.game_text.specs.Classes.{game_of, description_in};

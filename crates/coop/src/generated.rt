@@ -48,7 +48,7 @@ pub(crate) fn summary_of(
     })
 }
 
-// The nucleolus of a game that has imputations, and its greatest excess. Where the game finds each worth anew, they are
+// The nucleolus of a game that has imputations, and its greatest excess. If the game finds each worth anew, they are
 // kept for the programs and the checker alike.
 fn solved(alloc: Global, game: &Game) -> Result<(Shares, Option<Frac>), OutOfMemory>
     requires few { HasFewPlayers (description_in game.now) }
@@ -88,7 +88,7 @@ fn checked<W: Worth>(game: &W, found: Found) -> (Shares, Option<Frac>)
     }
 }
 
-// The shares, where the checker says yes to their certificate.
+// The shares, if the checker says yes to their certificate.
 fn approved<W: Worth>(game: &W, shares: Shares, certificate: &Certificate) -> Option<Shares>
     requires shares { length shares.shares ≡ (W.game game.now).players }
     requires certificate { certificate.now.players ≡ (W.game game.now).players }

@@ -1,7 +1,7 @@
 //! An answer, and the scale that it is printed over.
 use report::Answer;
 
-/// An answer, and the scale that its line is printed over: that of the document, and 1 where there is none.
+/// An answer, and the scale that its line is printed over: that of the document, and 1 if there is none.
 #[derive(Drop)]
 pub struct Reply {
     /// The answer, to the game times the scale.

@@ -13,7 +13,7 @@ use std::alloc::Global;
 // How many bytes are asked for at once, at most.
 const PIECE: usize = 4096;
 
-/// The bytes up to the end of the source, or one byte more than the limit where there are as many. The first read that
+/// The bytes up to the end of the source, or one byte more than the limit if there are as many. The first read that
 /// fails is the last one.
 pub(crate) fn read_input<S: Source>(
     alloc: Global,
@@ -41,7 +41,7 @@ pub(crate) fn read_input<S: Source>(
     Ok(input)
 }
 
-/// Writes the whole line; where a write fails, it was the last one, and the sink has taken a proper front of the line.
+/// Writes the whole line; if a write fails, it was the last one, and the sink has taken a proper front of the line.
 pub(crate) fn write_line<K: Sink>(sink: &mut K, line: &[u8]) -> Result<(), Failed>
     ensures ok { OnOk result (Appends (K.taken sink.old) (K.taken sink.new) line.now) }
     ensures err { OnErr result

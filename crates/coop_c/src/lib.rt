@@ -18,7 +18,7 @@ use std::alloc::Global;
 // Neither document nor line is copied: it reads the one and writes the other where they are. The words are one text,
 // since a proved call takes no pointers to pointers. The kit rules out null pointers, even for an empty slice, so
 // `c/coop.c` replaces them.
-/// Runs `coop` on words and a document. The words are UTF-8, with a zero byte between two; where they aren't UTF-8
+/// Runs `coop` on words and a document. The words are UTF-8, with a zero byte between two; if they aren't UTF-8
 /// there are none, as in the program.
 ///
 /// The line goes to the front of `line`, and its number of bytes there to `count`. Returns the number that the program
@@ -34,7 +34,7 @@ pub extern "C" fn coop_run(
 ) -> u32
     // After an answer its whole line stands there, and it is right for the words and the bytes of the document.
     ensures ends { Asked words.now (λ w. EndsAs w document.now (take count.new line.new) result) }
-    // No byte is written behind the room. A line is cut off only where the room is full.
+    // No byte is written behind the room. A line is cut off only if the room is full.
     ensures fits { count.new ≤ length line.new }
     ensures full { result ≡ 6 → count.new ≡ length line.new }
     ensures no_read_fault { result ≢ 5 }
@@ -42,7 +42,7 @@ pub extern "C" fn coop_run(
     ensures complete { Asked words.now (λ w. IsServed w document.now → (result ≡ 0) ⊎ (result ≡ 1)
         ⊎ (result ≡ 6) ⊎ (result ≡ 7)) }
     ensures other_words { Asked words.now (λ w. IsNoCommand w → (result ≡ 2) ⊎ (result ≡ 6) ⊎ (result ≡ 7)) }
-    // Where they aren't UTF-8, no memory is taken.
+    // If they aren't UTF-8, no memory is taken.
     ensures no_text { ¬ IsUtf8 words.now → (result ≡ 2) ⊎ (result ≡ 6) }
     ensures generated { Asked words.now (λ w. AsksForGame w → (result ≡ 0) ⊎ (result ≡ 6) ⊎ (result ≡ 7)) }
 {

@@ -1,7 +1,7 @@
 //! The room for a line, where it stands.
 use ports::{Failed, Sink};
 
-/// Room of the host, which takes what fits to its front. A write fails where no byte of a piece fits, so only where
+/// Room of the host, which takes what fits to its front. A write fails if no byte of a piece fits, so only if
 /// the room is full.
 ///
 /// A run ends at the first write that fails, so a line that is longer than the room isn't measured: to know its length

@@ -9,7 +9,7 @@ use Rattle.kinds.specs.declared.kind.Kind.TheVariants.{Table, Airport, Bankruptc
 use Rattle.drawn_games.specs.Draws.{short_draw}
 use Rattle.drawn_games.specs.Numbers.{table_numbers, long_draws, rows_of, link, pair_value}
 
--- a kind has games of 1 to 16 or 64 players, and of 2 to 16 where there are two sides
+-- a kind has games of 1 to 16 or 64 players, and of 2 to 16 if there are two sides
 abbrev pub HasKindSize : Kind → ℕ → Type 0
 HasKindSize Table n = (1 ≤ n) × (n ≤ 16)
 HasKindSize Airport n = (1 ≤ n) × (n ≤ 64)

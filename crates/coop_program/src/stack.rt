@@ -6,8 +6,8 @@ const DEPTH: usize = 228 * 1024;
 
 /// Uses about as much of the stack as the command that was measured to need the most, and gives it back.
 ///
-/// The system finds memory for a part of the stack when it is first used, and where it finds none it ends the program
-/// by a signal. After this call a run finds its stack there, so that memory is wanted only where it is asked for, and
+/// The system finds memory for a part of the stack when it is first used, and if it finds none it ends the program
+/// by a signal. After this call a run finds its stack there, so that memory is wanted only if it is asked for, and
 /// want of it is a status.
 ///
 /// No clause says so: `tools/refuse-memory` tries it.

@@ -16,7 +16,7 @@
 --   HasExcess, HasAtMostExcess   a coalition has the excess of a level, or at most that
 --   Excesses                     each coalition of the level has its excess
 --   Weights                      each weight on a coalition is at least 1
---   BoundWeighs, BoundWeights    a weight on a bound is at least 1, but where a level in front gave its player such a
+--   BoundWeighs, BoundWeights    a weight on a bound is at least 1, unless a level in front gave its player such a
 --                                weight; each is so
 --   Balances, IsBalanced         the weights of the level add to its total at a player; at each player
 --   IsTight, AreTight            a bound stands on a player at its worth alone, and only for imputations; each does

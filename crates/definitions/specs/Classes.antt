@@ -7,7 +7,7 @@
 --   greatest_cost                      the greatest cost among the members
 --   airport_worth costs s              minus the greatest cost among the members
 --   bankruptcy_worth estate claims s   O'Neill 1982: what the claims of the others leave of the estate
---   voting_worth quota weights s       1 where the members' weights sum to at least the quota, and 0 otherwise
+--   voting_worth quota weights s       1 if the members' weights sum to at least the quota, and 0 otherwise
 --   Matrix, entry                      an entry for each row and column
 --   joined, removed                    what passes a test, with one more point; without one
 --   is_point_of, is_source             the points of the members; the source alone
@@ -55,7 +55,7 @@ bankruptcy_worth estate claims s =
     (pos estate
     -ℤ sum_over (length claims) (λ i. pos (slice_index claims i)) (grand_coalition (length claims) - s))
 
--- Shapley and Shubik 1954: 1 where the members' weights sum to at least the quota
+-- Shapley and Shubik 1954: 1 if the members' weights sum to at least the quota
 abbrev pub voting_worth : ℕ → List ℕ → ℕ → ℤ
 voting_worth quota weights s =
     if int_le (pos quota) (sum_over (length weights) (λ i. pos (slice_index weights i)) s) then pos 1 else pos 0
@@ -135,7 +135,7 @@ abbrev pub IsBirdShares : Matrix → List (ℕ × ℕ) → Allocation → Type 0
 IsBirdShares matrix plan x =
     (x.den ≡ pos 1) × AllByRecursion (λ p. share x (p.1 - 1) ≡ neg_ℤ (pos (entry matrix p.0 p.1))) plan
 
--- the entry of a pair doesn't change where its points are swapped
+-- the entry of a pair doesn't change if its points are swapped
 abbrev pub IsSymmetric : Matrix → Type 0
 IsSymmetric matrix = (i j : ℕ) → entry matrix i j ≡ entry matrix j i
 

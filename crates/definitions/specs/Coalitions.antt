@@ -1,4 +1,4 @@
--- Coalitions as masks: player i, from 0, is a member of s where s has the bit of value 2 ^ i. So the coalitions of
+-- Coalitions as masks: player i, from 0, is a member of s if s has the bit of value 2 ^ i. So the coalitions of
 -- n players are the numbers below 2 ^ n.
 -- Source: Peleg and Sudhölter, Introduction to the Theory of Cooperative Games.
 --

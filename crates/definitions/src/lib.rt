@@ -27,9 +27,9 @@ pub enum Measure {
 /// How a certificate says what its levels have fixed.
 #[derive(Clone, Copy, Debug, PartialEq, Eq)]
 pub enum Mode {
-    /// By players: a coalition is fixed where it holds all or none of the players that aren't.
+    /// By players: a coalition is fixed if it holds all or none of the players that aren't.
     Players,
-    /// By vectors: a coalition is fixed where its vector lies in the rational span of those that the
+    /// By vectors: a coalition is fixed if its vector lies in the rational span of those that the
     /// levels fix.
     Span,
 }

@@ -3,7 +3,7 @@
 --   measure_named   the measure that a word names
 --   measure_in      the measure that a text names
 --   is_measure      a text that names one of both
---   measure_of      plain excess, or excess per head where the game says so
+--   measure_of      plain excess, or excess per head if the game says so
 use Rattle.std.specs.Prelude.{ℕ, codes, List, Bool, Option, Some, None, is_some}
 use Rattle.std.specs.Prelude.{option_and_then, unwrap_or, if◌then◌else◌}
 use Rattle.std.specs.Str.{bytes_eq}
@@ -23,6 +23,6 @@ measure_in d = option_and_then measure_named (as_str d)
 abbrev pub is_measure : Data → Bool
 is_measure d = is_some (measure_in d)
 
--- the measure of a game: plain excess where the game says nothing of it
+-- the measure of a game: plain excess if the game says nothing of it
 abbrev pub measure_of : Data → Measure
 measure_of game = unwrap_or (option_and_then measure_in (get (codes "excess") game)) Plain

@@ -18,7 +18,7 @@ use Rattle.definitions.specs.Coalitions.{has_player}
 use Rattle.json_trees.specs.Trees.{integer}
 use Rattle.json_trees.specs.Players.{numbered_player}
 
--- the player that a member names by its number, or by its name where it is a text
+-- the player that a member names by its number, or by its name if it is a text
 abbrev pub player_by : ℕ → List (List ℕ) → Data → Option (List ℕ) → Option ℕ
 player_by n names d None = option_and_then (numbered_player n) (integer d)
 player_by n names d (Some s) = position (bytes_eq s) names
@@ -26,7 +26,7 @@ player_by n names d (Some s) = position (bytes_eq s) names
 abbrev pub player_of : ℕ → List (List ℕ) → Data → Option ℕ
 player_of n names d = player_by n names d (as_str d)
 
--- s with player i, where it isn't in s
+-- s with player i, if it isn't in s
 abbrev pub join : ℕ → ℕ → Option ℕ
 join s i = if has_player s i then None else Some (s + 2 ^ i)
 

@@ -32,8 +32,8 @@ seen vs = map (λ v. view v.now) vs
 abbrev pub common_scale : List Data → ℕ
 common_scale ds = least_denominator (map fraction_or_zero ds)
 
--- the least common multiple of the scale k and the denominator of a fraction, where it is at most 65,536, and the
--- fraction times it, where that is below 2^40 in size
+-- the least common multiple of the scale k and the denominator of a fraction, if it is at most 65,536, and the
+-- fraction times it, if that is below 2^40 in size
 abbrev pub with_fraction : ℕ → Fraction → Option (ℕ × ℤ)
 with_fraction k f =
     option_and_then (λ m. option_map (λ z. (m, z)) (if_small (Some (numerator_over (pos m) f))))
@@ -57,7 +57,7 @@ abbrev pub in_rows : List Data → List ℤ → List (List ℤ)
 in_rows [] zs = []
 in_rows (d ∷ ds) zs = take (length (parts d)) zs ∷ in_rows ds (drop (length (parts d)) zs)
 
--- the number at the first place with the mask s, and another number where there is none
+-- the number at the first place with the mask s, and another number if there is none
 abbrev pub number_of_mask : List (Option ℕ) → List ℤ → ℤ → ℕ → ℤ
 number_of_mask [] zs other s = other
 number_of_mask (m ∷ ms) [] other s = other

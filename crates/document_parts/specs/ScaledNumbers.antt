@@ -1,9 +1,9 @@
 -- The numbers of a game, times its scale.
 --
 --   is_small         below 2^40 in size
---   if_small         a number, where it is below 2^40 in size
---   small_number     the number times the scale k, where it is below 2^40 in size
---   number_or_zero   the same, and 0 where there is none
+--   if_small         a number, if it is below 2^40 in size
+--   small_number     the number times the scale k, if it is below 2^40 in size
+--   number_or_zero   the same, and 0 if there is none
 --   number_at        the number at a key
 --   numbers_at       the numbers of the array at a key
 --   costs_at         the same, none of them negative
@@ -32,7 +32,7 @@ small_number k d = if_small (option_map (numerator_over (pos k)) (fraction_of d)
 abbrev pub number_or_zero : ℕ → Data → ℤ
 number_or_zero k d = unwrap_or (small_number k d) (pos 0)
 
--- the number at a key, and 0 where it is absent
+-- the number at a key, and 0 if it is absent
 abbrev pub number_at : ℕ → List ℕ → Data → ℤ
 number_at k key d = unwrap_or (option_and_then (small_number k) (get key d)) (pos 0)
 

@@ -1,4 +1,4 @@
--- The scale of a game: the least common denominator of its numbers. It is 1 for a game of version 1, where each is an
+-- The scale of a game: the least common denominator of its numbers. It is 1 for a game of version 1, if each is an
 -- integer: the scale doesn't look at the version, since in version 1 a text in the place of a number is refused as
 -- Shape.
 --
@@ -13,7 +13,7 @@
 --   game_fractions      the numbers of a game as fractions
 --   scale_of            their least common denominator
 --   IsScaleOf           the same, said of a number
---   if_scale            a scale, where it is at most 65,536
+--   if_scale            a scale, if it is at most 65,536
 use Rattle.std.specs.Prelude.{ℕ, ℤ, codes, List, [], ◌∷◌, ◌++◌, map, Option}
 use Rattle.std.specs.Prelude.{Some, None, nat_le, if◌then◌else◌}
 use Rattle.serde_json.specs.Data.{Data}

@@ -44,11 +44,11 @@ scaled_shares k tree = map (scaled_share k) (parts_at (codes "shares") tree)
 abbrev pub negated : Allocation → Allocation
 negated x = record { shares = map neg_ℤ x.shares; den = x.den }
 
--- the shares as worth: where the numbers are costs, the written ones are payments
+-- the shares as worth: if the numbers are costs, the written ones are payments
 abbrev pub as_worth : Bool → Allocation → Allocation
 as_worth are_payments x = if are_payments then negated x else x
 
--- d is the least common denominator of the fractions that are written, times the scale k; it is 1 where none are
+-- d is the least common denominator of the fractions that are written, times the scale k; it is 1 if none are
 abbrev pub IsDenominatorOf : ℕ → Data → ℕ → Type 0
 IsDenominatorOf k tree d = IsLeastDenominator (scaled_shares k tree) (pos d)
 

@@ -16,7 +16,7 @@ use Rattle.document_parts.specs.Members.{mask_of, is_mask}
 abbrev pub masks_by : ℕ → List (List ℕ) → Data → List (Option ℕ)
 masks_by n names game = map (λ pair. mask_of n names (pair_members pair)) (parts_at (codes "sparse") game)
 
--- the number, times the scale k, of the first pair with the mask s, and another number where no pair has it
+-- the number, times the scale k, of the first pair with the mask s, and another number if no pair has it
 abbrev pub sparse_number : ℕ → ℕ → List (List ℕ) → ℤ → ℕ → List Data → ℤ
 sparse_number k n names other s [] = other
 sparse_number k n names other s (pair ∷ pairs) =
@@ -29,7 +29,7 @@ sparse_numbers k n names game =
     map (λ s. sparse_number k n names (number_at k (codes "default") game) s (parts_at (codes "sparse") game))
     (range_with_len 1 (2 ^ n - 1))
 
--- the number of each mask from 1: by pairs, where there are any, or all listed
+-- the number of each mask from 1: by pairs, if there are any, or all listed
 abbrev pub numbers_by : ℕ → Option Data → ℕ → List (List ℕ) → Data → List ℤ
 numbers_by k None n names game = numbers_at k (codes "worths") game
 numbers_by k (Some pairs) n names game = sparse_numbers k n names game

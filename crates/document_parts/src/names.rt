@@ -73,7 +73,7 @@ fn is_name(name: &str) -> bool
     !name.is_empty() && name.len() <= 64
 }
 
-/// Adds the text of the value where it is a name and a new one, and says whether it is.
+/// Adds the text of the value if it is a name and a new one, and says whether it is.
 fn add_name<'a>(names: &mut Names<'a>, value: &'a Value) -> Result<bool, OutOfMemory>
     ensures added { IfOk result
         (λ b. b ≡ (is_name (text_of (view value.now)) && not (is_among names.old (text_of (view value.now))))) }
@@ -101,7 +101,7 @@ fn add_names<'a>(names: &mut Names<'a>, values: &'a [Value]) -> Result<bool, Out
     Ok(true)
 }
 
-/// The texts as names, where each is a name and no two are alike.
+/// The texts as names, if each is a name and no two are alike.
 fn read_names<'a>(alloc: Global, values: &'a [Value]) -> Result<Option<Names<'a>>, OutOfMemory>
     ensures { IfOk result (λ o. o ≡ (if good_names (texts values.now) then Some (texts values.now) else None)) }
 {

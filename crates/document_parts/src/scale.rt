@@ -8,7 +8,7 @@ use fractions::gcd;
 /// The most that the scale of a game may be.
 const GREATEST: u128 = 65_536;
 
-/// The least common multiple of a scale and a denominator, where it is within the limit.
+/// The least common multiple of a scale and a denominator, if it is within the limit.
 pub(crate) fn common_scale(scale: u32, den: i128) -> Option<u32>
     requires some { 0 < scale }
     requires few { scale ≤ 65536 }

@@ -23,7 +23,7 @@ fn times_scale(number: &Frac, scale: u32) -> Option<i64>
     Some(num as i64)
 }
 
-/// A number times a scale or a factor, where it is below 2^40 in size.
+/// A number times a scale or a factor, if it is below 2^40 in size.
 pub(crate) fn whole_times_scale(number: i64, scale: u32) -> Option<i64>
     ensures { result ≡ if_small (Some (number *ℤ pos scale)) }
 {
@@ -60,8 +60,8 @@ fn whole_with_scale(value: &Value, scale: u32) -> Option<(u32, i64)>
     Some((scale, product))
 }
 
-/// The least common multiple of the scale and the denominator of a number, where it is at most 65,536, and the number
-/// times it, where that is below 2^40 in size.
+/// The least common multiple of the scale and the denominator of a number, if it is at most 65,536, and the number
+/// times it, if that is below 2^40 in size.
 pub(crate) fn with_scale(value: &Value, scale: u32) -> Option<(u32, i64)>
     requires some { 0 < scale }
     requires few { scale ≤ 65536 }

@@ -26,7 +26,7 @@ pub fn written_shares(alloc: Global, tree: &Value) -> Result<Option<Vec<Frac>>, 
     read_at(alloc, &WrittenFractions, tree, "shares")
 }
 
-/// The fractions times the scale. None only where a numerator has no form in 128 bits, and then they break a limit of
+/// The fractions times the scale. None only if a numerator has no form in 128 bits, and then they break a limit of
 /// `Shares`.
 fn scaled_fractions(
     alloc: Global,
@@ -47,7 +47,7 @@ fn scaled_fractions(
     Ok(Some(found))
 }
 
-/// The fractions over their least common denominator, and none where they break a limit of `Shares` there.
+/// The fractions over their least common denominator, and none if they break a limit of `Shares` there.
 fn over_least(alloc: Global, written: &[Frac]) -> Result<Option<Shares>, OutOfMemory>
     requires some { 1 ≤ length written.now }
     requires few { length written.now ≤ 64 }
@@ -85,7 +85,7 @@ pub fn shares_as_worth(
     signed_shares(alloc, &numbers, are_payments)
 }
 
-/// The fractions over their least common denominator, as worth, and none where they break a limit of `Shares` there.
+/// The fractions over their least common denominator, as worth, and none if they break a limit of `Shares` there.
 ///
 /// Payments are negated only over their denominator: one of the least number of 128 bits has a form, and its negation
 /// doesn't.

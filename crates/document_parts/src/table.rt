@@ -26,7 +26,7 @@ fn empty_slots(alloc: Global, count: usize) -> Result<Vec<Option<i64>>, OutOfMem
     Ok(slots)
 }
 
-/// The slots with the number beside each pair at the mask of its coalition. None where a pair has no coalition, or two
+/// The slots with the number beside each pair at the mask of its coalition. None if a pair has no coalition, or two
 /// have the same.
 fn filled(
     players: u32,
@@ -78,7 +78,7 @@ fn later_numbers(alloc: Global, slots: &[Option<i64>], other: i64) -> Result<Vec
     numbers(alloc, rest, other)
 }
 
-/// The number that stands behind those of `pairs` pairs, that of the coalitions that are in none; it is 0 where none
+/// The number that stands behind those of `pairs` pairs, that of the coalitions that are in none; it is 0 if none
 /// stands there.
 fn other_number(pairs: usize, numbers: &[i64]) -> i64
     ensures { result ≡ get_or numbers.now pairs (pos 0) }

@@ -8,7 +8,7 @@ ghost use Rattle.document_parts.specs.Version.{is_version, is_second_version, ha
 use json_trees::integer;
 use serde_json::Value;
 
-/// Whether numbers may be texts in this version. None where it is neither the integer 1 nor 2.
+/// Whether numbers may be texts in this version. None if it is neither the integer 1 nor 2.
 fn version_has_texts(version: &Value) -> Option<bool>
     ensures { result
         ≡ (if is_version (view version.now) then Some (is_second_version (view version.now)) else None) }

@@ -1,7 +1,7 @@
 -- The nucleolus exists (Schmeidler 1969; per head Grotte 1970), in fractions, for any number of players (at most 16 for
 -- excess per head).
 --
---   NucleoliExist      where the family has a member, it has a nucleolus
+--   NucleoliExist      if the family has a member, it has a nucleolus
 --   PrenucleoliExist   every game with a player has a prenucleolus
 --   CoversSingles      the worths of the players alone add to at most the worth of all
 --   ImputationsExist   a game with a player has an imputation exactly there
@@ -14,7 +14,7 @@ use Rattle.definitions.specs.declared.Family.{Family}
 use Rattle.definitions.specs.declared.Family.TheVariants.{Imputations, Preimputations}
 use Rattle.definitions.specs.declared.Measure.{Measure}
 
--- where there is an imputation, or a preimputation, one of them is the nucleolus
+-- if there is an imputation, or a preimputation, one of them is the nucleolus
 abbrev pub NucleoliExist : Type 0
 NucleoliExist =
     (family : Family) (measure : Measure) (g : Game) (y : Allocation) →

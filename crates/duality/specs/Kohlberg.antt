@@ -46,7 +46,7 @@ AreSmall levels =
     (λ l. AllByRecursion (λ p. IsSmall p.1) (l.coalitions ++ l.earlier ++ l.bounds) × IsSmall l.total)
     levels
 
--- an allocation is the nucleolus exactly where some levels, in the form of mode span, meet all conditions
+-- an allocation is the nucleolus exactly if some levels, in the form of mode span, meet all conditions
 abbrev pub KohlbergTheorem : Type 0
 KohlbergTheorem =
     (family : Family) (measure : Measure) (g : Game) (x : Allocation) → IsMeasurable measure g.players

@@ -9,7 +9,7 @@ use Rattle.duality.specs.Farkas.{MeetsAll}
 abbrev pub linear_value : ℕ → (ℕ → ℤ) → (ℕ → ℤ) → ℤ
 linear_value n c x = sum_below n (λ i. c i *ℤ x i)
 
--- where some fractions meet m inequalities in n unknowns, and none that do have a value below low, some have the least
+-- if some fractions meet m inequalities in n unknowns, and none that do have a value below low, some have the least
 -- value
 abbrev pub OptimaExist : Type 0
 OptimaExist =

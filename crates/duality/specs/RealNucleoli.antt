@@ -2,7 +2,7 @@
 --
 --   NucleoliAreReal            every nucleolus, written as real numbers, is the nucleolus among real shares
 --   NucleoliOverGroups         and the nucleolus over every linearly ordered abelian group with a unit above zero
---   RealNucleoliExist          where real shares are in the family, some are the nucleolus among real shares
+--   RealNucleoliExist          if real shares are in the family, some are the nucleolus among real shares
 --   RealNucleoliAreFractions   and these are always the nucleolus in fractions
 use Rattle.std.specs.Prelude.{List}
 use Rattle.definitions.specs.Measures.{IsMeasurable}
@@ -25,7 +25,7 @@ NucleoliOverGroups =
     (family : Family) (measure : Measure) (g : Game) (x : Allocation) → IsMeasurable measure g.players
     → IsNucleolus family measure g x → IsNucleolusOverGroups family measure g x
 
--- where the family has a member in real shares, some real shares are the nucleolus
+-- if the family has a member in real shares, some real shares are the nucleolus
 abbrev pub RealNucleoliExist : Type 0
 RealNucleoliExist =
     (N : Numbers Real) → AreReals N → (family : Family) (measure : Measure) (g : Game) (y : List Real)

@@ -1,5 +1,5 @@
 //! Linear inequalities, linear programs, and what they imply of every game: core points or balanced collections, core
-//! points in fractions where there are real ones, that the nucleolus exists, that it is what has a certificate, and
+//! points in fractions if there are real ones, that the nucleolus exists, that it is what has a certificate, and
 //! that the one in fractions is the one among real shares. Each function's contract is a theorem, and its body is
 //! empty. No program stands behind the theorems, and no crate of the program needs them.
 #![tactic(auto)]

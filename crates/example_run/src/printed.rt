@@ -2,7 +2,7 @@
 use ports::{Failed, Sink};
 use std::alloc::Global;
 
-/// All that was written, with no limit but memory. A write fails where none is found.
+/// All that was written, with no limit but memory. A write fails if none is found.
 #[derive(Drop)]
 pub struct Printed {
     line: Vec<u8>,

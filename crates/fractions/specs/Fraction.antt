@@ -2,7 +2,7 @@
 --
 --   Fraction             a numerator over a denominator
 --   IsReduced f          the denominator is positive, and has no divisor above 1 in common with the numerator
---   IsRatio f n d        f is n/d in lowest terms. There is one such f where d isn't 0, and none where it is
+--   IsRatio f n d        f is n/d in lowest terms. There is one such f if d isn't 0, and none if it is
 --   HasForm f            both numbers have a form of 128 bits
 --   HasNoForm n d        no pair of 128-bit numbers is n/d in lowest terms
 --   common_divisor x y   the greatest common divisor of two denominators
@@ -44,7 +44,7 @@ pub record HasCommonForm (x y : Fraction) : Type 0 where
   pub right : FitsSigned w128 (y.num *ℤ int_div x.den (common_divisor x y))
   pub denominator : FitsSigned w128 (x.den *ℤ int_div y.den (common_divisor x y))
 
--- the difference where it subtracts, else the sum
+-- the difference if it subtracts, else the sum
 abbrev pub combined : Bool → ℤ → ℤ → ℤ
 combined true a b = a -ℤ b
 combined false a b = a +ℤ b

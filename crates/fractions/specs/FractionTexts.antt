@@ -4,7 +4,7 @@
 --   is_numeral s                       decimal digits without a leading zero, but for 0 itself
 --   before_slash, has_slash            how many bytes stand in front of a slash; whether there is one
 --   numerator_text, denominator_text   what stands in front of the slash, and behind it
---   numerator, denominator             the numbers of these; 1 where there is no slash
+--   numerator, denominator             the numbers of these; 1 if there is no slash
 --   has_denominator                    no slash, or a numeral above 1 behind it
 --   is_unsigned_fraction               a text without a sign, in lowest terms
 --   has_minus, without_minus           a minus stands first; what is behind it

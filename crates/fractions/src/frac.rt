@@ -132,7 +132,7 @@ impl Frac {
         order(self.num, self.den, other.num, other.den)
     }
 
-    /// The difference where `subtracts`, else the sum.
+    /// The difference if `subtracts`, else the sum.
     fn combined(&self, subtracts: bool, other: &Frac) -> Result<Frac, OutOfRange>
         ensures value { IfOk result
             (λ f. IsRatio f (combined subtracts (self.now.num *ℤ other.now.den) (other.now.num *ℤ self.now.den))
@@ -165,7 +165,7 @@ impl Frac {
     }
 }
 
-/// The difference where `subtracts`, else the sum, if it is in the range of `i128`.
+/// The difference if `subtracts`, else the sum, if it is in the range of `i128`.
 fn numerator(subtracts: bool, left: i128, right: i128) -> Result<i128, OutOfRange>
     ensures { let z = combined subtracts left right in OkIff result (FitsSigned w128 z) z }
 {

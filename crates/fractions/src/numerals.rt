@@ -6,7 +6,7 @@ ghost use Rattle.std.specs.Str.Parse.{digits_value};
 ghost use Rattle.fractions.specs.FractionTexts.{is_numeral, before_slash};
 ghost use Rattle.fractions.specs.Digits.{is_number};
 
-/// The number that digits write. None where another byte stands among them, or the number needs more than 128 bits.
+/// The number that digits write. None if another byte stands among them, or the number needs more than 128 bits.
 fn digits_number(digits: &[u8]) -> Option<u128>
     ensures { result ≡ (if is_number digits.now then Some (digits_value 10 digits.now) else None) }
 {
@@ -23,7 +23,7 @@ fn digits_number(digits: &[u8]) -> Option<u128>
     Some(n)
 }
 
-/// The number of a numeral. None where the text is none, or the number needs more than 128 bits.
+/// The number of a numeral. None if the text is none, or the number needs more than 128 bits.
 pub(crate) fn numeral(text: &[u8]) -> Option<u128>
     ensures { SomeIff result (IsTrue (is_numeral text.now) × (digits_value 10 text.now < 2 ^ 128))
         (digits_value 10 text.now) }

@@ -8,7 +8,7 @@ use std::process::Abort;
 use std::test::Fail;
 use worth_core::Worth;
 
-/// Why these rows make no game; none where they make one.
+/// Why these rows make no game; none if they make one.
 fn fault_of(alloc: Global, rows: &[&[i64]]) -> Result<Option<AssignmentFault>, AllocError> {
     let matrix = matrix_of(alloc, rows)?;
     Ok(AssignmentGame::new(alloc, matrix).err())

@@ -178,7 +178,7 @@ fn worths_are_the_greatest_values(rt: HostRuntime) -> Result<(), Fail> {
     Ok(())
 }
 
-/// What buyer `i` and seller `j` are worth together: 2^33 for the same number, 2^j more where the buyer's is greater,
+/// What buyer `i` and seller `j` are worth together: 2^33 for the same number, 2^j more if the buyer's is greater,
 /// and else 0.
 fn step(i: u32, j: u32) -> i64
     requires { j < 32 }
@@ -205,7 +205,7 @@ fn steps(alloc: Global) -> Result<Vec<Vec<i64>>, AllocError> {
     Ok(matrix)
 }
 
-// Buyer i has seller i, and would rather have each seller of a lesser number, until it costs 2^j more. Where the buyer
+// Buyer i has seller i, and would rather have each seller of a lesser number, until it costs 2^j more. If the buyer
 // of least number is always asked first, prices rise 2^31 - 1 times.
 #[test]
 fn buyers_who_take_turns_raise_few_prices(rt: HostRuntime) -> Result<(), Fail> {

@@ -8,7 +8,7 @@ use plain_programs::table::{Point, Table, excess};
 use std::test::Fail;
 
 // Costs 2, 4, 6: each coalition is worth minus its greatest cost. The payments 1, 3/2, 7/2 beat 1, 2, 3, which have the
-// lesser numbers where each counts once: -1, -2, -3 there, and -1, -3/2, -5/2 here.
+// lesser numbers if each counts once: -1, -2, -3 there, and -1, -3/2, -5/2 here.
 #[test]
 fn fair_airport_payments_come_first(rt: HostRuntime) -> Result<(), Fail> {
     let heap = rt.alloc();

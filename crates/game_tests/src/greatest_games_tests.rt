@@ -80,7 +80,7 @@ fn squares(alloc: Global) -> Result<TableGame, Fail> {
     Ok(TableGame::new(alloc, 16, worths).ok().ok_or("no game")?)
 }
 
-/// The worths of a coalition of eight and of all 16, and who blocks where nobody gets anything.
+/// The worths of a coalition of eight and of all 16, and who blocks if nobody gets anything.
 fn kept_numbers(
     rt: &impl Abort,
     kept: &KeptWorths<'_, TableGame>,

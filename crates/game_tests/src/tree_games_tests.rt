@@ -20,7 +20,7 @@ fn alike(alloc: Global, points: usize, cost: i64) -> Result<Vec<Vec<i64>>, Alloc
     Ok(matrix)
 }
 
-/// Why these rows make no game; none where they make one.
+/// Why these rows make no game; none if they make one.
 fn fault_of(alloc: Global, rows: &[&[i64]]) -> Result<Option<TreeFault>, AllocError> {
     let matrix = matrix_of(alloc, rows)?;
     Ok(TreeGame::new(alloc, matrix).err())

@@ -22,7 +22,7 @@
 --   is_cost            whether its numbers are costs
 --   table_numbers      the number of each coalition of a table, times a scale
 --   description_as     what the tree of a game of a class describes, its numbers times a scale
---   description_of     what the tree of a game describes, its numbers times its scale, where no test refuses it
+--   description_of     what the tree of a game describes, its numbers times its scale, if no test refuses it
 --   description_in     the description that a game in memory keeps
 --   IsOfClass          the worths of a tree game are minus the least costs of attachment plans, and those of an
 --                      assignment game or a market the greatest values of matchings; those of the other classes are

@@ -29,7 +29,7 @@ use Rattle.game_text.specs.declared.command.Command.{Command}
 use Rattle.game_text.specs.Needs.{needs, given}
 
 -- a game, the JSON tree that describes it, the measure of its excesses, its scale, and the family, the shares and the
--- certificate, where the command needs them; the numbers of the game, the shares and the excesses of the certificate
+-- certificate, if the command needs them; the numbers of the game, the shares and the excesses of the certificate
 -- are those of the document times the scale
 pub record Contents : Type 0 where
   pub game : Description

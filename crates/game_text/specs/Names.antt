@@ -10,7 +10,7 @@ use Rattle.json_trees.specs.Trees.{parts_at}
 use Rattle.document_parts.specs.Names.{names_of, are_names, are_known}
 use Rattle.game_text.specs.Classes.{players}
 
--- one name for each player, where there are names, and the sparse table uses no other
+-- one name for each player, if there are names, and the sparse table uses no other
 abbrev pub has_names : Data → Bool
 has_names game =
     are_names (players game) (get (codes "names") game) (names_of game)

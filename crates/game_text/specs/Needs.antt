@@ -18,11 +18,11 @@ needs Convex = record { limit = 2097152; shares = false; answer = false; certifi
 needs Kernel = record { limit = 2097152; shares = true; answer = false; certificate = false }
 needs Matching = record { limit = 2097152; shares = false; answer = false; certificate = false }
 
--- the test passes, where it is needed
+-- the test passes, if it is needed
 abbrev pub if_needed : Bool → Bool → Bool
 if_needed needed test = not needed || test
 
--- the value, where it is needed
+-- the value, if it is needed
 abbrev pub given : {A : Type 0} → Bool → A → Option A
 given false a = None
 given true a = Some a

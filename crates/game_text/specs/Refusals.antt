@@ -3,7 +3,7 @@
 --   unless               a refusal, unless its test passes
 --   first_failed         the first of some tests that isn't passed
 --   has_needed_numbers   each share that a command needs is an integer or a fraction text
---   has_needed_shares    there is a share for each player, where a command needs shares
+--   has_needed_shares    there is a share for each player, if a command needs shares
 --   has_needed_terms     over a denominator, the shares that a command needs keep within the limits of shares
 --   has_needed_form      the certificate that a command needs has its form
 --   tree_tests           the tests of a JSON tree, in their order

@@ -12,7 +12,7 @@ pub struct Document {
     pub game: Game,
     /// The JSON tree of the game, as it was read.
     pub tree: Value,
-    /// How the excesses of coalitions are measured: plain, or per head where the game says so. The nucleolus, the
+    /// How the excesses of coalitions are measured: plain, or per head if the game says so. The nucleolus, the
     /// prenucleolus and certificates go by it.
     pub measure: Measure,
     /// The least common denominator of the numbers that the game is written in, from 1 to 65,536. The game, the shares

@@ -116,7 +116,7 @@ fn document_of(alloc: Global, command: Command, tree: Value) -> Result<Document,
     })
 }
 
-/// The fractions that the shares write, where the command needs shares; else none are read. They are refused where a
+/// The fractions that the shares write, if the command needs shares; else none are read. They are refused if a
 /// share is neither an integer nor a fraction text.
 fn needed_fractions(
     alloc: Global,
@@ -146,7 +146,7 @@ fn game_out_of(tree: Value) -> Option<Value>
     }
 }
 
-/// The game, where its names are right, and what its class tests of it.
+/// The game, if its names are right, and what its class tests of it.
 fn right_game(alloc: Global, game: &SizedGame, numbers: Vec<i64>) -> Result<Game, TextFault>
     requires { numbers.items ≡ own_numbers (view game.now.tree.now) }
     ensures { MatchResult result (IsGameReading (view game.now.tree.now)) (IsGameFault (view game.now.tree.now)) }
@@ -158,7 +158,7 @@ fn right_game(alloc: Global, game: &SizedGame, numbers: Vec<i64>) -> Result<Game
     }
 }
 
-/// The names of the players, where they are right and a sparse table uses no other.
+/// The names of the players, if they are right and a sparse table uses no other.
 fn right_names<'a>(
     alloc: Global,
     game: &'a Value,
@@ -206,14 +206,14 @@ struct Reading<'a> {
     tree: &'a Value,
     /// Its game.
     game: SizedGame<'a>,
-    /// The fractions that its shares write, where the command needs shares.
+    /// The fractions that its shares write, if the command needs shares.
     written: Option<Vec<Frac>>,
     ghost shaped: { is_shaped command (view tree.now) ≡ true },
     ghost fractions: { option_map (λ v. v.items) written ≡ fractions_for command (view tree.now) },
 }
 
 impl Reading<'_> {
-    /// What the document says, where these are the numbers of its game.
+    /// What the document says, if these are the numbers of its game.
     fn said(&self, numbers: Vec<i64>) -> Result<Said, TextFault>
         requires { numbers.items ≡ own_numbers (view self.now.game.tree.now) }
         ensures { MatchResult result
@@ -224,7 +224,7 @@ impl Reading<'_> {
         self.said_of(described)
     }
 
-    /// What a document says whose game is right, where what the command needs beside it is right too.
+    /// What a document says whose game is right, if what the command needs beside it is right too.
     fn said_of(&self, described: Game) -> Result<Said, TextFault>
         requires { IsGameReading (view self.now.game.tree.now) described }
         ensures { MatchResult result
@@ -242,7 +242,7 @@ impl Reading<'_> {
         })
     }
 
-    /// The shares that these fractions propose, where there is one for each player and their denominator isn't too
+    /// The shares that these fractions propose, if there is one for each player and their denominator isn't too
     /// large.
     fn right_shares(&self, written: &[Frac], are_payments: bool) -> Result<Shares, TextFault>
         requires written { written.now ≡ written_shares (view self.now.tree.now) }
@@ -274,7 +274,7 @@ impl Reading<'_> {
         Ok(Some(shares))
     }
 
-    /// The certificate for the players of the game, where it has its form.
+    /// The certificate for the players of the game, if it has its form.
     fn right_certificate(&self) -> Result<Option<Certificate>, OutOfMemory>
         ensures { IfOk result (λ o. let game = view self.now.game.tree.now in o
             ≡ (if passes (has_form (scale_of game) (players game)) (get (codes "certificate") (view self.now.tree.now))
@@ -290,7 +290,7 @@ impl Reading<'_> {
         }
     }
 
-    /// The certificate that the command needs, where it has its form.
+    /// The certificate that the command needs, if it has its form.
     fn needed_certificate(&self) -> Result<Option<Certificate>, TextFault>
         ensures { MatchResult result
             (IsCertificateReading self.now.command (view self.now.game.tree.now) (view self.now.tree.now))

@@ -38,7 +38,7 @@ pub(crate) struct SizedGame<'a> {
     ghost scale_is: { scale ≡ scale_of (view tree.now) },
 }
 
-/// The game and its numbers times their scale. It is refused where it hasn't as many players, or numbers within such
+/// The game and its numbers times their scale. It is refused if it hasn't as many players, or numbers within such
 /// limits, as its class allows.
 pub(crate) fn sized_game<'a>(
     alloc: Global,

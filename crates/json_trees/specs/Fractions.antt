@@ -4,7 +4,7 @@
 --   written_fraction   the fraction that a text, or else an integer, writes
 --   fraction_of        the fraction that a number or a text writes
 --   is_fraction        an integer, or a fraction text
---   fraction_or_zero   that fraction, and 0 where none is written
+--   fraction_or_zero   that fraction, and 0 if none is written
 use Rattle.std.specs.Prelude.{ℕ, ℤ, pos, List, Bool, Option, Some, None, is_some, option_map}
 use Rattle.std.specs.Prelude.{unwrap_or}
 use Rattle.serde_json.specs.Data.{Data}
@@ -13,7 +13,7 @@ use Rattle.fractions.specs.Fraction.{Fraction}
 use Rattle.fractions.specs.FractionTexts.{parsed}
 use Rattle.json_trees.specs.Trees.{integer}
 
--- the fraction that a number is, where it is an integer
+-- the fraction that a number is, if it is an integer
 abbrev pub whole_fraction : Option ℤ → Option Fraction
 whole_fraction o = option_map (λ z. record { num = z; den = pos 1 }) o
 

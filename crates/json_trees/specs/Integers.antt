@@ -15,7 +15,7 @@ is_integer d = is_some (integer d)
 abbrev pub integer_or_zero : Data → ℤ
 integer_or_zero d = unwrap_or (integer d) (pos 0)
 
--- the integer at a key, and 0 where it is absent
+-- the integer at a key, and 0 if it is absent
 abbrev pub integer_at : List ℕ → Data → ℤ
 integer_at key d = unwrap_or (option_and_then integer (get key d)) (pos 0)
 

@@ -5,7 +5,7 @@
 --   keys_of           the keys of the members, as a list
 --   keys              the keys of an object, and none of anything else
 --   passes            a part is there and passes a test
---   passes_if_there   a part passes a test, where it is there
+--   passes_if_there   a part passes a test, if it is there
 --   is_number         a number of any kind
 --   is_text           a text
 --   is_array_of       an array whose items all pass a test
@@ -18,7 +18,7 @@
 --   pair_members      the members of the coalition of a pair of a coalition and a number
 --   second_passes     the second of two items passes a test
 --   is_member         a number or a text
---   is_numeric        a number, or a text where texts are allowed
+--   is_numeric        a number, or a text if texts are allowed
 use Rattle.std.specs.Prelude.{◌&&◌, ◌||◌, ℕ, ℤ, List, [], ◌∷◌, Bool, true, false}
 use Rattle.std.specs.Prelude.{Option, Some}
 use Rattle.std.specs.Prelude.{None, is_some, option_map, option_and_then, unwrap_or}
@@ -66,15 +66,15 @@ are_two first second _ = false
 abbrev pub is_pair_of : (Data → Bool) → (Data → Bool) → Data → Bool
 is_pair_of first second d = are_two first second (parts d)
 
--- the integer that a number is, where it is one of 64 bits written as such
+-- the integer that a number is, if it is one of 64 bits written as such
 abbrev pub integer : Data → Option ℤ
 integer d = option_and_then as_i64 (as_number d)
 
--- the text, and the empty one where there is none
+-- the text, and the empty one if there is none
 abbrev pub text_of : Data → List ℕ
 text_of d = unwrap_or (as_str d) []
 
--- the items of the array at a key, and none where it is absent
+-- the items of the array at a key, and none if it is absent
 abbrev pub parts_at : List ℕ → Data → List Data
 parts_at key d = unwrap_or (option_map parts (get key d)) []
 
@@ -92,6 +92,6 @@ second_passes test _ = false
 abbrev pub is_member : Data → Bool
 is_member d = is_number d || is_text d
 
--- the kind of a number that may be written as a text too, where texts are allowed
+-- the kind of a number that may be written as a text too, if texts are allowed
 abbrev pub is_numeric : Bool → Data → Bool
 is_numeric texts d = is_number d || (texts && is_text d)

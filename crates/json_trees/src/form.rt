@@ -87,7 +87,7 @@ impl Form for Member {
     }
 }
 
-/// A number, and a text too where texts are allowed.
+/// A number, and a text too if texts are allowed.
 #[derive(Clone, Copy, Debug)]
 pub struct Numeric {
     /// Whether texts are allowed.

@@ -10,7 +10,7 @@ use Rattle.kernel_test.specs.declared.KernelAnswer.TheVariants.{Balanced, NotEff
 abbrev pub IsSurplusFraction : Game → Allocation → ℕ → ℕ → Fraction → Type 0
 IsSurplusFraction g x i j f = (m : ℤ) × IsSurplus g x i j m × IsRatio f m x.den
 
--- Balanced where the shares are in the prekernel; else that they aren't efficient, or the first two players that
+-- Balanced if the shares are in the prekernel; else that they aren't efficient, or the first two players that
 -- aren't balanced, with both surpluses
 abbrev pub IsKernelAnswer : Game → Allocation → KernelAnswer → Type 0
 IsKernelAnswer g x Balanced = InPrekernel g x

@@ -3,14 +3,14 @@
 -- columns.
 --
 --   number_at table i j      the number in row i and column j
---   raised_where             the greater of a number and the greatest so far, if any, where a test passes
+--   raised_where             the greater of a number and the greatest so far (if any), if a test passes
 --   floor_of least i         the floor of row i
 --   is_less_so_far           the least so far is below a number, or isn't known
 --   lesser                   the lesser of two numbers that are there
---   lesser_where             the lesser of two numbers that are there, where a test passes
+--   lesser_where             the lesser of two numbers that are there, if a test passes
 --   IsFrom                   a number that is there, and at least so great
 --   IsFloor                  what the floor of a row is, up to a column
---   AreFloors table least    no number of a row is below the row's floor, where that is there
+--   AreFloors table least    no number of a row is below the row's floor, if that is there
 --   AreThere n table         there is a number for each two of the first n players
 --   AreSurpluses g x table   each number is the surplus of the row's player against the column's
 use Rattle.std.specs.Prelude.{◌≡◌, ◌≢◌, ℕ, ◌+◌, ◌*◌, ◌<◌, Bool, true, List, ℤ}
@@ -33,7 +33,7 @@ abbrev pub is_less_so_far : Option ℤ → ℤ → Bool
 is_less_so_far None e = true
 is_less_so_far (Some m) e = int_lt m e
 
--- the lesser of two numbers, and none where one of them is, where a test passes
+-- the lesser of two numbers, and none if one of them is, if a test passes
 abbrev pub lesser : Option ℤ → Option ℤ → Option ℤ
 lesser None number = None
 lesser (Some m) None = None

@@ -200,7 +200,7 @@ pub fn bounds_at(bounds: &[(u32, i128)], i: u32) -> i128
     sum
 }
 
-/// The weight where the players are the same, and otherwise 0.
+/// The weight if the players are the same, and otherwise 0.
 fn weight_if_same(j: u32, i: u32, weight: i128) -> i128
     requires { IsSmall weight }
     ensures value { result ≡ (if nat_eq j i then weight else pos 0) }
@@ -296,7 +296,7 @@ fn are_players(bounds: &[(u32, i128)], n: u32) -> bool
 
 /// Whether each coalition stands in a level in front.
 ///
-/// Where the masks of those levels ascend, halving finds all that stand there, and no level is gone through but for the
+/// If the masks of those levels ascend, halving finds all that stand there, and no level is gone through but for the
 /// first coalition that doesn't.
 /// So no order of theirs has to be known, and a certificate of the right form is read quickly.
 fn are_listed(pairs: &[(Coalition, i128)], front: &[Level]) -> bool

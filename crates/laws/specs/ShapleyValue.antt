@@ -21,7 +21,7 @@ use Rattle.laws.specs.StrategicEquivalence.{scaled_game}
 abbrev pub ShapleyValuesExist : Type 0
 ShapleyValuesExist = (g : Game) → (x : Allocation) × IsShapley g x
 
--- where the empty coalition is worth nothing, the shares add to the worth of all
+-- if the empty coalition is worth nothing, the shares add to the worth of all
 abbrev pub SharesAddToAll : Type 0
 SharesAddToAll = (g : Game) (x : Allocation) → g.worth 0 ≡ pos 0 → IsShapley g x → IsEfficient g x
 

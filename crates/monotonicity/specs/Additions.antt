@@ -4,7 +4,7 @@
 --   AddsNoLessThen g h i       player i adds to each coalition in h at least what it adds in g
 --   WhoAddsMoreGetsNoLess      then its Shapley share in h is at least that in g
 --   IsMonotonicRule n rule     efficient, symmetric and strongly monotonic, for all games of n players
---   MonotonicRulesAreShapley   a rule has the three properties just where it gives the Shapley value to each game
+--   MonotonicRulesAreShapley   a rule has the three properties exactly if it gives the Shapley value to each game
 use Rattle.std.specs.Prelude.{◌≡◌, ◌↔◌, ℕ, ◌+◌, ◌^◌, ◌<◌, false, ◌-ℤ◌, ◌*ℤ◌, ◌≤ℤ◌}
 use Rattle.definitions.specs.Coalitions.{has_player, singleton}
 use Rattle.definitions.specs.Games.{Game, Allocation, share, IsAllocation, IsEfficient}

@@ -1,4 +1,4 @@
--- Bird's shares where each link of a network costs k times as much, as in another unit of money (Bird 1976). The law is
+-- Bird's shares if each link of a network costs k times as much, as in another unit of money (Bird 1976). The law is
 -- the contract of a function of this crate.
 --
 --   BirdTimes   the Bird plan stays, and each player pays k times as much

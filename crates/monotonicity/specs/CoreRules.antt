@@ -1,11 +1,11 @@
--- Rules that give a core point wherever there is one, and what somebody gets where only its own coalitions grow (Young
+-- Rules that give a core point wherever there is one, and what somebody gets if only its own coalitions grow (Young
 -- 1985). Each law is the contract of a function of this crate.
 --
 --   GrowsAround g h i               no coalition with i is worth less in h than in g, and each other what it was
 --   LosesInTheCore g h i            so it is, both have core points, and i gets less at each one of h
 --   SomebodyLosesInTheCore          there are such games of any number of players from five on
---   PicksCorePoints n rule          where a game of n players has core points, the rule's shares are one
---   IsCoalitionMonotonic n rule     where a coalition grows, and both games have core points, no member gets less
+--   PicksCorePoints n rule          if a game of n players has core points, the rule's shares are one
+--   IsCoalitionMonotonic n rule     if a coalition grows, and both games have core points, no member gets less
 --   NoCoreRuleIsMonotonic           from four players on no rule is both (of four: Housman and Clark 1998)
 --   WhoIsInAllThatGrowsGetsNoLess   but the Shapley value gives no less to a player around whom a game grows
 use Rattle.std.specs.Prelude.{◌≡◌, ℕ, ◌^◌, ◌<◌, ◌≤◌, true}
@@ -36,11 +36,11 @@ abbrev pub SomebodyLosesInTheCore : Type 0
 SomebodyLosesInTheCore =
     (n : ℕ) → 5 ≤ n → (g : Game) × (h : Game) × (i : ℕ) × IsGameOf n g × IsGameOf n h × LosesInTheCore g h i
 
--- where some allocation is in the core of a game of n players, the rule's shares are, as those of the nucleolus
+-- if some allocation is in the core of a game of n players, the rule's shares are, as those of the nucleolus
 abbrev pub PicksCorePoints : ℕ → (Game → Allocation) → Type 0
 PicksCorePoints n rule = (g : Game) (z : Allocation) → IsGameOf n g → InCore g z → InCore g (rule g)
 
--- where one coalition of n players is worth more, nothing else changes, and there are core points before and after,
+-- if one coalition of n players is worth more, nothing else changes, and there are core points before and after,
 -- the rule gives each of its members no less
 abbrev pub IsCoalitionMonotonic : ℕ → (Game → Allocation) → Type 0
 IsCoalitionMonotonic n rule =
@@ -54,7 +54,7 @@ abbrev pub NoCoreRuleIsMonotonic : Type 0
 NoCoreRuleIsMonotonic =
     (n : ℕ) (rule : Game → Allocation) → 4 ≤ n → PicksCorePoints n rule → ¬ IsCoalitionMonotonic n rule
 
--- where a game grows around a player, the Shapley value gives that player no less
+-- if a game grows around a player, the Shapley value gives that player no less
 abbrev pub WhoIsInAllThatGrowsGetsNoLess : Type 0
 WhoIsInAllThatGrowsGetsNoLess =
     (g h : Game) (x y : Allocation) (i : ℕ) → GrowsAround g h i → IsShapley g x → IsShapley h y → i < g.players →

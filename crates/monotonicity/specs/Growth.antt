@@ -4,11 +4,11 @@
 --   GroupGrows d t g h           coalition t is worth d more in h than in g, and each other coalition what it was
 --   WholeGrows d g h             all together are so
 --   GetsEqualPart d n x y i      of n players, player i gets at y just d/n more than at x
---   PerHeadEachGetsAnEqualPart   so does each player of the prenucleolus per head, where the whole grows by d
---   WithCoresTheNucleolusDoes    and so does the nucleolus per head, where both games have core points
+--   PerHeadEachGetsAnEqualPart   so does each player of the prenucleolus per head, if the whole grows by d
+--   WithCoresTheNucleolusDoes    and so does the nucleolus per head, if both games have core points
 --   ShapleyEachGetsAnEqualPart   and so does the Shapley value
 --   two_contracts all            1 and 2 earn 1 together, 1, 3 and 4 earn 2, and all four are worth all
---   before, after                the nucleolus where that is 3, and where it is 4
+--   before, after                the nucleolus if that is 3, and if it is 4
 --   WhoGetsLessOfMore            there player 1 gets less of more
 --   WhoGrowGetNoLess             the members of a coalition that grows together get no less, by the nucleolus
 --   EachWhoGrowsGetsNoLess       and each of them gets no less, and who isn't in it no more, by the Shapley value
@@ -82,7 +82,7 @@ before = record { shares = pos 7 ∷ (pos 3 ∷ (pos 4 ∷ (pos 4 ∷ []))); den
 abbrev pub after : Allocation
 after = record { shares = pos 1 ∷ (pos 1 ∷ (pos 1 ∷ (pos 1 ∷ []))); den = pos 1 }
 
--- where all four are worth 4 in place of 3, and nothing else changes, the nucleolus and the prenucleolus give player 1
+-- if all four are worth 4 in place of 3, and nothing else changes, the nucleolus and the prenucleolus give player 1
 -- the share 1 in place of 7/6, though both games are convex (the first such games: Megiddo 1974; convex: Hokari 2000)
 abbrev pub WhoGetsLessOfMore : Type 0
 WhoGetsLessOfMore =
@@ -95,7 +95,7 @@ WhoGetsLessOfMore =
 
 -- ---- one coalition
 
--- the members of a coalition that is worth more, where nothing else changes, get together no less: of the nucleolus and
+-- the members of a coalition that is worth more, if nothing else changes, get together no less: of the nucleolus and
 -- the prenucleolus, plain and per head (Zhou 1991)
 abbrev pub WhoGrowGetNoLess : Type 0
 WhoGrowGetNoLess =

@@ -18,7 +18,7 @@ fn singles<W: Worth>(game: &W) -> i64
     sum
 }
 
-/// The worths of the players alone, added, and the worth of all, where the first is more and the family is the
+/// The worths of the players alone, added, and the worth of all, if the first is more and the family is the
 /// imputations.
 pub(crate) fn lacks_imputation<W: Worth>(game: &W, family: Family) -> Option<(i64, i64)>
     requires { (W.game game.now).players ≤ 16 }

@@ -5,7 +5,7 @@ use Rattle.std.specs.Prelude.{◌≡◌, ℕ, ◌+◌, ◌-◌, ◌^◌, ◌≤�
 abbrev pub CountRose : ℕ → ℕ → Type 0
 CountRose before now = now ≡ min (before + 1) (2 ^ 64 - 1)
 
--- the count never falls, rises by one at each failure up to its last value, and is as before where the call succeeds
+-- the count never falls, rises by one at each failure up to its last value, and is as before if the call succeeds
 pub record HasCause {T E : Type 0} (before now : ℕ) (result : Result T E) : Type 0 where
   pub later : before ≤ now
   pub unchanged : OnOk result (now ≡ before)

@@ -5,7 +5,7 @@ use crate::Failed;
 
 /// Where bytes go to.
 pub trait Sink {
-    // The bytes taken so far, where the sink tells them.
+    // The bytes taken so far, if the sink tells them.
     ghost taken: { Self → Option (List ℕ) };
     // How often a write failed, one a failure, up to 2^64 - 1, where it stays.
     ghost faults: { Self → ℕ };

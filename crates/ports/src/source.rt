@@ -7,7 +7,7 @@ use crate::Failed;
 
 /// Where bytes come from.
 pub trait Source {
-    // The bytes that weren't read yet, where the source tells them.
+    // The bytes that weren't read yet, if the source tells them.
     ghost left: { Self → Option (List ℕ) };
     // How often a read failed, one a failure, up to 2^64 - 1, where it stays.
     ghost faults: { Self → ℕ };

@@ -16,7 +16,7 @@ use Rattle.json_trees.specs.LowestTerms.{in_lowest_terms}
 use Rattle.report.specs.Limits.{IsScale}
 use Rattle.report.specs.ShareLists.{as_printed, share_data, share_list}
 
--- the share z/d, or where the game is one of costs the payment, times the scale as the game's numbers are
+-- the share z/d, or if the game is one of costs the payment, times the scale as the game's numbers are
 abbrev pub kept_share : Bool → ℤ → ℤ → Fraction
 kept_share is_cost d z = in_lowest_terms (as_printed is_cost z) d
 
@@ -41,7 +41,7 @@ pub record AreReadBack (k : ℕ) (is_cost : Bool) (x : Allocation) (tree : Data)
   pub coarse : keep_limits (scaled_shares k tree) ≡ true
   pub again : IsAgain x (as_worth is_cost (over_least (scaled_shares k tree)))
 
--- where the shares of a tree are the texts of the shares of x over the scale, these are read
+-- if the shares of a tree are the texts of the shares of x over the scale, these are read
 abbrev pub SharesAreReadBack : Type 0
 SharesAreReadBack = (k : ℕ) (is_cost : Bool) (x : Allocation) (tree : Data) → IsScale (pos k) → IsShares x
     → parts_at (codes "shares") tree ≡ map (share_data k is_cost x.den) x.shares

@@ -2,7 +2,7 @@
 -- unit above zero, and lists of numbers from the greatest.
 --
 --   Numbers C              a zero, a unit, sums, negatives and a test of the order on the set C
---   AtMost, Less, Equal    the order; two numbers are equal where each is at most the other
+--   AtMost, Less, Equal    the order; two numbers are equal if each is at most the other
 --   IsOrderedGroup         the laws of a linearly ordered abelian group with a unit above zero
 --   multiple, times        a number times a natural number, times an integer
 --   total_below            f 0 + .. + f (n - 1)
@@ -64,7 +64,7 @@ total_over N n a s = total_below N n (λ i. if has_player s i then a i else N.ze
 
 -- ---- lists from the greatest
 
--- the list with a number put before the first number that is less, or at the end where there is none
+-- the list with a number put before the first number that is less, or at the end if there is none
 abbrev pub placed : {C : Type 0} → Numbers C → C → List C → List C
 placed N a [] = a ∷ []
 placed N a (b ∷ l) = if N.at_most a b then b ∷ placed N a l else a ∷ (b ∷ l)

@@ -49,7 +49,7 @@ SoundForReals =
 abbrev pub RealsAreOrdered : Type 0
 RealsAreOrdered = (N : Numbers Real) → AreReals N → IsOrderedGroup N
 
--- where excluded middle holds of the order of each two real numbers, there are such numbers
+-- if excluded middle holds of the order of each two real numbers, there are such numbers
 abbrev pub RealsAreThere : Type 0
 RealsAreThere =
     ((a b : Real) → (¬ IsAtMost a b) ⊎ (¬ (¬ IsAtMost a b))) → (N : Numbers Real) × AreReals N

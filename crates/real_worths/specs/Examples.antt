@@ -46,8 +46,8 @@ IntegersCantHalve = ¬ CanHalve (fractions_over (pos 1))
 abbrev pub second : {C : Type 0} → Numbers C → C → NumberGame C
 second N c = record { players = 2; worth = λ s. if nat_eq s 2 then c else N.zero }
 
--- where the second alone is worth a number above zero, it adds no less than the first, the first adds less, and they
--- aren't interchangeable; and where nobody is worth anything, the first is a dummy
+-- if the second alone is worth a number above zero, it adds no less than the first, the first adds less, and they
+-- aren't interchangeable; and if nobody is worth anything, the first is a dummy
 abbrev pub SomeAddNoLess : Type 0
 SomeAddNoLess =
     (N : Numbers Real) (c : Real) → AreReals N → Less N N.zero c →

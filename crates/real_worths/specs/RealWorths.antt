@@ -3,7 +3,7 @@
 --
 --   NucleolusIsUnique              two nucleoli of one game and family have the same shares (Schmeidler 1969)
 --   UnbeatenIsNucleolus            a member that no other comes before is the nucleolus, and only that one
---   NucleolusIsInCore              where some shares are in the core, the nucleolus is, and so is the prenucleolus
+--   NucleolusIsInCore              if some shares are in the core, the nucleolus is, and so is the prenucleolus
 --   WithACoreBothAreOne            and they are one
 --   WhoAddsNoLessGetsNoLess        who adds no less than another everywhere gets no less
 --   AlikePlayersGetAlike           players that the game doesn't tell apart get the same
@@ -29,7 +29,7 @@ NucleolusIsUnique =
     (N : Numbers Real) (family : Family) (g : NumberGame Real) (y z : List Real) → AreReals N →
     IsNucleolusIn N family g y → IsNucleolusIn N family g z → HaveSameIn N g y z
 
--- a member is the nucleolus exactly where no member comes before it: the least list belongs to one member alone
+-- a member is the nucleolus exactly if no member comes before it: the least list belongs to one member alone
 -- (Schmeidler 1969)
 abbrev pub UnbeatenIsNucleolus : Type 0
 UnbeatenIsNucleolus =

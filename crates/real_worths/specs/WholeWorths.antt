@@ -1,4 +1,4 @@
--- Where worths are whole numbers, the notions of real worths are those of whole worths and real shares.
+-- If worths are whole numbers, the notions of real worths are those of whole worths and real shares.
 --
 --   AreTheSameOfWhole N g   each notion of the game of whole numbers, times the unit, is its fellow
 --   WholeWorthsAgree        so it is of every game
@@ -14,7 +14,7 @@ use Rattle.real_worths.specs.Games.{whole_worths, InFamilyIn, IsNucleolusIn, InC
 use Rattle.real_worths.specs.Games.{AreInterchangeableIn, IsDummyIn}
 
 -- the families, the nucleolus and the core are those among real shares, whatever the numbers are; what players add is
--- compared as whole numbers are where the numbers are the real numbers
+-- compared as whole numbers are if the numbers are the real numbers
 pub record AreTheSameOfWhole (N : Numbers Real) (g : Game) : Type 0 where
   pub family : (f : Family) (y : List Real) → InFamilyIn N f (whole_worths N g) y ↔ InFamilyOver N f g y
   pub nucleolus : (f : Family) (y : List Real)

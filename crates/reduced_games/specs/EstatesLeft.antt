@@ -32,7 +32,7 @@ pub record AreAwards (estate : ℕ) (claims : List ℕ) (x : Allocation) : Type 
   pub all : IsAllocation (bankruptcy_game estate claims) x × IsEfficient (bankruptcy_game estate claims) x
   pub each : (i : ℕ) → i < length claims → (pos 0 ≤ℤ share x i) × (share x i ≤ℤ claimed claims x i)
 
--- where those who go got their awards, there is an estate left
+-- if those who go got their awards, there is an estate left
 abbrev pub EstatesAreLeft : Type 0
 EstatesAreLeft =
     (m : ℕ) (who : ℕ → ℕ) (estate : ℕ) (claims : List ℕ) (x : Allocation) →
@@ -56,7 +56,7 @@ EstateByNucleolus =
     IsNucleolus family Plain (bankruptcy_game estate claims) x →
     IsNucleolus family Plain (bankruptcy_game left left_claims) (staying_shares m who x)
 
--- where some claimants take what the Talmud rule gives them and go, the rule divides what is left so that each of the
+-- if some claimants take what the Talmud rule gives them and go, the rule divides what is left so that each of the
 -- others gets what it had
 abbrev pub TalmudIsConsistent : Type 0
 TalmudIsConsistent =
@@ -70,7 +70,7 @@ TalmudIsConsistent =
 abbrev pub heirs : Allocation
 heirs = record { shares = pos 50 ∷ (pos 75 ∷ (pos 75 ∷ [])); den = pos 1 }
 
--- These are awards, and 150, 25 and 25 aren't, since the first gets more than its claim. Where the first goes, 150 and
+-- These are awards, and 150, 25 and 25 aren't, since the first gets more than its claim. If the first goes, 150 and
 -- the claims of 200 and 300 are left, and the whole estate isn't
 abbrev pub HeirsLeft : Type 0
 HeirsLeft =

@@ -11,7 +11,7 @@
 --   ReducedGamesExist           there is one
 --   ReducedGameIsOne            and no other
 --   ReducedGameProperty         the prenucleolus of the reduced game has the shares of the prenucleolus
---   NucleolusReduces            the same of the nucleolus, where the core isn't empty
+--   NucleolusReduces            the same of the nucleolus, if the core isn't empty
 --   PrekernelReduces            the same of the prekernel
 --   the_two i j                 two who stay
 --   IsStandard                  each of two players gets its worth alone, and they share the rest alike
@@ -83,14 +83,14 @@ ReducedGameIsOne =
 
 -- ---- the reduced game property
 
--- where some go with their shares of the prenucleolus, the prenucleolus of the game that is left gives each who stays
+-- if some go with their shares of the prenucleolus, the prenucleolus of the game that is left gives each who stays
 -- what it got (Sobolev 1975)
 abbrev pub ReducedGameProperty : Type 0
 ReducedGameProperty =
     (m : ℕ) (who : ℕ → ℕ) (g h : Game) (x : Allocation) → AreSome g.players m who → IsReducedGame m who g x h →
     IsNucleolus Preimputations Plain g x → IsNucleolus Preimputations Plain h (staying_shares m who x)
 
--- and so does the nucleolus, where some allocation is in the core
+-- and so does the nucleolus, if some allocation is in the core
 abbrev pub NucleolusReduces : Type 0
 NucleolusReduces =
     (m : ℕ) (who : ℕ → ℕ) (g h : Game) (x z : Allocation) → AreSome g.players m who → IsReducedGame m who g x h →
@@ -120,7 +120,7 @@ pub record IsStandard (h : Game) (y : Allocation) : Type 0 where
   pub all : IsEfficient h y
   pub alike : share y 0 -ℤ y.den *ℤ h.worth (singleton 0) ≡ share y 1 -ℤ y.den *ℤ h.worth (singleton 1)
 
--- an efficient allocation is in the prekernel, as the prenucleolus is, exactly where each two have the standard
+-- an efficient allocation is in the prekernel, as the prenucleolus is, exactly if each two have the standard
 -- solution of their reduced game (Peleg 1986)
 abbrev pub PrekernelByPairs : Type 0
 PrekernelByPairs =
@@ -135,7 +135,7 @@ EachTwoAreStandard =
     IsReducedGame 2 (the_two i j) g x h → IsNucleolus Preimputations Plain g x →
     IsStandard h (staying_shares 2 (the_two i j) x)
 
--- an efficient allocation is in the core exactly where the shares of each two are in the core of their reduced game
+-- an efficient allocation is in the core exactly if the shares of each two are in the core of their reduced game
 -- (Peleg 1986)
 abbrev pub CoreByPairs : Type 0
 CoreByPairs =

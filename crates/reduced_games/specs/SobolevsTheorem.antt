@@ -52,7 +52,7 @@ IsAnonymous rule =
     (to back : ℕ → ℕ) (g : Game) → IsPlayable g → IsRenumbering g.players to back →
     IsSame g (rule (renumbered_game back g)) (renumbered_shares to (rule g))
 
--- And where some go with their shares, it gives the others in the reduced game what they had.
+-- And if some go with their shares, it gives the others in the reduced game what they had.
 abbrev pub HasReducedGames : (Game → Allocation) → Type 0
 HasReducedGames rule =
     (m : ℕ) (who : ℕ → ℕ) (g h : Game) → IsPlayable g → AreSome g.players m who → KeepTheirOrder m who →
@@ -64,7 +64,7 @@ pub record MeetsSobolevsAxioms (rule : Game → Allocation) : Type 0 where
   pub anonymous : IsAnonymous rule
   pub reduced : HasReducedGames rule
 
--- a rule meets them just where it gives the prenucleolus to each game, of any number of players
+-- a rule meets them exactly if it gives the prenucleolus to each game, of any number of players
 abbrev pub SobolevsTheorem : Type 0
 SobolevsTheorem =
     (rule : Game → Allocation) →

@@ -3,7 +3,7 @@
 --   IsScale            a scale, from 1 to 65,536
 --   IsFine             a denominator that can be printed over a scale
 --   IsFineVerdict      the excess of a verdict has such a denominator
---   IsFineIfThere      the fraction has such a denominator, where there is one
+--   IsFineIfThere      the fraction has such a denominator, if there is one
 --   HasFineNumbers     each fraction in an answer has one
 --   IsGameTree         the tree of a game that can be printed
 --   HasSmallNumbers    the weights and the k of a collection are below 2^63 in size
@@ -35,7 +35,7 @@ IsScale k = (pos 1 ≤ℤ k) × (k ≤ℤ pos 65536)
 abbrev pub IsFine : ℤ → Type 0
 IsFine d = (pos 1 ≤ℤ d) × (d <ℤ pos (2 ^ 100))
 
--- the excess that a verdict carries, where it carries one, has such a denominator
+-- the excess that a verdict carries, if it carries one, has such a denominator
 abbrev pub IsFineVerdict : CheckVerdict → Type 0
 IsFineVerdict (No (OutsideAbove j e)) = IsFine e.den
 IsFineVerdict _ = ⊤

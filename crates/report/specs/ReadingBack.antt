@@ -59,7 +59,7 @@ NucleoliAreReadBack =
     → SaysNucleolus k family game is_cost x c (nucleolus_tree k family game is_cost x c)
     × SharesAreReadBack k is_cost x
 
--- the text of a nucleolus is at most 2 MiB longer than that of the game, where each level has at most 128 entries and
+-- the text of a nucleolus is at most 2 MiB longer than that of the game, if each level has at most 128 entries and
 -- an excess that is read from its text
 abbrev pub NucleoliAreShort : Type 0
 NucleoliAreShort =

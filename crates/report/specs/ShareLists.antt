@@ -17,7 +17,7 @@ use Rattle.report.specs.Values.{fraction_data}
 abbrev pub IsNumerator : ℤ → Type 0
 IsNumerator z = unsigned_abs z < 2 ^ 110
 
--- a numerator as it is printed: where the game is one of costs, that of a payment
+-- a numerator as it is printed: if the game is one of costs, that of a payment
 abbrev pub as_printed : Bool → ℤ → ℤ
 as_printed is_cost z = if is_cost then neg_ℤ z else z
 

@@ -26,7 +26,7 @@ common_divisor q (z ∷ zs) = common_divisor (gcd q (unsigned_abs z)) zs
 abbrev pub least_denominator : Allocation → ℤ
 least_denominator x = pos (unsigned_abs x.den / common_divisor (unsigned_abs x.den) x.shares)
 
--- the share of a player, or where the numbers are costs what it pays
+-- the share of a player, or if the numbers are costs what it pays
 abbrev pub player_share : ℕ → Summary → ℕ → Data
 player_share k s i = share_data k s.is_cost s.shares.den (share s.shares i)
 

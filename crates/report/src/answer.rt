@@ -29,7 +29,7 @@ pub enum UsageKind {
 pub enum Answer {
     // The tree is that of the game as it was read: `read_document` gives that it can be printed, and `write_report`
     // asks it.
-    /// The nucleolus or prenucleolus of the game with this JSON tree: the shares as worth, printed as payments where
+    /// The nucleolus or prenucleolus of the game with this JSON tree: the shares as worth, printed as payments if
     /// `is_cost`, and their certificate.
     Nucleolus {
         family: Family,
@@ -38,7 +38,7 @@ pub enum Answer {
         shares: Shares,
         certificate: Certificate,
     },
-    /// There is no imputation: the players alone are worth `singles` together, more than the `total` of all. Where the
+    /// There is no imputation: the players alone are worth `singles` together, more than the `total` of all. If the
     /// numbers are costs, the players alone pay `singles` together, less than the `total` of all.
     NoImputation {
         singles: i64,
@@ -56,7 +56,7 @@ pub enum Answer {
         coalition: Coalition,
         excess: Frac,
     },
-    /// A point of the core: the shares as worth, printed as payments where `is_cost`.
+    /// A point of the core: the shares as worth, printed as payments if `is_cost`.
     CorePoint {
         is_cost: bool,
         shares: Shares,
@@ -68,7 +68,7 @@ pub enum Answer {
         value: i128,
         against: i128,
     },
-    /// The Shapley shares as worth, printed as payments where `is_cost`.
+    /// The Shapley shares as worth, printed as payments if `is_cost`.
     Shapley {
         is_cost: bool,
         shares: Shares,

@@ -41,7 +41,7 @@ fn words_of(alloc: Global, words: &[&str]) -> Result<Vec<String>, Fail> {
     Ok(list)
 }
 
-// The line, where these bytes are one and its newline; else nothing.
+// The line, if these bytes are one and its newline; else nothing.
 fn line_in(bytes: &[u8]) -> &[u8] {
     match bytes {
         [line @ .., b'\n'] => line,

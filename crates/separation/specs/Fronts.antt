@@ -32,7 +32,7 @@ abbrev pub front_rows : Option Front → ℕ
 front_rows None = 0
 front_rows (Some f) = length f.levels.now + 1
 
--- s has a column: it is marked, or, where there are no marks, it isn't empty
+-- s has a column: it is marked, or, if there are no marks, it isn't empty
 abbrev pub has_mark : Option (List ℕ) → ℕ → Bool
 has_mark None s = nat_lt 0 s
 has_mark (Some words) s = is_marked words s

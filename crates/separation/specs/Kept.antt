@@ -47,7 +47,7 @@ abbrev pub cost_at : Option Column → ℤ
 cost_at None = pos 0
 cost_at (Some c) = c.cost
 
--- the right side of a row: 1 in the last, or in each where there are no level rows
+-- the right side of a row: 1 in the last, or in each if there are no level rows
 abbrev pub right_at : ℕ → ℕ → ℕ → ℤ
 right_at players levels r =
     if nat_eq levels 0 then pos 1 else (if nat_eq (r + 1) (players + levels) then pos 1 else pos 0)

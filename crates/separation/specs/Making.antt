@@ -9,7 +9,7 @@
 --   single, bound     the column of a player alone, and this negated
 --   alone_columns     those of all players alone
 --   AddsSome          columns, and behind them the first few of some more
---   IsOuter           the column of coalition s, where it is outside
+--   IsOuter           the column of coalition s, if it is outside
 --   AreOuter          the columns of the coalitions outside
 --   EndsOuter         columns, and behind them those of the coalitions outside
 --   inner_columns     the columns in front of these
@@ -55,7 +55,7 @@ whole_columns g s = both_columns g s None
 abbrev pub single : Family → Game → ℕ → Option Column
 single family g i = if is_imputations family then Some (plain g (singleton i) None) else None
 
--- the same negated, where levels have bound the player
+-- the same negated, if levels have bound the player
 abbrev pub bound : Family → Game → List Level → ℕ → Option Column
 bound family g front i =
     if is_imputations family && has_bound front i then Some (minus g (singleton i) None) else None

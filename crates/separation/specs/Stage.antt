@@ -7,7 +7,7 @@
 --   2 + 2t       vector of coalition t, its divisor in its level's row  its worth
 --   odd below b  the column before it, negated                          its cost negated
 --   b + i        1 for player i; imputations only                       worth of i alone
---   b + n + i    -1 for player i, where a level bounds i                that worth negated
+--   b + n + i    -1 for player i, if a level bounds i                that worth negated
 --   b + 2n + s   vector of s, its divisor in the last row; s outside    worth of s
 --
 -- The divisor is what the measure divides the excess of the coalition by: 1, or the number of members.

@@ -39,7 +39,7 @@ pub struct Lazy<'a, W: Worth> {
     pub(crate) first: ColumnId,
     /// The coalitions that have a column; without marks these are all but the empty one.
     pub(crate) marks: Option<Outside>,
-    /// The greatest worth of each block of 256 coalitions, or 0 where that is more.
+    /// The greatest worth of each block of 256 coalitions, or 0 if that is more.
     pub(crate) peaks: [i64; 256],
     /// The block of 256 coalitions in which the last coalition was found, whose column entered; there the next search
     /// of coalitions begins, whatever entered since from the front.

@@ -40,7 +40,7 @@ impl Highest {
 }
 
 /// What the cost of a coalition's column over the multipliers' denominator is above the multipliers of the members
-/// among the first eight players. Where that is above what the block has in common, the column rises.
+/// among the first eight players. If that is above what the block has in common, the column rises.
 fn height_of<W: Worth>(scan: &Scan<'_, W>, low: &[i64; 256], s: Coalition) -> i64
     requires within { s < 2 ^ scan.now.program.now.players }
     requires den { unsigned_abs scan.now.m.now.den < 2 ^ 16 }
@@ -98,7 +98,7 @@ fn counted_peak<W: Worth>(scan: &Scan<'_, W>, block: u64) -> i64
     }
 }
 
-/// A number that none of the heights of 256 coalitions is above, where no sum is below `least`.
+/// A number that none of the heights of 256 coalitions is above, if no sum is below `least`.
 fn height_bound<W: Worth>(scan: &Scan<'_, W>, least: i64, block: u64) -> i64
     requires block { block < 256 }
     requires den { unsigned_abs scan.now.m.now.den < 2 ^ 16 }
@@ -110,7 +110,7 @@ fn height_bound<W: Worth>(scan: &Scan<'_, W>, least: i64, block: u64) -> i64
     scan.m.den as i64 * most - least
 }
 
-/// The highest so far, or a higher one of the 64 coalitions from 64 * `place` on. Where no height of these can be
+/// The highest so far, or a higher one of the 64 coalitions from 64 * `place` on. If no height of these can be
 /// higher, none is looked at.
 fn highest_of_word<W: Worth>(
     scan: &Scan<'_, W>,

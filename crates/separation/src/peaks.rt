@@ -16,7 +16,7 @@ fn greater(a: i64, b: i64) -> i64
     if a < b { b } else { a }
 }
 
-/// The greatest worth of the 256 coalitions from 256 * `block` on, or 0 where that is more.
+/// The greatest worth of the 256 coalitions from 256 * `block` on, or 0 if that is more.
 fn peak<W: Worth>(game: &W, players: u32, block: u64) -> i64
     requires players { players ≡ (W.game game.now).players }
     requires few { players ≤ 16 }

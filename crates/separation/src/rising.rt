@@ -69,7 +69,7 @@ fn best_in_128<W: Worth>(scan: &Scan<'_, W>, block: u64) -> Option<Coalition>
 }
 
 /// Of the 256 coalitions from 256 * `block` on one that has a column whose cost is above its value with plain excess:
-/// that whose cost is most above its value. The search is in 64 bits where the block's numbers have room there.
+/// that whose cost is most above its value. The search is in 64 bits if the block's numbers have room there.
 fn best_of_block<W: Worth>(scan: &Scan<'_, W>, block: u64) -> Option<Coalition>
     requires block { block < 256 }
     requires plain { scan.now.program.now.measure ≡ Measure.Plain }

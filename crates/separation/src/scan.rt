@@ -11,7 +11,7 @@ use coalitions::Coalition;
 use simplex::Multipliers;
 use worth_core::Worth;
 
-/// What a coalition's worth counts for: where costs don't count, the game isn't asked.
+/// What a coalition's worth counts for: if costs don't count, the game isn't asked.
 pub(crate) fn counted_worth<W: Worth>(game: &W, s: Coalition, with_costs: bool) -> i64
     requires { s < 2 ^ (W.game game.now).players }
     ensures is { result ≡ counted with_costs ((W.game game.now).worth s) }
@@ -64,7 +64,7 @@ impl<W: Worth> Scan<'_, W> {
         counted_worth(self.program.game, s, self.with_costs)
     }
 
-    /// A cost over the multipliers' denominator, or 0 where costs don't count.
+    /// A cost over the multipliers' denominator, or 0 if costs don't count.
     pub(crate) fn bar(&self, cost: i64) -> i128
         requires { unsigned_abs cost < 2 ^ 46 }
         ensures { result ≡ self.now.m.now.den *ℤ counted self.now.with_costs cost }

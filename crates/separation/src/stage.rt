@@ -20,7 +20,7 @@ use simplex::Columns;
 use std::alloc::{AllocError, Global};
 use worth_core::{Measure, Worth};
 
-/// The column of a coalition, where it is outside.
+/// The column of a coalition, if it is outside.
 fn outer<W: Worth>(game: &W, levels: &[Level], outside: &Outside, s: Coalition) -> Option<Column>
     requires few_players { (W.game game.now).players ≤ 16 }
     requires few { length levels.now ≤ 16 }

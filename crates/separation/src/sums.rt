@@ -56,7 +56,7 @@ fn table(m: &Multipliers, n: u32, first: u32) -> [i128; 256]
     sums
 }
 
-/// The multipliers of the players in 64 bits, and 0 past `n` players, where each is at most 2^56 in size.
+/// The multipliers of the players in 64 bits, and 0 past `n` players, if each is at most 2^56 in size.
 pub(crate) fn narrow(m: &Multipliers, n: u32) -> Option<[i64; 16]>
     requires count { n ≤ length m.now.num.items }
     requires few { n ≤ 16 }
@@ -183,7 +183,7 @@ pub(crate) fn value(
     if column.negated { -plain } else { plain }
 }
 
-/// A cost over the multipliers' denominator, or 0 where costs don't count.
+/// A cost over the multipliers' denominator, or 0 if costs don't count.
 pub(crate) fn bar(m: &Multipliers, cost: i64, with_costs: bool) -> i128
     requires { unsigned_abs cost < 2 ^ 46 }
     ensures { result ≡ m.now.den *ℤ counted with_costs cost }
@@ -195,7 +195,7 @@ pub(crate) fn bar(m: &Multipliers, cost: i64, with_costs: bool) -> i128
     }
 }
 
-/// Whether a value is below a cost, or below 0 where costs don't count.
+/// Whether a value is below a cost, or below 0 if costs don't count.
 pub(crate) fn is_below(value: i128, m: &Multipliers, cost: i64, with_costs: bool) -> bool
     requires { unsigned_abs cost < 2 ^ 46 }
     ensures { IsTrue result ↔ (value <ℤ (m.now.den *ℤ counted with_costs cost)) }

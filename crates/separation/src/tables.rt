@@ -12,7 +12,7 @@ pub(crate) struct WideSums {
     ghost high_small: { (k : ℕ) → k < 256 → unsigned_abs (slice_index_or high k (pos 0)) ≤ 2 ^ 113 },
 }
 
-/// These sums in 64 bits, where the multipliers leave room there, as nearly all do; and of each 64 coalitions of the
+/// These sums in 64 bits, if the multipliers leave room there, as nearly all do; and of each 64 coalitions of the
 /// first eight players a number that isn't above their sums.
 #[derive(Clone, Copy)]
 pub(crate) struct NarrowSums<'a> {

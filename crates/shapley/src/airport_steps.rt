@@ -34,7 +34,7 @@ fn count_above(game: &AirportGame, cost: u64) -> u64
     found
 }
 
-/// The least of the costs above `from`, and `upto` where none of them is less.
+/// The least of the costs above `from`, and `upto` if none of them is less.
 fn next_cost(game: &AirportGame, from: u64, upto: u64) -> u64
     requires { from < upto }
     ensures above { from < result }

@@ -60,7 +60,7 @@ fn gain(n: u32, members: u32, worth: i64) -> i128
     }
 }
 
-/// What it counts against each other player: as often as the members stand in front of it. 0 where there is no other
+/// What it counts against each other player: as often as the members stand in front of it. 0 if there is no other
 /// player.
 fn loss(n: u32, members: u32, worth: i64) -> i128
     requires few { n ≤ 16 }

@@ -1,6 +1,6 @@
 -- A program with its costs or without them, and its columns as the simplex reads them: from the last row to the first.
 --
---   price        the cost of a column, or 0 where costs don't count
+--   price        the cost of a column, or 0 if costs don't count
 --   priced       the program, or the program whose costs are all 0
 --   flipped      numbers from the last, as a column
 --   column       a column of the program, from its last row

@@ -21,7 +21,7 @@ use crate::ratio::least_ratio;
 use crate::state::State;
 use crate::weights::weights_of;
 
-/// Pivots until no column improves the objective, and gives the multipliers that show it; None where a column improves
+/// Pivots until no column improves the objective, and gives the multipliers that show it; None if a column improves
 /// it without end.
 pub(crate) fn improve<C: Columns>(
     work: &mut State,

@@ -20,7 +20,7 @@ constant z h = record {
   one = λ i j le ij lt. absurd (not-le_of_lt lt (le_trans le (le_of_lt ij)));
 }
 
--- right side 1, and one column: with entry -1 and cost 0 where the test is true, or else with entry 1 and cost -3
+-- right side 1, and one column: with entry -1 and cost 0 if the test is true, or else with entry 1 and cost -3
 abbrev pub one_column : Bool → Program
 one_column opposite = record {
   rows = 1;

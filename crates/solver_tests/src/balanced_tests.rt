@@ -59,7 +59,7 @@ fn sixteen_who_win_together_have_a_core(rt: HostRuntime) -> Result<(), Fail> {
     Ok(())
 }
 
-/// Why so many players have no answer; none where they have one.
+/// Why so many players have no answer; none if they have one.
 fn fault_of(alloc: Global, players: usize) -> Result<Option<CoreFault>, Fail> {
     let costs = vec![in alloc; 1; players]?;
     let game = AirportGame::new(alloc, costs).ok().ok_or("no game")?;

@@ -99,7 +99,7 @@ fn spans_certify_an_assignment_game(rt: HostRuntime) -> Result<(), Fail> {
     compare(&rt, rt.alloc(), &game, Mode::Span, &ON_ASSIGNMENT, &wanted)
 }
 
-/// The levels of the prenucleolus 1, 1, -2 where only the first two are worth something, 4 together.
+/// The levels of the prenucleolus 1, 1, -2 if only the first two are worth something, 4 together.
 const BELOW: [Row<'static>; 2] = [
     ((2, 1), &[(of![1, 2], 1), (of![3], 1)], &[], &[], 1),
     (
@@ -228,7 +228,7 @@ fn players_certify_an_airport_game(rt: HostRuntime) -> Result<(), Fail> {
     compare(&rt, rt.alloc(), &game, Mode::Players, &ON_AIRPORT, &wanted)
 }
 
-/// The levels of the nucleolus per head where the first two are worth 6 together, and all three 12.
+/// The levels of the nucleolus per head if the first two are worth 6 together, and all three 12.
 const BY_HEAD: [Row<'static>; 2] = [
     ((-2, 1), &[(of![1, 2], 1), (of![3], 1)], &[], &[], 1),
     (

@@ -9,7 +9,7 @@ use std::alloc::Global;
 use std::test::Fail;
 use worth_core::Worth;
 
-/// What the test says, and whether the answer says the same, with these shares where it is convex.
+/// What the test says, and whether the answer says the same, with these shares if it is convex.
 fn told<W: Worth>(
     alloc: Global,
     game: &W,

@@ -12,7 +12,7 @@ use std::alloc::Global;
 use std::test::Fail;
 use worth_core::{Measure, Worth};
 
-/// The certificate of the nucleolus, or of the prenucleolus, of a game; none where it has no imputation.
+/// The certificate of the nucleolus, or of the prenucleolus, of a game; none if it has no imputation.
 pub(crate) fn certificate_of<W: Worth>(
     alloc: Global,
     game: &W,

@@ -51,7 +51,7 @@ fn levels_of(alloc: Global, rows: &[Row<'_>]) -> Result<Vec<Level>, Fail> {
     Ok(levels)
 }
 
-/// The certificate of levels of these numbers, where they make one.
+/// The certificate of levels of these numbers, if they make one.
 pub(crate) fn certificate_of(
     alloc: Global,
     players: u32,

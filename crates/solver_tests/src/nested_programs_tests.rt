@@ -76,7 +76,7 @@ fn are_masks(pairs: &[(Coalition, i128)], masks: &[u64]) -> bool {
     true
 }
 
-/// A level's excess over a denominator, its coalitions, and its total where that is wanted.
+/// A level's excess over a denominator, its coalitions, and its total if that is wanted.
 type Masks<'a> = ((i128, i128), &'a [u64], Option<i128>);
 
 /// Whether a level has these numbers, and no bounds.
@@ -176,7 +176,7 @@ fn two_worth_more_alone_have_no_imputation(rt: HostRuntime) -> Result<(), Fail> 
     Ok(())
 }
 
-/// Why so many players have no answer; none where they have one.
+/// Why so many players have no answer; none if they have one.
 fn fault_of(alloc: Global, players: usize) -> Result<Option<NestedFault>, Fail> {
     let costs = vec![in alloc; 1; players]?;
     let game = AirportGame::new(alloc, costs).ok().ok_or("no game")?;

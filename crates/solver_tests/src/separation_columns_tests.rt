@@ -102,7 +102,7 @@ fn for_players(multiplier: i128, players: u32, rows: u32) -> Multipliers
     Multipliers { num, den: 1 }
 }
 
-/// The multipliers and their denominator, each times one number; none where that makes them too large.
+/// The multipliers and their denominator, each times one number; none if that makes them too large.
 fn scaled(m: &Multipliers, by: i128) -> Option<Multipliers> {
     let den = m.den.wrapping_mul(by);
     if den < 1 || den > 1 << 63 {
@@ -129,7 +129,7 @@ fn optimum<A: Columns>(alloc: Global, columns: &mut A) -> Result<Optimal, Fail> 
     Ok(solve(&mut work, columns).ok().ok_or("no optimum")?)
 }
 
-/// By how much the cost of a column is above its value, each row by itself; 0 where there is none.
+/// By how much the cost of a column is above its value, each row by itself; 0 if there is none.
 fn gap_of<A: Columns>(a: &A, id: u64, m: &Multipliers, with_costs: bool) -> i128 {
     if !a.has(id) {
         return 0;
@@ -168,7 +168,7 @@ fn is_best<A: Columns>(a: &A, shape: Shape, id: u64, m: &Multipliers, with_costs
     gap > 0
 }
 
-/// A column that rises, or the one that enters, where there is a multiplier for each row.
+/// A column that rises, or the one that enters, if there is a multiplier for each row.
 fn asked<A: Columns>(a: &mut A, m: &Multipliers, with_costs: bool, first: bool) -> Option<u64> {
     if m.num.len() == a.rows() as usize {
         if first {
@@ -181,7 +181,7 @@ fn asked<A: Columns>(a: &mut A, m: &Multipliers, with_costs: bool, first: bool) 
     }
 }
 
-/// Whether a column rises exactly where one enters, and well, and the same one where the multipliers are so large that
+/// Whether a column rises exactly if one enters, and well, and the same one if the multipliers are so large that
 /// the search is in 128 bits.
 fn rises_well<A: Columns, B: Columns>(
     a: &mut A,

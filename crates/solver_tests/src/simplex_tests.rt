@@ -4,7 +4,7 @@ ghost use Rattle.solver_tests.specs.OneRow.{one_column, one_column_lawful, two_w
 
 use simplex::{Columns, LpFault, Multipliers, Optimal, Workspace, solve};
 
-/// A row with right side 1, and one column: with entry -1 and cost 0 where `opposite`, or else with entry 1 and cost
+/// A row with right side 1, and one column: with entry -1 and cost 0 if `opposite`, or else with entry 1 and cost
 /// -3.
 #[derive(Drop)]
 struct OneColumn {
@@ -88,7 +88,7 @@ impl Columns for TwoWays {
     }
 }
 
-/// The weight, its denominator, the multiplier and its denominator; none where there is not one weight and one
+/// The weight, its denominator, the multiplier and its denominator; none if there is not one weight and one
 /// multiplier.
 fn numbers(best: &Optimal) -> Option<(i128, i128, i128, i128)> {
     let weights = best.weights.as_slice();

@@ -1,4 +1,4 @@
-//! Games on which the simplex is slow where the column of least number enters.
+//! Games on which the simplex is slow if the column of least number enters.
 
 ghost use Rattle.std.specs.Prelude.{◌≤◌};
 

@@ -15,7 +15,7 @@ use Rattle.spans.specs.Sums.{number_at}
 abbrev pub slot_of : ℤ → ℕ
 slot_of z = cast_unsigned w64 z % 1024
 
--- of the first m places, p is the last one whose number has the slot, or 0 where none has
+-- of the first m places, p is the last one whose number has the slot, or 0 if none has
 pub record IsLastPlace (numbers : List ℤ) (slot m p : ℕ) : Type 0 where
   pub within : p ≤ m
   pub has_slot : 0 < p → slot_of (number_at numbers (p - 1)) ≡ slot

@@ -9,7 +9,7 @@
 --   InBargainingSet g x          an imputation at which each objection can be countered
 --   KernelIsInBargainingSet      the kernel lies in the bargaining set
 --   NucleolusIsInBargainingSet   so the nucleolus does
---   BargainingSetIsntEmpty       where there is an imputation, some shares lie in the bargaining set
+--   BargainingSetIsntEmpty       if there is an imputation, some shares lie in the bargaining set
 --   CoreIsInBargainingSet        the core lies in it: at a core point nobody has an objection
 use Rattle.std.specs.Prelude.{◌≡◌, ◌≢◌, ℕ, ◌^◌, ◌<◌, true}
 use Rattle.std.specs.Prelude.{false, IsTrue, ◌*ℤ◌, ◌<ℤ◌, ◌≤ℤ◌}

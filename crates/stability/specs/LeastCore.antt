@@ -6,7 +6,7 @@
 --   InLeastCore measure g x          a preimputation whose greatest excess is least
 --   PrenucleolusIsInLeastCore        the prenucleolus lies in the least core
 --   LeastCoreIsntEmpty               every game with a player has shares in the least core
---   LeastCoreIsInCore                where the core isn't empty, the least core lies in it
+--   LeastCoreIsInCore                if the core isn't empty, the least core lies in it
 use Rattle.std.specs.Prelude.{◌<◌, ◌≤◌, ℤ, ◌*ℤ◌, ◌≤ℤ◌}
 use Rattle.definitions.specs.Sums.{IsGreatest}
 use Rattle.definitions.specs.Coalitions.{grand_coalition}
@@ -36,7 +36,7 @@ LeastCoreIsntEmpty =
     (measure : Measure) (g : Game) → IsMeasurable measure g.players → 1 ≤ g.players →
     (x : Allocation) × InLeastCore measure g x
 
--- where some allocation is in the core, the least core lies in the core
+-- if some allocation is in the core, the least core lies in the core
 abbrev pub LeastCoreIsInCore : Type 0
 LeastCoreIsInCore =
     (measure : Measure) (g : Game) (x z : Allocation) → IsMeasurable measure g.players → InCore g z →

@@ -11,7 +11,7 @@ use Rattle.definitions.specs.Games.{Game, Allocation, share, amount, IsAllocatio
 use Rattle.definitions.specs.Players.{IsDummy}
 
 -- efficient, and each coalition gets at most what all are worth less what the others are worth by themselves: of costs,
--- it pays at least what they rise by where it joins the others
+-- it pays at least what they rise by if it joins the others
 abbrev pub IsSubsidyFree : Game → Allocation → Type 0
 IsSubsidyFree g x =
     IsAllocation g x

@@ -29,7 +29,7 @@ single at j = singleton (at j)
 abbrev pub others : ℕ → (ℕ → ℕ) → ℕ → ℕ
 others n at j = grand_coalition n - singleton (at j)
 
--- of the two, the first where the estate is at most half of the claims
+-- of the two, the first if the estate is at most half of the claims
 abbrev pub key_of : ℕ → (ℕ → ℕ) → Bool → ℕ → ℕ
 key_of n at gain j = if gain then single at j else others n at j
 
@@ -79,7 +79,7 @@ pub record IsRestLevel (n : ℕ) (at : ℕ → ℕ) (m : ℕ) (gain : Bool) (t d
   pub bounds : l.bounds ≡ []
   pub total : l.total ≡ (if gain then pos 1 else pos n -ℤ pos 1)
 
--- half levels while two players are left, and behind all of them the level of the others, where they are two at least
+-- half levels while two players are left, and behind all of them the level of the others, if they are two at least
 abbrev pub AreLevels : ℕ → (ℕ → ℕ) → (ℕ → ℕ) → ℕ → Bool → ℤ → ℤ → List Level → Type 0
 AreLevels n claim at m gain t den levels =
     ((k : ℕ) × AreHalves n claim at m 0 levels k × (n ≤ k + 1))
@@ -130,7 +130,7 @@ pub record HoldsRest (n : ℕ) (at : ℕ → ℕ) (m : ℕ) (gain : Bool) (t den
   pub bounds : l.bounds ≡ []
   pub total : l.total ≡ (if gain then pos 1 else pos n -ℤ pos 1)
 
--- half levels while two players are left, and behind all of them the level of the others, where they are two at least
+-- half levels while two players are left, and behind all of them the level of the others, if they are two at least
 abbrev pub HoldAll : ℕ → (ℕ → ℕ) → (ℕ → ℕ) → ℕ → Bool → ℤ → ℤ → List Level → Type 0
 HoldAll n claim at m gain t den levels =
     ((k : ℕ) × HoldHalves n claim at m 0 levels k × (n ≤ k + 1))

@@ -5,7 +5,7 @@
 --   cut_sum estate claims      their sum
 --   loss estate claims x i     what player i gets less than its cut claim, over the denominator
 --   is_little estate claims    the estate is at most half of the cut claims
---   part estate claims x i     what player i gets, where the estate is at most half of them, and else what it loses
+--   part estate claims x i     what player i gets, if the estate is at most half of them, and else what it loses
 --   IsTalmud estate claims x   the shares are those of the rule
 use Rattle.std.specs.Prelude.{◌≡◌, ℕ, ◌<◌, Bool, List, length, map, min, ℤ, pos}
 use Rattle.std.specs.Prelude.{◌+ℤ◌, ◌-ℤ◌}
@@ -30,7 +30,7 @@ loss estate claims x i = x.den *ℤ pos (cut estate claims i) -ℤ share x i
 abbrev pub is_little : ℕ → List ℕ → Bool
 is_little estate claims = int_le (pos estate +ℤ pos estate) (cut_sum estate claims)
 
--- what player i gets, where the estate is at most half of the cut claims, and otherwise what it loses
+-- what player i gets, if the estate is at most half of the cut claims, and otherwise what it loses
 abbrev pub part : ℕ → List ℕ → Allocation → ℕ → ℤ
 part estate claims x i = if is_little estate claims then share x i else loss estate claims x i
 

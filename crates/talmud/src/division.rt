@@ -1,6 +1,6 @@
 //! How the estate is divided: who gets half of its claim, and what the others get or lose.
 //!
-//! With the cut claims `d` in ascending order, of `n` players, and with `S` the estate or, where that is more than half
+//! With the cut claims `d` in ascending order, of `n` players, and with `S` the estate or, if that is more than half
 //! of the claims, what they are above it: the player at place `m` gets (or loses) `d_m / 2` as long as `(n - m) d_m` is
 //! at most `2 S - (d_0 + .. + d_(m-1))`. The others get (or lose) `(2 S - (d_0 + .. + d_(m-1))) / (2 (n - m))`.
 ghost use Rattle.std.specs.Prelude.{◌≡◌, IfOk};
@@ -15,9 +15,9 @@ use std::alloc::{AllocError, Global};
 /// What is divided by halves, and so what the bound is on.
 #[derive(Clone, Copy)]
 pub(crate) enum Side {
-    /// What players get: the estate, where it is at most half of the claims.
+    /// What players get: the estate, if it is at most half of the claims.
     Gain,
-    /// What players lose: what the claims are above the estate, where that is more than half of them.
+    /// What players lose: what the claims are above the estate, if that is more than half of them.
     Loss,
 }
 

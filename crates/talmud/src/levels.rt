@@ -15,7 +15,7 @@ use coalitions::Coalition;
 use kohlberg::{Level, put_pair, ratio};
 use std::alloc::{AllocError, Global};
 
-/// A player alone where players gain, and all of `n` but that player where they lose.
+/// A player alone if players gain, and all of `n` but that player if they lose.
 fn key(player: u32, n: u32, side: Side) -> Coalition
     requires player { player < n }
     requires few { n ≤ 64 }
@@ -28,7 +28,7 @@ fn key(player: u32, n: u32, side: Side) -> Coalition
     }
 }
 
-/// One coalition of each place from `i` up to `k`: the player alone where players gain, and all but that player where
+/// One coalition of each place from `i` up to `k`: the player alone if players gain, and all but that player if
 /// they lose.
 fn keys(
     alloc: Global,
@@ -107,7 +107,7 @@ fn half_level(alloc: Global, claims: &CutClaims, i: u32, k: u32) -> Result<Level
     })
 }
 
-/// What the weights of the last level add to: 1 where players gain, and all players but one where they lose.
+/// What the weights of the last level add to: 1 if players gain, and all players but one if they lose.
 fn rest_total(n: u32, side: Side) -> i128
     ensures { result ≡ (if is_gain side then pos 1 else pos n -ℤ pos 1) }
 {
@@ -155,7 +155,7 @@ fn half_levels(alloc: Global, claims: &CutClaims, m: u32) -> Result<Vec<Level>, 
     Ok(levels)
 }
 
-/// All levels: those of the half players by ascending claims, and that of the others where they are two at least.
+/// All levels: those of the half players by ascending claims, and that of the others if they are two at least.
 pub(crate) fn all_levels(
     alloc: Global,
     claims: &CutClaims,

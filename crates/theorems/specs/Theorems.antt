@@ -29,7 +29,7 @@ CertificatesAreSound =
     → IsMeasurable measure g.players → HasForm mode g.players levels → Certifies mode family measure g x levels
     → IsNucleolus family measure g x
 
--- where a balanced collection has excess worth, the core is empty
+-- if a balanced collection has excess worth, the core is empty
 abbrev pub CollectionsBlock : Type 0
 CollectionsBlock =
     (g : Game) (ps : List (ℕ × ℤ)) (k : ℤ) (x : Allocation) → IsBalancedOfExcessWorth g ps k → InCore g x → ⊥

@@ -26,7 +26,7 @@ near matrix connected zero t = entry matrix 0 t
 near matrix connected (suc b) t =
     if connected b then min (near matrix connected b t) (entry matrix b t) else near matrix connected b t
 
--- the first point below the bound that passes the test and whose number is least, 0 where none passes
+-- the first point below the bound that passes the test and whose number is least, 0 if none passes
 abbrev pub closest : (ℕ → ℕ) → (ℕ → Bool) → ℕ → ℕ
 closest number test zero = 0
 closest number test (suc t) =

@@ -63,7 +63,7 @@ impl TreeGame {
     }
 }
 
-/// The first of the given points whose number is least, 0 where there is none.
+/// The first of the given points whose number is least, 0 if there is none.
 pub(crate) fn closest(numbers: &[u64; POINTS], points: u32, given: Coalition) -> u32
     requires some { 1 ≤ points }
     requires few { points ≤ 17 }

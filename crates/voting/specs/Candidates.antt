@@ -2,7 +2,7 @@
 -- Sets of greatest sum, and of those with the same the one with the least mask: one for each weight.
 --
 --   is_behind c d       d has a greater sum, or the same and a lesser mask
---   better c d          the one of the two that isn't behind, where there are any
+--   better c d          the one of the two that isn't behind, if there are any
 --   joined c i number   the candidate with player i, whose number that is
 --   raised c number     the candidate with a number added to its sum
 --   at_weight l w       the candidate of weight w
@@ -74,7 +74,7 @@ pub record IsBestOf (P : ℕ → Type 0) (v : ℕ → ℤ) (c : Candidate) : Typ
   pub greatest : (t : ℕ) → P t → v t ≤ℤ c.sum
   pub least : (t : ℕ) → P t → t < c.coalition → v t <ℤ c.sum
 
--- the best of the kind, and none where nothing is of the kind
+-- the best of the kind, and none if nothing is of the kind
 abbrev pub IsBest : (ℕ → Type 0) → (ℕ → ℤ) → Option Candidate → Type 0
 IsBest P v None = (s : ℕ) → ¬ P s
 IsBest P v (Some c) = IsBestOf P v c

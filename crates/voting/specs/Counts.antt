@@ -15,7 +15,7 @@
 --   range_total r low high               the counts of the weights of a range, added
 --   row_total weight i n size low high   the same of all coalitions of a size without player i
 --   share_unit n k                       what a coalition of k players in front gives of the common denominator
---   numerator weight i n low high        what player i gets over it, where it makes the weights of the range winning
+--   numerator weight i n low high        what player i gets over it, if it makes the weights of the range winning
 use Rattle.std.specs.Prelude.{◌≡◌, ℕ, zero, suc, ◌+◌, ◌-◌, ◌*◌, ◌/◌, ◌^◌, ◌<◌}
 use Rattle.std.specs.Prelude.{◌≤◌, ◌&&◌, nat_eq, nat_le, []}
 use Rattle.std.specs.Prelude.{length, ℤ, pos, ◌*ℤ◌, slice_index, slice_index_or, if◌then◌else◌}
@@ -75,7 +75,7 @@ row_total weight i n size low high =
 unfoldable pub share_unit : ℕ → ℕ → ℕ
 share_unit n k = common * orders_with n k / factorial n
 
--- what player i gets over the common denominator, where it makes the weights from low to below high winning
+-- what player i gets over the common denominator, if it makes the weights from low to below high winning
 abbrev pub numerator : (ℕ → ℕ) → ℕ → ℕ → ℕ → ℕ → ℤ
 numerator weight i n low high =
     sum_below n (λ k. pos (share_unit n k) *ℤ row_total weight i n k low high)

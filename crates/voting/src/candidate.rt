@@ -11,7 +11,7 @@ pub(crate) struct Candidate {
     pub(crate) coalition: Coalition,
 }
 
-/// The candidate of greater sum, and of two with the same the one with the lesser mask, where there are any.
+/// The candidate of greater sum, and of two with the same the one with the lesser mask, if there are any.
 pub(crate) fn better_of(c: Option<Candidate>, d: Option<Candidate>) -> Option<Candidate>
     ensures { result ≡ better c d }
 {

@@ -16,7 +16,7 @@ use std::alloc::Global;
 use std::marker::Model;
 use worth_core::{Shares, Worth};
 
-/// Why a quota and weights make no game. Where several causes apply, the first of them is answered.
+/// Why a quota and weights make no game. If several causes apply, the first of them is answered.
 #[derive(Clone, Copy, Debug, PartialEq, Eq)]
 pub enum VotingFault {
     /// There aren't 1 to 32 weights.
@@ -29,7 +29,7 @@ pub enum VotingFault {
     Memory,
 }
 
-/// A quota, and the weight of each player. A coalition is worth 1 where its weights sum to at least the quota, and 0
+/// A quota, and the weight of each player. A coalition is worth 1 if its weights sum to at least the quota, and 0
 /// otherwise.
 #[derive(Debug, Drop)]
 pub struct VotingGame {

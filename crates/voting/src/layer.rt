@@ -13,7 +13,7 @@ pub(crate) const HEAVIEST: usize = 1000;
 /// Each weight from 0 to the most.
 pub(crate) const WEIGHTS: usize = HEAVIEST + 1;
 
-/// A candidate for each weight from 0 to 1,000, and none where no set of that weight is of the kind.
+/// A candidate for each weight from 0 to 1,000, and none if no set of that weight is of the kind.
 #[derive(Clone, Copy)]
 pub(crate) struct Layer {
     entries: [Option<Candidate>; WEIGHTS],
@@ -112,7 +112,7 @@ impl Layer {
         }
     }
 
-    /// The candidate of greatest sum, where those from the quota on have so much more.
+    /// The candidate of greatest sum, if those from the quota on have so much more.
     pub(crate) fn best(&self, quota: usize, more: i128) -> Option<Candidate>
         requires number { unsigned_abs more < 2 ^ 110 }
         requires small { AreSmall 32 self.now }
@@ -125,7 +125,7 @@ impl Layer {
         best
     }
 
-    /// The candidate of weight `w`, with so much more where that is at least the quota.
+    /// The candidate of weight `w`, with so much more if that is at least the quota.
     fn excess_at(&self, quota: usize, w: usize, more: i128) -> Option<Candidate>
         requires few { w < 1001 }
         requires number { unsigned_abs more < 2 ^ 110 }

@@ -4,12 +4,12 @@
 --   holds_some n f s           s holds some player of f
 --   lacks_some n f seen s      s lacks some player of f that is seen
 --   IsSeenSet                  a set of seen players that passes a test of these two
---   IsGreatestSum              the greatest sum of the members' numbers over these sets, and none where there is none
+--   IsGreatestSum              the greatest sum of the members' numbers over these sets, and none if there is none
 --   Sums                       a sum for each kind of sets, and the number of players seen
 --   AreSplitSums               the greatest sums of the four kinds
 --   IsOneMore                  the sums with one more player seen
 --   IsSmallSum, AreSmallSums   a sum over at most so many players; each sum is such a one
---   greater_sum                the greater of two sums, where there are any
+--   greater_sum                the greater of two sums, if there are any
 --   longer_sum                 a sum and one more number
 use Rattle.std.specs.Prelude.{◌≡◌, ℕ, ◌+◌, ◌*◌, ◌^◌, ◌<◌, ◌≤◌, Bool, true, false}
 use Rattle.std.specs.Prelude.{not, ◌&&◌, IsTrue, ℤ}
@@ -30,7 +30,7 @@ IsSeenSet n f seen test s =
     (s < 2 ^ n) × ((i : ℕ) → has_player s i ≡ true → has_player seen i ≡ true)
     × IsTrue (test (holds_some n f s) (lacks_some n f seen s))
 
--- the greatest sum of the members' numbers over these sets, and none where there is no such set
+-- the greatest sum of the members' numbers over these sets, and none if there is no such set
 abbrev pub IsGreatestSum : ℕ → (ℕ → ℤ) → ℕ → ℕ → (Bool → Bool → Bool) → Option ℤ → Type 0
 IsGreatestSum n a f seen test sum =
     MatchOption sum ((s : ℕ) → ¬ IsSeenSet n f seen test s)

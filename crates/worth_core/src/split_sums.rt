@@ -101,7 +101,7 @@ impl SplitSums {
         }
     }
 
-    /// The sums with a player outside `F`, who joins a set where that makes its sum greater.
+    /// The sums with a player outside `F`, who joins a set if that makes its sum greater.
     fn with_other(&self, weight: i128) -> SplitSums
         requires room { self.now.count < 64 }
         requires small { unsigned_abs weight < 2 ^ 112 }
@@ -121,7 +121,7 @@ impl SplitSums {
     }
 }
 
-/// The greater of two sums, where there are any.
+/// The greater of two sums, if there are any.
 fn greater(m: Option<i128>, k: Option<i128>) -> Option<i128>
     ensures { result ≡ greater_sum m k }
 {

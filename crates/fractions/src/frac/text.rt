@@ -51,7 +51,7 @@ impl Frac {
     }
 }
 
-/// Appends the text of a fraction, or a front of it where memory is short.
+/// Appends the text of a fraction, or a front of it if memory is short.
 fn append_text(num: i128, den: i128, out: &mut Vec<u8>) -> Result<(), AllocError>
     ensures written { OnOk result (out.new.items ≡ out.old.items ++ fraction_text (record { num = num; den = den })) }
     ensures kept { OnErr result (take (length out.old.items) out.new.items ≡ out.old.items) }
@@ -76,7 +76,7 @@ fn split_sign(text: &[u8]) -> (bool, &[u8])
     }
 }
 
-/// The numerator's size and the denominator of a text without a sign. None where it is no such text in lowest terms, or
+/// The numerator's size and the denominator of a text without a sign. None if it is no such text in lowest terms, or
 /// one of the numbers needs more than 128 bits.
 fn unsigned_parts(text: &[u8]) -> Option<(u128, u128)>
     ensures { SomeIff result

@@ -8,8 +8,8 @@
 --   table_players       the number of players of a table, from 1 to 16
 --   players_at          the number of players
 --   has_items           an array has one item fewer than n
---   has_worths_for      a number for each coalition of so many players, where all are listed
---   has_table_players   1 to 16 players, and one number for each coalition but the empty one, where all are listed
+--   has_worths_for      a number for each coalition of so many players, if all are listed
+--   has_table_players   1 to 16 players, and one number for each coalition but the empty one, if all are listed
 --   is_worth            a number that times the scale k is below 2^40 in size
 --   has_worth           the number of a pair is such a number
 --   has_table_numbers   each number is within its limits
@@ -42,7 +42,7 @@ table_keys =
     codes "class" ∷ codes "default" ∷ codes "excess" ∷ codes "names" ∷ codes "players" ∷ codes "sparse"
     ∷ codes "version" ∷ codes "worths" ∷ []
 
--- a coalition and its number, which may be a text where texts are allowed
+-- a coalition and its number, which may be a text if texts are allowed
 abbrev pub is_sparse_pair : Bool → Data → Bool
 is_sparse_pair texts d = is_pair_of (is_array_of is_member) (is_numeric texts) d
 
@@ -77,7 +77,7 @@ players_at game = option_and_then table_players (option_and_then integer (get (c
 abbrev pub has_items : ℕ → Data → Bool
 has_items n d = length (parts d) + 1 == n
 
--- one number for each coalition but the empty one, where all are listed
+-- one number for each coalition but the empty one, if all are listed
 abbrev pub has_worths_for : Data → Option ℕ → Bool
 has_worths_for game None = false
 has_worths_for game (Some n) = passes_if_there (has_items (2 ^ n)) (get (codes "worths") game)

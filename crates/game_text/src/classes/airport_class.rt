@@ -28,7 +28,7 @@ pub(crate) fn is_shaped(game: &Value, texts: bool) -> bool
         && has(game, "costs", &ArrayOf(Numeric { texts }))
 }
 
-/// The number of players, one for each cost, where there are 1 to 64.
+/// The number of players, one for each cost, if there are 1 to 64.
 pub(crate) fn players(game: &Value) -> Option<usize>
     ensures { let n = airport_players (view game.now) in result ≡ (if is_list_size n then Some n else None) }
 {
@@ -36,7 +36,7 @@ pub(crate) fn players(game: &Value) -> Option<usize>
     if is_list_size(n) { Some(n) } else { None }
 }
 
-/// The costs times their scale, where this and each of them are within their limits.
+/// The costs times their scale, if this and each of them are within their limits.
 pub(crate) fn numbers(alloc: Global, game: &Value) -> Result<Option<Numbers>, OutOfMemory>
     ensures none { IfOk result (λ o. IfNone o (are_costs (airport_values (view game.now)) ≡ false)) }
     ensures within { IfOk result (λ o. IfSome o (λ n. are_costs (airport_values (view game.now)) ≡ true)) }

@@ -27,7 +27,7 @@ pub(crate) fn sellers_at(game: &Value) -> usize
     }
 }
 
-/// The number of players, one for each row and one for each item of the first row, where there are buyers and sellers,
+/// The number of players, one for each row and one for each item of the first row, if there are buyers and sellers,
 /// at most 16 together.
 pub(crate) fn players(game: &Value) -> Option<usize>
     ensures { result
@@ -42,7 +42,7 @@ pub(crate) fn players(game: &Value) -> Option<usize>
     }
 }
 
-/// The game that is described, by its entries. It is refused where the rows differ in length.
+/// The game that is described, by its entries. It is refused if the rows differ in length.
 pub(crate) fn assignment_of(
     alloc: Global,
     game: &Value,

@@ -32,7 +32,7 @@ pub(crate) fn is_shaped(game: &Value, texts: bool) -> bool
         && has(game, "claims", &ArrayOf(Numeric { texts }))
 }
 
-/// The number of players, one for each claim, where there are 1 to 64.
+/// The number of players, one for each claim, if there are 1 to 64.
 pub(crate) fn players(game: &Value) -> Option<usize>
     ensures { let n = bankruptcy_players (view game.now) in result ≡ (if is_list_size n then Some n else None) }
 {
@@ -40,7 +40,7 @@ pub(crate) fn players(game: &Value) -> Option<usize>
     if is_list_size(n) { Some(n) } else { None }
 }
 
-/// The estate and then the claims, times their scale, where this and each of them are within their limits.
+/// The estate and then the claims, times their scale, if this and each of them are within their limits.
 pub(crate) fn numbers(alloc: Global, game: &Value) -> Result<Option<Numbers>, OutOfMemory>
     ensures none { IfOk result (λ o. IfNone o (are_costs (bankruptcy_values (view game.now)) ≡ false)) }
     ensures within { IfOk result (λ o. IfSome o (λ n. are_costs (bankruptcy_values (view game.now)) ≡ true)) }
@@ -53,7 +53,7 @@ pub(crate) fn numbers(alloc: Global, game: &Value) -> Result<Option<Numbers>, Ou
     read_costs(alloc, &values)
 }
 
-/// The game that is described, by its estate and the claims behind it. It is refused where the estate is above the sum
+/// The game that is described, by its estate and the claims behind it. It is refused if the estate is above the sum
 /// of the claims.
 pub(crate) fn bankruptcy_of(
     alloc: Global,

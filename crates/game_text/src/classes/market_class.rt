@@ -18,7 +18,7 @@ use kinds::Refusal;
 use serde_json::Value;
 use std::alloc::Global;
 
-/// The number of players, where there are 1 to 32 buyers, and 1 to 32 sellers.
+/// The number of players, if there are 1 to 32 buyers, and 1 to 32 sellers.
 pub(crate) fn players(game: &Value) -> Option<usize>
     ensures { result
         ≡ (if has_market_players (view game.now) then Some (assignment_players (view game.now)) else None) }
@@ -32,7 +32,7 @@ pub(crate) fn players(game: &Value) -> Option<usize>
     }
 }
 
-/// The market that is described, by its entries. It is refused where the rows differ in length.
+/// The market that is described, by its entries. It is refused if the rows differ in length.
 pub(crate) fn market_of(alloc: Global, game: &Value, entries: Vec<i64>) -> Result<Game, TextFault>
     requires class { class_of (view game.now) ≡ Some Market }
     requires sizes { HasSizes (view game.now) }

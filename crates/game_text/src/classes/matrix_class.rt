@@ -14,7 +14,7 @@ use json_trees::{ArrayOf, Numeric, has, has_only_keys, parts_at};
 use serde_json::Value;
 use std::alloc::Global;
 
-// Whether there are rows of numbers, which may be texts where texts are allowed.
+// Whether there are rows of numbers, which may be texts if texts are allowed.
 fn has_rows(game: &Value, texts: bool) -> bool
     ensures { result ≡ passes (is_array_of (is_array_of (is_numeric texts))) (get (codes "matrix") (view game.now)) }
 {
@@ -29,7 +29,7 @@ pub(crate) fn is_shaped(game: &Value, texts: bool) -> bool
     has_only_keys(&["class", "excess", "matrix", "names", "version"], game) && has_rows(game, texts)
 }
 
-/// The entries, row by row, times their scale, where this and each of them are within their limits.
+/// The entries, row by row, times their scale, if this and each of them are within their limits.
 pub(crate) fn numbers(alloc: Global, game: &Value) -> Result<Option<Numbers>, OutOfMemory>
     ensures none { IfOk result (λ o. IfNone o (are_costs (matrix_numbers_in (view game.now)) ≡ false)) }
     ensures within { IfOk result (λ o. IfSome o (λ n. are_costs (matrix_numbers_in (view game.now)) ≡ true)) }

@@ -44,7 +44,7 @@ fn lists_worths(game: &Value, texts: bool) -> bool
         && game.get("default").is_none()
 }
 
-// Whether there are pairs of a coalition and a number, which may be a text where texts are allowed.
+// Whether there are pairs of a coalition and a number, which may be a text if texts are allowed.
 fn lists_pairs(game: &Value, texts: bool) -> bool
     ensures { result ≡ passes (is_array_of (is_sparse_pair texts)) (get (codes "sparse") (view game.now)) }
 {
@@ -90,7 +90,7 @@ fn table_players(n: i64) -> Option<u32>
     }
 }
 
-/// The number of players that a table says it has, where it is 1 to 16.
+/// The number of players that a table says it has, if it is 1 to 16.
 fn players_at(game: &Value) -> Option<u32>
     ensures value { result ≡ players_at (view game.now) }
     ensures range { IfSome result (λ n. (0 < n) × (n ≤ 16)) }
@@ -106,7 +106,7 @@ fn has_items(value: &Value, n: usize) -> bool
     parts(value).len() + 1 == n
 }
 
-/// Whether there is a number for each coalition of `n` players where all are listed.
+/// Whether there is a number for each coalition of `n` players if all are listed.
 fn has_worths_for(game: &Value, n: u32) -> bool
     requires { n ≤ 16 }
     ensures { result ≡ has_worths_for (view game.now) (Some n) }
@@ -117,7 +117,7 @@ fn has_worths_for(game: &Value, n: u32) -> bool
     }
 }
 
-/// The number of players, where there are 1 to 16, and a number for each coalition where all are listed.
+/// The number of players, if there are 1 to 16, and a number for each coalition if all are listed.
 pub(crate) fn players(game: &Value) -> Option<usize>
     ensures { result
         ≡ (if has_table_players (view game.now) then Some (unwrap_or (players_at (view game.now)) 0) else None) }
@@ -130,7 +130,7 @@ pub(crate) fn players(game: &Value) -> Option<usize>
     }
 }
 
-/// The numbers of all coalitions, or those of the pairs and then that of all others, times their scale, where this and
+/// The numbers of all coalitions, or those of the pairs and then that of all others, times their scale, if this and
 /// each of them are within their limits.
 pub(crate) fn numbers(alloc: Global, game: &Value) -> Result<Option<Numbers>, OutOfMemory>
     ensures none { IfOk result (λ o. IfNone o (are_worths (table_numbers_in (view game.now)) ≡ false)) }
@@ -145,7 +145,7 @@ pub(crate) fn numbers(alloc: Global, game: &Value) -> Result<Option<Numbers>, Ou
     read_worths(alloc, &values)
 }
 
-/// The number of each coalition. None where a pair of a sparse table has no coalition, or two have the same.
+/// The number of each coalition. None if a pair of a sparse table has no coalition, or two have the same.
 fn table_numbers(
     alloc: Global,
     game: &Value,
@@ -168,7 +168,7 @@ fn table_numbers(
     }
 }
 
-/// The table, by its numbers. None where a pair of a sparse table has no coalition, or two have the same.
+/// The table, by its numbers. None if a pair of a sparse table has no coalition, or two have the same.
 fn table_of(
     alloc: Global,
     game: &Value,
@@ -199,7 +199,7 @@ fn table_of(
     }
 }
 
-/// The game of a table of worths. It is refused where a pair of a sparse table has no coalition, or two have the same.
+/// The game of a table of worths. It is refused if a pair of a sparse table has no coalition, or two have the same.
 pub(crate) fn worths_of(
     alloc: Global,
     game: &Value,
@@ -221,7 +221,7 @@ pub(crate) fn worths_of(
     Ok(Game::Table(worths))
 }
 
-/// The game of a table of costs. It is refused where a pair of a sparse table has no coalition, or two have the same.
+/// The game of a table of costs. It is refused if a pair of a sparse table has no coalition, or two have the same.
 pub(crate) fn costs_of(
     alloc: Global,
     game: &Value,

@@ -16,7 +16,7 @@ use serde_json::Value;
 use std::alloc::Global;
 use tree_games::{TreeFault, TreeGame};
 
-/// The number of players, one for each row but that of the source, where there are 1 to 16.
+/// The number of players, one for each row but that of the source, if there are 1 to 16.
 pub(crate) fn players(game: &Value) -> Option<usize>
     ensures { result ≡ (if has_tree_players (view game.now) then Some (tree_players (view game.now)) else None) }
 {
@@ -28,7 +28,7 @@ pub(crate) fn players(game: &Value) -> Option<usize>
     }
 }
 
-/// The game that is described, by its entries. It is refused where the rows aren't those of links.
+/// The game that is described, by its entries. It is refused if the rows aren't those of links.
 pub(crate) fn tree_of(alloc: Global, game: &Value, entries: Vec<i64>) -> Result<Game, TextFault>
     requires class { class_of (view game.now) ≡ Some Tree }
     requires sizes { HasSizes (view game.now) }

@@ -29,7 +29,7 @@ pub(crate) fn is_shaped(game: &Value, _texts: bool) -> bool
         && has(game, "weights", &ArrayOf(Number))
 }
 
-/// The number of players, one for each weight, where there are 1 to 32.
+/// The number of players, one for each weight, if there are 1 to 32.
 pub(crate) fn players(game: &Value) -> Option<usize>
     ensures { let n = voting_players (view game.now) in result ≡ (if is_short_list_size n then Some n else None) }
 {
@@ -37,7 +37,7 @@ pub(crate) fn players(game: &Value) -> Option<usize>
     if is_short_list_size(n) { Some(n) } else { None }
 }
 
-/// The quota and then the weights, where they are integers within their limits.
+/// The quota and then the weights, if they are integers within their limits.
 pub(crate) fn numbers(alloc: Global, game: &Value) -> Result<Option<Numbers>, OutOfMemory>
     ensures none { IfOk result (λ o. IfNone o (are_costs (voting_values (view game.now)) ≡ false)) }
     ensures within { IfOk result (λ o. IfSome o (λ n. are_costs (voting_values (view game.now)) ≡ true)) }
