@@ -45,11 +45,11 @@ const numbers = [
     await noted(page, /“5.000” can be read as 5 or as 5000, and no other number here shows which/);
     expect("no answer before", await isHidden(page), true);
     await page.click("5000 landings");
-    await told(page, "#answer-body", /These are 5,000 landings/);
+    await told(page, "#answer-body", /These are 5000 landings/);
     expect("and told", await noted(page, /“5.000” is read as the whole number 5000/), /the comma comes before/);
     await page.type("rows.0.count", "1.234");
     await page.click("No, the point");
-    await told(page, "#answer-body", /These are 1,234 landings/);
+    await told(page, "#answer-body", /These are 1234 landings/);
   }],
 
   ["a number of landings that is whole by both marks is asked about", "runway", async (page, expect) => {
