@@ -8,7 +8,7 @@ use std::alloc::Global;
 use std::marker::Model;
 use worth_core::{Best, Shares, SplitSums, Worth, raised, scaled};
 
-/// Why costs make no game. If several causes apply, the first of them is answered.
+/// Why costs make no game. If several causes apply, the first of them is returned.
 #[derive(Clone, Copy, Debug, PartialEq, Eq)]
 pub enum AirportFault {
     /// There aren't 1 to 64 costs.

@@ -1,4 +1,4 @@
--- Who joins raises the greatest cost to its own, or not at all: so by no more where others have joined before.
+-- A player that joins raises the greatest cost to its own, or not at all: so by no more if others have joined before.
 use Rattle.std.proofs.Common.{ℕ, ◌+◌, ◌^◌, ◌≤◌, List, length, get_or, pos, ◌+ℤ◌, neg_ℤ, ◌≤ℤ◌, sym, ◌∙◌, arith}
 use Rattle.std.specs.Prelude.{max}
 use Rattle.std.proofs.lemmas.Int.{ints}

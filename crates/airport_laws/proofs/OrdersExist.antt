@@ -1,4 +1,4 @@
--- Any players have an order by their numbers: the last player is put in behind all others of no greater number.
+-- Any players have an order by their numbers: the last player is put in after all others of no greater number.
 use Rattle.std.proofs.Common.{◌≡◌, ◌⊎◌, ℕ, zero, suc, ◌+◌, ◌-◌, ◌*◌, ◌^◌, ◌<◌, ◌≤◌, cond, nat_lt, nat_eq, refl, sym, ap}
 use Rattle.std.proofs.Common.{◌∙◌, inl, inr, arith, add-zero, add-suc}
 use Rattle.std.proofs.Math.Nat.{pow-suc, mul_comm}

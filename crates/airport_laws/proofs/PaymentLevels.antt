@@ -1,4 +1,4 @@
--- Of any payments there are the levels of all blocks, and these fit a certificate but for the size of its lists.
+-- Any payments have the levels of all blocks, and these fit a certificate except for the size of its lists.
 use Rattle.std.proofs.Common.{◌≡◌, ℕ, zero, suc, ◌+◌, ◌-◌, ◌<◌, ◌≤◌, true, cond, nat_lt, List, [], ◌∷◌, ◌++◌, ℤ, pos}
 use Rattle.std.proofs.Common.{negsuc, ◌-ℤ◌, neg_ℤ, refl, ap, ◌∙◌, inl, inr, arith}
 use Rattle.std.proofs.lemmas.Int.{by_lt_z}

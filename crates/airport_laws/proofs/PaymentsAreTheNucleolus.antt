@@ -1,4 +1,4 @@
--- Whatever shares are payments, the levels of their blocks certify them, so they are the nucleolus. Where there are no
+-- Whatever shares are payments, the levels of their blocks certify them, so they are the nucleolus. If there are no
 -- players, all shares are the same.
 --
 -- The levels of the blocks (PaymentLevels.antt) have the form of a certificate except for the sizes of lists and

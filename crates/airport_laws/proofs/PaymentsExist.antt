@@ -1,4 +1,4 @@
--- In each order of the players by their costs there are payments: those of the scheme, looked up by place. Where there
+-- In each order of the players by their costs there are payments: those of the scheme, looked up by place. If there
 -- are no players, nobody pays.
 use Rattle.std.proofs.Common.{◌≡◌, ℕ, zero, suc, ◌<◌, ◌≤◌, cond, nat_eq, List, [], length, get_or, map, ℤ, pos, neg_ℤ}
 use Rattle.std.proofs.Common.{refl, sym, ◌∙◌, inl, inr, arith}

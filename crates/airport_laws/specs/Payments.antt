@@ -9,7 +9,7 @@
 --   EveryNucleolusIsPaid                    every nucleolus is payments, in each order
 --   NobodyPaysMoreThanAloneByNucleolus      nobody pays more than the cost alone, nor less than nothing
 --   NoGroupPaysMoreThanItsCostByNucleolus   no group pays more together than its greatest cost
---   AllPayTheGreatestCostByNucleolus        all together pay just the greatest cost
+--   AllPayTheGreatestCostByNucleolus        all together pay exactly the greatest cost
 use Rattle.std.specs.Prelude.{◌≡◌, ℕ, ◌^◌, ◌<◌, List, length, ℤ, pos}
 use Rattle.std.specs.Prelude.{◌*ℤ◌, ◌≤ℤ◌, slice_index}
 use Rattle.definitions.specs.Sums.{sum_below}

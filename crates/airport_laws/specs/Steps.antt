@@ -5,8 +5,8 @@
 --   IsByStep             shares by which each step is borne equally by all who need it
 --   by_step              of costs of 2, 4 and 6: payments of 2/3, 5/3 and 11/3
 --   ThreeAirlinesByStep  these are so, and 1, 3/2 and 7/2 aren't
---   ShapleyIsByStep      just these are the Shapley value
---   ShapleyIsInCore      by it no group pays more together than its greatest cost, and all together pay just that
+--   ShapleyIsByStep      exactly these are the Shapley value
+--   ShapleyIsInCore      by it no group pays more together than its greatest cost, and all together pay exactly that
 --   AirportsAreConvex    as worths the game is convex, and so as costs concave
 use Rattle.std.specs.Prelude.{◌≡◌, ◌↔◌, ℕ, zero, suc, ◌-◌, ◌<◌, List, [], ◌∷◌, length, ℤ, pos, neg_ℤ, ◌*ℤ◌, ◌≤ℤ◌}
 use Rattle.std.specs.Prelude.{slice_index}
@@ -54,11 +54,11 @@ ShapleyIsByStep =
     (costs : List ℕ) (at : ℕ → ℕ) (x : Allocation) → IsOrder (length costs) (slice_index costs) at →
     IsShapley (airport_game costs) x ↔ IsByStep costs at x
 
--- by the Shapley value no group pays more together than its greatest cost, and all together pay just that
+-- by the Shapley value no group pays more together than its greatest cost, and all together pay exactly that
 abbrev pub ShapleyIsInCore : Type 0
 ShapleyIsInCore =
     (costs : List ℕ) (x : Allocation) → IsShapley (airport_game costs) x → InCore (airport_game costs) x
 
--- whom a player joins, it adds no more to the cost if another one joined before
+-- a player adds no more to the cost of a coalition if another player has joined it before
 abbrev pub AirportsAreConvex : Type 0
 AirportsAreConvex = (costs : List ℕ) → IsConvex (airport_game costs)

@@ -59,20 +59,19 @@ AreLevels n at pay den levels = (k : ℕ) × IsChain n at pay den 0 levels k × 
 
 -- ---- the same levels, by what their lists hold
 
--- all but one of the players of the block from place i up to place k, or the first k players where others follow,
--- with weight 1
+-- all but one of the players of the block from place i up to place k, or the first k players if others follow, with
+-- weight 1
 abbrev pub IsOfBlock : ℕ → (ℕ → ℕ) → ℕ → ℕ → ℕ → ℤ → Type 0
 IsOfBlock n at i k s w =
     (((j : ℕ) × (i ≤ j) × (j < k) × (s ≡ grand_coalition n - singleton (at j))) ⊎ ((k < n) × (s ≡ front at k)))
     × (w ≡ pos 1)
 
--- the first i players, if there are some, with weight -1
+-- the first i players, if any, with weight -1
 abbrev pub IsInFront : (ℕ → ℕ) → ℕ → ℕ → ℤ → Type 0
 IsInFront at i s w = (0 < i) × (s ≡ front at i) × (w ≡ negsuc 0)
 
 -- the level of the block from place i up to place k: all of it pays the same and the next pays more; the excess is
--- minus that payment over the denominator, and the total is the number of its players, one less if it is the
--- last
+-- minus that payment over the denominator, and the total is the number of its players, or one less if it is the last
 pub record IsBlockLevel (n : ℕ) (at : ℕ → ℕ) (pay : ℕ → ℤ) (den : ℤ) (i k : ℕ) (l : Level) : Type 0 where
   pub two : i + 2 ≤ n
   pub some : i < k

@@ -43,7 +43,7 @@ pub record IsPaid (costs : List ℕ) (at : ℕ → ℕ) (pay : ℕ → ℤ) (x :
 -- ---- the search for a block
 
 -- how many payments the cost at place l has to hold if a block begins at place i: those of the block and one
--- more, but at the end
+-- more, except at the end
 abbrev pub size_of : ℕ → ℕ → ℕ → ℕ
 size_of n i l = if nat_lt (l + 1) n then l + 2 - i else l + 1 - i
 

@@ -32,7 +32,7 @@ fn pair_if(
 }
 
 /// The coalitions of the block from place `i` up to place `k`: all but one of its players, and the first `k` players
-/// where others follow.
+/// if others follow.
 fn block_coalitions(
     alloc: Global,
     game: &AirportGame,

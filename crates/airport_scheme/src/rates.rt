@@ -23,7 +23,7 @@ pub(crate) fn times(a: i128, b: i128) -> i128
     a * b
 }
 
-/// What is left of a cost if so much is paid, over the denominator.
+/// What is left of a cost after `paid`, over the denominator.
 fn rest(den: i128, cost: i64, paid: i128) -> i128
     requires positive { pos 1 ≤ℤ den }
     requires common { den ≤ℤ pos (2 ^ 63) }

@@ -35,7 +35,7 @@ pub record IsAssignment (rows : List (List ℤ)) : Type 0 where
   pub entries : HaveEntries rows
   pub even : IsEven rows
 
--- why rows make no assignment game: the first of the causes that applies; memory is wanted only if none does
+-- why rows make no assignment game: the first of the causes that applies; Memory only if no other does
 abbrev pub IsRefused : List (List ℤ) → AssignmentFault → Type 0
 IsRefused rows Players = ¬ HavePlayers rows
 IsRefused rows Number = HavePlayers rows × (¬ HaveEntries rows)

@@ -2,8 +2,8 @@
 --
 --   IsOptimalAmong matrix rows member value       value is that of an optimal matching of the members
 --   greatest_below n f                            the greatest of f 0 .. f (n - 1), 0 for none
---   optimal_value matrix rows columns i member    the value of an optimal matching of the members, where rows from i on
---                                                 stay out
+--   optimal_value matrix rows columns i member    the value of an optimal matching of the members, without the rows
+--                                                 from i on
 use Rattle.std.specs.Prelude.{◌≡◌, ℕ, zero, suc, ◌+◌, ◌≤◌, Bool, List, max, if◌then◌else◌}
 use Rattle.definitions.specs.Classes.{Matrix, removed, entry, IsMatching, matching_value}
 
@@ -16,7 +16,7 @@ abbrev pub greatest_below : ℕ → (ℕ → ℕ) → ℕ
 greatest_below zero f = 0
 greatest_below (suc n) f = max (greatest_below n f) (f n)
 
--- where rows from i on stay out: the last of the other rows stays out too, or has the best of its columns
+-- without the rows from i on: the last of the other rows stays out too, or has the best of its columns
 abbrev pub optimal_value : Matrix → ℕ → ℕ → ℕ → (ℕ → Bool) → ℕ
 optimal_value matrix rows columns zero member = 0
 optimal_value matrix rows columns (suc i) member =

@@ -11,7 +11,7 @@ use std::alloc::Global;
 use std::marker::Model;
 use worth_core::Worth;
 
-/// Why a matrix makes no assignment game. If several causes apply, the first of them is answered.
+/// Why a matrix makes no assignment game. If several causes apply, the first of them is returned.
 #[derive(Clone, Copy, Debug, PartialEq, Eq)]
 pub enum AssignmentFault {
     /// There is no row, the first row is empty, or its length and the number of rows sum to more than 16.

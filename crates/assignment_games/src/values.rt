@@ -29,7 +29,7 @@ pub(crate) fn all_values(
     Ok(values)
 }
 
-/// The value of an optimal matching within `s`, if those of all lesser masks are known.
+/// The value of an optimal matching within `s`. The values of all lesser masks are given.
 fn best(matrix: &[Vec<i64>], buyers: u32, sellers: u32, values: &[u64], s: Coalition) -> u64
     requires sides { HasSides (map (λ row. row.items) matrix.now) buyers sellers }
     requires filled { IsFilled (entries_of (map (λ row. row.items) matrix.now)) buyers values.now s }

@@ -1,4 +1,4 @@
--- Optimal weights of the balanced program, put in mask order, are a balanced collection of excess worth where the
+-- Optimal weights of the balanced program, put in mask order, are a balanced collection of excess worth if the
 -- multipliers add to more than the worth of all.
 --
 -- Both values of an optimum are equal, so the weights' worth is more too (`more_worth`). The weights add to their

@@ -2,9 +2,9 @@
 //! Shapley 1967).
 //!
 //! The balanced program asks for the greatest worth that coalitions have by weights that hold each player once. Its
-//! optimal multipliers are shares that no coalition blocks. If they add to the worth of all they are a point of the
-//! core. If they add to more, so do the optimal weights: they are a balanced collection of excess worth, beside
-//! which no core point stands.
+//! optimal multipliers are shares that no coalition blocks. If they add to the worth of all, they are a point of the
+//! core. If they add to more, the optimal weights are a balanced collection of excess worth, which shows that the core
+//! is empty.
 #![tactic(auto)]
 
 mod collection;

@@ -1,4 +1,4 @@
--- The greatest sum over the coalitions that hold some but not all of some players, where all players are seen.
+-- The greatest sum over the coalitions that hold some but not all of some players, once all players are seen.
 use Rattle.std.proofs.Common.{◌≡◌, ℕ, ◌+◌, ◌^◌, ◌<◌, Bool, true, false, not, ◌&&◌}
 use Rattle.std.proofs.Common.{◌||◌, IsTrue, ℤ, ◌+ℤ◌, ◌≤ℤ◌}
 use Rattle.std.proofs.Common.{Option, Some, None, IsSome, refl, sym, ap, ◌∙◌, inl, inr}

@@ -1,7 +1,7 @@
 //! The excess as the greater of two linear functions of the coalition, its arms.
 //!
 //! With the estate `E`, the claims `d`, the shares `x` over `q` and all players `N`, what the others leave to `S` is
-//! `E - d(N) + d(S)`, or nothing if that is negative. So the excess of `S` is the greater of
+//! `E - d(N) + d(S)`, or 0 if that is negative. So the excess of `S` is the greater of
 //! `f (E - d(N) + d(S)) - x(S)` at the factors `f = 0` and `f = q`.
 ghost use Rattle.std.specs.Prelude.{◌≡◌, Some, None, length};
 ghost use Rattle.std.specs.Prelude.{ℕ, ◌^◌, ◌<◌, pos, ℤ, ◌*ℤ◌, ◌<ℤ◌, ◌≤ℤ◌, unsigned_abs};

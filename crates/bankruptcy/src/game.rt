@@ -10,7 +10,7 @@ use std::alloc::Global;
 use std::marker::Model;
 use worth_core::{Shares, Worth};
 
-/// Why an estate and claims make no game. If several causes apply, the first of them is answered.
+/// Why an estate and claims make no game. If several causes apply, the first of them is returned.
 #[derive(Clone, Copy, Debug, PartialEq, Eq)]
 pub enum BankruptcyFault {
     /// There aren't 1 to 64 claims.

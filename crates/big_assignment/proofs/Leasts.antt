@@ -1,4 +1,4 @@
--- Least prices: raised only where a row would rather have another column, they stay below all others that leave
+-- Least prices: raised only while a row would rather have another column, they stay below all others that leave
 -- each row content.
 --
 -- Prices start at 0 (Demange, Gale and Sotomayor 1986). In its turn a row raises the price of each column that it would

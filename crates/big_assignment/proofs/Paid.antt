@@ -1,6 +1,6 @@
--- What the pairs of a matching get, and those who are in none: where each pair gets exactly its worth and the
--- others nothing, all get what the matching is worth, and no matching is worth more; and where all get no more than
--- a matching is worth, it is so.
+-- What the pairs of a matching get, and those who are in none. If each pair gets exactly its worth and the others
+-- nothing, all get what the matching is worth, and no matching is worth more. And if all get no more than a matching is
+-- worth, it is so.
 use Rattle.std.proofs.Common.{◌≡◌, ◌⊎◌, ℕ, ◌+◌, ◌*◌, ◌<◌, ◌≤◌, Bool, true, List}
 use Rattle.std.proofs.Common.{[]}
 use Rattle.std.proofs.Common.{◌∷◌, refl, inl, inr, arith, mul-le-mul}

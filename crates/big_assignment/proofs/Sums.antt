@@ -1,4 +1,4 @@
--- Sums over those that pass a test, and the bound that prices give: where each pair gets together at least what it
+-- Sums over those that pass a test, and the bound that prices give: if each pair gets together at least what it
 -- is worth, no matching is worth more than its members get.
 --
 -- A matching's pairs are taken out one by one (`prices_bound`).

@@ -13,7 +13,7 @@
 --   IsNearest    a reached row and a place that is not reached, of least slack
 --   IsImproved   of a pair and the pairs of one more row, the one of least slack
 --   IsShifted    what the reached rows gain falls by d, and what the reached places cost rises by d
---   IsPut        one function is the other, but for one place
+--   IsPut        one function is the other, except at one place
 use Rattle.std.specs.Prelude.{◌≡◌, ◌≢◌, ◌⊎◌, ℕ, ◌+◌, ◌^◌, ◌<◌, ◌≤◌, List}
 use Rattle.std.specs.Prelude.{slice_index, sum_by, nat_eq, if◌then◌else◌}
 use Rattle.big_assignment.specs.Deals.{IsFair, IsTight, offer_of, gain_of, price_of, mate_of}

@@ -9,7 +9,7 @@ use Rattle.assignment_games.specs.Assignments.{assignment_game}
 use Rattle.big_assignment.specs.Markets.{everybody}
 use Rattle.big_assignment.specs.Supports.{Supports, IsWorstFor}
 
--- shares support a matching of all players exactly if no matching has a greater value and the shares lie in the core
+-- shares support a matching of all players exactly when no matching has a greater value and the shares are in the core
 abbrev pub ShapleyShubik : Type 0
 ShapleyShubik =
     (rows : List (List ℤ)) (ps : List (ℕ × ℕ)) (x : Allocation)

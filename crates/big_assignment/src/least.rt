@@ -1,4 +1,4 @@
-//! The least prices at which each row is content with its column: prices rise from 0, and only if a row would rather
+//! The least prices at which each row is content with its column: prices rise from 0, and only while a row would rather
 //! have another column (Shapley and Shubik 1971; Demange, Gale and Sotomayor 1986).
 ghost use Rattle.std.specs.Prelude.{ℕ, ◌<◌, ◌≤◌, slice_index};
 ghost use Rattle.big_assignment.specs.Deals.{AreColumns, AreDealOffers, IsBelow, IsContentAt, IsFair, IsGain};
@@ -6,7 +6,7 @@ ghost use Rattle.big_assignment.specs.Deals.{NoneWanted, at_prices, mate_of, off
 
 use crate::deal::{Deal, PLACES};
 
-/// The prices where row `i` has its turn: each column that it would rather have than its own costs so much more that
+/// The prices after row `i` had its turn: each column that it would rather have than its own costs so much more that
 /// the row is content.
 fn after_turn(deal: &Deal, n: usize, i: usize, prices: &[u64; PLACES]) -> [u64; PLACES]
     requires rows { n ≤ 32 }
@@ -30,7 +30,7 @@ fn after_turn(deal: &Deal, n: usize, i: usize, prices: &[u64; PLACES]) -> [u64; 
     raised
 }
 
-/// The prices where each row has its turn, one after the other.
+/// The prices after each row had its turn, one after the other.
 fn after_round(deal: &Deal, n: usize, prices: &[u64; PLACES]) -> [u64; PLACES]
     requires rows { n ≤ 32 }
     requires offers { AreDealOffers deal.now }

@@ -15,7 +15,7 @@ use std::alloc::Global;
 use std::marker::Model;
 use worth_core::Worth;
 
-/// Why rows make no market. If several causes apply, the first of them is answered.
+/// Why rows make no market. If several causes apply, the first of them is returned.
 #[derive(Clone, Copy, Debug, PartialEq, Eq)]
 pub enum MarketFault {
     /// There aren't 1 to 32 rows, or there aren't 1 to 32 entries in the first.
@@ -92,7 +92,7 @@ impl MarketGame {
         self.matrix[0].len() as u32
     }
 
-    /// What buyer `i` and seller `j` are worth together if both are members, and 0 outside of the market too.
+    /// What buyer `i` and seller `j` are worth together if both are members; otherwise 0, as outside of the market.
     pub(crate) fn offer_within(&self, s: Coalition, i: usize, j: usize) -> u64
         requires row { i < 32 }
         requires column { j ≤ 32 }

@@ -48,7 +48,7 @@ impl MarketGame {
         shares_of(alloc, rows, self.players(), &low.gains, &low.prices)
     }
 
-    /// The core point of the greatest prices: the least of the other side, where rows and columns are exchanged.
+    /// The core point of the greatest prices: the least of the other side, with rows and columns exchanged.
     pub(crate) fn sellers_end(&self, alloc: Global, deal: &Deal) -> Result<Shares, OutOfMemory>
         requires { IsDealOfAll self.now deal.now }
         ensures best { IfOk result (λ x. IsBestFor (assignment_game self.now) (IsSeller (length self.now)) x) }

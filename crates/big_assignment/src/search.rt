@@ -58,7 +58,7 @@ fn nearest(deal: &Deal, search: &Search, n: usize) -> (usize, usize)
     best
 }
 
-/// The gains where the reached rows give up some of theirs.
+/// The gains after each reached row has given up `by` of its own.
 fn lowered(deal: &Deal, search: &Search, n: usize, by: u64) -> [u64; PLACES]
     requires rows { n < 32 }
     requires columns { AreColumns deal.now n }
@@ -77,7 +77,7 @@ fn lowered(deal: &Deal, search: &Search, n: usize, by: u64) -> [u64; PLACES]
     gains
 }
 
-/// The prices where those of the reached columns rise.
+/// The prices after those of the reached columns have risen by `by`.
 fn raised(deal: &Deal, search: &Search, by: u64) -> [u64; PLACES]
     requires small { (k : ℕ) → k ≤ 32 → price_of deal.now k + by < 2 ^ 64 }
     ensures reached { (k : ℕ) → k ≤ 32 → 1 ≤ rank_of search.now k
@@ -132,7 +132,7 @@ fn approach(deal: &mut Deal, search: &Search, n: usize) -> (usize, usize)
     (i, k)
 }
 
-/// The columns where a free one is handed to its parent, which gives up its own to the parent of that, until row `n`
+/// The columns after a free one is handed to its parent, which gives up its own to the parent of that, until row `n`
 /// has one.
 fn hand_over(deal: &Deal, search: &Search, n: usize, last: usize) -> [Option<usize>; PLACES]
     requires rows { n < 32 }
@@ -153,7 +153,7 @@ fn hand_over(deal: &Deal, search: &Search, n: usize, last: usize) -> [Option<usi
     }
 }
 
-/// Reaches one column more; true if it was free, and row `n` has a column now.
+/// Reaches one column more. Returns true if it was free: then row `n` has a column now.
 fn advance(deal: &mut Deal, search: &mut Search, n: usize) -> bool
     requires rows { n < 32 }
     requires offers { AreDealOffers deal.old }

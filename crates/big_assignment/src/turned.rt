@@ -70,7 +70,7 @@ fn gains_alone(deal: &Deal, rows: usize) -> [u64; PLACES]
     gains
 }
 
-/// The deal where the columns are the rows: what each column costs is what it gains.
+/// The deal in which the columns are the rows: what each column costs is what it gains.
 pub(crate) fn exchanged(deal: &Deal, rows: usize, columns: usize) -> Deal
     requires rows { rows ≤ 32 }
     requires few { columns ≤ 32 }

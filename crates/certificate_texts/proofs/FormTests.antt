@@ -1,4 +1,4 @@
--- Behind the tests of what is written, the tests of a certificate's form decide the form of its levels.
+-- After the tests of what is written, the tests of a certificate's form decide the form of its levels.
 use Rattle.std.proofs.Common.{◌≡◌, ℕ, ◌+◌, ◌≤◌, true, ◌&&◌, nat_le, if◌then◌else◌}
 use Rattle.std.proofs.Common.{List, [], ◌∷◌, ◌++◌}
 use Rattle.std.proofs.Common.{map, length, Some, None, pos, ◌≤ℤ◌, codes, refl, sym, ap}

@@ -1,4 +1,4 @@
--- A level is read where each of its parts is.
+-- A level is read if each of its parts is.
 use Rattle.std.proofs.Common.{◌≡◌, ℕ, ℤ, pos, List, Option, Some, None, if◌then◌else◌, codes, map, refl}
 use Rattle.std.proofs.Common.{◌∙◌}
 use Rattle.std.specs.Prelude.{unwrap_or, option_and_then, option_map}

@@ -1,4 +1,4 @@
-//! The certificate of a tree, if it has its form.
+//! The certificate that a tree describes, if the tree has the form of one.
 ghost use Rattle.std.specs.Prelude.{◌≡◌, ◌≤◌, IfOk, Some, None, if◌then◌else◌};
 ghost use Rattle.serde_json.specs.View.{view};
 ghost use Rattle.certificate_texts.specs.Certificates.{has_form, certificate_of};

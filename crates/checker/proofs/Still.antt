@@ -1,4 +1,4 @@
--- The free players once more levels fix some of them.
+-- The players that stay free when more levels fix some of them.
 use Rattle.std.proofs.Common.{◌≡◌, ◌≢◌, ◌⊎◌, ℕ, ◌+◌, ◌-◌, ◌^◌, ◌<◌, ◌≤◌, Bool}
 use Rattle.std.proofs.Common.{true, false, not, ◌&&◌, ◌||◌}
 use Rattle.std.proofs.Common.{nat_lt, nat_eq, List, [], ◌++◌, refl, sym, ap, ◌∙◌, arith}

@@ -33,8 +33,8 @@ IsGreatestOutside mode measure g x levels (Some f) =
     × IsGreatest (λ s. (s < 2 ^ g.players) × IsOutside mode g.players levels s) (measured_excess measure g x) m
     × IsValueOf measure x m f
 
--- the first weight that is below 1: of the level's coalitions, or of its bounds if those of all coalitions are 1
--- at least
+-- the first weight that is below 1: of the level's coalitions, or, if those of all coalitions are at least 1, of its
+-- bounds
 abbrev pub IsWrongSign : List Level → Level → Place → Type 0
 IsWrongSign front l (Coalition s) = IsFirstFailing (λ c. pos 1 ≤ℤ c.1) l.coalitions s
 IsWrongSign front l (Player i) = Weights l × IsFirstFailing (BoundWeighs front) l.bounds i
@@ -52,7 +52,7 @@ Means measure x P (BoundNotTight j i) = P (bound_not_tight j i)
 Means measure x P (OutsideAbove j f) = (e : ℤ) × IsValueOf measure x e f × P (outside_above j e)
 Means measure x P (NotAll i) = P (not_all i)
 
--- Yes if the certificate certifies the shares, and No with the first failure
+-- Yes if the certificate certifies the shares, otherwise No with the first failure
 abbrev pub IsVerdict : Mode → Family → Measure → Game → Allocation → List Level → Verdict → Type 0
 IsVerdict mode family measure g x levels Yes = Certifies mode family measure g x levels
 IsVerdict mode family measure g x levels (No r) = Means measure x (IsFirstFailure mode family measure g x levels) r

@@ -65,7 +65,7 @@ fn greatest_split<W: Worth>(
     }
 }
 
-/// The least free player, if two are free.
+/// The least free player, if at least two are free.
 fn first_free(free: Coalition, n: u32) -> Option<u32>
     requires { n ≤ 64 }
     ensures { (levels : List LevelData) → IsFreeSet n levels free → MatchOption result
@@ -146,7 +146,7 @@ pub(crate) fn greatest_outside<W: Worth>(
     }
 }
 
-/// The least player that isn't fixed, if not everything is.
+/// The least player that isn't fixed, unless everything is fixed.
 pub(crate) fn first_unfixed(fixed: &Fixed, n: u32) -> Option<u32>
     requires small { n ≤ 64 }
     requires over { IsOver n fixed.now }

@@ -1,4 +1,4 @@
--- Where the estate is greater and each smaller group is worth what it was, nobody gets less. If one claimant got less,
+-- If the estate is greater and each smaller group is worth what it was, nobody gets less. If one claimant got less,
 -- each who gets more would get at most half of the rise more, and have at least half of its claim before; but any two
 -- claims cover the estate, so at most two such claimants find room in it, and they don't take up the rise.
 use Rattle.std.proofs.Common.{◌≡◌, ◌≢◌, ℕ, ◌<◌, ◌≤◌, List, length, nat_eq, cond, Bool, true, false, refl, ℤ, pos}

@@ -1,5 +1,5 @@
--- Whose claim rises gets no less: else another one would get more, against whom it can't fall. And then the others, who
--- have the same claims as before, divide no more.
+-- A claimant whose claim rises gets no less: otherwise another one would get more, against whom it can't fall. And then
+-- the others, who have the same claims as before, divide no more.
 use Rattle.std.proofs.Common.{◌≡◌, ◌≢◌, ℕ, ◌<◌, ◌≤◌, List, length, get_or, ℤ, pos, ◌+ℤ◌, ◌-ℤ◌, ◌*ℤ◌, ◌<ℤ◌}
 use Rattle.std.proofs.Common.{◌≤ℤ◌, sym, ap, ◌∙◌, subst, inl, inr, arith}
 use Rattle.std.proofs.lemmas.Int.{ints, clamps, by_lt_z}

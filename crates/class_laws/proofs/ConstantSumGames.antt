@@ -1,5 +1,5 @@
 -- Constant-sum games: what a coalition and the others get adds to what they are worth; and the nucleolus of a vote, at
--- which no excess reaches one half, since none does where shares go by votes (Peleg 1968).
+-- which no excess reaches one half, since none does if shares go by votes (Peleg 1968).
 use Rattle.std.proofs.Common.{◌≡◌, ◌↔◌, ◌⊎◌, ℕ, ◌-◌, ◌^◌, ◌<◌, Bool, true, false, not, cond, List, [], ◌∷◌}
 use Rattle.std.proofs.Common.{length, get_or, map, int_eq, int_le, ℤ, pos, ◌+ℤ◌, ◌-ℤ◌, ◌*ℤ◌, ◌<ℤ◌, ◌≤ℤ◌, refl, sym, ap}
 use Rattle.std.proofs.Common.{◌∙◌, inl, inr, arith}

@@ -1,4 +1,4 @@
--- Where others claim as well, those who were there divide no more among them, in twos as before.
+-- If others claim as well, those who were there divide no more among them, in twos as before.
 use Rattle.std.proofs.Common.{◌≡◌, ◌≢◌, ℕ, ◌+◌, ◌<◌, List, length, ◌++◌, ℤ, pos, ◌*ℤ◌, ◌≤ℤ◌, sym, ap, ◌∙◌}
 use Rattle.std.proofs.Common.{subst, arith, length-append}
 use Rattle.std.proofs.lemmas.Int.{by_lt_z}

@@ -1,5 +1,5 @@
 -- Of two core points of a market, the greater share for one side and the lesser for the other: a pair gets no less
--- than its worth, and the pairs of a matching of greatest value just that, as they do at both (Shapley and Shubik
+-- than its worth, and the pairs of a matching of greatest value exactly that, as they do at both (Shapley and Shubik
 -- 1971).
 use Rattle.std.proofs.Common.{◌≡◌, ℕ, ◌+◌, ◌^◌, ◌<◌, Bool, true, false, not, cond, nat_lt, List, [], ◌∷◌, length}
 use Rattle.std.proofs.Common.{ℤ, pos, ◌+ℤ◌, ◌*ℤ◌, ◌≤ℤ◌, refl, sym, ap, ◌∙◌, subst, arith}

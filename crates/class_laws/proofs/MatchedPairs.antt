@@ -1,5 +1,5 @@
--- What two core points of a market do with a matching of greatest value: by both, each of its pairs gets just its
--- worth, and who is in none gets nothing (Shapley and Shubik 1971).
+-- What two core points of a market do with a matching of greatest value: by both, each of its pairs gets exactly its
+-- worth, and a player in none gets nothing (Shapley and Shubik 1971).
 use Rattle.std.proofs.Common.{◌≡◌, ◌≢◌, ◌⊎◌, ℕ, ◌+◌, ◌^◌, ◌<◌, Bool, true, false, ◌&&◌, not, cond, nat_eq}
 use Rattle.std.proofs.Common.{List, [], ◌∷◌, ℤ, pos, ◌+ℤ◌, ◌*ℤ◌, ◌≤ℤ◌, sym, ap, ◌∙◌, inl, inr, arith}
 use Rattle.std.proofs.lemmas.Int.{ints}

@@ -1,4 +1,4 @@
--- Where the marginal shares of each order lie in the core, the game is convex: in the order of the members of a
+-- If the marginal shares of each order lie in the core, the game is convex: in the order of the members of a
 -- coalition, i and j, the coalition with j gets at least its worth (Ichiishi 1981).
 use Rattle.std.proofs.Common.{◌≡◌, ℕ, ◌+◌, ◌^◌, ◌<◌, List, map, pos, ◌≤ℤ◌, sym, ◌∙◌, arith}
 use Rattle.std.specs.List.{range_with_len}

@@ -1,5 +1,5 @@
 -- Estates of which all claimants but one, or but two, are worth the same: the claims, cut to the estate, rise as it
--- does; and where it rises, any two of them cover it.
+-- does; and if it rises, any two of them cover it.
 use Rattle.std.proofs.Common.{◌≡◌, ◌≢◌, ℕ, ◌+◌, ◌-◌, ◌^◌, ◌<◌, List, length, get_or, ℤ, pos, ◌+ℤ◌, ◌-ℤ◌, ◌<ℤ◌, ◌≤ℤ◌}
 use Rattle.std.proofs.Common.{false, refl, sym, ap, subst, ◌∙◌, arith}
 use Rattle.std.specs.Int.{int_max}

@@ -2,8 +2,8 @@
 -- law is the contract of a function of this crate.
 --
 --   IsConstantSum g           each coalition and the others are worth together what all are
---   ConstantSumCores          at a core point of such a game each coalition gets just its worth
---   NucleolusRepresents       of such a vote, in which all together win, a coalition wins exactly if the nucleolus
+--   ConstantSumCores          at a core point of such a game each coalition gets exactly its worth
+--   NucleolusRepresents       of such a vote, in which all together win, a coalition wins exactly when the nucleolus
 --                             gives it more than half (Peleg 1968)
 --   MajorityIsConstantSum     an example that meets this definition, and one that doesn't
 use Rattle.std.specs.Prelude.{◌≡◌, ◌↔◌, ℕ, ◌-◌, ◌^◌, ◌<◌, List, [], ◌∷◌, pos, ◌+ℤ◌, ◌*ℤ◌, ◌<ℤ◌}
@@ -24,7 +24,7 @@ ConstantSumCores =
     (g : Game) (x : Allocation) (s : ℕ) → IsConstantSum g → InCore g x → s < 2 ^ g.players →
     amount x s ≡ x.den *ℤ g.worth s
 
--- if of each coalition and the others just one wins, the shares of the nucleolus, and of the prenucleolus, are
+-- if exactly one of each coalition and its complement wins, the shares of the nucleolus, and of the prenucleolus, are
 -- weights for the vote, with more than half as quota
 abbrev pub NucleolusRepresents : Type 0
 NucleolusRepresents =

@@ -1,7 +1,7 @@
 -- Which games are convex: those whose marginal shares, in each order of joining, no group could better by itself. The
 -- law is the contract of a function of this crate.
 --
---   OnlyConvexGamesDo   in convex games alone the marginal shares of each order lie in the core (Ichiishi 1981; that
+--   OnlyConvexGamesDo   only in convex games do the marginal shares of all orders lie in the core (Ichiishi 1981; that
 --                       they do in convex games: Shapley 1971)
 use Rattle.std.specs.Prelude.{◌≡◌, ◌↔◌, ℕ, List, pos}
 use Rattle.definitions.specs.Convexity.{IsConvex, IsMarginal}

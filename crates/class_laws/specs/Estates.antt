@@ -28,7 +28,7 @@ ARisenClaim =
     ((share x i *ℤ y.den) ≤ℤ (share y i *ℤ x.den))
     × ((j : ℕ) → j < length claims → j ≢ i → (share y j *ℤ x.den) ≤ℤ (share x j *ℤ y.den))
 
--- All claimants are worth the estate together. So if it is greater, and each other coalition is worth what it was,
+-- All claimants are worth the estate together. So if the estate is greater, and each other coalition worth what it was,
 -- the claims differ too
 abbrev pub AGreaterWhole : Type 0
 AGreaterWhole =

@@ -5,8 +5,8 @@
 --   HasVeto g i              no coalition without player i wins
 --   IsAmongVetoes g x        nobody gets less than nothing, and who gets more than that has a veto
 --   VotesAreSimple           a vote by weights and a quota is a simple game
---   CoreIsAmongVetoes        the core points are just the divisions among those with a veto
---   ACoreNeedsAVeto          if all together win, there is a core point exactly if somebody has a veto
+--   CoreIsAmongVetoes        the core points are exactly the divisions among those with a veto
+--   ACoreNeedsAVeto          if all together win, there is a core point exactly when somebody has a veto
 --   WhoHasAVetoGetsNoLess    by the nucleolus, who has a veto gets no less than anybody else
 --   halves                   half for the first and half for the second
 --   TwoOfThreeVetoes         an example that meets these definitions, and one that doesn't
@@ -42,7 +42,7 @@ VotesAreSimple = (quota : ℕ) (weights : List ℕ) → IsSimple (voting_game qu
 abbrev pub CoreIsAmongVetoes : Type 0
 CoreIsAmongVetoes = (g : Game) (x : Allocation) → IsSimple g → InCore g x ↔ IsAmongVetoes g x
 
--- if all together win, there is a core point exactly if somebody has a veto
+-- if all together win, there is a core point exactly when somebody has a veto
 abbrev pub ACoreNeedsAVeto : Type 0
 ACoreNeedsAVeto =
     (g : Game) → IsSimple g → g.worth (grand_coalition g.players) ≡ pos 1 →

@@ -1,4 +1,4 @@
--- In a convex game a player adds no less where more others have joined before (Shapley 1971).
+-- In a convex game a player adds no less if more others have joined before (Shapley 1971).
 --
 -- This is an induction over the players in which the two coalitions differ. Each step is convexity at one coalition and
 -- two players (`adds_more`).

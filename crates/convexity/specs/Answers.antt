@@ -1,6 +1,6 @@
 -- What the answers of this crate say of a game.
 --
---   IsTested g answer   convex exactly if the game is, else the first failure
+--   IsTested g answer   convex exactly when the game is, otherwise the first failure
 --   IsAnswer g answer   the same, with two points of the core if it is convex
 use Rattle.definitions.specs.Games.{Game, InCore}
 use Rattle.definitions.specs.Shapley.{IsShapley}

@@ -1,4 +1,4 @@
--- Where the players alone are worth more than all, there is no imputation.
+-- If the players alone are worth more than all, there is no imputation.
 --
 -- An imputation gives each player at least its worth alone, and its shares add to the worth of all. So the sum of the
 -- worths alone is at most that. This is said of the numbers as they are printed.

@@ -3,8 +3,8 @@
 -- Each step of `run` has one clause: what the words ask for (`Names`), which bytes were read, the document or the first
 -- refusal that applies, the right answer to a document, its line, and what the sink took. `IsRight` joins them by the
 -- cases of the answer. `run` asks `serves_class` before it asks for an answer, and each function that finds one
--- requires it. So the usage of the class is right exactly if it says no, and the arms of other classes are never
--- reached.
+-- requires it. So the usage of the class is right exactly when `serves_class` says no, and the arms of other classes
+-- are never reached.
 use Rattle.std.proofs.Common.{◌≡◌, ℕ, pos, ◌+◌, ◌<◌, ◌≤◌, List, [], ◌∷◌, ◌++◌}
 use Rattle.std.proofs.Common.{length, true, Option, Some, None}
 use Rattle.std.proofs.Common.{refl, ap, ◌∙◌, append-nil, length-append, arith}

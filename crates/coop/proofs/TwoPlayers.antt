@@ -1,4 +1,4 @@
--- All players are two at least, unless there is one alone.
+-- There are at least two players, unless there is only one.
 use Rattle.std.proofs.Common.{◌≢◌, ◌≤◌, ℕ, zero, suc, refl, arith}
 use Rattle.definitions.specs.Coalitions.{grand_coalition}
 use Rattle.definitions.specs.Games.{HasTwo}

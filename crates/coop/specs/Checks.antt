@@ -36,8 +36,8 @@ pub record IsCheckable (d : Contents) : Type 0 where
   pub share_each : length shares.shares ≡ (game_of d.game).players
   pub players : certificate.players ≡ (game_of d.game).players
 
--- yes if the certificate meets all conditions for the shares by the measure of the document, and no with the first
--- that fails
+-- yes if the certificate meets all conditions for the shares by the measure of the document, otherwise no with the
+-- first that fails
 abbrev pub IsCheckedAs : Contents → CheckVerdict → Type 0
 IsCheckedAs d v =
     (family : Family)

@@ -2,7 +2,7 @@
 -- usage of the class is the right answer, and if a game has more players than are answered, the usage of players.
 --
 -- A new class adds its case to `nucleolus_limit`, `shapley_limit`, `HasFewPlayers` and `IsSchemePoint`; and to
--- `core_limit`, `IsChosen` and `serves_class`, if it isn't as most classes.
+-- `core_limit`, `IsChosen` and `serves_class`, if it isn't like most classes.
 --
 --   is_market, is_tree   the class of the game
 --   is_no_market         the game is of another class than a market
@@ -12,8 +12,8 @@
 --   shapley_limit        the most players of a game whose Shapley shares are answered, by its class
 --   HasFewPlayers        a game without a scheme of its own has at most 16 players, and is no market, which is
 --                        matched instead
---   IsChosen             with plain excess the certificate of an airport or bankruptcy game is its scheme's: of the
---                        other games any may be printed that certifies the shares
+--   IsChosen             with plain excess the certificate of an airport or bankruptcy game is its scheme's; for other
+--                        games any certificate of the shares may be printed
 --   IsSchemePoint        the point of an airport or bankruptcy game is its nucleolus, and that of a tree game has
 --                        Bird's shares
 use Rattle.std.specs.Prelude.{Bool, true, false, ◌≡◌, ⊤, ℕ, ◌≤◌, length, ℤ}

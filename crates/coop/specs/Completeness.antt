@@ -1,8 +1,8 @@
--- When a run answers: always, if its command serves the document, unless memory isn't found or a port fails.
+-- When a run answers: whenever its command serves the document, unless memory runs out or a port fails.
 --
 --   ServesPlayers   the command answers games of so many players
 --   Serves          the command answers games of this class, and of so many players
---   IsComplete      a run on a document that its command serves ends with an answer, or for want of memory
+--   IsComplete      a run on a document that its command serves ends with an answer, or when memory runs out
 use Rattle.std.specs.Prelude.{◌≡◌, ◌⊎◌, ◌≤◌, ℕ, List, true, Option, Some, ⊤}
 use Rattle.ports.specs.Causes.{CountRose}
 use Rattle.game_text.specs.Classes.{game_of}
@@ -37,7 +37,7 @@ abbrev pub Serves : Command → Contents → Type 0
 Serves command d = (serves_class command d.game ≡ true) × ServesPlayers command d
 
 -- if the words are a command, the bytes that were left are a document that it serves, and no count of failures rose,
--- the status is that of a positive or of a negative answer, or says that memory wasn't found
+-- the status is that of a positive or of a negative answer, or says that memory ran out
 abbrev pub IsComplete : List (List ℕ) → Option (List ℕ) → ℕ → ℕ → ℕ → ℕ → Status → Type 0
 IsComplete words left reads_before reads_now writes_before writes_now s =
     (command : Command) (bytes : List ℕ) (d : Contents) → IsCommand words command → left ≡ Some bytes

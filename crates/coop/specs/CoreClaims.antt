@@ -1,7 +1,7 @@
 -- The right answer on the core of the game of a document.
 --
--- The answers exclude one another: no core point stands beside a balanced collection of excess worth. No other answer
--- is right, so the negative answer comes exactly if the core of a game that hasn't too many players is empty.
+-- The answers exclude one another: a balanced collection of excess worth shows that there is no core point. No other
+-- answer is right. So the negative answer comes exactly when the core is empty, for a game within the limit.
 --
 --   IsCoreAnswer    what a solver says of the core
 --   IsCorePoint     a point of the core, among fractions and among real shares, as it is printed

@@ -1,8 +1,8 @@
 -- How a run ends whose words ask for a generated game.
 --
 --   AsksForGame   the words ask for a generated game
---   IsMadeFor     for a generated game nothing is read, and the answer is positive, or memory wasn't found
---   EndsMade      nothing was read, and the status is Done, or says that memory wasn't found or that a write failed
+--   IsMadeFor     for a generated game nothing is read, and the answer is positive, or memory ran out
+--   EndsMade      nothing was read, and the status is Done, or says that memory ran out or that a write failed
 use Rattle.std.specs.Prelude.{◌≡◌, ◌⊎◌, ⊤, ℕ, List, Option, Result, MatchResult}
 use Rattle.kinds.specs.declared.kind.Kind.{Kind}
 use Rattle.coop.specs.declared.reply.Reply.{Reply}

@@ -2,9 +2,9 @@
 -- all coalitions from the greatest on, and those of any other imputation alike: at the first place where the lists
 -- differ, its own is the smaller. An excess is plain or per head, as the document says. The printed certificate meets
 -- conditions that are written in Certificates.antt of `definitions`, that `check` decides without the solver, and that
--- imply all this by themselves. Such an answer comes wherever there is an imputation, unless memory isn't found or a
--- port fails: for airports and bankruptcies to 64 players with plain excess, for all other games to sixteen with it,
--- and for all games to eight with excess per head; but for games of the class market, which `matching` alone answers.
+-- imply all this by themselves. Such an answer comes whenever there is an imputation, unless memory runs out or a port
+-- fails: with plain excess for airports and bankruptcies of up to 64 players and all other games of up to sixteen, and
+-- with excess per head for all games of up to eight; except games of the class market, which only `matching` answers.
 --
 -- "Every other imputation" is every other one in fractions; every other one in real shares, whose order is taken to be
 -- decided, as excluded middle has it; and every other one over any linearly ordered abelian group that comes with a
@@ -24,7 +24,7 @@
 --   IsRefusedFor          the words are a command, and this is the first refusal that applies to the bytes
 --   Answers               the answer is right for the words and the bytes, and is printed over this scale
 --
--- What is right for the other commands stands in Judgement.antt (`propose`), CoreClaims.antt (`core`), Checks.antt
+-- What is right for the other commands is said in Judgement.antt (`propose`), CoreClaims.antt (`core`), Checks.antt
 -- (`check`), ShapleyClaims.antt (`shapley`), BirdClaims.antt (`bird`), ConvexClaims.antt (`convex`), KernelClaims.antt
 -- (`kernel`), MatchingClaims.antt (`matching`) and GeneratorClaims.antt (`gen`); which classes a command serves, and
 -- which certificate is printed for a class with a scheme of its own, in Classes.antt.
@@ -124,7 +124,7 @@ IsRightAnswer Convex d answer = SaysOfConvex d answer
 IsRightAnswer Kernel d answer = SaysOfKernel d answer
 IsRightAnswer Matching d answer = SaysOfMatching d answer
 
--- the answer is right for a command and what its document says: the usage of the class exactly if the command
+-- the answer is right for a command and what its document says: the usage of the class exactly when the command
 -- doesn't serve it
 abbrev pub AnswersTo : Command → Contents → Answer → Type 0
 AnswersTo command d (Usage Class) = serves_class command d.game ≡ false

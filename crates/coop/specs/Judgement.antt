@@ -2,7 +2,7 @@
 --
 --   IsAmount        a sum of worths, which is below 2^117 in size
 --   printed         a number as it is printed: costs and payments are negative worth
---   IsInefficient   the shares add to something else than the worth of all, with both sums
+--   IsInefficient   the shares don't add to the worth of all; with both sums
 --   IsBlockedBy     they add to it, and this coalition blocks them
 --   IsCore          the allocation is in the core, among fractions and among real shares
 --   Judges          the answer is right for an allocation of a game

@@ -1,4 +1,4 @@
--- What stands when a run has ended: the status, what was printed, how far the input was read, and which call failed.
+-- What holds when a run has ended: the status, what was printed, how far the input was read, and which call failed.
 --
 --   IsLeft                       what the source had left, if it tells
 --   ReadsPastLimit, ReadsAll     how far the input was read
@@ -8,7 +8,7 @@
 --                                the status of an answer
 --   IsRight                      the answer is right for the words and for what the source had left
 --   Answered, CutShort           its line was printed, or a proper front of it
---   Ends                         what stands after each status
+--   Ends                         what holds after each status
 --   IsCauseOf                    which count of failures rose, and that the first failure was the last call
 use Rattle.std.specs.Prelude.{◌≡◌, ◌≢◌, ◌<◌, ◌+◌, ℕ, ℤ, Bool, true, List, length}
 use Rattle.std.specs.Prelude.{take, Option, Some, None, ⊤}

@@ -2,7 +2,7 @@
 --
 --   SaysSame        a document says the same as a nucleolus that was printed
 --   CanBeChecked    its line is short enough, no test refuses its tree, and it says the same
---   CanBeRead       the tree of an answer can be checked, if it is a nucleolus
+--   CanBeRead       if an answer is a nucleolus, its tree can be checked
 --   IsNoNucleolus   the answer is no nucleolus
 --   CheckSaysYes    yes is the one right answer to bytes that are checked
 --   IsReadBack      the line of an answer is a document to check, says the same, and gets yes

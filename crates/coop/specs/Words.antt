@@ -33,7 +33,7 @@ word_of Convex = codes "convex"
 word_of Kernel = codes "kernel"
 word_of Matching = codes "matching"
 
--- a whole number's digits: no sign, and a zero in front only if the number is 0
+-- a whole number's digits: no sign, and a leading zero only if the number is 0
 abbrev pub number_text : ℕ → List ℕ
 number_text n = fraction_text (record { num = pos n; den = pos 1 })
 

@@ -48,8 +48,8 @@ pub(crate) fn summary_of(
     })
 }
 
-// The nucleolus of a game that has imputations, and its greatest excess. If the game finds each worth anew, they are
-// kept for the programs and the checker alike.
+// The nucleolus of a game that has imputations, and its greatest excess. If the game computes each worth
+// anew, the worths are kept for the programs and the checker.
 fn solved(alloc: Global, game: &Game) -> Result<(Shares, Option<Frac>), OutOfMemory>
     requires few { HasFewPlayers (description_in game.now) }
     requires imputations { HasImputations (game_of (description_in game.now)) }

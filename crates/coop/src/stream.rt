@@ -13,7 +13,7 @@ use std::alloc::Global;
 // How many bytes are asked for at once, at most.
 const PIECE: usize = 4096;
 
-/// The bytes up to the end of the source, or one byte more than the limit if there are as many. The first read that
+/// The bytes up to the end of the source, or one byte more than the limit if there are that many. The first read that
 /// fails is the last one.
 pub(crate) fn read_input<S: Source>(
     alloc: Global,

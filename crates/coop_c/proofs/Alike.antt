@@ -1,4 +1,4 @@
--- A run's end, told of equal documents and lines; and what comes of a document that is served.
+-- What is said of the end of a run holds for equal documents and lines; and what statuses a served document can have.
 use Rattle.std.proofs.Common.{◌≡◌, ◌≢◌, ◌⊎◌, ℕ, List, Option, Some, subst, refl, inl, inr, ap, sym, ◌∙◌, arith}
 use Rattle.ports.specs.Causes.{CountRose}
 use Rattle.coop.specs.Completeness.{IsComplete}

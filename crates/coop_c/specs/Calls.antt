@@ -1,9 +1,9 @@
--- What stands when a call of a host has ended.
+-- What holds when a call of a host has ended.
 --
 --   typed      the words of a text that has a zero byte between two
 --   Asked      what holds of the words that a host gives: of those of its text, or of none if it isn't UTF-8
 --   EndsOver   a run on words and a document printed this, and nothing before, and ended so
---   EndsAs     the same, if the status is told by its number
+--   EndsAs     the same, with the status as its number
 --   IsServed   the words are a command, and the bytes are a document that it serves
 use Rattle.std.specs.Prelude.{◌≡◌, ◌==◌, ℕ, List, [], Option, Some}
 use Rattle.std.specs.List.{slice_split}

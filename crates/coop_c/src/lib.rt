@@ -18,7 +18,7 @@ use std::alloc::Global;
 // Neither document nor line is copied: it reads the one and writes the other where they are. The words are one text,
 // since a proved call takes no pointers to pointers. The kit rules out null pointers, even for an empty slice, so
 // `c/coop.c` replaces them.
-/// Runs `coop` on words and a document. The words are UTF-8, with a zero byte between two; if they aren't UTF-8
+/// Runs `coop` on words and a document. The words are UTF-8, with a zero byte between two; if they aren't UTF-8,
 /// there are none, as in the program.
 ///
 /// The line goes to the front of `line`, and its number of bytes there to `count`. Returns the number that the program

@@ -1,8 +1,8 @@
 //! The room for a line, where it stands.
 use ports::{Failed, Sink};
 
-/// Room of the host, which takes what fits to its front. A write fails if no byte of a piece fits, so only if
-/// the room is full.
+/// Room of the host, which takes what fits to its front. A write fails when no byte of a piece fits, so only
+/// when the room is full.
 ///
 /// A run ends at the first write that fails, so a line that is longer than the room isn't measured: to know its length
 /// takes a second call, which may as well bring the line.

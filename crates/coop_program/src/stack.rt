@@ -7,8 +7,8 @@ const DEPTH: usize = 228 * 1024;
 /// Uses about as much of the stack as the command that was measured to need the most, and gives it back.
 ///
 /// The system finds memory for a part of the stack when it is first used, and if it finds none it ends the program
-/// by a signal. After this call a run finds its stack there, so that memory is wanted only if it is asked for, and
-/// want of it is a status.
+/// by a signal. After this call the stack of a run is there. So memory can run out only where the program asks for it,
+/// and then the program ends with a status.
 ///
 /// No clause says so: `tools/refuse-memory` tries it.
 #[inline(never)]

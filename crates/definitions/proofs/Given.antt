@@ -1,4 +1,4 @@
--- What is given wherever a fact holds is given here.
+-- An answer that may be missing only if a fact fails is there when the fact holds.
 use Rattle.std.proofs.Common.{Option, Some, None, MatchOption, IsSome, Result, Ok, Err, MatchResult, IsOk}
 use Rattle.std.proofs.Common.{refl}
 

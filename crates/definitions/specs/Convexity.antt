@@ -24,7 +24,7 @@ apart g s i j = g.worth (s + singleton i) +ℤ g.worth (s + singleton j)
 abbrev pub together : Game → ℕ → ℕ → ℕ → ℤ
 together g s i j = g.worth (s + singleton i + singleton j) +ℤ g.worth s
 
--- whom a player joins, it adds at least as much if another one joined before
+-- a player adds at least as much to a coalition if another player has joined it before
 abbrev pub IsConvex : Game → Type 0
 IsConvex g = (s i j : ℕ) → AreOutside g.players s i j → apart g s i j ≤ℤ together g s i j
 

@@ -26,7 +26,7 @@ player_by n names d (Some s) = position (bytes_eq s) names
 abbrev pub player_of : ℕ → List (List ℕ) → Data → Option ℕ
 player_of n names d = player_by n names d (as_str d)
 
--- s with player i, if it isn't in s
+-- s with player i, unless i is in s
 abbrev pub join : ℕ → ℕ → Option ℕ
 join s i = if has_player s i then None else Some (s + 2 ^ i)
 

@@ -5,7 +5,7 @@
 --   is_name        a name has 1 to 64 bytes
 --   are_distinct   no two are alike
 --   good_names     each is a name, and no two are alike
---   are_names      one name for each player, if there are any
+--   are_names      one name for each player, if names are given
 --   is_known       a member that is a text is among the names
 --   are_known      each such member of a pair is
 use Rattle.std.specs.Prelude.{◌==◌, ℕ, codes, List, [], ◌∷◌, length, map, Bool, true}
@@ -35,7 +35,7 @@ are_distinct (s ∷ names) = not (is_among names s) && are_distinct names
 abbrev pub good_names : List (List ℕ) → Bool
 good_names names = list_all is_name names && are_distinct names
 
--- n different names, if there are any
+-- n different names, if names are given
 abbrev pub are_names : ℕ → Option Data → List (List ℕ) → Bool
 are_names n None names = true
 are_names n (Some d) names = (length names == n) && good_names names

@@ -32,8 +32,8 @@ seen vs = map (λ v. view v.now) vs
 abbrev pub common_scale : List Data → ℕ
 common_scale ds = least_denominator (map fraction_or_zero ds)
 
--- the least common multiple of the scale k and the denominator of a fraction, if it is at most 65,536, and the
--- fraction times it, if that is below 2^40 in size
+-- the least common multiple of the scale k and the denominator of a fraction, and the fraction times it; none unless
+-- the multiple is at most 65,536 and the product is below 2^40 in size
 abbrev pub with_fraction : ℕ → Fraction → Option (ℕ × ℤ)
 with_fraction k f =
     option_and_then (λ m. option_map (λ z. (m, z)) (if_small (Some (numerator_over (pos m) f))))

@@ -1,6 +1,6 @@
--- The scale of a game: the least common denominator of its numbers. It is 1 for a game of version 1, if each is an
--- integer: the scale doesn't look at the version, since in version 1 a text in the place of a number is refused as
--- Shape.
+-- The scale of a game: the least common denominator of its numbers. It is 1 for a game of version 1, whose numbers
+-- are all integers: the scale doesn't look at the version, since in version 1 a text in the place of a number is
+-- refused as Shape.
 --
 --   if_there            what is there
 --   second_part         the second of two items

@@ -37,7 +37,7 @@ fn player_of(players: u32, names: &Names, member: &Value) -> Option<u32>
     }
 }
 
-/// The coalition with the player, if it isn't in there.
+/// The coalition with the player, unless it has that player already.
 fn join(s: Coalition, i: u32, players: u32) -> Option<Coalition>
     requires few { players ≤ 16 }
     requires player { i < players }

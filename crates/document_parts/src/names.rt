@@ -73,7 +73,7 @@ fn is_name(name: &str) -> bool
     !name.is_empty() && name.len() <= 64
 }
 
-/// Adds the text of the value if it is a name and a new one, and says whether it is.
+/// Adds the text of the value if it is a name and a new one. Returns whether it is.
 fn add_name<'a>(names: &mut Names<'a>, value: &'a Value) -> Result<bool, OutOfMemory>
     ensures added { IfOk result
         (λ b. b ≡ (is_name (text_of (view value.now)) && not (is_among names.old (text_of (view value.now))))) }

@@ -40,8 +40,8 @@ fn raise(numbers: &mut Vec<i64>, factor: u32) -> bool
 /// Returns the numbers that the values write, times their scale. Returns none if the scale is above 65,536, or a number
 /// times it reaches 2^40 in size.
 ///
-/// Each text is parsed once: the numbers in front stand over their own scale, and are multiplied if a denominator
-/// makes it grow, which is so at most 16 times.
+/// Each text is parsed once: the numbers before it are over their own scale, and are multiplied when a denominator
+/// makes the scale grow, at most 16 times.
 /// So no list of fractions is kept beside that of the numbers, and integers, of which a table has up to 65,535, take
 /// one pass.
 ///

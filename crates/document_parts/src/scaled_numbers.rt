@@ -60,8 +60,8 @@ fn whole_with_scale(value: &Value, scale: u32) -> Option<(u32, i64)>
     Some((scale, product))
 }
 
-/// The least common multiple of the scale and the denominator of a number, if it is at most 65,536, and the number
-/// times it, if that is below 2^40 in size.
+/// The least common multiple of the scale and the denominator of a number, and the number times it. None unless the
+/// multiple is at most 65,536 and the product is below 2^40 in size.
 pub(crate) fn with_scale(value: &Value, scale: u32) -> Option<(u32, i64)>
     requires some { 0 < scale }
     requires few { scale ≤ 65536 }

@@ -1,6 +1,6 @@
 -- Games that have imputations.
 --
---   HasImputations g   the players are worth no more alone, added, than all together, which is so exactly if g has
+--   HasImputations g   the players are worth no more alone, added, than all together, which is so exactly when g has
 --                      an imputation
 use Rattle.std.specs.Prelude.{◌≤ℤ◌}
 use Rattle.definitions.specs.Sums.{sum_below}

@@ -52,7 +52,7 @@ links_before n (suc i) = links_before n i + (n - i)
 abbrev pub link_place : ℕ → ℕ → ℕ → ℕ
 link_place n i j = links_before n i + (j - i - 1)
 
--- the number of two points, the same in both directions, and 0 for one and the same, where the pairs are numbered
+-- the number of two points, by the numbers of all pairs: the same in both directions, and 0 for a point and itself
 abbrev pub link : (ℕ → ℕ) → ℕ → ℕ → ℕ → ℕ
 link number n i j =
     if nat_lt i j then number (link_place n i j) else (if nat_lt j i then number (link_place n j i) else 0)

@@ -1,5 +1,5 @@
--- The least value of an unknown over the points that meet rows: where there is a point and no lesser bound is
--- broken, some point has it.
+-- The least value of an unknown over the points that meet rows: if there is a point and no lesser bound is broken,
+-- some point has it.
 --
 -- It is the elimination of Elimination.antt, stopped at one unknown.
 use Rattle.std.proofs.Common.{◌≡◌, ◌⊎◌, ℕ, zero, suc, ◌≤◌, List, [], ◌∷◌, ◌++◌, ℤ, pos, neg_ℤ, ◌+ℤ◌, ◌*ℤ◌, ◌<ℤ◌, ◌≤ℤ◌}

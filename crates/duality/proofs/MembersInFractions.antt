@@ -1,4 +1,4 @@
--- Where a family has a member over a linearly ordered abelian group with a unit above zero, it has one in fractions:
+-- If a family has a member over a linearly ordered abelian group with a unit above zero, it has one in fractions:
 -- the worths are integers.
 use Rattle.std.proofs.Common.{◌≡◌, ℕ, zero, suc, ◌<◌, Bool, cond, List, [], ℤ, pos, ◌+ℤ◌, ◌≤ℤ◌, refl, sym, ap, arith}
 use Rattle.std.proofs.Common.{if◌then◌else◌}

@@ -1,5 +1,5 @@
 -- The span of fixed coalitions, by elimination of one player after the other: each vector is a combination of the fixed
--- ones but at some players. A coalition whose vector isn't such a combination there takes one more player away.
+-- ones, except at some players. A coalition whose vector isn't such a combination there takes one more player away.
 use Rattle.std.proofs.Common.{◌≡◌, ◌≢◌, ◌⊎◌, ℕ, ◌<◌, List, [], ◌∷◌, ◌++◌, ℤ, pos, neg_ℤ, ◌+ℤ◌, ◌*ℤ◌, refl, sym, ap}
 use Rattle.std.proofs.Common.{subst, ◌∙◌, inl, inr, arith}
 use Rattle.std.specs.List.{AllByRecursion}

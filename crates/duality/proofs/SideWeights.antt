@@ -1,4 +1,4 @@
--- Weights that balance, on a coalition and on others that pass a test: by Farkas's lemma, where no transfer between the
+-- Weights that balance, on a coalition and on others that pass a test: by Farkas's lemma, if no transfer between the
 -- players gives that coalition more and takes from none of the others.
 use Rattle.std.proofs.Common.{◌≡◌, ℕ, zero, suc, ◌-◌, ◌^◌, ◌<◌, ◌≤◌, Bool, true, false, cond, nat_eq, ℤ, pos, neg_ℤ}
 use Rattle.std.proofs.Common.{◌+ℤ◌, ◌-ℤ◌, ◌*ℤ◌, ◌≤ℤ◌, refl, sym, ap, ◌∙◌, inl, inr, arith}

@@ -4,7 +4,7 @@
 --   NucleoliExist      if the family has a member, it has a nucleolus
 --   PrenucleoliExist   every game with a player has a prenucleolus
 --   CoversSingles      the worths of the players alone add to at most the worth of all
---   ImputationsExist   a game with a player has an imputation exactly there
+--   ImputationsExist   a game with a player has an imputation exactly when they do
 use Rattle.std.specs.Prelude.{◌↔◌, ◌≤◌, ◌≤ℤ◌}
 use Rattle.definitions.specs.Sums.{sum_below}
 use Rattle.definitions.specs.Coalitions.{singleton, grand_coalition}
@@ -14,7 +14,7 @@ use Rattle.definitions.specs.declared.Family.{Family}
 use Rattle.definitions.specs.declared.Family.TheVariants.{Imputations, Preimputations}
 use Rattle.definitions.specs.declared.Measure.{Measure}
 
--- if there is an imputation, or a preimputation, one of them is the nucleolus
+-- if there is an imputation, one of them is the nucleolus; if there is a preimputation, one is the prenucleolus
 abbrev pub NucleoliExist : Type 0
 NucleoliExist =
     (family : Family) (measure : Measure) (g : Game) (y : Allocation) →

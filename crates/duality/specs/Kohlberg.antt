@@ -5,7 +5,7 @@
 --   LevelShape, LevelsShape   the form of a level, and of each of some levels, without limits of size
 --   HasShape                  the form of a certificate in mode span, without limits of size
 --   AreSmall                  the weights and totals of levels are within these limits
---   KohlbergTheorem           the nucleoli are just the allocations with a certificate that meets the conditions
+--   KohlbergTheorem           the nucleoli are exactly the allocations with a certificate that meets the conditions
 --   SmallShapesAreForms       of at most 16 players, and within the limits, it has the form of a certificate
 use Rattle.std.specs.Prelude.{◌↔◌, ℕ, ◌-◌, ◌<◌, ◌≤◌, IsTrue, List, [], ◌∷◌, ◌++◌}
 use Rattle.std.specs.Prelude.{length, pos, ◌≤ℤ◌}
@@ -46,7 +46,7 @@ AreSmall levels =
     (λ l. AllByRecursion (λ p. IsSmall p.1) (l.coalitions ++ l.earlier ++ l.bounds) × IsSmall l.total)
     levels
 
--- an allocation is the nucleolus exactly if some levels, in the form of mode span, meet all conditions
+-- an allocation is the nucleolus exactly when some levels, in the form of mode span, meet all conditions
 abbrev pub KohlbergTheorem : Type 0
 KohlbergTheorem =
     (family : Family) (measure : Measure) (g : Game) (x : Allocation) → IsMeasurable measure g.players

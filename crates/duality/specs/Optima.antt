@@ -9,8 +9,8 @@ use Rattle.duality.specs.Farkas.{MeetsAll}
 abbrev pub linear_value : ℕ → (ℕ → ℤ) → (ℕ → ℤ) → ℤ
 linear_value n c x = sum_below n (λ i. c i *ℤ x i)
 
--- if some fractions meet m inequalities in n unknowns, and none that do have a value below low, some have the least
--- value
+-- if m inequalities in n unknowns have a solution in fractions, and no solution has a value below low, some solution
+-- has the least value
 abbrev pub OptimaExist : Type 0
 OptimaExist =
     (m n : ℕ) (a : ℕ → ℕ → ℤ) (b c x : ℕ → ℤ) (q low : ℤ) →

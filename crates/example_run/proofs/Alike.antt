@@ -1,4 +1,4 @@
--- A run's end, told of equal documents and lines.
+-- What is said of the end of a run holds for equal documents and lines.
 use Rattle.std.proofs.Common.{◌≡◌, ℕ, List, Option, subst}
 use Rattle.coop.specs.Outcome.{Ends}
 use Rattle.coop.specs.declared.status.Status.{Status}

@@ -2,7 +2,7 @@
 use ports::{Failed, Sink};
 use std::alloc::Global;
 
-/// All that was written, with no limit but memory. A write fails if none is found.
+/// All that was written, with no limit but memory. A write fails if memory runs out.
 #[derive(Drop)]
 pub struct Printed {
     line: Vec<u8>,

@@ -44,7 +44,7 @@ pub record HasCommonForm (x y : Fraction) : Type 0 where
   pub right : FitsSigned w128 (y.num *ℤ int_div x.den (common_divisor x y))
   pub denominator : FitsSigned w128 (x.den *ℤ int_div y.den (common_divisor x y))
 
--- the difference if it subtracts, else the sum
+-- the difference if the test is true, otherwise the sum
 abbrev pub combined : Bool → ℤ → ℤ → ℤ
 combined true a b = a -ℤ b
 combined false a b = a +ℤ b

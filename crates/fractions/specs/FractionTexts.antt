@@ -1,7 +1,7 @@
 -- Texts of fractions: an optional minus, digits, and for a denominator above 1 a slash and digits. Each fraction
 -- has one text.
 --
---   is_numeral s                       decimal digits without a leading zero, but for 0 itself
+--   is_numeral s                       decimal digits without a leading zero, except 0 itself
 --   before_slash, has_slash            how many bytes stand in front of a slash; whether there is one
 --   numerator_text, denominator_text   what stands in front of the slash, and behind it
 --   numerator, denominator             the numbers of these; 1 if there is no slash

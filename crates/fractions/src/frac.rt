@@ -165,7 +165,7 @@ impl Frac {
     }
 }
 
-/// The difference if `subtracts`, else the sum, if it is in the range of `i128`.
+/// The difference if `subtracts`, else the sum. Fails if that is out of the range of `i128`.
 fn numerator(subtracts: bool, left: i128, right: i128) -> Result<i128, OutOfRange>
     ensures { let z = combined subtracts left right in OkIff result (FitsSigned w128 z) z }
 {

@@ -23,7 +23,7 @@ fn digits_number(digits: &[u8]) -> Option<u128>
     Some(n)
 }
 
-/// The number of a numeral. None if the text is none, or the number needs more than 128 bits.
+/// The number of a numeral. None if the text isn't a numeral, or the number needs more than 128 bits.
 pub(crate) fn numeral(text: &[u8]) -> Option<u128>
     ensures { SomeIff result (IsTrue (is_numeral text.now) × (digits_value 10 text.now < 2 ^ 128))
         (digits_value 10 text.now) }

@@ -24,7 +24,7 @@ pub(crate) fn order(a: i128, b: i128, c: i128, d: i128) -> Ordering
     }
 }
 
-/// The order of a/b and c/d: by whole parts, and if these agree by the remainders, turned upside down.
+/// The order of a/b and c/d: by whole parts, and, if these agree, by the remainders, turned upside down.
 fn order_of_sizes(mut a: u128, mut b: u128, mut c: u128, mut d: u128) -> Ordering
     requires b_positive { 0 < b }
     requires d_positive { 0 < d }

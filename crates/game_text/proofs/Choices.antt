@@ -1,4 +1,4 @@
--- What a choice by a test gave says of the test: where it is something, the test passed.
+-- What a choice by a test gave says of the test: if it is something, the test passed.
 use Rattle.std.proofs.Common.{◌≡◌, Bool, true, false, Option, Some, None, if◌then◌else◌, refl, sym}
 use Rattle.std.proofs.Common.{ap, subst}
 use Rattle.std.specs.Prelude.{⊤}

@@ -1,7 +1,7 @@
 -- A document that isn't refused describes a game of its class.
 --
--- If a class has its worths computed, that is over all attachment plans or all matchings: what the test of the matrix
--- says of the rows makes them links (`links_hold` in MatrixRows.antt).
+-- The worths of a tree game are optima over all attachment plans, and those of an assignment game or a market over all
+-- matchings. The rows of a tree game are those of links, since they passed its test (`links_hold` in MatrixRows.antt).
 use Rattle.std.proofs.Common.{◌≡◌, ℕ, List, nat_le, None, sym, ap, subst}
 use Rattle.std.proofs.lemmas.Bool.{and_parts}
 use Rattle.serde_json.specs.Data.{Data}

@@ -5,7 +5,7 @@
 --   AreNeededFractions, IsFractionFault        the fractions of the shares that a command needs; their refusal
 --   IsTableClass                               a class that a table describes
 --   IsBuilt, IsBuildFault                      the described game; the refusal of its class
---   IsGameReading, IsGameFault                 the same behind the test of the names; the refusal of these too
+--   IsGameReading, IsGameFault                 the same after the test of the names; the refusal of these too
 --   IsProposal, IsProposalFault                the shares that are proposed; their refusal
 --   IsShareReading, IsShareFault               the shares that a command needs; their refusal
 --   IsCertificateReading, IsCertificateFault   the certificate that a command needs; its refusal

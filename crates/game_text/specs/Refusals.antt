@@ -59,9 +59,8 @@ has_needed_form command game tree =
     if_needed (needs command).certificate
     (passes (has_form (scale_of game) (players game)) (get (codes "certificate") tree))
 
--- the tests of a tree, in the order of the numbers of their refusals but for Quota, where d is the denominator of the
--- shares; a class makes at most one test of its own, and those of Coalition, Estate, Quota and Matrix are of different
--- classes
+-- the tests of a tree, in the order of the numbers of their refusals, except Quota; d is the denominator of the shares.
+-- A class makes at most one test of its own, and those of Coalition, Estate, Quota and Matrix are of different classes
 abbrev pub tree_tests : ℕ → Command → Data → Data → List (Refusal × Bool)
 tree_tests d command game tree =
     (Shape, is_shaped command tree)

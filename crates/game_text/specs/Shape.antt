@@ -21,7 +21,7 @@ use Rattle.game_text.specs.Classes.{class_of, is_shaped_as}
 abbrev pub document_keys : List (List ℕ)
 document_keys = codes "answer" ∷ codes "certificate" ∷ codes "game" ∷ codes "shares" ∷ []
 
--- names are texts, the excess is a measure and the version is 1 or 2, if there are any, and the rest is as the class
+-- if they are given, names are texts, the excess is a measure and the version is 1 or 2; and the rest is as the class
 -- asks
 abbrev pub is_game_shaped : Data → Bool
 is_game_shaped game =

@@ -3,12 +3,12 @@
 --   size_refusal          the tests of the players and the numbers of a game, and then the rest
 --   number_refusal        the test that the shares which a command needs are numbers, and then the rest
 --   own_refusal           the test of its own that the class of the game makes, and then the rest
---   game_refusal          that of the names in front of it
+--   game_refusal          the test of the names, then that of the class, and then the rest
 --   proposal_refusal      as many shares as players, over a denominator that isn't too large, and then the rest
 --   share_refusal         the tests of the shares that a command needs, and then the rest
 --   certificate_refusal   the test of the certificate that a command needs
 --   needed_refusal        the tests of what a command needs beside the game
---   late_refusal          the tests behind those of the shape, the players and the numbers
+--   late_refusal          the tests after those of the shape, the players and the numbers
 use Rattle.std.specs.Prelude.{Option, None}
 use Rattle.serde_json.specs.Data.{Data}
 use Rattle.game_text.specs.Names.{has_names}

@@ -129,7 +129,7 @@ pub(crate) fn is_shaped_as(class: Class, game: &Value, texts: bool) -> bool
     by_class!(class, is_shaped(game, texts))
 }
 
-/// The number of players, if there are as many, and numbers for them, as the class of the game allows.
+/// The number of players. None unless there are as many, and numbers for them, as the class of the game allows.
 pub(crate) fn players(game: &ShapedGame) -> Option<usize>
     ensures { let tree = view game.now.tree.now in
         result ≡ (if has_players tree then Some (players tree) else None) }
@@ -137,7 +137,7 @@ pub(crate) fn players(game: &ShapedGame) -> Option<usize>
     by_class!(game.class, players(game.tree))
 }
 
-/// The numbers of the game, times their scale, if this and each of them are within the limits of the class.
+/// The numbers of the game, times their scale. None unless the scale and each number are within their limits.
 pub(crate) fn numbers(alloc: Global, game: &ShapedGame) -> Result<Option<Numbers>, OutOfMemory>
     ensures none { let tree = view game.now.tree.now in
         IfOk result (λ o. IfNone o (are_numbers_as (class_of tree) (own_values tree) ≡ false)) }

@@ -146,7 +146,7 @@ fn game_out_of(tree: Value) -> Option<Value>
     }
 }
 
-/// The game, if its names are right, and what its class tests of it.
+/// The game, if its names are right and it passes the test of its class.
 fn right_game(alloc: Global, game: &SizedGame, numbers: Vec<i64>) -> Result<Game, TextFault>
     requires { numbers.items ≡ own_numbers (view game.now.tree.now) }
     ensures { MatchResult result (IsGameReading (view game.now.tree.now)) (IsGameFault (view game.now.tree.now)) }
@@ -213,7 +213,7 @@ struct Reading<'a> {
 }
 
 impl Reading<'_> {
-    /// What the document says, if these are the numbers of its game.
+    /// What the document says. The numbers are those of its game.
     fn said(&self, numbers: Vec<i64>) -> Result<Said, TextFault>
         requires { numbers.items ≡ own_numbers (view self.now.game.tree.now) }
         ensures { MatchResult result
@@ -224,7 +224,7 @@ impl Reading<'_> {
         self.said_of(described)
     }
 
-    /// What a document says whose game is right, if what the command needs beside it is right too.
+    /// What the document says. Its game is right; what else the command needs is tested here.
     fn said_of(&self, described: Game) -> Result<Said, TextFault>
         requires { IsGameReading (view self.now.game.tree.now) described }
         ensures { MatchResult result

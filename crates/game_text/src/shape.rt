@@ -50,7 +50,7 @@ fn has_needed(command: Command, tree: &Value) -> bool
         && (!needs.certificate || has(tree, "certificate", &CertificateShape))
 }
 
-/// Whether a document has the kinds, keys and words that the command needs, if its game names the class.
+/// Whether a document has the kinds, keys and words that the command needs. Its game names the class.
 fn is_shaped(command: Command, tree: &Value, class: Class, game: &Value) -> bool
     requires there { get (codes "game") (view tree.now) ≡ Some (view game.now) }
     requires class { class_of (view game.now) ≡ Some class }

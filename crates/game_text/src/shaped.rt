@@ -38,8 +38,8 @@ pub(crate) struct SizedGame<'a> {
     ghost scale_is: { scale ≡ scale_of (view tree.now) },
 }
 
-/// The game and its numbers times their scale. It is refused if it hasn't as many players, or numbers within such
-/// limits, as its class allows.
+/// The game and its numbers times their scale. It is refused if its class doesn't allow as many players, or
+/// such numbers.
 pub(crate) fn sized_game<'a>(
     alloc: Global,
     game: &ShapedGame<'a>,

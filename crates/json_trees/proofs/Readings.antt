@@ -1,4 +1,4 @@
--- What trees of a form describe, where they have the form: one, and a list, of which all is read or none.
+-- What trees of a form describe, if they have the form: one, and a list, of which all is read or none.
 use Rattle.std.proofs.Common.{◌≡◌, ℕ, ◌+◌, ◌<◌, Bool, true, false, if◌then◌else◌, List, ◌∷◌, []}
 use Rattle.std.proofs.Common.{◌++◌, length, get_or, map, Option, Some, None, refl, sym, ap, ◌∙◌, append_assoc}
 use Rattle.std.specs.Prelude.{is_some, unwrap_or}

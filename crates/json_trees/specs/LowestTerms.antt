@@ -9,7 +9,7 @@ use Rattle.fractions.specs.FractionTexts.{is_i128}
 use Rattle.fractions.specs.Divisors.{gcd}
 use Rattle.fractions.specs.Fraction.{Fraction}
 
--- n/d in lowest terms, if d is at least 1
+-- n/d in lowest terms, for a d of at least 1
 abbrev pub in_lowest_terms : ℤ → ℤ → Fraction
 in_lowest_terms n d = record {
   num = int_div n (pos (gcd (unsigned_abs n) (unsigned_abs d)));

@@ -31,7 +31,7 @@ pub trait Reader {
             (if form self.now (view tree.now) then Some (described self.now (view tree.now)) else None)) };
 }
 
-/// What all these trees describe. None exactly if one of them hasn't the form.
+/// What all these trees describe. None exactly when one of them doesn't have the form.
 fn read_all<R: Reader>(
     alloc: Global,
     reader: &R,

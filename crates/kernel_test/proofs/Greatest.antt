@@ -2,7 +2,7 @@
 --
 -- The test makes one pass over the coalitions. For each two players it keeps the greatest excess so far of a coalition
 -- that holds the one and lacks the other. `IsGreatestBelow` says so of the masks below m, so at the end each number is
--- the surplus. Two players are balanced exactly if their two numbers agree.
+-- the surplus. Two players are balanced exactly when their two numbers agree.
 use Rattle.std.proofs.Common.{◌≡◌, ◌≢◌, ℕ, ◌+◌, ◌^◌, ◌<◌, Bool, true, false, cond}
 use Rattle.std.proofs.Common.{ℤ, ◌≤ℤ◌, Option, Some, None}
 use Rattle.std.proofs.Common.{IsSome, MatchOption, subst, arith, refl, sym, ap, ◌∙◌, inl, inr}

@@ -10,7 +10,7 @@
 --   lesser_where             the lesser of two numbers that are there, if a test passes
 --   IsFrom                   a number that is there, and at least so great
 --   IsFloor                  what the floor of a row is, up to a column
---   AreFloors table least    no number of a row is below the row's floor, if that is there
+--   AreFloors table least    no number of a row is below the row's floor, if it has one
 --   AreThere n table         there is a number for each two of the first n players
 --   AreSurpluses g x table   each number is the surplus of the row's player against the column's
 use Rattle.std.specs.Prelude.{◌≡◌, ◌≢◌, ℕ, ◌+◌, ◌*◌, ◌<◌, Bool, true, List, ℤ}
@@ -33,7 +33,7 @@ abbrev pub is_less_so_far : Option ℤ → ℤ → Bool
 is_less_so_far None e = true
 is_less_so_far (Some m) e = int_lt m e
 
--- the lesser of two numbers, and none if one of them is, if a test passes
+-- the lesser of two numbers, and none if one of them isn't there
 abbrev pub lesser : Option ℤ → Option ℤ → Option ℤ
 lesser None number = None
 lesser (Some m) None = None

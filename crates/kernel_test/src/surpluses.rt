@@ -153,14 +153,14 @@ impl Surpluses {
     }
 }
 
-/// The greater of a number and the greatest so far, if a test passes.
+/// The greater of a number and the greatest so far, if a test passes; otherwise the greatest so far.
 fn raised_where(test: bool, most: Option<i128>, excess: i128) -> Option<i128>
     ensures { result ≡ raised_where test most excess }
 {
     if test { raised(most, excess) } else { most }
 }
 
-/// The lesser of two numbers if a test passes, and none if one of them is.
+/// The lesser of two numbers if a test passes, and none if one of them isn't there; otherwise `least`.
 fn lesser_where(test: bool, least: Option<i128>, number: Option<i128>) -> Option<i128>
     ensures { result ≡ lesser_where test least number }
 {

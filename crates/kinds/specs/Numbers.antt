@@ -1,4 +1,4 @@
--- The numbers of the refusals. They are tested in this order, but for Quota, which is tested behind Estate.
+-- The numbers of the refusals. They are tested in this order, except Quota, which is tested after Estate.
 use Rattle.std.specs.Prelude.{ℕ}
 use Rattle.kinds.specs.declared.refusal.Refusal.{Refusal}
 use Rattle.kinds.specs.declared.refusal.Refusal.TheVariants.{TooLong, NotJson, Shape, Players, Number}

@@ -14,7 +14,7 @@ pub enum Refusal {
     Shape,
     /// There are too few or too many players, or numbers for them.
     Players,
-    /// A number of the game isn't an integer, nor, if the document is of version 2, a fraction text; it isn't within
+    /// A number of the game is neither an integer nor, in a document of version 2, a fraction text; it isn't within
     /// its limits, or the common denominator of such numbers isn't; or a share is neither an integer nor a fraction
     /// text.
     Number,

@@ -8,7 +8,7 @@ use coalitions::Coalition;
 
 /// Whether halving finds the coalition in the pairs.
 ///
-/// If their masks ascend it finds each coalition that stands there; otherwise it may miss some.
+/// If their masks ascend, it finds each coalition that is in them; otherwise it may miss some.
 fn is_found(pairs: &[(Coalition, i128)], s: Coalition) -> bool
     ensures { IsTrue result → IsTrue (list_any (λ c. nat_eq c.0 s) pairs.now) }
 {

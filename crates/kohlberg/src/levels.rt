@@ -296,8 +296,8 @@ fn are_players(bounds: &[(u32, i128)], n: u32) -> bool
 
 /// Whether each coalition stands in a level in front.
 ///
-/// If the masks of those levels ascend, halving finds all that stand there, and no level is gone through but for the
-/// first coalition that doesn't.
+/// If the masks of those levels ascend, halving finds all that are there, and no level is gone through except for the
+/// first coalition that isn't.
 /// So no order of theirs has to be known, and a certificate of the right form is read quickly.
 fn are_listed(pairs: &[(Coalition, i128)], front: &[Level]) -> bool
     ensures { result ≡ list_all (λ c. is_listed front.now c.0) pairs.now }

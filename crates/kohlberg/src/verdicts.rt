@@ -26,17 +26,17 @@ pub enum Place {
 pub enum Reason {
     /// The shares do not add to the worth of all.
     NotEfficient,
-    /// The least player whose share is below its worth alone, if it has to have that.
+    /// The least player whose share is below its worth alone; only of imputations.
     NotIndividual { player: u32 },
     /// The first coalition of a level that does not have its excess.
     WrongExcess { level: u32, coalition: Coalition },
-    /// The first weight of a level that is below 1: of its coalitions, or of its bounds if no level in front gave
-    /// the player a weight of at least 1.
+    /// The first weight of a level that is below 1: of its coalitions, or of its bounds, unless an earlier level
+    /// gave the player a weight of at least 1.
     WeightSign { level: u32, place: Place },
     /// The least player at which the weights of a level do not add to its total.
     Unbalanced { level: u32, player: u32 },
-    /// The first player in the bounds of a level whose share is not its worth alone, or any if shares have no
-    /// bounds.
+    /// The first player in the bounds of a level whose share is not its worth alone; of preimputations, which have no
+    /// bounds, the first player there.
     BoundNotTight { level: u32, player: u32 },
     /// The greatest measured excess, as worth, of a coalition that the levels in front do not fix; it is above the
     /// level's.

@@ -1,5 +1,5 @@
 -- At a core point of a bankruptcy game the surplus of one claimant against another is the greater of minus what the
--- first gets and minus what the other loses. Where the two surpluses are the same, that is the contested garment
+-- first gets and minus what the other loses. If the two surpluses are the same, that is the contested garment
 -- (Aumann and Maschler 1985).
 use Rattle.std.proofs.Common.{◌≡◌, ◌≢◌, ℕ, ◌-◌, ◌^◌, ◌<◌, not, List, length, ℤ, pos, ◌-ℤ◌, ◌*ℤ◌, ◌≤ℤ◌, neg_ℤ, sym, ap}
 use Rattle.std.proofs.Common.{◌∙◌, arith}

@@ -1,4 +1,5 @@
--- Who adds no less than another, with a number of its own that counts beside the game, gets no less with it.
+-- Each player has a number of its own beside the game. A player that adds no less than another, both counted with their
+-- numbers, gets no less, counted so too.
 use Rattle.std.proofs.Common.{◌≡◌, ℕ, ◌+◌, ◌^◌, ◌<◌, false, ℤ, ◌+ℤ◌, ◌*ℤ◌, ◌≤ℤ◌, arith}
 use Rattle.definitions.proofs.Families.{allocation_of}
 use Rattle.definitions.proofs.Parts.{sum_over-more}

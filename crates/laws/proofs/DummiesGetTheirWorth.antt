@@ -1,4 +1,4 @@
--- A player that adds its worth alone to each coalition without it gets that: else every coalition of greatest
+-- A player that adds its worth alone to each coalition without it gets that: otherwise every coalition of greatest
 -- excess would be on one side of the player, and a small transfer there would beat the nucleolus.
 --
 -- With the dummy a coalition's excess is less by d, what the dummy gets beside its worth alone. If d is above 0, the

@@ -1,4 +1,4 @@
--- A rule with the four properties gives the Shapley value (Shapley 1953): a game is a sum of games in which just
+-- A rule with the four properties gives the Shapley value (Shapley 1953): a game is a sum of games in which only
 -- one coalition counts, and such a game leaves it no choice.
 --
 -- By masks from the greatest down: worths that are 0 below k are the sum of two games. In the first a coalition is

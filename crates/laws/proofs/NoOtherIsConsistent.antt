@@ -1,5 +1,5 @@
--- Of what two get together, the garment gives neither less when it is more. So where two divisions of one estate
--- differ, some two claimants get in one of them no less together, of whom one gets less (Aumann and Maschler 1985).
+-- When two get more together, the garment gives neither of them less. But if two divisions of one estate differ, some
+-- two claimants get in one of them no less together, and one of the two gets less (Aumann and Maschler 1985).
 use Rattle.std.proofs.Common.{◌≡◌, ◌≢◌, ℕ, zero, suc, ◌<◌, ◌≤◌, List, length, get_or, ℤ, pos, ◌+ℤ◌, ◌-ℤ◌, ◌*ℤ◌, ◌<ℤ◌}
 use Rattle.std.proofs.Common.{◌≤ℤ◌, sym, ap, subst, ◌∙◌, inl, inr, arith}
 use Rattle.std.specs.Int.{int_max}

@@ -1,4 +1,4 @@
--- Where some allocation is in the core, the nucleolus is: a coalition that blocked it would have an excess above 0,
+-- If the core isn't empty, the nucleolus is in it: a coalition that blocked it would have an excess above 0,
 -- and no excess at a core point is above 0.
 use Rattle.std.proofs.Common.{◌≡◌, ℕ, ◌-◌, ◌+◌, ◌^◌, ◌<◌, ◌≤◌, ℤ, pos, ◌*ℤ◌, ◌<ℤ◌, ◌≤ℤ◌, ap, inr, arith, map}
 use Rattle.std.proofs.lemmas.Int.{by_lt_z}

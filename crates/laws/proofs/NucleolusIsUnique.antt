@@ -1,4 +1,4 @@
--- Two nucleoli of one game have the same shares: else each would come before the other.
+-- Two nucleoli of one game have the same shares: otherwise each would come before the other.
 use Rattle.std.proofs.Common.{◌*ℤ◌, sym, arith}
 use Rattle.std.proofs.lemmas.Int.{by_lt_z}
 use Rattle.definitions.proofs.Ring.{linear}

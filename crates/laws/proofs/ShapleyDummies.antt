@@ -1,5 +1,5 @@
--- Who adds nothing gets nothing. And who adds its worth alone has that times the total of the one that is worth 1
--- with it and 0 without it, where all others add nothing.
+-- A player that adds nothing gets nothing. And the total of a player that adds its worth alone is that worth times its
+-- total in the game in which a coalition is worth 1 with it and 0 without it: there all others add nothing.
 use Rattle.std.proofs.Common.{◌≡◌, ◌≢◌, ℕ, zero, suc, ◌+◌, ◌^◌, ◌<◌, Bool, true, false, cond, ℤ, pos, ◌+ℤ◌, ◌-ℤ◌, ◌*ℤ◌}
 use Rattle.std.proofs.Common.{refl, sym, ap, ◌∙◌, inl, inr, arith}
 use lib.IntN.{*ℤ_comm}

@@ -1,5 +1,5 @@
--- What a player adds to a coalition it adds in the renumbered game to the coalition that this one is there, and that
--- stands as often in front of it: so the sums over all coalitions are the same.
+-- What a player adds to a coalition, it adds in the renumbered game to the renumbered coalition, which comes before it
+-- in as many orders. So the sums over all coalitions are the same.
 use Rattle.std.proofs.Common.{◌≡◌, ℕ, zero, suc, ◌+◌, ◌^◌, ◌<◌, Bool, cond, length, ℤ, pos, ◌-ℤ◌, ◌*ℤ◌, sym, ap}
 use Rattle.std.proofs.Common.{◌∙◌, inl, inr, true, false, refl, arith}
 use Rattle.std.proofs.lemmas.Bool.{false≢true}

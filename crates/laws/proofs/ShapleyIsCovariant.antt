@@ -1,5 +1,5 @@
--- The total in k times the game, and in the game in which each player brings its number, where all are dummies: so what
--- they add is the total in both together.
+-- The total in k times the game, and the total in the game in which each player brings its number and all are dummies.
+-- Their sum is the total in both games together.
 use Rattle.std.proofs.Common.{◌≡◌, ℕ, ◌<◌, length, ℤ, pos, ◌+ℤ◌, ◌*ℤ◌, refl, sym, ap, ◌∙◌}
 use Rattle.std.proofs.lemmas.List.FromFn.{length-map-range_with_len}
 use Rattle.definitions.proofs.Members.{sum_over-singleton}

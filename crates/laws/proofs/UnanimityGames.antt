@@ -1,4 +1,4 @@
--- Games in which a coalition is worth something just where it holds all of a given one: no lesser mask is worth
+-- Games in which a coalition is worth something exactly when it holds all of a given one: no lesser mask is worth
 -- anything.
 use Rattle.std.proofs.Common.{◌≡◌, ℕ, zero, suc, ◌+◌, ◌-◌, ◌^◌, ◌<◌, ◌≤◌, Bool, true, false, cond, ◌&&◌, not, ℤ, pos}
 use Rattle.std.proofs.Common.{◌-ℤ◌, ◌≤ℤ◌, refl, ap, inl, inr, arith}

@@ -1,5 +1,5 @@
--- Whoever adds no less than another to every coalition without both gets no less: else the nucleolus, with the two
--- shares made equal, would be beaten.
+-- A player that adds no less than another to every coalition without both gets no less: otherwise the nucleolus, with
+-- the two shares made equal, would be beaten.
 --
 -- Say j gets c more than i, which adds no less. With i in the place of j a coalition has the same size, and an excess
 -- that is greater by at least c. So the two shares made equal are a move (Moves.antt of theorems), and at a nucleolus

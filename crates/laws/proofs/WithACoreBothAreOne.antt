@@ -1,4 +1,4 @@
--- Where some allocation is in the core, the prenucleolus is an imputation, and so the nucleolus. And the nucleolus
+-- If the core isn't empty, the prenucleolus is an imputation, and so the nucleolus. And the nucleolus
 -- beats each preimputation that gives somebody less than alone, since there an excess is above 0 and at a core point
 -- none is.
 use Rattle.std.proofs.Common.{◌≡◌, ◌↔◌, ℕ, ◌^◌, ◌<◌, ◌≤◌, pos, ◌*ℤ◌, ◌<ℤ◌, ap, ◌∙◌, inl, inr, arith}

@@ -7,7 +7,7 @@
 --   PaymentsRiseWithNeeds             Littlechild's payments (1974): who needs no less pays no less
 --   NobodyPaysMoreThanAlone           Littlechild's payments: nobody pays more than alone, nor less than nothing
 --   NoGroupPaysMoreThanItsCost        Littlechild's payments: no group pays more together than its greatest cost
---   AllPayTheGreatestCost             Littlechild's payments: all together pay just the greatest cost
+--   AllPayTheGreatestCost             Littlechild's payments: all together pay exactly the greatest cost
 use Rattle.std.specs.Prelude.{◌≡◌, ℕ, ◌^◌, ◌<◌, ◌≤◌, List, length, ℤ, pos, ◌+ℤ◌}
 use Rattle.std.specs.Prelude.{◌*ℤ◌, ◌≤ℤ◌, neg_ℤ, slice_index}
 use Rattle.definitions.specs.Sums.{sum_below}

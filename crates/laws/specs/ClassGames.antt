@@ -16,6 +16,6 @@ airport_game costs = record { players = length costs; worth = airport_worth cost
 abbrev pub bankruptcy_game : ℕ → List ℕ → Game
 bankruptcy_game estate claims = record { players = length claims; worth = bankruptcy_worth estate claims }
 
--- each coalition is worth 1 if its weights sum to at least the quota, and 0 otherwise
+-- each coalition is worth 1 if its members' weights sum to at least the quota, and 0 otherwise
 abbrev pub voting_game : ℕ → List ℕ → Game
 voting_game quota weights = record { players = length weights; worth = voting_worth quota weights }

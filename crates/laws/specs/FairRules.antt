@@ -4,7 +4,7 @@
 --   IsSum a b g           each coalition is worth in the game g what it is in a and b together
 --   HasSum a b x i        the share of player i in x is the sum of those in a and b
 --   IsFairRule n rule     the four properties, for all games of n players
---   FairRulesAreShapley   a rule has them exactly if it gives the Shapley value to each game
+--   FairRulesAreShapley   a rule has them if and only if it gives each game its Shapley value
 use Rattle.std.specs.Prelude.{◌≡◌, ◌↔◌, ℕ, ◌^◌, ◌<◌, pos, ◌+ℤ◌, ◌*ℤ◌}
 use Rattle.definitions.specs.Games.{Game, Allocation, share, IsAllocation, IsEfficient}
 use Rattle.definitions.specs.Players.{AddsNothing, AreInterchangeable}
@@ -31,7 +31,7 @@ pub record IsFairRule (n : ℕ) (rule : Game → Allocation) : Type 0 where
   pub additive : (a b g : Game) (i : ℕ) → IsGameOf n a → IsGameOf n b → IsGameOf n g → IsSum a b g → i < n
       → HasSum (rule a) (rule b) (rule g) i
 
--- a rule has the four properties exactly if it gives the Shapley value to each game
+-- a rule has the four properties if and only if it gives each game its Shapley value
 abbrev pub FairRulesAreShapley : Type 0
 FairRulesAreShapley =
     (n : ℕ) (rule : Game → Allocation) → IsFairRule n rule ↔ ((g : Game) → IsGameOf n g → IsShapley g (rule g))

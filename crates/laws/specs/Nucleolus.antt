@@ -1,8 +1,8 @@
 -- What the nucleolus promises to the players. Each statement is the contract of a function of this crate.
 --
 --   NucleolusIsUnique         two nucleoli of one game have the same shares (Schmeidler 1969)
---   NucleolusIsInCore         if some allocation is in the core, the nucleolus is (Schmeidler 1969)
---   WithACoreBothAreOne       if some allocation is in the core, prenucleolus and nucleolus are one
+--   NucleolusIsInCore         if the core isn't empty, the nucleolus is in it (Schmeidler 1969)
+--   WithACoreBothAreOne       if the core isn't empty, the prenucleolus is the nucleolus
 --   DummiesGetTheirWorth      a player that adds its worth alone everywhere gets that
 --   DummiesMayGetLess         but the prenucleolus per head may give it less
 --   WhoAddsNoLessGetsNoLess   a player that adds no less than another everywhere gets no less

@@ -1,8 +1,8 @@
--- The Shapley value goes with other numbers of the players and with a change of the unit: two of the axioms by which
--- solutions are told apart (Shapley 1953; Peleg and Sudhölter, Introduction to the Theory of Cooperative Games).
+-- The Shapley value is anonymous, and covariant under strategic equivalence: two of the axioms by which solutions are
+-- told apart (Shapley 1953; Peleg and Sudhölter, Introduction to the Theory of Cooperative Games).
 --
 --   ShapleyIsAnonymous   the Shapley value of the renumbered game has the renumbered shares
---   ShapleyIsCovariant   that of a game made by a change of the unit and by numbers of the players changes by the same
+--   ShapleyIsCovariant   if the unit changes and each player brings a number of its own, the shares change alike
 use Rattle.std.specs.Prelude.{ℕ, ℤ}
 use Rattle.definitions.specs.Games.{Game, Allocation}
 use Rattle.definitions.specs.Shapley.{IsShapley}

@@ -1,13 +1,13 @@
--- What sorting a list of numbers means, and that the lists of excesses may hold all coalitions or the proper ones
--- alone.
+-- What sorting a list of numbers means, and that the lists of excesses may hold all coalitions or only the proper
+-- ones.
 --
 --   times_in z xs               how often a number stands in a list
---   Falls xs                    no number is greater than one in front of it
+--   Falls xs                    no number is greater than one before it
 --   IsSortingOf xs ys           the list ys falls, and holds each number as often as xs
 --   SortedIsTheSorting          sorted xs is such a list, and the only one
 --   all_excesses                the measured excesses of all coalitions, also of the empty one and that of all
 --   BeatsAmongAll               over these lists, the excesses of x from the greatest come before those of y
---   LeavingOutChangesNothing    for efficient allocations, that is the same as over the proper coalitions alone
+--   LeavingOutChangesNothing    for efficient allocations, that is the same as over only the proper coalitions
 --   IsNucleolusAmongAll         a member of the family that beats every other member over these lists
 --   NucleolusAmongAll           that is the same as the nucleolus
 use Rattle.std.specs.Prelude.{◌≡◌, ◌↔◌, ℕ, ◌+◌, ◌^◌, List, [], ◌∷◌, map, ℤ}

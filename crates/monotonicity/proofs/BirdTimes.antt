@@ -1,4 +1,4 @@
--- Which of two links costs less doesn't change where both are taken times one number.
+-- Which of two links costs less doesn't change if both are taken times one number.
 use Rattle.std.proofs.Common.{◌≡◌, ◌⊎◌, ℕ, ◌+◌, ◌-◌, ◌*◌, ◌<◌, ◌≤◌, Bool, List, [], ◌∷◌, ℤ, pos, neg_ℤ, ◌*ℤ◌, ap, ◌∙◌}
 use Rattle.std.proofs.Common.{inl, inr, arith}
 use Rattle.std.proofs.lemmas.Int.{ints}

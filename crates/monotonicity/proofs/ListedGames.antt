@@ -1,7 +1,7 @@
 -- Games in which all players are worth something, some listed coalitions of the first m players are, and all other
 -- coalitions nothing. So at a core point the first m players get together at most what all are worth.
 --
---   listed ps s          the number of a coalition in a list, and 0 where it isn't there
+--   listed ps s          the number of a coalition in a list, and 0 if it isn't there
 --   with_all n ps a      the game of n players of a list, in which all are worth a
 --   AreFirst m ps        the coalitions of a list aren't empty, and hold some of the first m players, but not all
 --   listed_share xs i    the shares of the first players, and nothing for the others

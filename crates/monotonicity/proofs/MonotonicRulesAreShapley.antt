@@ -1,5 +1,5 @@
 -- A rule that is efficient, symmetric and strongly monotonic gives the Shapley value (Young 1985): by the number of
--- terms of the game. Whom a term lacks gets what it gets without that term; those that all terms hold are alike.
+-- terms of the game. A player outside a term gets what it gets without that term; players in all terms are alike.
 use Rattle.std.proofs.Common.{◌≡◌, ℕ, zero, suc, ◌+◌, ◌^◌, ◌<◌, ◌≤◌, true, false, List, length, ℤ, pos, ◌-ℤ◌, ◌*ℤ◌}
 use Rattle.std.proofs.Common.{◌<ℤ◌, refl, sym, ap, subst, ◌∙◌, inl, inr, arith}
 use lib.IntN.{*ℤ_comm}

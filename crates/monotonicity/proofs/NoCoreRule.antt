@@ -1,5 +1,5 @@
--- Games of four players or more. 1 and 2 each are worth 1 with 3 and with 4, and all are worth 2. Where 1, 2 and 3 come
--- to be worth 2, the only core point gives player 3 nothing, and where 1, 3 and 4 do, player 1 nothing. So by a
+-- Games of four players or more. 1 and 2 each are worth 1 with 3 and with 4, and all are worth 2. If 1, 2 and 3 come
+-- to be worth 2, the only core point gives player 3 nothing, and if 1, 3 and 4 do, player 1 nothing. So by a
 -- monotonic rule both would get nothing before, but they are worth 1 together (Housman and Clark 1998).
 use Rattle.std.proofs.Common.{◌≡◌, ℕ, ◌<◌, ◌≤◌, List, [], ◌∷◌, ◌++◌, ℤ, pos, ◌+ℤ◌, ◌*ℤ◌, ◌≤ℤ◌, refl, sym, arith, rules}
 use Rattle.std.proofs.lemmas.Int.{ints}

@@ -1,7 +1,7 @@
--- Two lists from the greatest, each with one number put in. Where the first has the lesser of the two numbers and comes
--- first, it doesn't come last where both numbers are raised alike (Zhou 1991).
+-- Two lists from the greatest, each with one number put in. If the first has the lesser of the two numbers and comes
+-- first, it doesn't come last when both numbers are raised alike (Zhou 1991).
 --
---   others f a k t   the values of f at k numbers from a on, but at t
+--   others f a k t   the values of f at k numbers from a on, except at t
 use Rattle.std.proofs.Common.{◌≡◌, ◌≢◌, ℕ, zero, suc, ◌+◌, ◌<◌, ◌≤◌, Bool, true, false, cond, nat_eq, if◌then◌else◌}
 use Rattle.std.proofs.Common.{List, [], ◌∷◌, map, ℤ, pos, ◌+ℤ◌, ◌<ℤ◌, ◌≤ℤ◌, int_lt, refl, sym, ap, ap₂, subst, ◌∙◌}
 use Rattle.std.proofs.Common.{arith}

@@ -1,4 +1,4 @@
--- Where all together are worth d more, an equal part of it for each of n players takes d/n off each excess per head. So
+-- If all together are worth d more, an equal part of it for each of n players takes d/n off each excess per head. So
 -- the order of all lists of excesses stays as it was (Young, Okada and Hashimoto 1982).
 use Rattle.std.proofs.Common.{◌≡◌, ◌≢◌, ℕ, zero, suc, ◌-◌, ◌/◌, ◌^◌, ◌<◌, ◌≤◌, true, List, length, map, ℤ, pos, ◌+ℤ◌}
 use Rattle.std.proofs.Common.{◌-ℤ◌, ◌*ℤ◌, ◌≤ℤ◌, neg_ℤ, sym, ap, subst, ◌∙◌, inl, inr, arith}

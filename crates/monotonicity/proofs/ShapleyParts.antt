@@ -1,5 +1,5 @@
--- The game of what all together are worth more, and nobody else, has only alike players. So in the sum with it each of
--- n players has an n-th of d more.
+-- In the game in which all together are worth d and each other coalition nothing, all players are alike. So in the sum
+-- with it each of n players has an n-th of d more.
 use Rattle.std.proofs.Common.{◌≡◌, ◌≢◌, ℕ, zero, suc, ◌+◌, ◌^◌, ◌<◌, false, ℤ, pos, ◌+ℤ◌, ◌-ℤ◌, ◌*ℤ◌, ◌<ℤ◌, refl, sym}
 use Rattle.std.proofs.Common.{ap, subst, ◌∙◌, inl, inr, arith}
 use Rattle.std.proofs.lemmas.Bool.{false≢true}

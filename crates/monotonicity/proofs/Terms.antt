@@ -1,4 +1,4 @@
--- A game in which the empty coalition is worth nothing is a sum of games in each of which just one coalition counts. A
+-- A game in which the empty coalition is worth nothing is a sum of games in each of which only one coalition counts. A
 -- player adds in it what it adds in the terms whose coalition holds it.
 --
 --   IsTerm n p      a coalition of n players that isn't empty, with a number

@@ -1,4 +1,4 @@
--- Where coalition t alone is worth more, only its excess rises, at all shares by the same. If its members got less at
+-- If only coalition t is worth more, only its excess rises, at all shares by the same. If its members got less at
 -- the new nucleolus than at the old one, its excess there would be the greater, so the old one would still come first
 -- (Zhou 1991).
 use Rattle.std.proofs.Common.{◌≡◌, ◌≢◌, ℕ, ◌-◌, ◌^◌, ◌<◌, List, ℤ, pos, ◌+ℤ◌, ◌-ℤ◌, ◌*ℤ◌, ◌<ℤ◌, ◌≤ℤ◌, sym, ap, subst}

@@ -1,10 +1,10 @@
--- Where a player adds more than before (strong monotonicity: Young 1985). Each law is the contract of a function of
--- this crate.
+-- What a player gets when it adds more than before (strong monotonicity: Young 1985). Each law is the contract of a
+-- function of this crate.
 --
 --   AddsNoLessThen g h i       player i adds to each coalition in h at least what it adds in g
 --   WhoAddsMoreGetsNoLess      then its Shapley share in h is at least that in g
 --   IsMonotonicRule n rule     efficient, symmetric and strongly monotonic, for all games of n players
---   MonotonicRulesAreShapley   a rule has the three properties exactly if it gives the Shapley value to each game
+--   MonotonicRulesAreShapley   a rule has the three properties if and only if it gives each game its Shapley value
 use Rattle.std.specs.Prelude.{◌≡◌, ◌↔◌, ℕ, ◌+◌, ◌^◌, ◌<◌, false, ◌-ℤ◌, ◌*ℤ◌, ◌≤ℤ◌}
 use Rattle.definitions.specs.Coalitions.{has_player, singleton}
 use Rattle.definitions.specs.Games.{Game, Allocation, share, IsAllocation, IsEfficient}

@@ -2,9 +2,9 @@
 -- 1985). Each law is the contract of a function of this crate.
 --
 --   GrowsAround g h i               no coalition with i is worth less in h than in g, and each other what it was
---   LosesInTheCore g h i            so it is, both have core points, and i gets less at each one of h
+--   LosesInTheCore g h i            the game grows around i, both have core points, and i gets less at each one of h
 --   SomebodyLosesInTheCore          there are such games of any number of players from five on
---   PicksCorePoints n rule          if a game of n players has core points, the rule's shares are one
+--   PicksCorePoints n rule          if a game of n players has core points, the rule gives one
 --   IsCoalitionMonotonic n rule     if a coalition grows, and both games have core points, no member gets less
 --   NoCoreRuleIsMonotonic           from four players on no rule is both (of four: Housman and Clark 1998)
 --   WhoIsInAllThatGrowsGetsNoLess   but the Shapley value gives no less to a player around whom a game grows
@@ -36,7 +36,7 @@ abbrev pub SomebodyLosesInTheCore : Type 0
 SomebodyLosesInTheCore =
     (n : ℕ) → 5 ≤ n → (g : Game) × (h : Game) × (i : ℕ) × IsGameOf n g × IsGameOf n h × LosesInTheCore g h i
 
--- if some allocation is in the core of a game of n players, the rule's shares are, as those of the nucleolus
+-- if the core of a game of n players isn't empty, the rule's shares are in it, like those of the nucleolus
 abbrev pub PicksCorePoints : ℕ → (Game → Allocation) → Type 0
 PicksCorePoints n rule = (g : Game) (z : Allocation) → IsGameOf n g → InCore g z → InCore g (rule g)
 

@@ -1,15 +1,16 @@
--- Where all together, or one coalition, are worth more and nothing else changes (aggregate monotonicity: Megiddo 1974;
--- Young, Okada and Hashimoto 1982; of one coalition: Zhou 1991). Each law is the contract of a function of this crate.
+-- What players get if all together, or one coalition, are worth more and nothing else changes (aggregate monotonicity:
+-- Megiddo 1974; Young, Okada and Hashimoto 1982; of one coalition: Zhou 1991). Each law is the contract of a function
+-- of this crate.
 --
 --   GroupGrows d t g h           coalition t is worth d more in h than in g, and each other coalition what it was
---   WholeGrows d g h             all together are so
---   GetsEqualPart d n x y i      of n players, player i gets at y just d/n more than at x
---   PerHeadEachGetsAnEqualPart   so does each player of the prenucleolus per head, if the whole grows by d
---   WithCoresTheNucleolusDoes    and so does the nucleolus per head, if both games have core points
---   ShapleyEachGetsAnEqualPart   and so does the Shapley value
+--   WholeGrows d g h             all together are worth d more, and each other coalition what it was
+--   GetsEqualPart d n x y i      of n players, player i gets at y exactly d/n more than at x
+--   PerHeadEachGetsAnEqualPart   by the prenucleolus per head each player does, if all together are worth d more
+--   WithCoresTheNucleolusDoes    so it is by the nucleolus per head, if both games have core points
+--   ShapleyEachGetsAnEqualPart   and so it is by the Shapley value
 --   two_contracts all            1 and 2 earn 1 together, 1, 3 and 4 earn 2, and all four are worth all
---   before, after                the nucleolus if that is 3, and if it is 4
---   WhoGetsLessOfMore            there player 1 gets less of more
+--   before, after                the nucleolus with 3 as the worth of all, and with 4
+--   WhoGetsLessOfMore            player 1 gets less with 4 than with 3
 --   WhoGrowGetNoLess             the members of a coalition that grows together get no less, by the nucleolus
 --   EachWhoGrowsGetsNoLess       and each of them gets no less, and who isn't in it no more, by the Shapley value
 use Rattle.std.specs.Prelude.{◌≡◌, ◌≢◌, ℕ, ◌^◌, ◌<◌, ◌≤◌, true, false, []}
@@ -95,8 +96,8 @@ WhoGetsLessOfMore =
 
 -- ---- one coalition
 
--- the members of a coalition that is worth more, if nothing else changes, get together no less: of the nucleolus and
--- the prenucleolus, plain and per head (Zhou 1991)
+-- if a coalition is worth more and nothing else changes, its members together get no less: by the nucleolus and the
+-- prenucleolus, plain and per head (Zhou 1991)
 abbrev pub WhoGrowGetNoLess : Type 0
 WhoGrowGetNoLess =
     (family : Family) (measure : Measure) (d : ℤ) (t : ℕ) (g h : Game) (x y : Allocation) →

@@ -2,7 +2,7 @@
 -- of a function of this crate.
 --
 --   quarters            shares of 17/12, 3/4, 11/12 and 11/12: a quarter more than before
---   three, four         the contracts if all four players are worth 3, and if they are worth 4
+--   three, four         the contracts with 3 as the worth of all four players, and with 4
 --   ContractsCompared   from 3 to 4 all together grow, and no other coalition; so the game grows around each player,
 --                       and each adds no less; and a quarter more is an equal part
 use Rattle.std.specs.Prelude.{ℕ, ◌<◌, [], ◌∷◌, pos}
@@ -15,7 +15,7 @@ use Rattle.monotonicity.specs.CoreRules.{GrowsAround, LosesInTheCore}
 abbrev pub quarters : Allocation
 quarters = record { shares = pos 17 ∷ (pos 9 ∷ (pos 11 ∷ (pos 11 ∷ []))); den = pos 12 }
 
--- the two contracts if all four are worth 3, and if they are worth 4
+-- the two contracts with 3 as the worth of all four players, and with 4
 abbrev pub three : Game
 three = two_contracts (pos 3)
 

@@ -21,7 +21,7 @@ abbrev pub GivesPrenucleolus : ℕ → (Game → Allocation) → Type 0
 GivesPrenucleolus n rule = (g : Game) → IsGameOf n g → IsNucleolus Preimputations Plain g (rule g)
 
 -- there are rules of both kinds; each of the first is monotonic in both senses, and doesn't always give a core point
--- where there is one; each of the second does, and is monotonic in neither sense
+-- if there is one; each of the second does, and is monotonic in neither sense
 abbrev pub TwoRulesDiffer : Type 0
 TwoRulesDiffer =
     (n : ℕ) → 4 ≤ n →

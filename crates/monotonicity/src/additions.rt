@@ -1,4 +1,4 @@
-//! Where a player adds more than before (Young 1985).
+//! What a player gets when it adds more than before (Young 1985).
 
 ghost use Rattle.monotonicity.specs.Additions.{WhoAddsMoreGetsNoLess, MonotonicRulesAreShapley};
 

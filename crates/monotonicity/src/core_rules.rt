@@ -1,5 +1,5 @@
-//! Where only coalitions with some player grow: what it gets by rules that give core points, and by the Shapley value
-//! (Young 1985).
+//! What a player gets if only coalitions with that player grow: by rules that give core points, and by the Shapley
+//! value (Young 1985).
 
 ghost use Rattle.monotonicity.specs.CoreRules.{SomebodyLosesInTheCore, NoCoreRuleIsMonotonic};
 ghost use Rattle.monotonicity.specs.CoreRules.{WhoIsInAllThatGrowsGetsNoLess};

@@ -1,5 +1,6 @@
-//! Where all together, or one coalition, are worth more, or less, and every other coalition is worth what it was: of a
-//! joint cost, who pays of an overrun (Megiddo 1974; Young, Okada and Hashimoto 1982; of one coalition Zhou 1991).
+//! What players get if all together, or one coalition, are worth more, or less, and every other coalition is worth what
+//! it was: of a joint cost, who pays for an overrun (Megiddo 1974; Young, Okada and Hashimoto 1982; of one coalition
+//! Zhou 1991).
 
 ghost use Rattle.monotonicity.specs.Growth.{PerHeadEachGetsAnEqualPart, ShapleyEachGetsAnEqualPart};
 ghost use Rattle.monotonicity.specs.Growth.{WithCoresTheNucleolusDoes};

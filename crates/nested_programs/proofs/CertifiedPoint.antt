@@ -1,5 +1,5 @@
--- The levels of all stages and the shares that are read from the last, or that are the worth of all where there is
--- no stage, are a certified answer.
+-- The levels of all stages and the shares that are read from the last stage are a certified answer. If there is no
+-- stage, the one share is the worth of all.
 use Rattle.std.proofs.Common.{◌≡◌, ◌≤◌, [], ◌∷◌, pos, Option, Some, None}
 use Rattle.std.proofs.Common.{MatchOption, ap, ℕ, arith}
 use Rattle.definitions.specs.Coalitions.{grand_coalition}

@@ -1,6 +1,6 @@
 -- The part of a column's number in the sums of a level at a player is the entry of the column in the player's row.
 --
--- parts the part of a number in the coalitions outside, in the earlier ones, all players first, and in the bounds
+--   parts   the part of a number in the coalitions outside, in the earlier ones, all players first, and in the bounds
 use Rattle.std.proofs.Common.{◌≡◌, ◌≢◌, ℕ, zero, suc, ◌+◌, ◌-◌, ◌*◌, ◌<◌, ◌≤◌}
 use Rattle.std.proofs.Common.{Bool, true, false, cond, List, [], ◌∷◌, length, ℤ, pos}
 use Rattle.std.proofs.Common.{◌+ℤ◌, ◌-ℤ◌, refl, sym, ap, ◌∙◌, inl, inr, arith, nat_eq}

@@ -1,7 +1,7 @@
 -- The family of a game has a member: each player gets its worth alone, and the first player also what is left of
 -- the worth of all.
 --
--- So an imputation exists exactly if the worths of the players alone add to at most the worth of all.
+-- So an imputation exists exactly when the worths of the players alone add to at most the worth of all.
 -- `lacks_imputation` compares the two before any stage is asked, and the answer keeps both.
 use Rattle.std.proofs.Common.{◌≡◌, ℕ, zero, suc, ◌+◌, ◌<◌, ◌≤◌, Bool, true, false}
 use Rattle.std.proofs.Common.{cond, length, ℤ, pos}

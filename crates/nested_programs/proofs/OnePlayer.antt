@@ -1,5 +1,5 @@
--- Without a level only the vector of all players is fixed, so everything is fixed only where there is one player,
--- who gets the worth of all.
+-- Without a level only the vector of all players is fixed. So everything is fixed only if there is one player, who
+-- gets the worth of all.
 use Rattle.std.proofs.Common.{◌≡◌, ℕ, ◌<◌, ◌≤◌, Bool, cond, List, [], ◌∷◌, ℤ}
 use Rattle.std.proofs.Common.{pos, ◌+ℤ◌}
 use Rattle.std.proofs.Common.{◌*ℤ◌, ◌≤ℤ◌, refl, sym, ap, ◌∙◌, inl, inr, arith}

@@ -1,4 +1,4 @@
--- Weights of at least 1: the number of a column is at least 1 exactly where the column has a weight.
+-- Weights of at least 1: the number of a column is at least 1 exactly when the column has a weight.
 use Rattle.std.proofs.Common.{◌≡◌, ℕ, Bool, true, IsTrue, List, [], ◌∷◌, ℤ, pos}
 use Rattle.std.proofs.Common.{◌+ℤ◌, ◌≤ℤ◌, refl, inl, inr, arith, nat_eq}
 use Rattle.std.proofs.lemmas.Bool.Decides.{nat_tests}

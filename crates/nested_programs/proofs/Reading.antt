@@ -1,10 +1,10 @@
 -- The dual reading of a stage program.
 --
 -- Over the rows of a column, multiplier times entry adds to the amount of its coalition and its level's multiplier
--- times its divisor, with its sign (`column_value-is`). So multipliers bound a stage program exactly if they read as
--- shares and measured excesses over one denominator (`IsReading`). Then the shares add to the worth of all. Each
+-- times its divisor, with its sign (`column_value-is`). So multipliers bound a stage program exactly when they read
+-- as shares and measured excesses over one denominator (`IsReading`). Then the shares add to the worth of all. Each
 -- coalition of an earlier level has that level's measured excess, and each player with a bound there its worth alone.
--- In imputations no player has less than alone. No coalition outside has more than the last excess.
+-- In imputations no player has less than its worth alone. No coalition outside has more than the last excess.
 use Rattle.std.proofs.Common.{◌≡◌, ℕ, zero, suc, ◌+◌, ◌-◌, ◌<◌, ◌≤◌, Bool, true}
 use Rattle.std.proofs.Common.{false, cond, IsTrue, List, [], ◌∷◌, length, map, ℤ, pos}
 use Rattle.std.proofs.Common.{◌+ℤ◌, ◌-ℤ◌, ◌*ℤ◌, ◌≤ℤ◌, refl, sym, ap, ◌∙◌, inl, inr}

@@ -1,4 +1,4 @@
--- Where the columns of positive weight are tight, and what follows of the optimum.
+-- Complementary slackness: when the columns of positive weight are tight, and what follows for the optimum.
 use Rattle.std.proofs.Common.{◌≡◌, ℕ, ◌<◌, IsTrue, List, [], ◌∷◌, ℤ, pos, ◌-ℤ◌}
 use Rattle.std.proofs.Common.{◌*ℤ◌, ◌≤ℤ◌, refl, sym, ap, ◌∙◌, inl, inr, arith, slice_index_or}
 use Rattle.std.proofs.lemmas.Int.{by_lt_z}

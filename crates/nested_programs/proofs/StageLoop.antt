@@ -1,4 +1,4 @@
--- What the loop over the stages knows where it begins, in a turn, and where it ends.
+-- What the loop over the stages knows when it begins, in a turn, and when it ends.
 use Rattle.std.proofs.Common.{◌≡◌, ℕ, suc, ◌-◌, ◌<◌, ◌≤◌, Bool, true, false, List}
 use Rattle.std.proofs.Common.{[], ◌∷◌, ◌++◌, length, take, drop, Option, Some, None, MatchOption}
 use Rattle.std.proofs.Common.{is_some, refl, sym, ◌∙◌, arith}

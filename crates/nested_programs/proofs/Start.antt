@@ -1,5 +1,5 @@
--- A stage program has a solution where a coalition is outside, and the first has no endless ray where the family
--- has a member.
+-- A stage program has a solution if a coalition is outside, and the first has no endless ray if the family has a
+-- member.
 --
 -- If a coalition is outside, so are the others together. Both at weight 1 and all players at minus 1, over the sum of
 -- the two divisors, solve the program (`pair_solves`). No ray exists beside multipliers that bound the program. In the

@@ -3,7 +3,7 @@
 --   singles           the worths of the players alone, added
 --   HasMember         the family of the game has a member
 --   LacksImputation   the players alone are worth more than all, so there is no imputation
---   IsShort           a level has fewer entries than there are players twice
+--   IsShort           a level has fewer than twice as many entries as there are players
 --   SettlesMore       a level has a coalition, and none of its coalitions is fixed by the levels in front of it
 --   SettleMore        each level settles more than those in front of it
 --   IsPoint           shares, and a short certificate in mode span that they are the nucleolus or the prenucleolus
@@ -40,7 +40,7 @@ pub record LacksImputation (family : Family) (g : Game) (alone total : ℤ) : Ty
   pub total_is : total ≡ g.worth (grand_coalition g.players)
   pub above : total <ℤ alone
 
--- a level has fewer entries over its three lists than there are players twice
+-- the three lists of a level have together fewer than twice as many entries as there are players
 abbrev pub IsShort : ℕ → Level → Type 0
 IsShort n l = length l.coalitions + length l.earlier + length l.bounds < 2 * n
 

@@ -1,5 +1,5 @@
 -- For the private functions of this crate.
--- Chains of answers, each optimal for the stage behind the levels that those in front gave.
+-- Chains of answers, each optimal for the stage after the levels that the earlier answers gave.
 --
 --   single_id      the number of the column of a player alone
 --   outer_id       the number of the column of an outside coalition
@@ -7,9 +7,9 @@
 --   Follows        a level takes its coalitions and bounds from a stage's weights
 --   StageAnswer    a level, and the weights and multipliers that it came from
 --   Answers        they are optimal for the stage, and the level follows
---   after          the stage behind the level of an answer
+--   after          the stage after the level of an answer
 --   levels_of      the levels of answers
---   IsChain        each answers the stage behind the levels of those in front
+--   IsChain        each answers the stage after the levels of the earlier ones
 --   last_of        the last answer
 --   HaveExcesses   the levels' excesses are multipliers of the level rows
 use Rattle.std.specs.Prelude.{◌≡◌, ◌↔◌, ◌⊎◌, ℕ, ◌+◌, ◌<◌, Bool, IsTrue, List, [], ◌∷◌}

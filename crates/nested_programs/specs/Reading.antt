@@ -1,7 +1,7 @@
 -- For the private functions of this crate.
 -- What multipliers of a stage program say of shares and excesses.
 --
---   reached               what a coalition gets, and the excess of a level times what the coalition's is divided by
+--   reached               what a coalition gets, plus the excess of a level times the divisor of the coalition
 --   IsReading             shares x and measured excesses e of the levels, over a denominator, that meet every column
 --   RowMultipliers        multipliers of the rows of a stage program, over a denominator
 --   share_of, excess_of   the multipliers of a player's row and of a level's row
@@ -18,7 +18,7 @@ use Rattle.definitions.specs.declared.Family.TheVariants.{Imputations}
 use Rattle.separation.specs.Stage.{earlier_of}
 use Rattle.nested_programs.specs.Stage.{Stage}
 
--- what the members of s get, and the excess of level k times what the measure divides that of s by
+-- what the members of s get, plus the excess of level k times what the measure divides the excess of s by
 abbrev pub reached : Measure → ℕ → (ℕ → ℤ) → (ℕ → ℤ) → ℕ → ℕ → ℤ
 reached measure n x e s k = sum_over n x s +ℤ e k *ℤ pos (divisor measure s)
 

@@ -4,8 +4,8 @@ use Rattle.std.specs.Io.{WritesAtMost}
 use Rattle.std.specs.Io.KnownBytes.{WriteAppends}
 use Rattle.ports.specs.Causes.{HasCause}
 
--- bytes of the piece's front are put behind those taken before, at least one if there is one; a failure is counted,
--- takes nothing, and is seen as the last call's
+-- bytes of the piece's front are put behind those taken before, at least one unless the piece is empty; a failure is
+-- counted, takes nothing, and is seen as the last call's
 pub record IsWrite {E : Type 0} (before now : Option (List ℕ)) (faults_before faults_now : ℕ) (failed_now : Bool)
     (result : Result ℕ E) (piece : List ℕ) : Type 0 where
   pub bound : WritesAtMost result piece

@@ -86,7 +86,7 @@ impl Sink for FailingSink {
 
     /// Takes as many bytes of `piece` as fit and are taken at once.
     ///
-    /// Fails exactly at the chosen calls, and if none fits of a piece that isn't empty.
+    /// Fails exactly at the chosen calls, and when no byte fits of a piece that isn't empty.
     fn write(&mut self, piece: &[u8]) -> Result<usize, Failed>
         ensures write { IsWrite (Some self.old.bytes) (Some self.new.bytes) self.old.faults self.new.faults
             self.new.failed result piece.now }

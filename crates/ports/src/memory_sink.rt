@@ -72,7 +72,7 @@ impl Sink for MemorySink {
 
     ghost failed = { λ s. s.failed };
 
-    /// Takes as many bytes of `piece` as fit. Fails exactly if none fits of a piece that isn't empty.
+    /// Takes as many bytes of `piece` as fit. Fails exactly when none fits of a piece that isn't empty.
     fn write(&mut self, piece: &[u8]) -> Result<usize, Failed>
         ensures write { IsWrite (Some self.old.bytes) (Some self.new.bytes) self.old.faults self.new.faults
             self.new.failed result piece.now }

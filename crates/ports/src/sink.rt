@@ -11,7 +11,7 @@ pub trait Sink {
     ghost faults: { Self → ℕ };
     // Whether the last write failed.
     ghost failed: { Self → Bool };
-    // A number by which its owner knows the sink again, as where it holds memory of its owner: no write changes it.
+    // A number by which its owner knows the sink again, if it holds memory of its owner: no write changes it.
     // Without it a contract over every sink says only what was taken, not that it is in the memory lent to the sink.
     ghost mark: { Self → ℕ } = { λ _. 0 };
 

@@ -1,4 +1,4 @@
--- The same shares over another denominator are the nucleolus where the first are.
+-- The same shares over another denominator are the nucleolus if the first are.
 --
 -- A nucleolus is printed over the least common denominator of its shares, so what `check` reads is over another
 -- denominator.

@@ -1,4 +1,4 @@
--- Signs that are turned where the numbers are costs.
+-- Signs that are turned if the numbers are costs.
 use Rattle.std.proofs.Common.{◌≡◌, ℕ, ◌<◌, length, Bool, true, false, refl, ℤ, pos}
 use Rattle.std.proofs.Common.{◌*ℤ◌, neg_ℤ}
 use Rattle.std.proofs.lemmas.List.{get_or-map, length-map}

@@ -1,4 +1,4 @@
--- What is read of a printed nucleolus or prenucleolus, where it is checked.
+-- What is read of a printed nucleolus or prenucleolus when it is checked.
 --
 --   IsReadOf                      what a document is read as
 --   PrintedNucleolusIsADocument   its game, family, shares and certificate are those that were printed
@@ -31,7 +31,7 @@ pub record IsReadOf (f : Family) (g : Data) (x : Allocation) (c : CertificateDat
     pub certificate : contents.certificate ≡ Some c
 
 -- a game whose document no test refused, with a share for each player and a certificate for them: what is printed of
--- them is not refused where it is checked, and is read with the game, the measure, the family, the shares and the
+-- them is not refused when it is checked, and is read with the game, the measure, the family, the shares and the
 -- certificate that were printed
 abbrev pub PrintedNucleolusIsADocument : Type 0
 PrintedNucleolusIsADocument =

@@ -16,7 +16,7 @@ use Rattle.json_trees.specs.LowestTerms.{in_lowest_terms}
 use Rattle.report.specs.Limits.{IsScale}
 use Rattle.report.specs.ShareLists.{as_printed, share_data, share_list}
 
--- the share z/d, or if the game is one of costs the payment, times the scale as the game's numbers are
+-- the share z/d, or the payment if the game is one of costs; times the scale, as the game's numbers are
 abbrev pub kept_share : Bool → ℤ → ℤ → Fraction
 kept_share is_cost d z = in_lowest_terms (as_printed is_cost z) d
 

@@ -1,4 +1,4 @@
--- What is kept if the same shares stand over another denominator.
+-- What stays true if the same shares are written over another denominator.
 --
 --   SameSharesStayInTheFamily  membership of a family
 --   SameSharesCertify          what a certificate certifies

@@ -1,4 +1,4 @@
--- Where numbers are the shares in fractions of a certificate, they are the nucleolus among shares in numbers.
+-- If numbers are the shares in fractions of a certificate, they are the nucleolus among shares in numbers.
 --
 -- In a group the fraction a / q need not exist, so `IsNucleolusOver` compares q times the excesses. Shares that can be
 -- written as numbers give Schmeidler's own sentence, `IsNucleolusAmong`. All fractions can be written as real numbers

@@ -1,4 +1,4 @@
--- Each fraction is a real number: n times it, rounded, is additive but for an error of 1. So shares in fractions
+-- Each fraction is a real number: n times it, rounded, is additive up to an error of 1. So shares in fractions
 -- can be written as real numbers.
 use Rattle.std.proofs.Common.{◌≡◌, ℕ, zero, suc, ◌+◌, ◌*◌, ◌/◌, ◌<◌, ◌≤◌, List, [], ◌∷◌, length, ℤ, pos, negsuc, ◌+ℤ◌}
 use Rattle.std.proofs.Common.{◌-ℤ◌, ◌*ℤ◌, ◌≤ℤ◌, slice_index_or, refl, sym, ap, subst, ◌∙◌, arith}

@@ -1,4 +1,4 @@
--- The real numbers are a linearly ordered abelian group: what is additive but for a bounded error, and once above
+-- The real numbers are a linearly ordered abelian group: what is additive up to a bounded error, and once above
 -- the bound, is never far below zero.
 --
 -- If the sequences of two numbers aren't in the one order, their difference passes each bound, so they are in the

@@ -1,4 +1,4 @@
--- Real numbers have sums and negatives, and a test of their order where it is decided.
+-- Real numbers have sums and negatives, and a test of their order if it is decided.
 use Rattle.std.proofs.Common.{◌⊎◌, ◌+◌, Bool, true, false, pos, ◌+ℤ◌, ◌-ℤ◌, refl, inl, inr, arith, IsTrue}
 use Rattle.std.proofs.lemmas.Bool.{false≢true}
 use Rattle.definitions.proofs.Ring.{linear}

@@ -1,4 +1,4 @@
--- Two lists of one length over a linear order. Where the numbers at each place are equal, or the first is at most
+-- Two lists of one length over a linear order. If the numbers at each place are equal, or the first is at most
 -- e, and at some place only the second is above e, the sorted first list comes before the sorted second.
 --
 -- Count the numbers above t. For each t from e on the first list has no more of them than the second, and above e it

@@ -1,9 +1,9 @@
 -- Real numbers, to be added and compared: what shares are in textbooks.
 -- Source: Schanuel's construction, in Arthan, The Eudoxus Real Numbers, 2004. A real number r is given by a sequence
--- that is n times r at n, but for an error that stays bounded, as n times r rounded down. Such sequences are just those
--- that are additive but for a bounded error.
+-- that is n times r at n, up to an error that stays bounded: for example, n times r rounded down. Such sequences are
+-- exactly those that are additive up to a bounded error.
 --
---   Real             a sequence of integers that is additive but for a bounded error
+--   Real             a sequence of integers that is additive up to a bounded error
 --   IsAtMost a b     the first sequence exceeds the second by no more than a bound
 --   AreReals N       zero, unit, sums and negatives are those of the sequences, and the test of the order decides it
 use Rattle.std.specs.Prelude.{◌≡◌, ℕ, ◌+◌, ℤ, pos, ◌+ℤ◌, ◌-ℤ◌, ◌≤ℤ◌}

@@ -1,5 +1,6 @@
--- The nucleolus, the core and the prekernel where shares are numbers of any linearly ordered abelian group with a unit
--- above zero, in place of fractions. Each definition is its fellow of Games.antt or Prekernel.antt in `definitions`.
+-- The nucleolus, the core and the prekernel for shares that are numbers of any linearly ordered abelian group with a
+-- unit above zero, in place of fractions. Each definition is its fellow of Games.antt or Prekernel.antt in
+-- `definitions`.
 -- Sources: Schmeidler 1969; Peleg and Sudhölter, Introduction to the Theory of Cooperative Games.
 --
 --   number_of y i          the share of player i

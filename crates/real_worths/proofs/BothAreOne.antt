@@ -1,5 +1,5 @@
--- A core point gives nobody less than its worth alone. So where there is one, the nucleolus and the prenucleolus lie
--- in the core; and who gives somebody less comes behind a core point.
+-- A core point gives nobody less than its worth alone. So if there is one, the nucleolus and the prenucleolus lie in
+-- the core; and shares that give somebody less come after a core point.
 use Rattle.std.proofs.Common.{◌≡◌, ◌⊎◌, ℕ, zero, suc, ◌<◌, Bool, true, false, cond, List, length, sym, ap, ◌∙◌, inl}
 use Rattle.std.proofs.Common.{inr, arith}
 use Rattle.definitions.proofs.Cases.{less_or_last}

@@ -1,5 +1,5 @@
--- With a dummy a coalition's excess is less by what the dummy gets beside its worth alone. Where that is above zero,
--- half of it moved from the dummy to a member of the coalition of the greatest excess without it improves; where it is
+-- With a dummy a coalition's excess is less by what the dummy gets beside its worth alone. If that is above zero,
+-- half of it moved from the dummy to a member of the coalition of the greatest excess without it improves; if it is
 -- below zero, the sides change.
 use Rattle.std.proofs.Common.{◌≡◌, ◌≢◌, ℕ, ◌+◌, ◌-◌, ◌^◌, ◌<◌, ◌≤◌, Bool, true, false, not, ◌&&◌, nat_eq, List, length}
 use Rattle.std.proofs.Common.{sym, ap, ◌∙◌, inl, inr, arith}

@@ -1,5 +1,5 @@
--- Where the greatest of the excesses that aren't fixed is least, one of them is that number at all members that are
--- left: else each is less at some member, and all are less at one halfway between these. So it is fixed.
+-- If the greatest of the excesses that aren't fixed is least, one of them is that number at all members that are
+-- left: otherwise each is less at some member, and all are less at one halfway between these. So it is fixed.
 use Rattle.std.proofs.Common.{◌≡◌, ◌≢◌, ◌⊎◌, ℕ, zero, suc, ◌+◌, ◌-◌, ◌^◌, ◌<◌, ◌≤◌, Bool, true, false, not, ◌&&◌, cond}
 use Rattle.std.proofs.Common.{nat_eq, List, map, refl, sym, ap, subst, ◌∙◌, inl, inr, arith}
 use Rattle.std.proofs.lemmas.Bool.{false≢true}

@@ -1,4 +1,4 @@
--- Where some point meets rows, one has the least unknown 0, or one not above a bound: the rows without the last unknown
+-- If some point meets rows, one has the least unknown 0, or one not above a bound: the rows without the last unknown
 -- have such a point, and it has room for a number there.
 use Rattle.std.proofs.Common.{◌≡◌, ◌⊎◌, ℕ, zero, suc, ◌≤◌, List, [], ◌∷◌, ◌++◌, ℤ, pos, neg_ℤ, ◌<ℤ◌}
 use Rattle.std.proofs.Common.{◌≤ℤ◌, refl, sym, ap, subst, inl, inr, arith}

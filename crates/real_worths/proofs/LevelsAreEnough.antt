@@ -1,6 +1,6 @@
--- Beside other shares, take the greatest excess among the coalitions whose members get other amounts together. If none
--- that has it gets less, the weights of its level would add above zero what all get more, which is nothing. So one gets
--- less, and the other shares come behind.
+-- Against other shares, take the greatest excess among the coalitions whose members get another amount there. If none
+-- that has it got less there, what the coalitions of its level get more, times their weights, would add to more than
+-- zero. But these balance, and all together get nothing more. So one gets less, and the other shares come after.
 use Rattle.std.proofs.Common.{◌≡◌, ◌⊎◌, ℕ, zero, suc, ◌^◌, ◌<◌, Bool, true, false, cond, ◌&&◌, not, nat_eq, List, ℤ}
 use Rattle.std.proofs.Common.{pos, negsuc, ◌-ℤ◌, ◌*ℤ◌, ◌≤ℤ◌, refl, sym, ap, ◌∙◌, inl, inr, arith}
 use Rattle.std.proofs.lemmas.Bool.{false≢true}

@@ -1,5 +1,5 @@
--- At the prenucleolus each collection of coalitions of at least some excess is balanced: else a transfer gives one of
--- them more and takes from none, by Farkas's lemma, and a small enough part of it comes first.
+-- At the prenucleolus each collection of coalitions of at least some excess is balanced: otherwise a transfer gives one
+-- of them more and takes from none, by Farkas's lemma, and a small enough part of it comes first.
 use Rattle.std.proofs.Common.{◌≡◌, ◌⊎◌, ℕ, suc, ◌+◌, ◌-◌, ◌^◌, ◌<◌, ◌≤◌, Bool, true, ◌&&◌, not, nat_eq, List, map, ℤ}
 use Rattle.std.proofs.Common.{pos, ◌+ℤ◌, ◌-ℤ◌, ◌<ℤ◌, ◌≤ℤ◌, int_le, sym, ap, ◌∙◌, inl, inr, arith}
 use Rattle.std.proofs.lemmas.Bool.{false≢true}

@@ -1,5 +1,5 @@
 -- Some shares, and to the first player what they leave of the worth of all: so each game with a player has a
--- preimputation, and an imputation where the players alone aren't worth more than all together.
+-- preimputation, and an imputation if the players alone aren't worth more than all together.
 use Rattle.std.proofs.Common.{◌≡◌, ℕ, ◌<◌, ◌≤◌, Bool, true, false, cond, List, length, map, ap, arith}
 use Rattle.std.specs.List.{range_with_len}
 use Rattle.std.proofs.lemmas.List.FromFn.{get_or-map-range_with_len, length-map-range_with_len}

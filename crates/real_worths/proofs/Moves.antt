@@ -1,4 +1,4 @@
--- Shares in which player i gets d more and player j gets d less; and where their excesses come first, no nucleolus
+-- Shares in which player i gets d more and player j gets d less; and if their excesses come first, no nucleolus
 -- gives the old ones.
 use Rattle.std.proofs.Common.{◌≡◌, ◌≢◌, ◌⊎◌, ℕ, ◌+◌, ◌-◌, ◌^◌, ◌<◌, ◌≤◌, Bool, true, false, cond, List, length, map}
 use Rattle.std.proofs.Common.{refl, sym, ap, ◌∙◌, inl, inr, arith}

@@ -1,4 +1,4 @@
--- The nucleolus exists where the family has a member: excesses are made least one after the other, until none is left.
+-- The nucleolus exists if the family has a member: excesses are made least one after the other, until none is left.
 use Rattle.std.proofs.Common.{◌≡◌, ◌⊎◌, ℕ, zero, suc, ◌+◌, ◌-◌, ◌^◌, ◌<◌, ◌≤◌, Bool, true, false, not, nat_eq}
 use Rattle.std.proofs.Common.{List, refl, sym, ap, ◌∙◌, inl, inr, arith}
 use Rattle.std.proofs.lemmas.Bool.{false≢true}

@@ -1,5 +1,5 @@
 -- Linear inequalities with whole coefficients and real constants, by eliminating one unknown after the other (Fourier
--- 1826; Motzkin 1936). Where some point meets all, one has the least unknown 0, or one below a bound.
+-- 1826; Motzkin 1936). If some point meets all, one has the least unknown 0, or one below a bound.
 use Rattle.std.proofs.Common.{◌≡◌, ◌≢◌, ℕ, zero, suc, ◌-◌, List, [], ◌∷◌, ℤ, pos, neg_ℤ, ◌+ℤ◌}
 use Rattle.std.proofs.Common.{◌*ℤ◌, ◌<ℤ◌, unsigned_abs, Bool, IsTrue, nat_eq, refl, sym, ap, subst, ◌∙◌, arith}
 use Rattle.std.proofs.Common.{if◌then◌else◌}

@@ -2,7 +2,7 @@
 --
 --   two N c            two players who together are worth c, and alone nothing
 --   second N c         two players, of whom the second is worth c alone
---   TwoShare           they share it, whatever real number it is, as the root of 2
+--   TwoShare           they share it, whatever real number it is, such as the root of 2
 --   DoublingIsAChange  twice each number is a change of the unit, and zero for each isn't
 --   IntegersCantHalve  each real number is twice a number, and not each integer twice an integer
 --   SomeAddNoLess      who adds no less, and who doesn't; a dummy

@@ -1,8 +1,8 @@
--- That the nucleolus exists where worths are real numbers (Schmeidler 1969; Peleg and Sudhölter).
+-- That the nucleolus exists if worths are real numbers (Schmeidler 1969; Peleg and Sudhölter).
 --
---   NucleoliExist      if there is an imputation, or a preimputation, one of them is the nucleolus
+--   NucleoliExist      if there is an imputation, one of them is the nucleolus; the same of preimputations
 --   PrenucleoliExist   each game with a player has a prenucleolus
---   ImputationsExist   there is an imputation exactly if the players alone aren't worth more than all together
+--   ImputationsExist   there is an imputation exactly when the players alone aren't worth more than all together
 use Rattle.std.specs.Prelude.{◌↔◌, ◌≤◌, List}
 use Rattle.definitions.specs.Coalitions.{singleton, grand_coalition}
 use Rattle.definitions.specs.declared.Family.{Family}

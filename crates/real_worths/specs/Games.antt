@@ -61,7 +61,7 @@ IsNucleolusIn {C} N family g y =
     × ((z : List C) → InFamilyIn N family g z → ¬ HaveSameIn N g y z
     → ComesBeforeBy N (sorted_by N (excess_list_in N g y)) (sorted_by N (excess_list_in N g z)))
 
--- a member before whose excesses from the greatest those of no member come: where the list is least (Schmeidler 1969)
+-- a member such that no member's excesses, from the greatest, come before its own: its list is least (Schmeidler 1969)
 abbrev pub IsUnbeatenIn : {C : Type 0} → Numbers C → Family → NumberGame C → List C → Type 0
 IsUnbeatenIn {C} N family g y =
     InFamilyIn N family g y

@@ -1,8 +1,8 @@
--- Kohlberg's theorem where worths are real numbers (Kohlberg 1971; for preimputations Sobolev 1975).
+-- Kohlberg's theorem for worths that are real numbers (Kohlberg 1971; for preimputations Sobolev 1975).
 --
 --   IsBalancedTest n test   weights of at least 1 on the coalitions that pass add to one number at each player
 --   is_level N g y t        the coalitions with at least the excess of t
---   KohlbergTheorem         shares are the prenucleolus exactly if each such collection is balanced
+--   KohlbergTheorem         shares are the prenucleolus exactly when each such collection is balanced
 use Rattle.std.specs.Prelude.{◌≡◌, ◌↔◌, ℕ, ◌^◌, ◌<◌, Bool, true, false, ◌&&◌, not, nat_eq}
 use Rattle.std.specs.Prelude.{List, ℤ, pos, ◌*ℤ◌, ◌≤ℤ◌, if◌then◌else◌}
 use Rattle.definitions.specs.Sums.{sum_below}
@@ -28,8 +28,8 @@ is_level N g y t s =
     not (nat_eq s 0)
     && (not (nat_eq s (grand_coalition g.players)) && N.at_most (excess_in N g y t) (excess_in N g y s))
 
--- shares that add to the worth of all are the prenucleolus exactly if the coalitions of at least the excess of each
--- coalition are balanced
+-- shares that add to the worth of all are the prenucleolus exactly when, for each coalition, the coalitions of at
+-- least its excess are balanced
 abbrev pub KohlbergTheorem : Type 0
 KohlbergTheorem =
     (N : Numbers Real) (g : NumberGame Real) (y : List Real) → AreReals N → InFamilyIn N Preimputations g y →

@@ -1,4 +1,4 @@
--- What the nucleolus promises where worths and shares are real numbers. Each statement is the contract of a function
+-- What the nucleolus promises if worths and shares are real numbers. Each statement is the contract of a function
 -- of this crate.
 --
 --   NucleolusIsUnique              two nucleoli of one game and family have the same shares (Schmeidler 1969)
@@ -7,7 +7,7 @@
 --   WithACoreBothAreOne            and they are one
 --   WhoAddsNoLessGetsNoLess        who adds no less than another everywhere gets no less
 --   AlikePlayersGetAlike           players that the game doesn't tell apart get the same
---   DummiesGetTheirWorth           who adds its worth alone to each coalition gets just that
+--   DummiesGetTheirWorth           who adds its worth alone to each coalition gets exactly that
 --   RealsCanHalve                  each real number is twice a real number
 --   IsUnitChange                   an additive change of all numbers that keeps their order, there and back
 --   changed_game, changed_shares   worths and shares in the new unit, and each player's number added
@@ -29,7 +29,7 @@ NucleolusIsUnique =
     (N : Numbers Real) (family : Family) (g : NumberGame Real) (y z : List Real) → AreReals N →
     IsNucleolusIn N family g y → IsNucleolusIn N family g z → HaveSameIn N g y z
 
--- a member is the nucleolus exactly if no member comes before it: the least list belongs to one member alone
+-- a member is the nucleolus exactly when no member comes before it: the least list belongs to one member alone
 -- (Schmeidler 1969)
 abbrev pub UnbeatenIsNucleolus : Type 0
 UnbeatenIsNucleolus =

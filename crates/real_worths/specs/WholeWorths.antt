@@ -13,8 +13,8 @@ use Rattle.real_shares.specs.Shares.{InFamilyOver, IsNucleolusAmong, InCoreOver}
 use Rattle.real_worths.specs.Games.{whole_worths, InFamilyIn, IsNucleolusIn, InCoreIn, AddsNoLessIn}
 use Rattle.real_worths.specs.Games.{AreInterchangeableIn, IsDummyIn}
 
--- the families, the nucleolus and the core are those among real shares, whatever the numbers are; what players add is
--- compared as whole numbers are if the numbers are the real numbers
+-- the families, the nucleolus and the core are those among real shares, whatever the numbers are; if these are the
+-- real numbers, what players add is compared as whole numbers are
 pub record AreTheSameOfWhole (N : Numbers Real) (g : Game) : Type 0 where
   pub family : (f : Family) (y : List Real) → InFamilyIn N f (whole_worths N g) y ↔ InFamilyOver N f g y
   pub nucleolus : (f : Family) (y : List Real)

@@ -1,4 +1,4 @@
--- Where the core isn't empty, it has the nucleolus, which is the prenucleolus; and so in the reduced game, in whose
+-- If the core isn't empty, it has the nucleolus, which is the prenucleolus; and so in the reduced game, in whose
 -- core the shares of those who stay are.
 use Rattle.std.proofs.Common.{ℕ, refl, inl}
 use Rattle.definitions.specs.Games.{Game, Allocation, InCore, IsNucleolus}

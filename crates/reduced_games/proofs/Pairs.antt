@@ -1,4 +1,4 @@
--- The converse for pairs: an allocation lies in the prekernel, or in the core, where the shares of each two do in their
+-- The converse for pairs: an allocation lies in the prekernel, or in the core, if the shares of each two do in their
 -- reduced game (Peleg 1986).
 use Rattle.std.proofs.Common.{◌≡◌, ◌≢◌, ℕ, ◌+◌, ◌^◌, ◌<◌, Bool, true, false, cond, ◌&&◌, not, IsTrue, ℤ, pos, ◌-ℤ◌}
 use Rattle.std.proofs.Common.{◌*ℤ◌, ◌≤ℤ◌, sym, ap, subst, ◌∙◌, inl, inr, arith}

@@ -1,5 +1,5 @@
 -- Words: a word says of each position whether it has it. An exchange of two positions of one value makes words of
--- words; and where two words have as many positions of each value, some exchanges make the one of the other.
+-- words; and if two words have as many positions of each value, some exchanges make the one of the other.
 use Rattle.std.proofs.Common.{◌≡◌, ◌⊎◌, ℕ, zero, suc, ◌^◌, ◌<◌, Bool, true, false, cond, not, ◌||◌, ◌&&◌, unsigned_abs}
 use Rattle.std.proofs.Common.{ℤ, pos, ◌<ℤ◌, ◌≤ℤ◌, refl, sym, ap, ◌∙◌, inl, inr, arith}
 use Rattle.std.proofs.lemmas.Int.{ints}

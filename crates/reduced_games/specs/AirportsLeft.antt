@@ -58,8 +58,8 @@ AirportByNucleolus =
 
 -- ---- an example that meets these definitions, and one that doesn't
 
--- Who need 2, 4 and 6 pay 1, 3/2 and 7/2. Where the last has paid, the others need 2 and 5/2, over the denominator 2
--- these are 4 and 5; and their costs alone aren't what is left
+-- Who need 2, 4 and 6 pay 1, 3/2 and 7/2. Once the last has paid, the others need 2 and 5/2, which are 4 and 5 over the
+-- denominator 2; and their costs alone aren't what is left
 abbrev pub AirlinesLeft : Type 0
 AirlinesLeft =
     IsAirportLeft 2 (λ k. k) (2 ∷ (4 ∷ (6 ∷ []))) payments 2 (4 ∷ (5 ∷ []))

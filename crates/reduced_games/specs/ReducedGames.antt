@@ -120,7 +120,7 @@ pub record IsStandard (h : Game) (y : Allocation) : Type 0 where
   pub all : IsEfficient h y
   pub alike : share y 0 -ℤ y.den *ℤ h.worth (singleton 0) ≡ share y 1 -ℤ y.den *ℤ h.worth (singleton 1)
 
--- an efficient allocation is in the prekernel, as the prenucleolus is, exactly if each two have the standard
+-- an efficient allocation is in the prekernel, as the prenucleolus is, exactly when each two have the standard
 -- solution of their reduced game (Peleg 1986)
 abbrev pub PrekernelByPairs : Type 0
 PrekernelByPairs =
@@ -135,7 +135,7 @@ EachTwoAreStandard =
     IsReducedGame 2 (the_two i j) g x h → IsNucleolus Preimputations Plain g x →
     IsStandard h (staying_shares 2 (the_two i j) x)
 
--- an efficient allocation is in the core exactly if the shares of each two are in the core of their reduced game
+-- an efficient allocation is in the core exactly when the shares of each two are in the core of their reduced game
 -- (Peleg 1986)
 abbrev pub CoreByPairs : Type 0
 CoreByPairs =

@@ -64,7 +64,7 @@ pub record MeetsSobolevsAxioms (rule : Game → Allocation) : Type 0 where
   pub anonymous : IsAnonymous rule
   pub reduced : HasReducedGames rule
 
--- a rule meets them exactly if it gives the prenucleolus to each game, of any number of players
+-- a rule meets them if and only if it gives the prenucleolus to each game, of any number of players
 abbrev pub SobolevsTheorem : Type 0
 SobolevsTheorem =
     (rule : Game → Allocation) →

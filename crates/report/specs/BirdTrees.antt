@@ -13,7 +13,7 @@ use Rattle.definitions.specs.Games.{Allocation}
 use Rattle.report.specs.Values.{count_data, integer_data}
 use Rattle.report.specs.ShareLists.{share_list}
 
--- what a link costs over the scale k: an integer if k is 1, and else a text
+-- what a link costs over the scale k: an integer if k is 1, otherwise a text
 abbrev pub edge_cost_by : Bool → ℕ → ℤ → Data
 edge_cost_by true k z = number (of_integer z)
 edge_cost_by false k z = integer_data k z

@@ -1,6 +1,7 @@
 -- What is said of a game's convexity as JSON, each object's keys ascending.
 --
---   convex_tree   the marginal and the Shapley shares of a convex game, or where another fails and by how much
+--   convex_tree   the marginal and the Shapley shares of a convex game, or where another game isn't convex, and by how
+--                 much
 use Rattle.std.specs.Prelude.{ℕ, Bool, codes}
 use Rattle.serde_json.specs.Data.{Data, string, object, member, no_members}
 use Rattle.convexity.specs.declared.answers.ConvexAnswer.{ConvexAnswer}

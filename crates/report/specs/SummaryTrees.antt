@@ -4,7 +4,7 @@
 --   least_denominator   the least common denominator of shares
 --   player_share        the share of a player, as it is printed
 --   share_members       what is said of the shares
---   greatest_data       the greatest excess, or the word that there is none
+--   greatest_data       the greatest excess, or a word if there is none
 --   summary_tree        the summary of a generated game
 use Rattle.std.specs.Prelude.{ℕ, ◌-◌, ◌/◌, ℤ, pos, List, [], ◌∷◌, length, Option}
 use Rattle.std.specs.Prelude.{Some, None, unsigned_abs, codes}
@@ -26,7 +26,7 @@ common_divisor q (z ∷ zs) = common_divisor (gcd q (unsigned_abs z)) zs
 abbrev pub least_denominator : Allocation → ℤ
 least_denominator x = pos (unsigned_abs x.den / common_divisor (unsigned_abs x.den) x.shares)
 
--- the share of a player, or if the numbers are costs what it pays
+-- the share of a player, or what it pays if the numbers are costs
 abbrev pub player_share : ℕ → Summary → ℕ → Data
 player_share k s i = share_data k s.is_cost s.shares.den (share s.shares i)
 

@@ -78,7 +78,7 @@ pub enum Answer {
         shares: Shares,
         tree: Tree,
     },
-    /// The Shapley and the marginal shares of a convex game as worth, printed as payments where `is_cost`; or where the
+    /// The Shapley and the marginal shares of a convex game as worth, printed as payments if `is_cost`; or where the
     /// game isn't convex, and how much worth is missing there.
     Convex {
         is_cost: bool,

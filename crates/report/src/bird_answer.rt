@@ -42,7 +42,7 @@ fn edge_trees(
     Ok(trees)
 }
 
-/// What a link costs, over the scale: an integer if the scale is 1, and else a text.
+/// What a link costs, over the scale: an integer if the scale is 1, otherwise a text.
 fn cost_value(alloc: Global, cost: i64, scale: Scale) -> Result<Value, OutOfMemory>
     ensures { IfOk result (λ v. view v ≡ edge_cost scale cost) }
 {

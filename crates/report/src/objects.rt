@@ -85,7 +85,7 @@ pub(crate) fn with_integer(
     with(alloc, members, key, value)
 }
 
-/// The members, with the list of shares over the scale at its key; if the game is one of costs, of the payments.
+/// The members, with the list of shares over the scale at its key, or of payments if the game is one of costs.
 pub(crate) fn with_shares(
     alloc: Global,
     members: Map<String, Value>,

@@ -10,7 +10,7 @@ use serde_json::Value;
 use std::alloc::Global;
 use worth_core::Shares;
 
-/// The texts of the shares over the scale, in lowest terms; if the game is one of costs, of the payments.
+/// The texts of the shares, or of the payments if the game is one of costs, over the scale and in lowest terms.
 pub(crate) fn share_texts(
     alloc: Global,
     shares: &Shares,
@@ -27,7 +27,7 @@ pub(crate) fn share_texts(
     Ok(texts)
 }
 
-/// The text of the share num/den over the scale, in lowest terms; if the game is one of costs, of the payment.
+/// The text of the share num/den, or of the payment if the game is one of costs, over the scale and in lowest terms.
 pub(crate) fn share_text(
     alloc: Global,
     num: i128,

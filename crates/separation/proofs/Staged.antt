@@ -1,8 +1,8 @@
 -- The columns of a stage, each under its number, are its program.
 --
 -- The list is made push by push, and each of its parts is under its numbers (Slots.antt). The coalitions outside are
--- those marked once the span has taken its own out of all (`outside_of`). The definition's cost of a mask doesn't end,
--- and a list does, so of a number that is no column nothing is said (`IsSame`).
+-- those marked once the span has taken its own out of all (`outside_of`). The definition has a cost for every number,
+-- and a list ends. So nothing is said of a number that is no column (`IsSame`).
 use Rattle.std.proofs.Common.{◌≡◌, ◌⊎◌, ℕ, zero, suc, ◌+◌, ◌-◌, ◌<◌, ◌≤◌, ◌^◌}
 use Rattle.std.proofs.Common.{Bool, true, false, ◌&&◌, List, [], ◌∷◌, ◌++◌, length, length-append}
 use Rattle.std.proofs.Common.{map, get_or, refl, ap, ◌∙◌, inl, inr, arith, nat_eq}

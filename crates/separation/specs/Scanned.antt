@@ -1,27 +1,27 @@
 -- For the private functions of this crate.
 -- What a scan finds.
 --
---   RisesAt          the column under a number of a program has a cost above its value, under multipliers
---   IsFirstAt        that is the first number whose column has
+--   RisesAt          the column under a number of a program rises: under multipliers its cost is above its value
+--   IsFirstAt        the first number whose column rises
 --   game_of          the game of the program that is scanned
---   RisesIn          a column has a cost above its value, as the scan counts both
---   ColumnRises      the column under a number has
---   IsFirstColumn    that is the first number whose column has
---   NoneOf           none of the columns in a list has
---   IsFirstOf        the place of the first of these that has
---   NoneInFront      none of the columns in front of the coalitions' has
---   IsFirstInFront   the first of these that has
+--   RisesIn          a column rises, as the scan counts cost and value
+--   ColumnRises      the column under a number does
+--   IsFirstColumn    the first number whose column does
+--   NoneOf           none of the columns in a list does
+--   IsFirstOf        the place of the first of these that does
+--   NoneInFront      none of the columns before those of the coalitions does
+--   IsFirstInFront   the first of these that does
 --   column_of        the column of a coalition, if it has one
---   CoalitionRises   that has a cost above its value
---   NoneBetween      it has for none of the coalitions from one on up to another
---   NoneBelow        it has for none of those below one
---   NoneRises        it has for none
---   IsFirstRising    the first coalition for which it has
---   IsSomeRising     one for which it has
+--   CoalitionRises   that column rises
+--   NoneBetween      no column rises of the coalitions from one on up to another
+--   NoneBelow        none rises of those below one
+--   NoneRises        none rises of any coalition
+--   IsFirstRising    the first coalition whose column rises
+--   IsSomeRising     a coalition whose column rises
 --   value_in         the value of a coalition's column
 --   worth_in         what the worth of a coalition counts for
---   gap_in           by how much its cost is above its value
---   IsMostIn         one for which it has, and none of some for which it has has a greater gap
+--   gap_in           by how much the cost of its column is above the value
+--   IsMostIn         a coalition whose column rises; of some coalitions, none whose column rises has a greater gap
 --   IsHighestIn      which of the coalitions from one on up to another has the greatest height
 --   AreValues        a base and the sums of a table give the values of some coalitions
 --   IsSmallTable     the numbers of a table are at most 2^60 in size
@@ -126,7 +126,7 @@ worth_in x s = counted x.with_costs ((game_of x).worth s)
 abbrev pub gap_in : {X : Type 0} {W : Ghosts X} → Scan X W → ℕ → ℤ
 gap_in x s = (x.m.now.den *ℤ worth_in x s) -ℤ value_in x s
 
--- coalition s has such a column, and of the coalitions from a on below b none that has has a greater gap
+-- the column of coalition s rises, and of the coalitions from a on below b none whose column rises has a greater gap
 abbrev pub IsMostIn : {X : Type 0} {W : Ghosts X} → Scan X W → ℕ → ℕ → ℕ → Type 0
 IsMostIn x a b s = IsMost (CoalitionRises x) (gap_in x) a b (2 ^ x.program.now.players) s
 

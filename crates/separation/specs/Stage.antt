@@ -7,7 +7,7 @@
 --   2 + 2t       vector of coalition t, its divisor in its level's row  its worth
 --   odd below b  the column before it, negated                          its cost negated
 --   b + i        1 for player i; imputations only                       worth of i alone
---   b + n + i    -1 for player i, if a level bounds i                that worth negated
+--   b + n + i    -1 for player i, if a level bounds i                   that worth negated
 --   b + 2n + s   vector of s, its divisor in the last row; s outside    worth of s
 --
 -- The divisor is what the measure divides the excess of the coalition by: 1, or the number of members.
@@ -34,7 +34,7 @@ use Rattle.definitions.specs.declared.Family.{Family}
 use Rattle.definitions.specs.declared.Family.TheVariants.{Imputations, Preimputations}
 use Rattle.definitions.specs.declared.Measure.{Measure}
 
--- the vector of a coalition and its divisor in a level row, which count from 0, or in none, where the number is
+-- the vector of a coalition and its divisor in a level row, which count from 0, or in none, if the number is
 -- past them; or all this negated
 pub record SignedVector : Type 0 where
   pub mask : ℕ

@@ -15,7 +15,7 @@ use simplex::{ColumnId, Multipliers};
 use worth_core::{Measure, Worth};
 
 /// The first coalition of the 256 from 256 * `block` on that has a column whose cost is above its value with plain
-/// excess, if no lesser coalition has one.
+/// excess. No coalition before the 256 has one.
 fn first_of_block<W: Worth>(scan: &Scan<'_, W>, block: u64) -> Option<Coalition>
     requires block { block < 256 }
     requires plain { scan.now.program.now.measure ≡ Measure.Plain }

@@ -99,7 +99,7 @@ pub(crate) fn single<W: Worth>(game: &W, family: Family, i: u32) -> Option<Colum
     }
 }
 
-/// The column of a player alone, negated, for imputations if a level bounds the player.
+/// The column of a player alone, negated, for imputations and if a level bounds the player.
 pub(crate) fn bound<W: Worth>(game: &W, family: Family, levels: &[Level], i: u32) -> Option<Column>
     requires { i < (W.game game.now).players }
     ensures { result ≡ bound family (W.game game.now) levels.now i }

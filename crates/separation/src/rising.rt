@@ -198,8 +198,8 @@ pub(crate) fn some_found<'a, W: Worth>(
     }
 }
 
-/// The block of the coalition whose column was found, where those of the coalitions have the numbers from `first` on;
-/// the block before, where another column was found or none.
+/// The block of the coalition whose column was found. The columns of the coalitions have the numbers from `first` on.
+/// The block `before` if another column was found, or none.
 pub(crate) fn block_of(found: Option<ColumnId>, first: ColumnId, before: u8) -> u8
     ensures coalition { IfSome found (λ id. first ≤ id → result ≡ (id - first) / 256 % 256) }
     ensures front { IfSome found (λ id. id < first → result ≡ before) }

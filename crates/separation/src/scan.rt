@@ -11,7 +11,7 @@ use coalitions::Coalition;
 use simplex::Multipliers;
 use worth_core::Worth;
 
-/// What a coalition's worth counts for: if costs don't count, the game isn't asked.
+/// What a coalition's worth counts for: 0 if costs don't count, and then the game isn't asked.
 pub(crate) fn counted_worth<W: Worth>(game: &W, s: Coalition, with_costs: bool) -> i64
     requires { s < 2 ^ (W.game game.now).players }
     ensures is { result ≡ counted with_costs ((W.game game.now).worth s) }

@@ -1,7 +1,7 @@
 -- What is proved of orders and of Shapley totals. Each statement is the contract of a function of this crate.
 --
 --   OrdersSumToSubsets   the sum over all orders is a sum over coalitions (Shapley 1953)
---   OrdersAreAll         the list of orders has orders alone, and each one exactly once
+--   OrdersAreAll         the list of orders has only orders, and each one exactly once
 use Rattle.std.specs.Prelude.{◌≡◌, ℕ, ◌<◌, List}
 use Rattle.std.specs.List.{AllByRecursion}
 use Rattle.definitions.specs.Games.{Game}

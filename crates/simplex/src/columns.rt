@@ -70,8 +70,8 @@ pub trait Columns {
     /// Returns a column that costs more than its value by the multipliers; none exactly if none does. Without costs
     /// each column counts as costing 0. Any such column serves: the choice makes `solve` take fewer steps or more.
     ///
-    /// No proof that the simplex ends asks for the least one: only if an added unit is driven out is `entering`
-    /// called. So an implementation needn't write a body.
+    /// The proof that the simplex ends doesn't need the least one: `solve` calls `entering` only to drive out an added
+    /// unit. An implementation need not write a body.
     fn rising(&mut self, m: &Multipliers, with_costs: bool) -> Option<u64>
         requires { array_vec_len m.now.num ≡ (program self.old).rows }
         ensures same { program self.new ≡ program self.old }
@@ -141,7 +141,7 @@ pub(crate) fn price_of<C: Columns>(columns: &C, id: ColumnId, part: Part) -> i12
     }
 }
 
-/// The cost of what stands at a position in the second part, if an added unit costs nothing.
+/// The cost of what stands at a position in the second part, in which an added unit costs nothing.
 pub(crate) fn cost_at<C: Columns>(columns: &C, id: Option<ColumnId>) -> i128
     requires { IsId (C.program columns.now) id }
     ensures { result ≡ part_cost (C.program columns.now) Part.Second id }

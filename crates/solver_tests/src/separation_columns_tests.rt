@@ -181,7 +181,7 @@ fn asked<A: Columns>(a: &mut A, m: &Multipliers, with_costs: bool, first: bool) 
     }
 }
 
-/// Whether a column rises exactly if one enters, and well, and the same one if the multipliers are so large that
+/// Whether a column rises exactly when one enters, and well, and the same one if the multipliers are so large that
 /// the search is in 128 bits.
 fn rises_well<A: Columns, B: Columns>(
     a: &mut A,

@@ -1,4 +1,4 @@
--- An objection of k against l at a kernel point can be countered: by l alone, where k outweighs l, and otherwise by a
+-- An objection of k against l at a kernel point can be countered: by l alone, if k outweighs l, and otherwise by a
 -- coalition that has the surplus of l against k (Davis and Maschler 1967). At a core point nobody has an objection.
 use Rattle.std.proofs.Common.{◌≡◌, ◌≢◌, ℕ, zero, suc, ◌<◌, false, ℤ, pos, ◌*ℤ◌, ◌≤ℤ◌, sym, ap, ◌∙◌, inl, inr, arith}
 use Rattle.std.proofs.Common.{Bool, cond}

@@ -1,5 +1,5 @@
--- At a core point no surplus is above 0, and who gets just its worth alone has a surplus of 0 at least: so nobody is
--- outweighed.
+-- At a core point no surplus is above 0, and a player that gets exactly its worth alone has a surplus of at least 0: so
+-- nobody is outweighed.
 use Rattle.std.proofs.Common.{◌≡◌, ◌≢◌, ℕ, ◌<◌, ◌-ℤ◌, ◌*ℤ◌, sym, arith}
 use Rattle.definitions.proofs.Masks.{singleton-within}
 use Rattle.definitions.proofs.Members.{sum_over-singleton}

@@ -1,5 +1,5 @@
--- What a coalition gets and what the others get add to the worth of all: so one gets at least its worth just where the
--- other gets at most what it adds.
+-- What a coalition gets and what the others get add to the worth of all: so one gets at least its worth exactly when
+-- the other gets at most what it adds.
 use Rattle.std.proofs.Common.{◌≡◌, ℕ, ◌-◌, ◌^◌, ◌<◌, ◌+◌, ◌+ℤ◌, ◌-ℤ◌, ◌*ℤ◌, ◌≤ℤ◌, ap, arith}
 use Rattle.std.proofs.lemmas.Int.{by_lt_z}
 use Rattle.definitions.proofs.Masks.{singleton-within}

@@ -1,5 +1,5 @@
 -- A counter objection: each member of q who is in p gets what y gives it, each other what x gives it, and player l what
--- is left of the worth of q. Where the excess of q is at least that of p, that is at least nothing (Davis and Maschler
+-- is left of the worth of q. If the excess of q is at least that of p, that is at least nothing (Davis and Maschler
 -- 1967).
 use Rattle.std.proofs.Common.{◌≡◌, ℕ, ◌^◌, ◌<◌, Bool, true, false, not, cond, map, ℤ, pos, ◌+ℤ◌, ◌-ℤ◌, ◌*ℤ◌, ◌≤ℤ◌, refl}
 use Rattle.std.proofs.Common.{sym, ap, ◌∙◌, arith}

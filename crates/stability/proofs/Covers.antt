@@ -1,4 +1,4 @@
--- The greatest number that a coalition's parts have. Where two coalitions have no more than all their members together
+-- The greatest number that a coalition's parts have. If two coalitions have no more than all their members together
 -- and those in both, that makes a convex game.
 --
 --   lies_in n r s   all players of r are in s

@@ -1,5 +1,5 @@
--- Whoever adds no less than another gets no less in the prekernel and in the kernel: with the one in the place of the
--- other, the coalition of the other's surplus could do better by itself by what the other gets more.
+-- A player that adds no less than another gets no less in the prekernel and in the kernel: with the one in the place of
+-- the other, the coalition of the other's surplus could do better by itself by what the other gets more.
 use Rattle.std.proofs.Common.{◌≡◌, ◌≢◌, ◌⊎◌, ℕ, ◌+◌, ◌^◌, ◌<◌, true, false, not, ◌+ℤ◌, ◌-ℤ◌, ◌<ℤ◌, ◌≤ℤ◌}
 use Rattle.std.proofs.Common.{sym, ap, ◌∙◌, inl, inr, arith}
 use Rattle.std.proofs.lemmas.Int.{by_lt_z}

@@ -1,4 +1,4 @@
--- Where the first of three takes all, the two others are worth 1 and get nothing: the second outweighs the first, and
+-- If the first of three takes all, the two others are worth 1 and get nothing: the second outweighs the first, and
 -- objects with half of it, which the first can't counter.
 use Rattle.std.proofs.Common.{◌≡◌, ◌⊎◌, ℕ, ◌<◌, Bool, true, ◌||◌, not, nat_eq, ℤ, pos, ◌+ℤ◌, ◌*ℤ◌, ◌≤ℤ◌, int_le, refl}
 use Rattle.std.proofs.Common.{sym, ap, ◌∙◌, inl, inr, arith, rules}

@@ -1,5 +1,5 @@
--- Where player i outweighs j at the nucleolus, j gets just its worth alone: else a small move from j to i would leave
--- an imputation whose excesses come first (Schmeidler 1969).
+-- If player i outweighs j at the nucleolus, j gets exactly its worth alone: otherwise a small move from j to i would
+-- leave an imputation whose excesses come first (Schmeidler 1969).
 use Rattle.std.proofs.Common.{◌≡◌, ◌≢◌, ℕ, ◌^◌, ◌<◌, true, ℤ, pos, ◌*ℤ◌, ◌<ℤ◌, refl, sym, subst, inl, arith}
 use Rattle.std.proofs.lemmas.Int.{by_lt_z}
 use Rattle.definitions.proofs.Ring.{linear}

@@ -1,5 +1,5 @@
 -- The opposites of the coalitions of a near ring are one, for the negated numbers. A coalition with the fewest players
--- of the part inside or outside is in the one or the other; so where the part's sum is nothing there is none.
+-- of the part inside or outside is in the one or the other; so if the part's sum is nothing there is none.
 use Rattle.std.proofs.Common.{◌≡◌, ℕ, ◌^◌, ◌<◌, Bool, true, false, ◌&&◌, ◌||◌, not, ℤ, pos, neg_ℤ, ◌≤ℤ◌, sym, ap, ◌∙◌}
 use Rattle.std.proofs.Common.{inl, inr, arith}
 use Rattle.std.proofs.lemmas.Bool.{false≢true}
@@ -69,7 +69,7 @@ opposites n p z d nr nothing = record {
     by_test : (q b : Bool) → (q ≡ ((q && b) || (q && not b))) × (((q && b) && (q && not b)) ≡ false)
     by_test q b = grind arith
 
--- so where the part's sum is nothing there is none
+-- so if the part's sum is nothing there is none
 pub no_near_ring : (n : ℕ) (p : ℕ → Bool) (z : ℕ → ℤ) (d : ℕ → Bool) → IsNearRing n p z d → total n z p ≡ pos 0
     → (s : ℕ) → s < 2 ^ n → d s ≡ true → ⊥
 no_near_ring n p z d nr nothing s hs ds = elim (some_greatest either fewness (2 ^ n)) [

@@ -2,7 +2,7 @@
 -- coalition with a player and without another has one with the second and without the first of no less. Of those that
 -- split a part whose players' numbers add to nothing, one with the greatest number has a sum of nothing at most.
 --
---   splits_from, splits_to   a coalition splits a part where it has one of its players and lacks another
+--   splits_from, splits_to   a coalition splits a part if it has one of its players and lacks another
 --   IsSupermodular n f       two coalitions have no more than their union and their common players together
 --   IsReturned n f           for each with i and without j there is one with j and without i of no less
 --   IsSplitGreatest          no coalition that splits the part has more

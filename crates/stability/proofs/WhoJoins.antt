@@ -1,4 +1,4 @@
--- Where each player adds at least its worth alone, an excess doesn't fall when a player joins who gets at most its
+-- If each player adds at least its worth alone, an excess doesn't fall when a player joins who gets at most its
 -- worth alone. So outside a coalition of positive excess somebody gets more.
 use Rattle.std.proofs.Common.{◌≡◌, ℕ, zero, suc, ◌+◌, ◌^◌, ◌<◌, ◌≤◌, Bool, true}
 use Rattle.std.proofs.Common.{false, ◌&&◌, not, length, ℤ, pos, ◌+ℤ◌}

@@ -1,6 +1,6 @@
--- Where nobody who joins does harm, who is outweighed could join the coalitions that outweigh it, so nobody is: the
--- kernel is the prekernel. And whoever got less than alone at a prekernel point would be in all coalitions of the
--- greatest excess, but not in those that balance it (Maschler, Peleg and Shapley 1972).
+-- If nobody who joins does harm, who is outweighed could join the coalitions that outweigh it, so nobody is: the
+-- kernel is the prekernel. And a player that gets less than its worth alone at a prekernel point would be in all
+-- coalitions of the greatest excess, but not in those that balance it (Maschler, Peleg and Shapley 1972).
 use Rattle.std.proofs.Common.{◌≡◌, ◌≢◌, ℕ, ◌+◌, ◌^◌, ◌<◌, true, false, not, ℤ, pos, ◌*ℤ◌, ◌<ℤ◌, ◌≤ℤ◌, refl, sym, ap}
 use Rattle.std.proofs.Common.{◌∙◌, inl, inr, arith}
 use Rattle.std.proofs.lemmas.Bool.{false≢true}

@@ -4,8 +4,8 @@
 --   ShapleyIsInCore             and so does the Shapley value
 --   ConvexBargainingSetIsCore   and the bargaining set is the core (Maschler, Peleg and Shapley 1972)
 --   ConvexKernelIsOnePoint      two points of the kernel have the same shares (Maschler, Peleg and Shapley 1972)
---   ConvexKernelIsNucleolus     so just the nucleolus lies in the kernel
---   ConvexPrekernelIsPrenucleolus   and just the prenucleolus in the prekernel
+--   ConvexKernelIsNucleolus     so only the nucleolus lies in the kernel
+--   ConvexPrekernelIsPrenucleolus   and only the prenucleolus in the prekernel
 use Rattle.std.specs.Prelude.{◌≡◌, ◌↔◌, ℕ, List, pos}
 use Rattle.definitions.specs.Games.{Game, Allocation, InCore, IsSame, IsNucleolus}
 use Rattle.definitions.specs.Shapley.{IsOrder, IsShapley}

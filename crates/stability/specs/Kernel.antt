@@ -3,7 +3,7 @@
 -- of Cooperative Games. Each law is the contract of a function of this crate.
 --
 --   Outweighs g x i j     the surplus of i against j is greater than that of j against i
---   InKernel g x          an imputation at which who is outweighed gets just its worth alone
+--   InKernel g x          an imputation at which a player that is outweighed gets exactly its worth alone
 --   NucleolusIsInKernel   the nucleolus lies in the kernel
 --   KernelIsntEmpty       if there is an imputation, some shares lie in the kernel
 --   AtACorePoint          at a core point, to lie in the kernel is to lie in the prekernel
@@ -34,7 +34,7 @@ NucleolusIsInKernel = (g : Game) (x : Allocation) → IsNucleolus Imputations Pl
 abbrev pub KernelIsntEmpty : Type 0
 KernelIsntEmpty = (g : Game) (y : Allocation) → InFamily Imputations g y → (x : Allocation) × InKernel g x
 
--- a core point lies in the kernel exactly if it lies in the prekernel
+-- a core point lies in the kernel exactly when it lies in the prekernel
 abbrev pub AtACorePoint : Type 0
 AtACorePoint = (g : Game) (x : Allocation) → InCore g x → InKernel g x ↔ InPrekernel g x
 

@@ -3,7 +3,7 @@
 -- contract of a function of this crate.
 --
 --   IsSubsidyFree g x    efficient, and no coalition gets more than it adds to the worth of the others
---   CoreIsSubsidyFree    just the core points are so
+--   CoreIsSubsidyFree    exactly the core points are so
 --   DummiesInTheCore     so by each core point a dummy gets its worth alone
 use Rattle.std.specs.Prelude.{◌≡◌, ◌↔◌, ℕ, ◌-◌, ◌^◌, ◌<◌, ◌-ℤ◌, ◌*ℤ◌, ◌≤ℤ◌}
 use Rattle.definitions.specs.Coalitions.{singleton, grand_coalition}
@@ -11,7 +11,7 @@ use Rattle.definitions.specs.Games.{Game, Allocation, share, amount, IsAllocatio
 use Rattle.definitions.specs.Players.{IsDummy}
 
 -- efficient, and each coalition gets at most what all are worth less what the others are worth by themselves: of costs,
--- it pays at least what they rise by if it joins the others
+-- it pays at least what they rise by when it joins the others
 abbrev pub IsSubsidyFree : Game → Allocation → Type 0
 IsSubsidyFree g x =
     IsAllocation g x

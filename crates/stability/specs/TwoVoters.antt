@@ -1,10 +1,10 @@
--- Two with a vote each: where both have to agree, and where one suffices. The law is the contract of a function of this
--- crate.
+-- Two with a vote each: a game in which both have to agree, and one in which one suffices. The law is the contract of a
+-- function of this crate.
 --
 --   both_agree, one_suffices   the two games
 --   halves                     half for each
---   TwoVoters                  where both have to agree, who joins does no harm, and halves are free of subsidies;
---                              where one suffices, who joins the other does harm. Both together are joined of each
+--   TwoVoters                  if both have to agree, who joins does no harm, and halves are free of subsidies;
+--                              if one suffices, who joins the other does harm. Both together are joined of each
 --                              alone, and one alone isn't. Of three who vote by majority, that the first takes all
 --                              isn't free of subsidies
 use Rattle.std.specs.Prelude.{[], ◌∷◌, pos}

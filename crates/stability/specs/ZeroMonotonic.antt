@@ -25,7 +25,7 @@ IsZeroMonotonic g =
 abbrev pub ConvexIsZeroMonotonic : Type 0
 ConvexIsZeroMonotonic = (g : Game) → g.worth 0 ≡ pos 0 → IsConvex g → IsZeroMonotonic g
 
--- if so, the kernel is the prekernel
+-- the kernel of a zero-monotonic game is its prekernel
 abbrev pub KernelIsPrekernel : Type 0
 KernelIsPrekernel = (g : Game) (x : Allocation) → IsZeroMonotonic g → InKernel g x ↔ InPrekernel g x
 

@@ -5,7 +5,7 @@
 --   cut_sum estate claims      their sum
 --   loss estate claims x i     what player i gets less than its cut claim, over the denominator
 --   is_little estate claims    the estate is at most half of the cut claims
---   part estate claims x i     what player i gets, if the estate is at most half of them, and else what it loses
+--   part estate claims x i     what player i gets, if the estate is at most half of them; otherwise what it loses
 --   IsTalmud estate claims x   the shares are those of the rule
 use Rattle.std.specs.Prelude.{◌≡◌, ℕ, ◌<◌, Bool, List, length, map, min, ℤ, pos}
 use Rattle.std.specs.Prelude.{◌+ℤ◌, ◌-ℤ◌}

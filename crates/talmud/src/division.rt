@@ -60,7 +60,7 @@ impl Division {
         }
     }
 
-    /// The division where so much is got or lost by halves.
+    /// The division if `amount` is got or lost by halves.
     fn of_side(estate: u64, claims: &CutClaims, side: Side, amount: u64) -> Division
         requires small { estate < 2 ^ 40 }
         requires cut { All (λ c. c ≤ estate) claims.now.numbers }

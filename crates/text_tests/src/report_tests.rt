@@ -30,7 +30,7 @@ fn level(
     })
 }
 
-/// What is written for shares, of costs or not, with the certificate of this level, if the game is left out.
+/// What is written for shares, of costs or not, with the certificate of this level, and without the game.
 fn written(
     alloc: Global,
     family: Family,

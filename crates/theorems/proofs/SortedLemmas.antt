@@ -1,4 +1,4 @@
--- Two lists of integers of one length. Where the numbers at each place are equal, or the first is at most e, and at
+-- Two lists of integers of one length. If the numbers at each place are equal, or the first is at most e, and at
 -- some place only the second is above e, the sorted first list comes before the sorted second: the lemma on ordered
 -- groups, at the integers.
 use Rattle.std.proofs.Common.{◌≡◌, ◌⊎◌, List, [], ◌∷◌, ℤ, pos, ◌<ℤ◌, ◌≤ℤ◌, inl, inr, subst, arith}

@@ -14,7 +14,7 @@ use worth_core::Worth;
 /// The most points: 16 players and the source.
 pub(crate) const POINTS: usize = 17;
 
-/// Why a matrix makes no tree game. If several causes apply, the first of them is answered.
+/// Why a matrix makes no tree game. If several causes apply, the first of them is returned.
 #[derive(Clone, Copy, Debug, PartialEq, Eq)]
 pub enum TreeFault {
     /// There aren't 2 to 17 rows: the source and 1 to 16 players.

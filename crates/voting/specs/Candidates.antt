@@ -57,7 +57,7 @@ with_at l i weight number w =
 abbrev pub joined_at : Layer → Layer → ℕ → ℕ → ℤ → ℕ → Option Candidate
 joined_at l k i weight number w = better (at_weight l w) (with_at k i weight number w)
 
--- the best one of the weights below w, where those from the quota on have so much more
+-- the best one of the weights below w, after `more` is added to the sums of those from the quota on
 unfoldable pub best_below : ℤ → ℕ → Layer → ℕ → Option Candidate
 best_below more quota l zero = None
 best_below more quota l (suc w) =

@@ -2,7 +2,7 @@
 -- The sets of the first players by their weight, and by whether they have to hold some player of a coalition f, and
 -- to lack some.
 --
---   passes needed answer     the answer is yes if it is needed
+--   passes needed answer     the answer is yes, or not needed
 --   holds_one_of f count s   s holds some of the first players of f
 --   lacks_one_of f count s   s lacks some of the first players of f
 --   IsOfKind                 a set of the first players that passes
@@ -28,7 +28,7 @@ holds_one_of f count s = some_below count (λ i. has_player f i && has_player s 
 abbrev pub lacks_one_of : ℕ → ℕ → ℕ → Bool
 lacks_one_of f count s = some_below count (λ i. has_player f i && not (has_player s i))
 
--- a set of the first players that holds some of f and lacks some if that is needed
+-- a set of the first players that holds some of f, if that is needed, and lacks some, if that is needed
 abbrev pub IsOfKind : Bool → Bool → ℕ → ℕ → ℕ → Type 0
 IsOfKind holding lacking f count s =
     (s < 2 ^ count) × (passes holding (holds_one_of f count s) ≡ true)

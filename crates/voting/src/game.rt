@@ -16,7 +16,7 @@ use std::alloc::Global;
 use std::marker::Model;
 use worth_core::{Shares, Worth};
 
-/// Why a quota and weights make no game. If several causes apply, the first of them is answered.
+/// Why a quota and weights make no game. If several causes apply, the first of them is returned.
 #[derive(Clone, Copy, Debug, PartialEq, Eq)]
 pub enum VotingFault {
     /// There aren't 1 to 32 weights.

@@ -112,7 +112,7 @@ impl Layer {
         }
     }
 
-    /// The candidate of greatest sum, if those from the quota on have so much more.
+    /// The candidate of greatest sum, after `more` is added to the sums of those from the quota on.
     pub(crate) fn best(&self, quota: usize, more: i128) -> Option<Candidate>
         requires number { unsigned_abs more < 2 ^ 110 }
         requires small { AreSmall 32 self.now }
@@ -125,7 +125,7 @@ impl Layer {
         best
     }
 
-    /// The candidate of weight `w`, with so much more if that is at least the quota.
+    /// The candidate of weight `w`, with `more` added to its sum if `w` is at least the quota.
     fn excess_at(&self, quota: usize, w: usize, more: i128) -> Option<Candidate>
         requires few { w < 1001 }
         requires number { unsigned_abs more < 2 ^ 110 }
@@ -136,7 +136,7 @@ impl Layer {
     }
 }
 
-/// A number where a weight is at least the quota, and 0 elsewhere.
+/// The number if the weight is at least the quota, otherwise 0.
 fn from_quota(quota: usize, weight: usize, number: i128) -> i128
     ensures { result ≡ (if nat_le quota weight then number else pos 0) }
 {

@@ -1,4 +1,4 @@
--- The sum of the members' numbers, player by player, where each number is below 2 ^ 110 in size.
+-- The sum of the members' numbers, player by player, if each number is below 2 ^ 110 in size.
 use Rattle.std.proofs.Common.{◌≡◌, ℕ, suc, ◌+◌, ◌*◌, ◌^◌, ◌<◌, ◌≤◌, Bool, true}
 use Rattle.std.proofs.Common.{false, if◌then◌else◌, ℤ, pos}
 use Rattle.std.proofs.Common.{◌+ℤ◌, unsigned_abs, to_z, of_z, FitsSigned, sym, ap, subst, ◌∙◌, arith}

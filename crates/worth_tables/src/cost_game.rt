@@ -3,7 +3,7 @@ use coalitions::Coalition;
 use std::marker::Model;
 use worth_core::Worth;
 
-/// A game whose worths are minus those of another game, as where the other game's worths are costs.
+/// A game whose worths are minus those of another game, for example if the other game's worths are costs.
 #[derive(Debug, Drop)]
 pub struct CostGame<W: Worth> {
     inner: W,

@@ -9,7 +9,7 @@ use std::marker::Model;
 use worth_core::Worth;
 
 /// Another game of at most 16 players, whose worth of each coalition was asked once, at the making, and is kept. For
-/// games whose `worth` takes long, where a coalition's worth is wanted many times.
+/// games whose `worth` takes long and is wanted many times for each coalition.
 #[derive(Drop)]
 pub struct KeptWorths<'a, W: Worth> {
     inner: &'a W,

@@ -6,7 +6,7 @@ use std::alloc::Global;
 use std::marker::Model;
 use worth_core::Worth;
 
-/// Why a table makes no game. If several causes apply, the first of them is answered.
+/// Why a table makes no game. If several causes apply, the first of them is returned.
 #[derive(Clone, Copy, Debug, PartialEq, Eq)]
 pub enum TableFault {
     /// There aren't 1 to 16 players, or the table doesn't list one worth for each coalition but the empty one.

@@ -51,7 +51,7 @@ impl Frac {
     }
 }
 
-/// Appends the text of a fraction, or a front of it if memory is short.
+/// Appends the text of a fraction, or a part of it if memory runs out.
 fn append_text(num: i128, den: i128, out: &mut Vec<u8>) -> Result<(), AllocError>
     ensures written { OnOk result (out.new.items ≡ out.old.items ++ fraction_text (record { num = num; den = den })) }
     ensures kept { OnErr result (take (length out.old.items) out.new.items ≡ out.old.items) }

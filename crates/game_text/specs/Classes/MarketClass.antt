@@ -1,4 +1,4 @@
--- Markets in a document: a matrix as that of an assignment game, of more buyers and sellers.
+-- Markets in a document: a matrix like that of an assignment game, for more buyers and sellers.
 --
 --   has_market_players   there are 1 to 32 buyers, and 1 to 32 sellers
 --   market_rules         the rules of markets

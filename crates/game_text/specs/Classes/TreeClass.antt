@@ -1,5 +1,5 @@
--- Tree games in a document: the cost of the link between each two of the source and the players, of which row and
--- column 0 are the source.
+-- Tree games in a document: the cost of the link between each two points, which are the source and the players. Row
+-- and column 0 are those of the source.
 --
 --   tree_players       the number of players
 --   has_tree_players   there are 1 to 16, and the source

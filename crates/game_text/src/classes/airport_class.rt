@@ -36,7 +36,7 @@ pub(crate) fn players(game: &Value) -> Option<usize>
     if is_list_size(n) { Some(n) } else { None }
 }
 
-/// The costs times their scale, if this and each of them are within their limits.
+/// The costs times their scale, if the scale and each of them are within their limits.
 pub(crate) fn numbers(alloc: Global, game: &Value) -> Result<Option<Numbers>, OutOfMemory>
     ensures none { IfOk result (λ o. IfNone o (are_costs (airport_values (view game.now)) ≡ false)) }
     ensures within { IfOk result (λ o. IfSome o (λ n. are_costs (airport_values (view game.now)) ≡ true)) }

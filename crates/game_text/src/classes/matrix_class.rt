@@ -29,7 +29,7 @@ pub(crate) fn is_shaped(game: &Value, texts: bool) -> bool
     has_only_keys(&["class", "excess", "matrix", "names", "version"], game) && has_rows(game, texts)
 }
 
-/// The entries, row by row, times their scale, if this and each of them are within their limits.
+/// The entries, row by row, times their scale, if the scale and each of them are within their limits.
 pub(crate) fn numbers(alloc: Global, game: &Value) -> Result<Option<Numbers>, OutOfMemory>
     ensures none { IfOk result (λ o. IfNone o (are_costs (matrix_numbers_in (view game.now)) ≡ false)) }
     ensures within { IfOk result (λ o. IfSome o (λ n. are_costs (matrix_numbers_in (view game.now)) ≡ true)) }

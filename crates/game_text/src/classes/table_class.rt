@@ -106,7 +106,7 @@ fn has_items(value: &Value, n: usize) -> bool
     parts(value).len() + 1 == n
 }
 
-/// Whether there is a number for each coalition of `n` players if all are listed.
+/// Whether there is a number for each coalition of `n` players, unless only some are listed.
 fn has_worths_for(game: &Value, n: u32) -> bool
     requires { n ≤ 16 }
     ensures { result ≡ has_worths_for (view game.now) (Some n) }
@@ -117,7 +117,7 @@ fn has_worths_for(game: &Value, n: u32) -> bool
     }
 }
 
-/// The number of players, if there are 1 to 16, and a number for each coalition if all are listed.
+/// The number of players. None unless there are 1 to 16, and a number for each coalition or some in pairs.
 pub(crate) fn players(game: &Value) -> Option<usize>
     ensures { result
         ≡ (if has_table_players (view game.now) then Some (unwrap_or (players_at (view game.now)) 0) else None) }
@@ -130,8 +130,8 @@ pub(crate) fn players(game: &Value) -> Option<usize>
     }
 }
 
-/// The numbers of all coalitions, or those of the pairs and then that of all others, times their scale, if this and
-/// each of them are within their limits.
+/// The numbers of all coalitions, or those of the pairs and then that of all others, times their scale. None unless
+/// the scale and each number are within their limits.
 pub(crate) fn numbers(alloc: Global, game: &Value) -> Result<Option<Numbers>, OutOfMemory>
     ensures none { IfOk result (λ o. IfNone o (are_worths (table_numbers_in (view game.now)) ≡ false)) }
     ensures within { IfOk result (λ o. IfSome o (λ n. are_worths (table_numbers_in (view game.now)) ≡ true)) }
