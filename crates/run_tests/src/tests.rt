@@ -1,4 +1,7 @@
 //! Runs over sources and sinks in memory.
+//!
+//! A table has a row for each run: the command and its document, `=>`, and what is said, the name of the status and the
+//! line. A row goes on in each line that begins with two blanks. A line that begins with `#` says what is below it.
 mod certificates;
 mod convex_games;
 mod cores;
@@ -10,6 +13,7 @@ mod hostile_documents;
 mod markets;
 mod networks_and_markets;
 mod nucleolus;
+mod other_words;
 mod per_head;
 mod prekernels;
 mod proposals;
@@ -19,95 +23,88 @@ mod statuses;
 mod tables;
 mod votes;
 
-use coop::{Status, run};
-use ports::{MemorySink, MemorySource};
+use coop::run;
+use ports::{FailingSource, MemorySink, MemorySource, Source};
 use std::alloc::Global;
 use std::process::Abort;
 use std::test::Fail;
 
-const BLOCKED: &str =
-    r#"{"game":{"class":"table","players":3,"worths":[0,0,1,0,1,1,1]},"shares":[1,0,0]}"#;
-
-const CORE: &str = r#"{"game":{"class":"table","players":2,"worths":[1,2,7]},"shares":[3,4]}"#;
+// The commands that print a certificate.
+const FAMILIES: &[&str] = &["nucleolus", "prenucleolus"];
 
 // More bytes than a line of these tests has.
 const ROOM: usize = 1_000_000;
 
-fn words_of(alloc: Global, words: &[&str]) -> Result<Vec<String>, Fail> {
+// What a run on these words and this source says: the name of its status, a blank, and the line, which has to be whole.
+fn said<S: Source>(alloc: Global, words: &[&str], source: &mut S) -> Result<String, Fail> {
     let mut list = Vec::new(alloc);
     for word in words {
         list.push(String::from_str(alloc, *word)?)?;
     }
-    Ok(list)
-}
-
-// The line, if these bytes are one and its newline; else nothing.
-fn line_in(bytes: &[u8]) -> &[u8] {
-    match bytes {
-        [line @ .., b'\n'] => line,
-        _ => b"",
-    }
-}
-
-// The status of a run of this command on this input, and what it printed.
-fn printed(alloc: Global, command: &str, input: &[u8]) -> Result<(Status, Vec<u8>), Fail> {
-    let words = words_of(alloc, &[command])?;
-    let mut source = MemorySource::new(input.to_vec(alloc)?);
     let mut sink = MemorySink::new(alloc, ROOM).ok().ok_or("memory")?;
-    let status = run(alloc, &words, &mut source, &mut sink);
-    Ok((status, sink.taken().to_vec(alloc)?))
+    let status = run(alloc, &list, source, &mut sink);
+    let text = String::from_utf8(sink.taken().to_vec(alloc)?)
+        .ok()
+        .ok_or("no text")?;
+    let line = text.strip_suffix("\n").ok_or("no whole line")?;
+    Ok(format!(in alloc; "{status:?} {line}")?)
 }
 
-// The status of a run on these words and this input, and whether the sink of that capacity took exactly that line and
-// its newline.
-fn run_on(
-    alloc: Global,
-    words: &[&str],
-    input: &[u8],
-    capacity: usize,
-    line: &str,
-) -> Result<(Status, bool), Fail> {
-    let words = words_of(alloc, words)?;
+// What a run of this command on this input says.
+fn said_on(alloc: Global, command: &str, input: &[u8]) -> Result<String, Fail> {
     let mut source = MemorySource::new(input.to_vec(alloc)?);
-    let mut sink = MemorySink::new(alloc, capacity).ok().ok_or("memory")?;
-    let status = run(alloc, &words, &mut source, &mut sink);
-    Ok((status, line_in(sink.taken()) == line.as_bytes()))
+    said(alloc, &[command], &mut source)
 }
 
-// A run of this command on this input ends with that status and prints exactly that line.
-fn expect_run(
-    rt: &impl Abort,
-    alloc: Global,
-    command: &str,
-    input: &str,
-    line: &str,
-    status: Status,
-) -> Result<(), Fail> {
-    let found = run_on(alloc, &[command], input.as_bytes(), ROOM, line)?;
-    assert_eq!(rt; found, (status, true), "{command} on {input}");
-    Ok(())
+// What a run on these words says if no read succeeds.
+fn said_unread(alloc: Global, words: &[&str]) -> Result<String, Fail> {
+    let mut source = FailingSource::new(Vec::new(alloc), 1, [0].to_vec(alloc)?);
+    said(alloc, words, &mut source)
 }
 
-// Runs of a command each, on its input, with its line and its status.
-fn expect_runs(
-    rt: &impl Abort,
-    alloc: Global,
-    rows: &[(&str, &str, &str, Status)],
-) -> Result<(), Fail> {
-    for &(command, input, line, status) in rows {
-        expect_run(rt, alloc, command, input, line, status)?;
+// Each run of the table says what its row has.
+fn expect_runs(rt: &impl Abort, alloc: Global, table: &str) -> Result<(), Fail> {
+    let rows = table.replace(alloc, "\n  ", "")?;
+    for row in rows.trim().split('\n') {
+        if row.starts_with("#") {
+            continue;
+        }
+        let (asked, wanted) = row.split_once("=> ").ok_or("no answer")?;
+        let (command, input) = asked.split_once(" ").ok_or("no document")?;
+        let found = said_on(alloc, command, input.as_bytes())?;
+        assert_eq!(rt; found.as_str(), wanted, "{asked}");
     }
     Ok(())
 }
 
-// The status of a run of this command on this input, and whether its line ends so.
-fn ended(alloc: Global, command: &str, input: &str, end: &str) -> Result<(Status, bool), Fail> {
-    let (status, line) = printed(alloc, command, input.as_bytes())?;
-    Ok((status, line_in(&line).ends_with(end.as_bytes())))
+// The line and its newline of this command on this input. To them `check` says yes.
+fn checked(rt: &impl Abort, alloc: Global, command: &str, input: &[u8]) -> Result<String, Fail> {
+    let found = said_on(alloc, command, input)?;
+    let line = found.strip_prefix("Done ").ok_or("no shares")?;
+    let printed = format!(in alloc; "{line}\n")?;
+    let verdict = said_on(alloc, "check", printed.as_bytes())?;
+    assert_eq!(rt; verdict.as_str(), r#"Done {"answer":"yes"}"#, "{command}");
+    Ok(printed)
 }
 
-// The status of a run of this command on this input, and whether its line starts so.
-fn started(alloc: Global, command: &str, input: &str, start: &str) -> Result<(Status, bool), Fail> {
-    let (status, line) = printed(alloc, command, input.as_bytes())?;
-    Ok((status, line.starts_with(start.as_bytes())))
+// Each of these commands, on each document of the table, prints the same line twice, and `check` says yes to it. The
+// row has its front and its end, with `..` between.
+fn expect_checked(
+    rt: &impl Abort,
+    alloc: Global,
+    commands: &[&str],
+    table: &str,
+) -> Result<(), Fail> {
+    let rows = table.replace(alloc, "\n  ", "")?;
+    for row in rows.trim().split('\n') {
+        let (input, wanted) = row.split_once("=> ").ok_or("no answer")?;
+        let (front, end) = wanted.split_once("..").ok_or("no end")?;
+        for command in commands {
+            let line = checked(rt, alloc, *command, input.as_bytes())?;
+            let again = checked(rt, alloc, *command, input.as_bytes())?;
+            let is_so = line.starts_with(front) && line.trim_end().ends_with(end);
+            assert!(rt; is_so && line == again, "{command} {row}");
+        }
+    }
+    Ok(())
 }

@@ -1,77 +1,45 @@
 //! Generated games against numbers that were worked out elsewhere, and the greatest sizes.
-ghost use Rattle.std.specs.Prelude.{◌<◌, ◌^◌};
-
-use crate::game_text_tests::proposals::worths_of;
-use coop_gen::{Game, Kind, generate, has_size};
-use std::alloc::Global;
-use std::process::Abort;
+use crate::game_text_tests::contents::worths_of;
+use coop_gen::{Kind, generate, has_size};
 use std::test::Fail;
 use worth_core::Worth;
 
-// The game of that kind and size, made from the seed.
-fn made(rt: &impl Abort, alloc: Global, kind: Kind, players: u32, seed: u32) -> Result<Game, Fail>
-    requires { seed < 2 ^ 31 }
-{
-    assert!(rt; has_size(kind, players));
-    Ok(generate(alloc, kind, players, seed)?)
-}
-
-// The worth of each of its coalitions, in mask order.
-fn worths(
-    rt: &impl Abort,
-    alloc: Global,
-    kind: Kind,
-    players: u32,
-    seed: u32,
-) -> Result<Vec<i64>, Fail>
-    requires { seed < 2 ^ 31 }
-{
-    let game = made(rt, alloc, kind, players, seed)?;
-    assert!(rt; game.players() == players);
-    worths_of(rt, alloc, &game)
-}
-
-// How many players the game from seed 0 has.
-fn players(rt: &impl Abort, alloc: Global, kind: Kind, size: u32) -> Result<u32, Fail> {
-    let game = made(rt, alloc, kind, size, 0)?;
-    Ok(game.players())
-}
+const GREATEST_SEED: u32 = 2147483647;
 
 // The first three states from seed 1 are 1103527590, 377401575 and 662824084, so the first numbers below 2^20 are
-// 538831, 184278 and 323644, and the first below 2^16 are 33676, 11517 and 20227.
+// 538831, 184278 and 323644, and the first below 2^16 are 33676, 11517 and 20227. Of five players the worths are those
+// of the last alone, of the first and the last, and of all.
 #[test]
-fn games_of_two_players_from_seed_1(rt: HostRuntime) -> Result<(), Fail> {
-    for &(kind, first, second, both) in &[
-        (Kind::Table, 0, 0, 538831),
-        (Kind::Airport, -538831, -184278, -538831),
-        (Kind::Bankruptcy, 177276, 0, 361554),
-        (Kind::Tree, -33676, -11517, -31744),
-        (Kind::Assignment, 0, 0, 33676),
+fn games_of_two_and_of_five_players_have_their_worths(rt: HostRuntime) -> Result<(), Fail> {
+    for &(kind, players, seed, [a, b, c]) in &[
+        (Kind::Table, 2, 1, [0, 0, 538831]),
+        (Kind::Airport, 2, 1, [-538831, -184278, -538831]),
+        (Kind::Bankruptcy, 2, 1, [177276, 0, 361554]),
+        (Kind::Tree, 2, 1, [-33676, -11517, -31744]),
+        (Kind::Assignment, 2, 1, [0, 0, 33676]),
+        (Kind::Table, 5, GREATEST_SEED, [0, 274226, 776825]),
+        (Kind::Airport, 5, GREATEST_SEED, [-278825, -509756, -854995]),
+        (Kind::Bankruptcy, 5, GREATEST_SEED, [0, 0, 1050138]),
+        (Kind::Tree, 5, GREATEST_SEED, [-17426, -33491, -61404]),
+        (Kind::Assignment, 5, GREATEST_SEED, [0, 19724, 88312]),
     ] {
-        let found = worths(&rt, rt.alloc(), kind, 2, 1)?;
+        assert!(rt; has_size(kind, players) && seed <= GREATEST_SEED);
+        let game = generate(rt.alloc(), kind, players, seed)?;
+        let found = worths_of(&rt, rt.alloc(), &game)?;
+        let [first, second, third] = if players == 2 {
+            [1, 2, 3]
+        } else {
+            [16, 17, 31]
+        };
         assert_eq!(rt;
-            found.as_slice(),
-            [0, first, second, both].as_slice(),
-            "{kind:?}"
-        );
-    }
-    Ok(())
-}
-
-#[test]
-fn games_of_five_players_from_the_greatest_seed(rt: HostRuntime) -> Result<(), Fail> {
-    for &(kind, last, first_and_last, all) in &[
-        (Kind::Table, 0, 274226, 776825),
-        (Kind::Airport, -278825, -509756, -854995),
-        (Kind::Bankruptcy, 0, 0, 1050138),
-        (Kind::Tree, -17426, -33491, -61404),
-        (Kind::Assignment, 0, 19724, 88312),
-    ] {
-        let found = worths(&rt, rt.alloc(), kind, 5, 2147483647)?;
-        assert_eq!(rt;
-            (found.get(16), found.get(17), found.get(31)),
-            (Some(&last), Some(&first_and_last), Some(&all)),
-            "{kind:?}"
+            (
+                game.players(),
+                found.get(first),
+                found.get(second),
+                found.get(third)
+            ),
+            (players, Some(&a), Some(&b), Some(&c)),
+            "{kind:?} of {players}"
         );
     }
     Ok(())
@@ -86,13 +54,13 @@ fn each_kind_has_its_least_and_greatest_size(rt: HostRuntime) -> Result<(), Fail
         (Kind::Tree, 1, 16),
         (Kind::Assignment, 2, 16),
     ] {
-        let found = (
-            players(&rt, rt.alloc(), kind, least)?,
-            players(&rt, rt.alloc(), kind, greatest)?,
-            has_size(kind, least - 1),
-            has_size(kind, greatest + 1),
-        );
-        assert_eq!(rt; found, (least, greatest, false, false), "{kind:?}");
+        for size in [least, greatest] {
+            assert!(rt; has_size(kind, size), "{kind:?} of {size}");
+            let game = generate(rt.alloc(), kind, size, 0)?;
+            assert_eq!(rt; game.players(), size, "{kind:?}");
+        }
+        let beyond = (has_size(kind, least - 1), has_size(kind, greatest + 1));
+        assert_eq!(rt; beyond, (false, false), "{kind:?}");
     }
     Ok(())
 }
