@@ -1,28 +1,10 @@
 //! The calls at values worked by hand.
-ghost use Rattle.std.specs.Prelude.{◌≡◌, ◌≤◌};
-ghost use Rattle.definitions.specs.Coalitions.{grand_coalition};
 
 use coalitions::{Coalition, GrayStep};
-use std::process::Abort;
 
-/// Compares a coalition's number of members with `len`, the other players with `complement`, and the next mask.
-fn compare(
-    rt: &impl Abort,
-    (set, n): (Coalition, u32),
-    len: u32,
-    complement: Coalition,
-    next: Option<Coalition>,
-) {
-    assert!(rt; n <= 64 && set <= Coalition::all(n));
-    assert_eq!(rt;
-        (set.len(), set.complement(n), set.next_mask(n)),
-        (len, complement, next),
-        "{set:?} of {n}"
-    );
-}
-
-/// Compares what the first and the last of 64 players tell as a pair.
-fn compare_pair(rt: &impl Abort, pair: Coalition) {
+#[test]
+fn calls_answer_as_worked_by_hand(rt: HostRuntime) {
+    let pair = Coalition::single(0).with(63);
     assert_eq!(rt;
         (
             pair,
@@ -39,43 +21,20 @@ fn compare_pair(rt: &impl Abort, pair: Coalition) {
             false
         )
     );
-    assert_eq!(rt;
-        (pair.complement(64), pair.members().as_slice()),
-        (Coalition(0x7fff_ffff_ffff_fffe), [0u32, 63].as_slice())
-    );
-}
-
-#[test]
-fn calls_answer_as_worked_by_hand(rt: HostRuntime) {
-    compare_pair(&rt, Coalition::single(0).with(63));
+    assert_eq!(rt; pair.members().as_slice(), [0u32, 63].as_slice());
     assert_eq!(rt; Coalition::empty().next_mask(64), Some(Coalition(1)));
     for &(set, n, len, complement, next) in &[
-        (Coalition(0), 3, 0, Coalition(7), Some(Coalition(1))),
         (Coalition(5), 3, 2, Coalition(2), Some(Coalition(6))),
         (Coalition(7), 3, 3, Coalition(0), None),
         (Coalition(u64::MAX), 64, 64, Coalition(0), None),
-        (
-            Coalition(u64::MAX - 1),
-            64,
-            63,
-            Coalition(1),
-            Some(Coalition(u64::MAX)),
-        ),
     ] {
-        compare(&rt, (set, n), len, complement, next);
+        assert!(rt; n <= 64 && set <= Coalition::all(n));
+        assert_eq!(rt;
+            (set.len(), set.complement(n), set.next_mask(n)),
+            (len, complement, next),
+            "{set:?} of {n}"
+        );
     }
-}
-
-/// The last of all masks, by a loop that reads the contract of `subsets`.
-fn last_of(n: u32) -> Coalition
-    requires { n ≤ 64 }
-    ensures { result ≡ grand_coalition n }
-{
-    let mut last = Coalition::empty();
-    for s in Coalition::subsets(n) {
-        last = s;
-    }
-    last
 }
 
 #[test]
@@ -88,10 +47,9 @@ fn subsets_come_in_ascending_order(rt: HostRuntime) {
         (
             subsets.next(),
             Coalition::subsets(0).count(),
-            Coalition::subsets(10).count(),
-            last_of(7)
+            Coalition::subsets(10).count()
         ),
-        (None, 1, 1024, Coalition(127))
+        (None, 1, 1024)
     );
 }
 

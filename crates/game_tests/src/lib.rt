@@ -4,6 +4,8 @@
 #[cfg(test)]
 mod airport_tests;
 #[cfg(test)]
+mod asked;
+#[cfg(test)]
 mod assignment_games_tests;
 #[cfg(test)]
 mod bankruptcy_tests;
@@ -20,8 +22,6 @@ mod fractions_tests;
 #[cfg(test)]
 mod greatest_games_tests;
 #[cfg(test)]
-mod has_two;
-#[cfg(test)]
 mod matrices_tests;
 #[cfg(test)]
 mod orders_tests;
@@ -29,6 +29,8 @@ mod orders_tests;
 mod rows;
 #[cfg(test)]
 mod shares;
+#[cfg(test)]
+mod tables;
 #[cfg(test)]
 mod tree_games_tests;
 #[cfg(test)]

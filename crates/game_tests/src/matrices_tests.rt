@@ -3,28 +3,26 @@ use crate::rows::matrix_of;
 use matrices::{have_entries, have_length};
 use std::test::Fail;
 
-#[test]
-fn entries_are_from_0_to_below_2_to_40(rt: HostRuntime) -> Result<(), Fail> {
-    const LIMIT: i64 = 1 << 40;
-    for &(last, yes) in &[(0, true), (LIMIT - 1, true), (LIMIT, false), (-1, false)] {
-        let matrix = matrix_of(rt.alloc(), &[&[3, 0], &[], &[1, last]])?;
-        assert_eq!(rt; have_entries(&matrix), yes, "{last}");
-    }
-    Ok(())
-}
+const LIMIT: i64 = 1 << 40;
+
+/// Rows, whether all their numbers are entries, and whether each row has two.
+const MATRICES: [(&[&[i64]], bool, bool); 6] = [
+    (&[&[3, 0], &[1, LIMIT - 1]], true, true),
+    (&[&[3, 0], &[1, LIMIT]], false, true),
+    (&[&[3, 0], &[1, -1]], false, true),
+    (&[&[3, 0], &[], &[1, 0]], true, false),
+    (&[&[3, 0, 5], &[1, 4, 2]], true, false),
+    (&[&[3, 0, 5], &[1, 4]], true, false),
+];
 
 #[test]
-fn rows_have_one_length(rt: HostRuntime) -> Result<(), Fail> {
-    let even = matrix_of(rt.alloc(), &[&[3, 0, 5], &[1, 4, 2]])?;
-    let uneven = matrix_of(rt.alloc(), &[&[3, 0, 5], &[1, 4]])?;
-    assert_eq!(rt;
-        (
-            have_length(&even, 3),
-            have_length(&even, 2),
-            have_length(&uneven, 3),
-            have_length(&uneven, 2)
-        ),
-        (true, false, false, false)
-    );
+fn entries_are_from_0_to_below_2_to_40_and_rows_have_one_length(
+    rt: HostRuntime,
+) -> Result<(), Fail> {
+    for &(rows, are_entries, are_pairs) in &MATRICES {
+        let matrix = matrix_of(rt.alloc(), rows)?;
+        let found = (have_entries(&matrix), have_length(&matrix, 2));
+        assert_eq!(rt; found, (are_entries, are_pairs), "{rows:?}");
+    }
     Ok(())
 }
