@@ -37,46 +37,48 @@ fn matrices_keep_the_numbers_of_players(rt: HostRuntime) -> Result<(), Fail> {
     Ok(())
 }
 
+/// Games that are refused, and why.
+const REFUSED: [(Option<Refusal>, &str); 4] = [
+    (
+        Some(Refusal::Number),
+        r#"
+        {"class":"tree","matrix":[[0,1],[2,-1]]}
+        {"class":"tree","matrix":[[0,1],[2,0,1099511627776]]}
+        {"class":"assignment","matrix":[[1,2],[0.5]]}
+        {"class":"market","matrix":[[1,2],[-3]]}
+        "#,
+    ),
+    (
+        Some(Refusal::Names),
+        r#"
+        {"class":"tree","matrix":[[0,1],[2,0]],"names":[]}
+        {"class":"market","matrix":[[1,2],[3]],"names":[]}
+        "#,
+    ),
+    (
+        Some(Refusal::Matrix),
+        r#"
+        {"class":"tree","matrix":[[0,1],[2,0]]}
+        {"class":"tree","matrix":[[0,1],[1,1]]}
+        {"class":"tree","matrix":[[0,1],[1]]}
+        {"class":"tree","matrix":[[0,1],[1,0,0]]}
+        {"class":"tree","matrix":[[0,1,2],[1,0,3],[2,4,0]]}
+        {"class":"assignment","matrix":[[1,2],[3]]}
+        {"class":"assignment","matrix":[[1,2],[]]}
+        {"class":"market","matrix":[[1,2],[3]]}
+        "#,
+    ),
+    (
+        Some(Refusal::Proposal),
+        r#"
+        {"class":"tree","matrix":[[0,1],[1,0]]}
+        {"class":"assignment","matrix":[[1,2],[3,4]]}
+        "#,
+    ),
+];
+
 // Each has five shares, so a game within its limits is a Proposal.
 #[test]
 fn matrices_are_refused_by_the_first_test(rt: HostRuntime) -> Result<(), Fail> {
-    let rows = &[
-        (
-            Some(Refusal::Number),
-            r#"
-            {"class":"tree","matrix":[[0,1],[2,-1]]}
-            {"class":"tree","matrix":[[0,1],[2,0,1099511627776]]}
-            {"class":"assignment","matrix":[[1,2],[0.5]]}
-            {"class":"market","matrix":[[1,2],[-3]]}
-            "#,
-        ),
-        (
-            Some(Refusal::Names),
-            r#"
-            {"class":"tree","matrix":[[0,1],[2,0]],"names":[]}
-            {"class":"market","matrix":[[1,2],[3]],"names":[]}
-            "#,
-        ),
-        (
-            Some(Refusal::Matrix),
-            r#"
-            {"class":"tree","matrix":[[0,1],[2,0]]}
-            {"class":"tree","matrix":[[0,1],[1,1]]}
-            {"class":"tree","matrix":[[0,1],[1]]}
-            {"class":"tree","matrix":[[0,1],[1,0,0]]}
-            {"class":"tree","matrix":[[0,1,2],[1,0,3],[2,4,0]]}
-            {"class":"assignment","matrix":[[1,2],[3]]}
-            {"class":"assignment","matrix":[[1,2],[]]}
-            {"class":"market","matrix":[[1,2],[3]]}
-            "#,
-        ),
-        (
-            Some(Refusal::Proposal),
-            r#"
-            {"class":"tree","matrix":[[0,1],[1,0]]}
-            {"class":"assignment","matrix":[[1,2],[3,4]]}
-            "#,
-        ),
-    ];
-    expect_each(&rt, rt.alloc(), Command::Propose, GAME_OF_FIVE, rows)
+    expect_each(&rt, rt.alloc(), Command::Propose, GAME_OF_FIVE, &REFUSED)
 }
