@@ -14,6 +14,7 @@ import { compare, excessLists } from "./work/compare.js";
 import { convexity } from "./work/convexity.js";
 import { warmUp } from "./work/engine.js";
 import { isOfGame, lookAtLine } from "./work/lines.js";
+import { margins } from "./work/margins.js";
 import { costsOfNetwork, fillLinks } from "./work/networks.js";
 import { estates, overrun } from "./work/others.js";
 import { pair } from "./work/pair.js";
@@ -32,6 +33,7 @@ const TASKS = {
   compare: (what, one) => compare(what, one.named), excessLists: (what, one) => excessLists(what, one.named),
   overrun: (what, one) => overrun(what, one.named), estates: (what, one) => estates(what, one.game),
   leave: (what, one) => leave(what, one.game), pair: (what, one) => pair(what, one.game),
+  margins: (_, one) => margins(parseJson(one.line), one.game),
 };
 
 /** The word of the second checker: {tree} with what it says, or {refused} in words. */

@@ -31,7 +31,8 @@ const CASES = {
   market: {
     typed: { "buyers.0": "Ann", "buyers.1": "Ben", "values.0.0": "5", "values.0.1": "8", "values.1.0": "7",
       "values.1.1": "6" },
-    at: "buyers.0", block: "Ann\t5\t8\nBen\t7\t6", answer: /Ann – Seller 2\s+8.00[\s\S]*Ben – Seller 1\s+7.00/,
+    at: "buyers.0", block: "Ann\t5\t8\nBen\t7\t6",
+    answer: /Ann – Seller 2 and Ben – Seller 1 trade: together they gain 15\.00/,
   },
   votes: {
     typed: { quota: "5", "rows.0.name": "A", "rows.0.votes": "4", "rows.1.name": "B", "rows.1.votes": "2",

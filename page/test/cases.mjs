@@ -1,5 +1,5 @@
 // Scenarios: each case, typed and pasted, and what its parts answer.
-import { noted, READY, settle, told } from "./harness.mjs";
+import { noted, READY, settle, told, showExact } from "./harness.mjs";
 
 const WORDS = /program’s checker says yes[\s\S]*own checker says yes/;
 
@@ -24,6 +24,7 @@ export const casesTyped = [
     await settle(page);
     expect("subtotal", await page.text(".subtotal"), /Aer, together/);
     expect("rows", await page.text(".shares tbody"), /Aer needing 20.5[\s\S]*Aer needing 30/);
+    await showExact(page);
     expect("of one landing", await page.text(".shares tbody"), /3 × \d+\.\d\d \(\d+\/\d+\)/);
   }],
 
@@ -34,6 +35,7 @@ export const casesTyped = [
     await page.until("document.querySelector('.made pre')");
     await settle(page);
     expect("rows", await page.run("document.querySelector('[data-cell=\"rows.2.name\"]').value"), "Aer");
+    await showExact(page);
     expect("the exact sum, rounded", await page.text(".subtotal"), /Aer, together\s+45\.83\s*275\/6/);
     expect("lead", await page.text(".lead"), "Aer pays 45.83 for 6 landings and Bee pays 14.17: together 60.00.");
     for (const [r, text] of ["30", "30", "0", "0"].entries()) await page.type(`proposal.${r}`, text);
@@ -170,7 +172,7 @@ export const tables = [
     await settle(page);
     const notice = /there is no nucleolus[\s\S]*some group could do better by itself/;
     expect("notice", await page.text("#answer .notice"), notice);
-    expect("column", await page.text(".shares thead"), /Prenucleolus/);
+    expect("column", await page.text(".shares thead"), /prenucleolus/);
   }],
 
   ["an overrun, by each rule", "costs", async (page, expect) => {
@@ -288,7 +290,7 @@ export const otherCases = [
     expect("power", await page.text(".power"), /Luxembourg\s+no influence/);
     await page.type("quota", "17");
     await settle(page);
-    expect("veto", await page.text(".power"), /Luxembourg\s+needed by all/);
+    expect("veto", await page.text(".power"), /Luxembourg\s+has a veto/);
   }],
 
   ["votes by two quotas at once", "votes", async (page, expect) => {

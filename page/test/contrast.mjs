@@ -7,7 +7,8 @@ const TEXTS = [
   ...["--paper", "--card", "--accent-faint", "--note"].map((ground) => ["--accent", ground]),
   ["--accent-ink", "--accent"], ["--good", "--card"], ["--ink", "--good-faint"], ["--good", "--good-faint"],
   ["--bad", "--card"], ["--bad", "--note"], ["--bad", "--paper"], ["--ink", "--bad-faint"], ["--bad", "--bad-faint"],
-  ["--ink", "--accent-faint"], ["--soft", "--accent-faint"], ["--soft", "--bad-faint"],
+  ...["--ink", "--soft", "--good", "--bad"].map((front) => [front, "--own"]), ["--ink", "--accent-faint"],
+  ["--soft", "--accent-faint"], ["--soft", "--bad-faint"],
 ];
 const EDGES = ["edge", "nucleolus", "shapley", "core", "bird", "buyers", "sellers", "proposal"]
   .map((name) => [`--${name}`, "--card"]);

@@ -107,7 +107,7 @@ export const desk = [
     await page.run("location.hash = '#market'");
     await page.until(`document.querySelector('[data-cell="sellers.0"]') && ${READY}`);
     await page.paste('[data-cell="buyers.0"]', "\thouse\tflat\tcabin\nAnn\t5\t8\t2\nBen\t7\t6\t1");
-    await told(page, ".trades", /Ann – flat[\s\S]*Ben – house/);
+    await told(page, "#why .trades", /Ann – flat[\s\S]*Ben – house/);
     expect("sellers", await page.run("document.querySelectorAll('[data-cell^=\"sellers.\"]').length"), 3);
   }],
 

@@ -14,7 +14,7 @@ const SEEN = `(() => {
     return one.checkVisibility({ visibilityProperty: true }) && top < innerHeight && bottom > 0 && width > 1;
   };
   const controls = [...document.querySelectorAll("button, summary, a, select")].filter((one) => {
-    return isSeen(one) && !one.matches(".remove, .skip");
+    return isSeen(one) && !one.matches(".remove, .skip, .seal"); // a seal is a sentence, which leads on
   });
   const walker = document.createTreeWalker(document.body, NodeFilter.SHOW_TEXT), words = [];
   while (walker.nextNode()) {
@@ -60,7 +60,7 @@ async function sevenPlaces(page, expect) {
     return one.value && one.scrollWidth > one.clientWidth + 1;
   }).map((one) => one.value).join()`);
   expect("numbers and names that are cut", inputs, "");
-  expect("per head is in sight", (await page.run(SEEN)).measure, true);
+  expect("per head is an option", (await page.run(SEEN)).measure, false);
 }
 
 async function sevenPlayers(page, expect) {
@@ -122,8 +122,9 @@ async function twentyVoters(page, expect) {
 }
 
 async function estates(page, expect) {
-  expect("the Talmud’s name", await page.text(".shares thead"), /Nucleolus\s+the Talmud’s rule[\s\S]*In proportion/);
+  expect("the Talmud’s name", await page.text(".shares thead"), /nucleolus, the Talmud’s rule[\s\S]*In proportion/);
   await page.paste('[data-cell="rows.0.name"]', `Bank\t1000\nBank\t2000\n${"Long ".repeat(16)}AG\t3000`);
+  await page.type("estate", "2000"); // that of the example isn't theirs
   await noted(page, /The name “Bank” occurs twice/);
   await page.click("Number the names that occur twice");
   await noted(page, /^(?![\s\S]*occurs twice)[\s\S]*A name has at most/);

@@ -115,3 +115,8 @@ export async function settle(page) {
   await page.run("new Promise((resolve) => setTimeout(resolve, 260))");
   await page.until(READY);
 }
+
+/** Shows the exact fractions, which are an option. */
+export function showExact(page) {
+  return page.run(`document.querySelector('[data-cell="exact"]').click()`);
+}

@@ -191,7 +191,7 @@ const beyond = [
     expect("on paper", sheet, /Albatros, together.*do NOT come from the proved.*shapley_is_by_step.*Agreed on by/);
     await page.run("dispatchEvent(new Event('afterprint'))");
     const file = await saved(page, "Save the table (CSV)");
-    const lines = /^;Nucl[^]*\r\nAlbatros, DH8;20,36;3075\/151[^]*\r\nDH8;20,50;0,07;0,07\r\n/;
+    const lines = /^;Nucl[^]*\r\n"Albatros, DH8";20,36;3075\/151[^]*\r\nDH8;20,50;0,07;0,07\r\n/;
     expect("a file", file, lines);
     await page.type("rows.0.count", "3");
     await settle(page);
@@ -263,7 +263,7 @@ const beyond = [
     expect("commas", byPoint, /^,Nucleolus[^]*\r\n"Albatros, DH8",\d+\.\d\d,/);
     await showBy(",");
     const file = await saved(page, "Save the table (CSV)", "files");
-    expect("semicolons", file, /^;Nucleolus[^]*\r\nAlbatros, DH8;\d+,\d\d;/);
+    expect("semicolons", file, /^;Nucleolus[^]*\r\n"Albatros, DH8";\d+,\d\d;/);
     expect("airlines", file, /\r\n\r\nAirline;Landings;Nucleolus;Shapley shares\r\nAlbatros;5;28,03;22,56\r\n/);
   }],
 ];

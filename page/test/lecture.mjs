@@ -67,7 +67,7 @@ export const lecture = [
   }],
 
   ["prices hang together", "market", async (page, expect) => {
-    expect("not each by itself", await page.text("#answer-body"), /not that each can be chosen by itself/);
+    expect("not each by itself", await page.text("#why-body"), /not that each can be chosen by itself/);
   }],
 
   ["a quota in per cent", "votes", async (page, expect) => {

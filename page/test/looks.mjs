@@ -250,7 +250,8 @@ async function removedByKey(page, expect, cell, row, before) {
   const count = `document.querySelectorAll("#case ${row}:has(.remove)").length`;
   expect("rows", await page.run(count), before);
   expect("in no tab order", await page.run("document.querySelectorAll('.remove:not([tabindex=\"-1\"])').length"), 0);
-  expect("it is said", await page.text("#case .help"), /Alt\+Delete in a (row removes it|name removes the player)\./);
+  const keys = await page.run("document.querySelector('#case .keys').textContent");
+  expect("it is said", keys, /Alt\+Delete in a (row removes it|name removes the player)\./);
   await page.run(`document.querySelector('[data-cell="${cell}"]').focus()`);
   await page.key("Delete");
   expect("Delete alone removes nothing", await page.run(count), before);

@@ -104,10 +104,10 @@ const PASTED = [
   ["Fluggesellschaft;Typ;Landungen;Kosten der Piste\nAer;DH8;5;2.400.000,00", "name type count cost", /“Typ” is/],
   ["Kosten der Piste;Landungen;Typ;Airline\n20;5;DH8;Aer", "cost count type name", /“Landungen” is “Landings”/],
   ["Compagnie;Type d’avion;Atterrissages;Coût\nAer;DH8;5;20", "name type count cost", /“Coût” is “A landing needs/],
-  ["A;B;C;D\nAer;DH8;5;20", "name type count cost", /“C” is “Landings”, “D” is “A landing needs alone”/],
+  ["A;B;C;D\nAer;DH8;5;20", "name type cost count", /“C” is “A landing needs alone”, “D” is “Landings”/],
   ["A;B;C\nAer;5;20,50", "name count cost", /“B” is “Landings”/],
-  ["Aer;DH8;5;2400\nBee;738;12;2600", "", "Taken, in this order, as: “Airline”, “Type”, “Landings”, “A landing needs "
-    + "alone”."],
+  ["Aer;DH8;5;2400\nBee;738;12;2600", "", "Taken, in this order, as: “Airline”, “Type”, “A landing needs alone”, "
+    + "“Landings”."],
   ["Aer;DH8;20.5;3\nBee;738;30;4", "", /“Type”, “A landing needs alone”, “Landings”.$/],
   ["Aer;3;20.5\nBee;4;30", "", /“Airline”, “Landings”, “A landing needs alone”.$/],
   ["Aer;DH8;20\nBee;738;30", "", /“Airline”, “Type”, “A landing needs alone”.$/],

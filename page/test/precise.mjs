@@ -271,7 +271,7 @@ const lists = [
     await settle(page);
     const table = await savedTable(page);
     expect("a command", table, /^'-1\+cmd\|' \/C calc'!A0,/m);
-    expect("with another minus", table, /^'-1\+1,/m);
+    expect("with another minus", table, /^'−1\+1,/m);
   }],
 
   ["the answer has the mark of the numbers, until one is chosen", "gains", async (page, expect) => {

@@ -10,6 +10,7 @@ import { casesTyped, otherCases, tables } from "./cases.mjs";
 import { checks } from "./checks.mjs";
 import { desk } from "./desk.mjs";
 import { checking, documents } from "./documents.mjs";
+import { door } from "./door.mjs";
 import { entering } from "./entering.mjs";
 import { failing } from "./failing.mjs";
 import { figures } from "./figures.mjs";
@@ -33,6 +34,7 @@ const harness = new Harness(pathToFileURL(page).href, option("--only", ""), slac
 const program = resolve(option("--program", join(top, "crates", "coop_program", "out", "coop_program")));
 harness.add(large(slack, told));
 harness.add(desk);
+harness.add(door);
 harness.add(users);
 harness.add(figures);
 harness.add(parts);

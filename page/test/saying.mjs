@@ -17,7 +17,7 @@ export const saying = [
   ["per head is said wherever the rule is named", "gains", async (page, expect) => {
     await page.choose("measure", "per-head");
     await settle(page);
-    const column = /Nucleolus per head\s+best for those who gain least, per member/;
+    const column = /Fairest to those who gain least\s+nucleolus per head/;
     expect("column", await page.text(".shares thead"), column);
     expect("pictures", await page.run("document.querySelector('.bars svg').textContent"), /Nucleolus per head/);
     expect("triangle", await page.run("document.querySelector('.triangle svg').textContent"), /Nucleolus per head/);
@@ -75,7 +75,7 @@ export const saying = [
     await page.type("estate", "100");
     await settle(page);
     const told = await page.run("document.querySelector('#why .moved').textContent");
-    expect("told", told, /Rounded so that they add up[\s\S]*small print/);
+    expect("told", told, /Rounded so that they add up[\s\S]*“Options” shows the exact/);
     expect("on paper", await sheetOf(page), /Rounded so that they add up/);
     expect("decimals beside a fraction", await page.text("#why"), /but at most 100\/3 \(about 33.33\)/);
     await page.run("dispatchEvent(new Event('afterprint'))");
@@ -134,7 +134,7 @@ export const saying = [
 
   ["which rule is monotonic, and the words", "document", async (page, expect) => {
     const told = /7\/6 by the nucleolus, and by the Shapley shares[\s\S]*only 1 by the nucleolus, and 17\/12 by the Sh/;
-    const [less, more] = [/1\s+0.00\s+1.17\s+7\/6\s+1.17\s+7\/6/, /1\s+0.00\s+1.00\s+1.42\s+17\/12/];
+    const [less, more] = [/1\s+0.00\s+1.17\s+1.17/, /1\s+0.00\s+1.00\s+1.42/];
     for (const [whole, wanted] of [[3, less], [4, more]]) {
       await page.run("location.hash = '#document'");
       await page.fill("#document textarea", game([0, 0, 1, 0, 0, 0, 1, 0, 0, 0, 1, 0, 2, 0, whole], 4));
@@ -188,7 +188,7 @@ saying.push(
     await page.until("document.querySelector('[data-cell=\"numbers.3\"]')?.value === '20'");
     await settle(page);
     const heads = await page.text(".shares thead");
-    expect("another", heads, /Nucleolus[\s\S]*Prenucleolus[\s\S]*some may do worse than alone/);
+    expect("another", heads, /nucleolus[\s\S]*some may do worse than alone\s+prenucleolus/);
   }],
 
   ["points at one place in the triangle, and its corners", "runway", async (page, expect) => {

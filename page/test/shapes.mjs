@@ -5,6 +5,7 @@ import { cellsOfNetwork, networkOf, withSource } from "../src/cases/links.js";
 import { detoursOf } from "../src/cases/detours.js";
 import { numbered, shortened } from "../src/cases/mended-names.js";
 import { oddsOf } from "../src/cases/odds.js";
+import { costs } from "../src/cases/tables.js";
 import { coreOfFour } from "../src/draw/core-of-four.js";
 import { Rational } from "../src/exact/rational.js";
 
@@ -134,6 +135,14 @@ for (const x of corners) {
   });
   expect(`${x} is a corner`, tight.length >= 3, true);
 }
+
+// numbers that the program doesn't take are a fault, and never remarked upon: as floats they say what isn't so
+const readTwo = (...numbers) => costs.read({ names: ["a", "b"], numbers: ["", ...numbers] }, ".").reading;
+expect("too fine", readTwo("50725.8268377066885", "47599.0843136912730", "98324.9111513979615").odds.length, 0);
+const huge = readTwo(`1e40${"*1e40".repeat(7)}`, "1", "2");
+expect("too large", `${huge.faults[0].cell} ${huge.odds.length}`, "numbers.1 0");
+expect("too long", readTwo(`1${"*9e39".repeat(2000)}`, "1", "2").faults[0].sentence, /too long to be worked out/);
+expect("as before", readTwo("10", "8", "20").odds.length, 1);
 
 console.log(`${tried} expectations of shapes, ${faults} faults`);
 process.exit(faults ? 1 : 0);

@@ -22,7 +22,7 @@ async function otherGames(page, expect) {
   const forged = lineOf("nucleolus", sparse(115));
   const found = await checked(page, forged, sparse(160));
   expect("another default", found,
-    /^The shares are the nucleolus of the game in the line.*But that isn’t the agreed game/);
+    /^No: it answers another game\. Every group .*\s+The shares are the nucleolus of the game in the line.*But that/);
   expect("which", found, /every group that isn’t listed: the line has 115, the agreed file 160/i);
   const right = await checked(page, lineOf("nucleolus", sparse(160)), sparse(160));
   expect("its own", right, /^Yes: these shares are the nucleolus of the agreed game, a cost of 210.00\./);

@@ -56,6 +56,7 @@ function questionsOf(kind, shares, last) {
     ["compare", { divisions: [shares, last] }], ["excessLists", { divisions: [shares, last], most: 5 }],
     ["pair", { shares, i: 0, j: 1 }], ...(isTable ? [["overrun", { typed: "10 %", mark: "." }]] : []),
     ...(isTable ? [["leave", { who: players }]] : []),
+    ...(kind.isTable ? [["margins"]] : []),
     ...(kind.id === "estate" ? [["estates", { typed: "100; 2000", mark: "." }]] : []),
     ...(kind.isMarket ? [["ask", { word: "matching" }]] : []),
   ];

@@ -56,7 +56,7 @@ function padded(rows) {
 /** What a pasted block says of a whole network: {points, source, links, said}, `links` by "i-j" of the points; {fault}
  * if it contradicts itself; null if it is a block of numbers for the cells where it was pasted. */
 export function networkOf(pasted, { mark = ".", source = "" } = {}) {
-  const rows = padded(pasted), judge = judgeOf(mark);
+  const { rows, unit } = withoutUnit(padded(withEnds(pasted)), mark), judge = judgeOf(mark);
   if (rows.length < 2) return null;
   const found = listOf(rows, judge) ?? labelledOf(rows, judge) ?? namedOf(rows, judge) ?? squareOf(rows, judge);
   if (!found || found.fault) return found;
@@ -67,7 +67,30 @@ export function networkOf(pasted, { mark = ".", source = "" } = {}) {
   }
   const { links, fault } = joined(found, judge);
   if (fault) return { fault };
-  return { points, links, shape, left, ...sourceOf(points, found, source) };
+  if (!Object.values(links).some(judge.isNumber)) return { fault: "No link has a number." };
+  const out = unit ? [...left, `“${unit}”, the unit`] : left;
+  return { points, links, shape, left: out, ...sourceOf(points, found, source) };
+}
+
+const ENDS = /^(.+?)\s*(?: [-–—] |[–—]|->|→|(?<=\S)-(?=\S))\s*([^:]+?)\s*:\s*(\S.*)$/u;
+
+/** Lines as "Alby-Brook: 12" as rows of two ends and a number, where all are such. */
+function withEnds(rows) {
+  const kept = rows.filter((row) => row.some(Boolean));
+  const lines = kept.map((row) => row.filter(Boolean)).map(([one = "", ...others]) => {
+    return ENDS.exec(others.length ? `${one}${one.endsWith(":") ? "" : ":"} ${others.join(" ")}` : one);
+  });
+  const isAll = kept.length > 1 && kept.every((row) => row.filter(Boolean).length <= 2) && lines.every(Boolean);
+  return isAll ? lines.map(([, from, to, cost]) => [from, to, cost]) : rows;
+}
+
+/** The rows without a unit that stands behind each of their numbers, as in "12 km". */
+function withoutUnit(rows, mark) {
+  const units = rows.flat().map((text) => /^[-−]?\d[\d.,'’\s]*?\s*(\p{L}{1,8}|€|\$|£)$/u.exec(text)).filter(Boolean);
+  const [, unit] = units[0] ?? [], isNumber = (text) => text !== "" && !readNumber(text, mark).fault;
+  const isOne = units.length > 1 && units.every(([, own]) => own === unit) && !rows.flat().some(isNumber);
+  const bare = (text) => (units.some(([whole]) => whole === text) ? text.slice(0, -unit.length).trim() : text);
+  return isOne ? { rows: rows.map((row) => row.map(bare)), unit } : { rows };
 }
 
 /** The source: the point that has its name already, or a name that says so, or else the first. */

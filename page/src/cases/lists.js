@@ -1,6 +1,6 @@
 // Cases that are a list: a runway and an estate. Each row has a name and a number.
 import { Rational } from "../exact/rational.js";
-import { typedText } from "../exact/decimals.js";
+import { shortText, typedText } from "../exact/decimals.js";
 import { shownName } from "../game/names.js";
 import { labelsOf, landingsOf, rowsOfLandings } from "./landings.js";
 import { bytesOf, Reading } from "./reading.js";
@@ -31,7 +31,7 @@ export const runway = {
       heads: heads("landings|flights|movements|number|count|landungen|flüge|anzahl|atterri|vols|mouvements|nombre"),
     },
   ],
-  ofFour: ["name", "type", "count", "cost"], // what four columns without headings are
+  ofFour: ["name", "type", "cost", "count"], // what four columns without headings are
   help: "One row for each airline and type, with the cost of a runway for such a landing only. Each landing counts.",
   most: 500,
   example: () => ({
@@ -47,9 +47,10 @@ export const runway = {
     const reading = new Reading(mark), kept = readLandings(state, reading);
     reading.remark([...new Set(kept.map(({ airline }) => airline))]);
     askOfSum(reading, state, ["cost", "count"]);
+    askOfOrder(reading, state);
     reading.askOfEither(state);
     const all = kept.reduce((sum, { count }) => sum + count, 0);
-    if (!kept.length && reading.isRight()) reading.fault("rows.0.cost", "Give at least one landing.");
+    if (!kept.length && reading.isRight()) reading.open("rows.0.cost");
     if (all > MOST_LANDINGS) return { reading, rows: labelsOf(kept), tree: null, landings: kept };
     const { rows, names, costs } = landingsOf(kept);
     if (names.some((name) => bytesOf(name) > 64)) {
@@ -65,6 +66,21 @@ export const runway = {
     }),
   }),
 };
+
+/** Costs that were pasted where landings belong make another runway, and look like one: if they came without headings
+ * (`isUnordered`), and the landings of two rows or more all exceed all costs, or alone have decimals, it is asked. */
+function askOfOrder(reading, state) {
+  if (!state.isUnordered) return;
+  const valueOf = (text) => reading.known(text ?? "").value;
+  const kept = state.rows.filter((row) => valueOf(row.cost) && valueOf(row.count));
+  const [costs, counts] = ["cost", "count"].map((key) => kept.map((row) => valueOf(row[key])));
+  const isWhole = (value) => value.isWhole(), hasDecimals = (row) => /[.,]\d{1,2}\s*$/.test(row.count);
+  const isOdd = kept.some(hasDecimals) && costs.every(isWhole);
+  if (kept.length < 2 || !(isOdd || Rational.max(costs).less(Rational.min(counts)))) return;
+  const [{ cost, count, name = "", type = "" }] = kept;
+  reading.swap = { cost, count, name: shownName(name.trim() || type.trim() || "the first row") };
+  reading.isOpen = true;
+}
 
 /** The rows that aren't empty, and have a cost and a number of landings: {airline, type, cost, count}. */
 function readLandings(state, reading) {
@@ -111,8 +127,9 @@ export const estate = {
     const whole = reading.number("estate", state.estate, "The estate");
     reading.close();
     if (whole && reading.isRight() && Rational.sum(values).less(whole)) {
-      reading.pause("So far the claims add to less than the estate. If no others come, each gets its claim, and no "
-        + "rule is needed.");
+      const rest = shortText(whole.minus(Rational.sum(values)));
+      reading.pause(`So far the claims add to less than the estate. If no others come, each gets its claim, ${rest} is `
+        + "left, and no rule is needed.");
     }
     if (values.length > 64) {
       reading.fault(cells.at(-1), `These are ${values.length} claims, and the program takes 64.`);
@@ -150,7 +167,7 @@ export function readList(state, mark, key, what, word) {
     values.push(value ?? Rational.of(0));
     cells.push(`rows.${r}.${key}`);
   }
-  if (!kept.length) reading.fault(`rows.0.${key}`, "Give at least one row.");
+  if (!kept.length) reading.open(`rows.0.${key}`);
   return { reading, rows: rowsOf(names), names, values, cells };
 }
 

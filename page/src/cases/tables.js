@@ -39,7 +39,8 @@ function tableCase(settings) {
         values[mask] = reading.number(`numbers.${mask}`, state.numbers[mask] ?? "", settings.what, settled);
       }
       reading.close();
-      const rows = rowsOf(names), given = values.map((value) => value ?? undefined);
+      const rows = rowsOf(names), isFit = Boolean(reading.version); // of others no remark is exact, and some take long
+      const given = isFit ? values.map((value) => value ?? undefined) : [];
       reading.odds = oddsOf(given, n, { isCost: settings.isCost, nameOf: (mask) => groupLabel(names, mask) })
         .map(({ mask, sentence }) => ({ cell: `numbers.${mask}`, sentence, mask }));
       if (!reading.isRight()) return { reading, rows, tree: {} };

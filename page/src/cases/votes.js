@@ -21,7 +21,7 @@ export const votes = {
   places: 3,
   single: {
     key: "quota", title: "Votes needed",
-    help: "The least number that is enough, or a percentage of all votes, such as 60 %.",
+    help: "The least number that is enough, or a part of all votes: 2/3, 60 %, more than 1/2.",
   },
   columns: [
     { key: "name", title: "Who votes", wide: true, placeholder: "Voter", heads: VOTER },
@@ -65,12 +65,25 @@ export const votes = {
   }),
 };
 
-/** The least number of votes that reaches a quota in per cent of all votes; null for another text. */
+const SPOKEN = {
+  "two thirds": "2/3", "two-thirds": "2/3", "\u2154": "2/3", "three quarters": "3/4", "\u00be": "3/4",
+  "three fifths": "3/5", half: "1/2", "\u00bd": "1/2", majority: "> 1/2", "simple majority": "> 1/2",
+};
+
+/** The least number of votes that reaches a part of all votes, in per cent or as a fraction, or that is more than it;
+ * null for another text. */
 function partOf(typed, all, mark, isWhole) {
-  const [, percent] = /^(.*)%\s*$/.exec(typed ?? "") ?? [];
-  const { value } = percent === undefined ? {} : readNumber(percent.trim(), mark);
-  const part = value && all.times(value).over(Rational.of(100));
-  return part && isWhole ? Rational.of(-part.negated().floor()) : part ?? null;
+  const said = (typed ?? "").trim().toLowerCase().replace(/^(more than|over)\s+|^>\s*/, "> ");
+  const parted = (words) => /^(> )?(.*)$/.exec(words), [, first = "", bare] = parted(said);
+  const [, second = "", text] = parted(SPOKEN[bare] ?? bare);
+  const [, percent] = /^(.*)%$/.exec(text) ?? [], isFraction = /^\d+\s*\/\s*\d+$/.test(text);
+  if (percent === undefined && !isFraction) return null;
+  const [, whole, over] = /^(\d+)\s+(\d+\/\d+)$/.exec((percent ?? "").trim()) ?? []; // 66 2/3 %
+  const { value } = readNumber((over ?? percent ?? text).trim(), mark);
+  if (!value || (isFraction && !value.less(Rational.of(1)))) return null;
+  const part = all.times(over ? value.plus(Rational.of(whole)) : value).over(Rational.of(isFraction ? 1 : 100));
+  if (!isWhole) return part;
+  return Rational.of(first || second ? part.floor() + 1n : -part.negated().floor());
 }
 
 /** The quota of some votes. With decimals it may have some, too. */

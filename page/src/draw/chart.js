@@ -9,7 +9,8 @@ const NARROW = 520; // below this labels stand above their bars
  * {kind, value} (beyond the picture where `value` is null). `legend` has {key} or {kind} with a title each. */
 export function chart({ title, rows, legend, low, high, wide, text }) {
   const isNarrow = wide < NARROW, side = isNarrow ? 8 : Math.min(190, wide * 0.28), right = 14;
-  const labels = isNarrow ? 0 : Math.max(60, ...rows.map(({ label }) => Math.min(side, widthOf(label) + 14)));
+  const wideOf = ({ label, note }) => Math.max(widthOf(label), note ? widthOf(note, 13) : 0) + 16;
+  const labels = isNarrow ? 0 : Math.max(60, ...rows.map((row) => Math.min(side, wideOf(row))));
   const left = isNarrow ? side : labels, span = high > low ? high - low : 1;
   const x = (value) => left + ((value - low) / span) * (wide - left - right);
   const parts = [], drawn = legendLines(legend, wide);

@@ -37,37 +37,40 @@ export function tradesTable(deals, format) {
     el("th", { scope: "row" }, deal.who), el("td", { class: "number" }, format.show(deal.worth)),
     el("td", { class: "number" }, price(deal).replaceAll(" ", "\u00a0")),
     hasFair && el("td", { class: "number" }, format.show(deal.fair))));
-  return tableOf("trades", ["Who trades", "Gain", "Price", ...(hasFair ? [`By the ${deals[0].rule}`] : [])], rows);
+  const heads = ["Who trades", "Gain", "The seller gets", ...(hasFair ? [`By the ${deals[0].rule}`] : [])];
+  return tableOf("trades", heads, rows);
 }
+
+const MOST_IDLE = 4; // that the first sentence names
 
 export function trades(game, matching, { solution, wide, ...format }) {
   const deals = dealsOf(game, matching, solution), traded = new Set(deals.flatMap(({ pair }) => pair));
   const idle = game.everyone().filter((i) => !traded.has(i)).map((i) => game.shown[i]);
   const pairs = deals.length > 6 ? `${deals.length} pairs` : listed(deals.map(({ who }) => who));
-  return el("div", {},
-    deals.length > 0 && el("p", { class: "lead" }, `${pairs} ${deals.length > 1 ? "trade" : "trades"}: together they `
-      + `gain ${format.show(Rational.of(matching.value))}.`),
-    tradesTable(deals, format),
-    el("p", { class: "hint" },
-      `Together they gain ${format.show(Rational.of(matching.value))}; no other pairs gain more. `,
-      "A price is what the seller gets of the gain, above its own value. The ranges say how far each price can go, ",
-      "not that each can be chosen by itself: one price holds the others. Below its range a buyer would be outbid, or ",
-      "the seller rather keep it; above it the seller would be undercut, or the buyer rather not buy.",
-      idle.length > 0 && ` Without a trade: ${idle.join(", ")}.`),
-    deals.length > 0 && figure("ranges", "prices", pricesPicture(deals, priceOf(format), format.show, wide)));
+  const said = deals.length > 0 && el("p", { class: "lead" }, `${pairs} ${deals.length > 1 ? "trade" : "trades"}: `
+    + `together they gain ${format.show(Rational.of(matching.value))}.`, idle.length > 0 && idle.length <= MOST_IDLE
+    && ` Without a trade: ${idle.join(", ")}.`);
+  const table = [tradesTable(deals, format), el("p", { class: "hint" },
+    `Together they gain ${format.show(Rational.of(matching.value))}; no other pairs gain more. `,
+    "What the seller gets is its part of the gain, above its own value. The ranges say how far each can go, ",
+    "not that each can be chosen by itself: one holds the others. Below its range a buyer would be outbid, or ",
+    "the seller rather keep it; above it the seller would be undercut, or the buyer rather not buy.",
+    idle.length > 0 && ` Without a trade: ${idle.join(", ")}.`)];
+  const drawn = deals.length > 0 && pricesPicture(deals, priceOf(format), format.show, wide);
+  return { said, table, picture: drawn && figure("ranges", "prices", drawn) };
 }
 
 export function pricesPicture(deals, price, show, wide) {
   const hasFair = deals.some(({ fair }) => fair);
   return chart({
-    title: "The range of each price", low: 0, wide, text: tickText,
+    title: "What each seller may get", low: 0, wide, text: tickText,
     high: Math.max(...deals.map(({ worth }) => worth.toNumber())) || 1,
     legend: [
-      { kind: "span", title: "how far a price can go with no pair doing better together" },
+      { kind: "span", title: "what the seller may get, so that no pair does better together" },
       ...(hasFair ? [{ kind: "adds", title: `by the ${deals[0].rule}` }] : []),
     ],
     rows: deals.map((deal) => ({
-      label: deal.who, told: `${deal.who}: gain ${show(deal.worth)}, price ${price(deal)}`,
+      label: deal.who, told: `${deal.who}: gain ${show(deal.worth)}, the seller gets ${price(deal)}`,
       spans: [{ low: deal.low.toNumber(), high: deal.high.toNumber(), room: deal.worth.toNumber() }],
       marks: deal.fair ? [{ kind: "adds", value: deal.fair.toNumber() }] : [],
     })),
@@ -87,7 +90,7 @@ const NARROW = 520;
 function remarkOn(i, share, ballots) {
   const without = ({ votes }) => Rational.sum(votes.filter((_, j) => j !== i));
   if (share.isZero()) return "no influence";
-  if (ballots.some((ballot) => without(ballot).less(ballot.quota))) return "needed by all";
+  if (ballots.some((ballot) => without(ballot).less(ballot.quota))) return "has a veto";
   return ballots.every(({ votes, quota }) => !votes[i].less(quota)) ? "wins alone" : "";
 }
 
@@ -106,7 +109,7 @@ export function power(game, shares, { mark, wide, kept }) {
         hasParts && el("td", { class: "number" }, percent(parts[b][i])),
       ]),
       kept && el("td", { class: "number kept" }, kept[i] ? percent(kept[i]) : "–"),
-      el("td", { class: "number main" }, percent(shares[i]), exact && el("small", {}, exact)));
+      el("td", { class: "number main" }, percent(shares[i]), exact && el("small", { class: "exact" }, exact)));
   });
   const own = isDouble ? ["Second votes", "of all"] : [];
   const all = ["Voter", "Votes", "of all", ...own, ...(kept ? ["Kept"] : []), "Power"];

@@ -159,9 +159,12 @@ export function thousandsIn(typed, { by, doubt }) {
   return sign === "'" ? "’" : sign;
 }
 
+const MOST_WORKED_OUT = 200; // letters: what may be typed into a cell
+
 /** The number of a cell, in which one may add and multiply, too: "27400*1.12 + 300". `isWorkedOut` says so. */
 export function cellNumber(typed, mark = ".") {
   if (!/[\d.,)\s][*×+]/.test(typed) || SCIENTIFIC.test(typed.trim())) return readNumber(typed, mark);
+  if (typed.length > MOST_WORKED_OUT) return { fault: "is too long to be worked out" };
   const terms = typed.trim().replace(/^=/, "").split("+").map((term) => term.split(/[*×]/));
   const read = terms.map((factors) => factors.map((text) => readNumber(text.trim(), mark)));
   const all = read.flat(), { fault } = all.find((one) => one.fault) ?? {};

@@ -1,19 +1,21 @@
 // The panels below a case: the answer, its settings, the reasons and the evidence.
 import { sourceName } from "../cases/matrices.js";
 import { MARKS } from "../exact/marks.js";
-import { answerParts } from "./answer.js";
+import { answerParts, solutionOf } from "./answer.js";
 import { beyondParts } from "./beyond.js";
 import { beyondPower } from "./beyond-power.js";
 import { labelOfCell } from "./cell-names.js";
 import { pictureButtons } from "../draw/figure.js";
-import { button, copy, el, refill } from "./dom.js";
+import { button, cellOf, copy, el, refill } from "./dom.js";
 import { evidenceParts } from "./evidence.js";
 import { filledLines, filledText, isFilled } from "./filled.js";
 import { otherAmounts } from "./other-amounts.js";
 import { ownDivision } from "./own-division.js";
 import { paperPart } from "./paper.js";
 import { pinnedOf } from "./pinned.js";
+import { marginsPart } from "./margins-part.js";
 import { takesPerHead } from "./questions.js";
+import { fillSeals } from "./seals.js";
 import { tablesOf } from "./shares-table.js";
 import { csvButton, tabbed } from "./table-lines.js";
 import { todayOf } from "./today.js";
@@ -26,12 +28,13 @@ const PLACES = [0, 1, 2, 3, 4, 6];
 const MEASURES = [["plain", "as a whole"], ["per-head", "per head"]];
 
 const PARTS = ["why", "what-if", "evidence", "paper", "files"];
-const BODIES = ["answer-measure", "answer-settings", "answer-body", "own-body", "answer-more", "why-body",
+const BODIES = ["answer-measure", "answer-settings", "answer-body", "own-body", "margins", "answer-more", "why-body",
   "evidence-body", "paper-body", "files-body"];
 /** Which parts of an answer are drawn anew as something comes: all at first, or if it isn't named here. */
 const DRAWN = {
   reasons: ["body", "why"], divisions: ["body", "why", "own", "evidence", "files"], verdicts: ["body", "why"],
-  checks: ["evidence"], proposal: ["body", "why", "own"], todays: ["body", "own"], pinned: ["body"],
+  checks: ["seals", "evidence"], margins: ["margins"], proposal: ["body", "why", "own"], todays: ["body", "own"],
+  pinned: ["body"],
 };
 const LINKS = { "what-if": "What if", evidence: "Evidence", paper: "On paper", files: "Files" };
 
@@ -42,6 +45,7 @@ export class AnswerView {
     this.session = session;
     this.typed = {}; // what was typed into the parts of the answer, of this case
     this.isHidden = false; // whether the case alone is shown, and printed
+    this.isExact = false; // whether exact fractions are shown
   }
 
   /** What was typed for another case is of no use here; `typed` is what was for this one. */
@@ -74,6 +78,8 @@ export class AnswerView {
     const parts = {
       settings: () => this.showSettings(result),
       body: () => (refill(at("answer-body"), answerParts(result, view)), this.say()),
+      seals: () => fillSeals(at("answer-body").querySelector(".seals"), result, solutionOf(result), view.format),
+      margins: () => refill(at("margins"), marginsPart(result, { ...view, session: this.session })),
       more: () => this.showMore(result, view),
       why: () => refill(at("why-body"), whyBody(result, { ...view, pair: this.pair })),
       own: () => refill(at("own-body"), ownDivision(result, { ...view, onBegin: () => this.show("proposal") })),
@@ -86,9 +92,12 @@ export class AnswerView {
 
   showSettings(result) {
     const measures = !result.refusal && takesPerHead(result.game) && this.measures(result.game);
-    const isAside = result.game.ballots || result.game.isMarket(); // there it is a question that few ask
-    refill(at("answer-settings"), result.refusal ? [] : [isAside && measures, this.settings()]);
+    // a question that few ask, and of votes and markets hardly anybody; where it was asked it stands beside the answer
+    const isAside = result.game.ballots || result.game.isMarket() || !this.session.wasPerHead;
+    const hadFocus = document.activeElement?.dataset.cell === "measure";
+    refill(at("answer-settings"), result.refusal ? [] : [this.settings(), isAside && measures]);
     refill(at("answer-measure"), !isAside && measures);
+    if (hadFocus) cellOf(at("answer"), "measure")?.focus({ preventScroll: true }); // it may stand elsewhere now
   }
 
   /** What all parts of the answer are drawn by. */
@@ -126,7 +135,9 @@ export class AnswerView {
   /** The way on from the answer: one step that most want, and the other parts. */
   showLinks() {
     const isThere = (id) => !at(id).hidden, first = isThere("why") ? "why" : null;
-    const link = (id, title, kind) => button(title, () => 0, { class: kind, "data-part": id });
+    const link = (id, title, kind) => button(title, () => 0, {
+      class: kind, "data-part": id, "aria-controls": id, "aria-expanded": String(at(id).open),
+    });
     refill(at("next"), first && link(first, "Why these shares?", "main"),
       Object.entries(LINKS).filter(([id]) => isThere(id)).map(([id, title]) => link(id, title, "quiet")));
   }
@@ -172,7 +183,7 @@ export class AnswerView {
   /** Nothing of the answer stands in the page then. */
   showHidden() {
     for (const id of ["why", "what-if", "evidence"]) at(id).hidden = true;
-    for (const id of ["why-body", "own-body", "answer-more", "evidence-body"]) refill(at(id));
+    for (const id of ["why-body", "own-body", "margins", "answer-more", "evidence-body"]) refill(at(id));
     refill(at("answer-settings"), this.hiding());
     refill(at("answer-measure"));
     refill(at("answer-body"), el("p", { class: "hint" }, "The answer is hidden: only the case is shown and printed."),
@@ -235,7 +246,17 @@ export class AnswerView {
   }
 
   settings() {
-    return [this.formats(), this.hiding()];
+    return [this.formats(), this.fractions(), this.hiding()];
+  }
+
+  /** Whether exact fractions stand below the decimals. */
+  fractions() {
+    return el("label", {}, el("input", {
+      type: "checkbox", checked: this.isExact, "data-cell": "exact", on: { change: (event) => {
+        this.isExact = event.target.checked;
+        at("answer").classList.toggle("exact-on", this.isExact);
+      } },
+    }), " Exact fractions");
   }
 
   formats() {
@@ -275,7 +296,7 @@ export class AnswerView {
     for (const id of ["answer", ...PARTS]) at(id).hidden = id !== "answer";
     at("waiting").hidden = true;
     for (const id of ["answer", "parts"]) at(id).classList.remove("stale");
-    for (const id of ["answer-measure", "answer-settings", "answer-more", "next"]) refill(at(id));
+    for (const id of ["answer-measure", "answer-settings", "margins", "answer-more", "next"]) refill(at(id));
     this.shownMore = this.drawn = null;
     refill(at("answer-body"), el("div", { class: "notice bad", role: "alert" }, el("p", {}, sentence),
       button("Try again", () => this.session.changed(0))));

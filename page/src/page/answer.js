@@ -15,6 +15,7 @@ import { el } from "./dom.js";
 import { totalsOf } from "./format.js";
 import { pinnedNote, pinTools } from "./pinned.js";
 import { missingText } from "./questions.js";
+import { sealsOf } from "./seals.js";
 import { sharesTable } from "./shares-table.js";
 import { typesTable } from "./types-table.js";
 
@@ -27,13 +28,16 @@ export function answerParts(result, settings) {
   const own = { key: "proposal", title: "Your proposal", shares: proposal.shares };
   const seen = proposal.shares ? [...points, own] : points, { format } = settings;
   const pictured = { ...settings, wide: Math.min(wide, 900) }, missing = missingText(game);
+  const deals = result.matching && trades(game, result.matching, { ...format, solution, wide: pictured.wide });
   return [
     briefNotice(result),
     ...(game.ballots ? votes(result, pictured) : []),
-    result.matching && trades(game, result.matching, { ...format, solution, wide: pictured.wide }),
+    deals?.said,
     solution && !game.ballots && !game.isMarket() && lead(result, solution, settings),
     solution && !game.ballots && !game.isMarket() && becauseOf(result),
-    points.length > 0 && (!game.ballots || solution) && sharesTable(result, settings),
+    solution && !game.ballots && sealsOf(result, solution, format),
+    deals && !solution && deals.table,
+    points.length > 0 && (!game.ballots || solution) && inPlace(result, sharesTable(result, settings)),
     notices(result, format, coarse, result.odds),
     filled && el("p", { class: "note filled-note" }, filled),
     coarse && el("p", { class: "note coarse-note" }, coarseText(coarse)),
@@ -43,8 +47,15 @@ export function answerParts(result, settings) {
     missing && el("p", { class: "hint missing" }, missing),
     game.kind === "airport" && typesPart(result, settings),
     result.beyond && beyondParts(result.beyond, settings),
-    ...(solution && !game.ballots ? pictures(result, seen, pictured).slice(0, 1) : []),
+    deals?.picture,
+    ...(solution && !game.ballots && !deals ? pictures(result, seen, pictured).slice(0, 1) : []),
   ].filter(Boolean);
+}
+
+/** Who trades, and how far the price can go: of a market it belongs to the reasons, where shares are the answer. */
+export function tradesPart({ game, matching, ...result }, { format, wide }) {
+  const solution = solutionOf(result);
+  return matching && solution ? trades(game, matching, { ...format, solution, wide }).table : null;
 }
 
 /** The pictures for which the answer has no room: those of the reasons. */
@@ -53,7 +64,7 @@ export function morePictures(result, settings) {
   if (!solutionOf(result) || game.ballots) return [];
   const own = { key: "proposal", title: "Your proposal", shares: proposal.shares };
   const seen = proposal.shares ? [...points, own] : points;
-  return pictures(result, seen, { ...settings, wide: Math.min(wide, 900) }).slice(1);
+  return pictures(result, seen, { ...settings, wide: Math.min(wide, 900) }).slice(result.matching ? 0 : 1);
 }
 
 const HUNDRED = Rational.of(100);
@@ -74,9 +85,10 @@ function becauseOf({ game, reasons }) {
 
 /** The Talmud’s rule, by the half of the claims that counts. */
 function talmud({ single, amounts }) {
-  const isSmall = !Rational.sum(amounts).less(single.plus(single));
-  return isSmall ? "The estate is at most half of the claims, so each gets the same, but nobody more than half of the "
-    + "claim (the Talmud’s rule)."
+  const all = Rational.sum(amounts), twice = single.plus(single);
+  if (all.equals(twice)) return "The estate is half of the claims, so each gets half of its own (the Talmud’s rule).";
+  return twice.less(all) ? "The estate is less than half of the claims, so each gets the same, but nobody more than "
+    + "half of the claim (the Talmud’s rule)."
     : "The estate is more than half of the claims, so each loses the same, but nobody more than half of the claim (the "
     + "Talmud’s rule).";
 }
@@ -99,7 +111,7 @@ function refused({ sentence, place }) {
 /** All pictures of an answer, the one that tells most first. */
 function pictures({ game, bird }, points, { rows, format, wide, remark, source, typed }) {
   const turn = (typed.turn ??= { ...START });
-  const narrow = points.filter(({ key }) => !["core", "buyers", "sellers", "proportion"].includes(key));
+  const narrow = points.filter(({ key }) => !["core", "buyers", "sellers"].includes(key));
   const drawn = [bars(game, rows, narrow, { ...format, wide, remark }),
     game.n === 3 && triangle(game, points, { wide }),
     game.n === 4 && game.groups && tetrahedron(game, points, { wide, view: turn })];
@@ -107,15 +119,18 @@ function pictures({ game, bird }, points, { rows, format, wide, remark, source, 
 }
 
 function votes({ game, points }, settings) {
-  const shapley = points.find(({ key }) => key === "shapley"), solution = solutionOf({ points });
+  const shapley = points.find(({ key }) => key === "shapley");
   const parts = shapley ? [powerLead(game, shapley.shares, settings.format),
     ...powerTable(game, shapley.shares, settings)] : [];
-  if (solution) {
-    parts.push(el("h3", {}, "Dividing a prize of 1 among the voters"),
-      el("p", { class: "hint" }, "That is another question than power: a voter may get nothing of the prize and have ",
-        "influence all the same."));
-  }
   return parts;
+}
+
+/** Of votes the shares are another question than the answer, and folded. */
+function inPlace({ game }, table) {
+  return game.ballots ? el("details", { class: "fold-part" },
+    el("summary", {}, "Dividing a prize of 1 among the voters"),
+    el("p", { class: "hint" }, "That is another question than power: a voter may get nothing of the prize and have ",
+      "influence all the same."), table) : table;
 }
 
 /** The power of each voter beside what was kept. */

@@ -19,10 +19,12 @@ import { markChanged } from "./pinned.js";
 import { tableGrid } from "./table-grid.js";
 
 const MOST_FAULTS = 6;
-const KEYS = { player: " Alt+Delete in a name removes the player.", row: " Alt+Delete in a row removes it." };
+const KEYS = { player: "Alt+Delete in a name removes the player.", row: "Alt+Delete in a row removes it." };
 
 /** `settings` are {mark, setEntry, notes, onReset, onUndo} and what the grids need. */
 export function casePanel(kind, typed, settings) {
+  const sample = sampleLine(kind, typed, settings), change = settings.onChange;
+  settings = { ...settings, onChange: (wait) => (refill(sample), change(wait)) };
   const makeGrid = kind.isTable ? tableGrid : kind.isNetwork ? networkGrid : kind.isMarket ? marketGrid : listGrid;
   const { onReset, notes = [] } = settings;
   const undo = el("span"), offer = (before) => refill(undo, before && undoButton(before, settings));
@@ -32,14 +34,9 @@ export function casePanel(kind, typed, settings) {
   const faults = el("div", { class: "faults", role: "status" }), made = el("div", { class: "made" });
   const coarse = el("div");
   const element = el("div", { class: "case" },
-    el("p", { class: "help" }, kind.help, el("span", { class: "screen" }, " You can paste from a spreadsheet.",
-      el("span", { class: "keys" }, kind.isTable ? KEYS.player : KEYS.row))),
+    el("p", { class: "help" }, kind.help), sample,
     notes.map((note) => el("p", { class: "note" }, note)), coarse, grid, faults,
-    el("div", { class: "tools bottom" }, el("details", { class: "inline more-tools" },
-      el("summary", {}, "More for the cells"), grid.more, el("p", { class: "tools" },
-        button("Clear all", () => onReset(cleared(kind, typed), "Clear all"), { class: "quiet" }),
-        button("Fill in the worked example", () => onReset(kind.example(), "Fill in the worked example"),
-          { class: "quiet" }))), undo));
+    el("div", { class: "tools bottom" }, moreTools(kind, typed, grid.more, onReset), undo));
 
   /** Shows what the reading of the cells says. */
   function tell(reading) {
@@ -48,9 +45,7 @@ export function casePanel(kind, typed, settings) {
     markChanged(grid, settings.changed?.());
     refill(coarse, coarseNote(typed, settings));
     refill(faults, reading.notes.map((note) => el("p", { class: "note" }, note)),
-      reading.asked && sumQuestion(reading.asked, typed, settings),
-      reading.mixed && mixedQuestion(reading.mixed, reading, settings),
-      reading.either ? eitherQuestion(reading.either, settings) : !reading.mixed && doubtNotes(reading, settings),
+      questions(reading, typed, settings),
       emptyCells(reading, kind, grid), faultList(reading, grid), nameHelp(reading, typed, settings),
       oddList(oddsOf(reading, typed), grid, () => onReset(lowered(typed, reading.odds), "Lower the links", true)),
       reading.isTooFine && finenessHelp(settings));
@@ -59,7 +54,37 @@ export function casePanel(kind, typed, settings) {
       isBeyond && landingsList(typed, reading.beyond, writtenBy(reading)));
   }
 
-  return { element, tell, made, goTo: (cell) => goTo(grid, cell), choices: () => grid.choices?.() };
+  return {
+    element, tell, made, goTo: (cell) => goTo(grid, cell), choices: () => grid.choices?.(),
+    setTips: (tips) => grid.setTips?.(tips),
+  };
+}
+
+/** What has to be settled before there is an answer, and how numbers were read. */
+function questions(reading, typed, settings) {
+  const { asked, swap, perHead, mixed, either } = reading;
+  return [
+    asked && sumQuestion(asked, typed, settings), swap && swapQuestion(swap, typed, settings),
+    perHead && perHeadQuestion(perHead, settings), mixed && mixedQuestion(mixed, reading, settings),
+    either ? eitherQuestion(either, settings) : !mixed && doubtNotes(reading, settings),
+  ];
+}
+
+function moreTools(kind, typed, others, onReset) {
+  const reset = (title, next) => button(title, () => onReset(next(), title), { class: "quiet" });
+  return el("details", { class: "inline more-tools" }, el("summary", {}, "More for the cells"),
+    el("p", { class: "hint keys" }, kind.isTable ? KEYS.player : KEYS.row), others, el("p", { class: "tools" },
+      reset("Clear all", () => cleared(kind, typed)), reset("Fill in the worked example", () => kind.example())));
+}
+
+/** What the cells hold before anybody has typed, and what to do with them; gone with the first change. */
+function sampleLine(kind, typed, { onReset }) {
+  const is = (other) => JSON.stringify(typed) === JSON.stringify(other);
+  const empty = () => onReset(cleared(kind, typed), "Clear all");
+  return el("div", { class: "sample screen" }, is(kind.example()) && [
+    el("b", {}, "Worked example."), " Type over it, paste your own table into any cell, or ",
+    button("start empty", empty, { class: "link" }), "."],
+  is(cleared(kind, typed)) && "Fill in the cells, or paste a table from a spreadsheet into any of them.");
 }
 
 /** Asks whether a row is the sum of the others: until that is settled there is no answer. */
@@ -74,6 +99,26 @@ function sumQuestion({ r, name, isLast }, typed, { onReset, onChange }) {
   const asked = `${row}${which} Is it the sum of ${others}? It would count as one more.${rest}`;
   return el("p", { class: "note" }, asked,
     button("Yes, remove it", without, { class: "quiet" }), name && button("No, it counts", keep, { class: "quiet" }));
+}
+
+/** Asks whether costs stand where landings belong: until that is settled there is no answer. */
+function swapQuestion({ count, cost, name }, typed, { onReset, onChange }) {
+  const rows = typed.rows.map((row) => ({ ...row, cost: row.count, count: row.cost }));
+  const swapped = () => onReset({ ...typed, rows, isUnordered: false }, "Swap the columns", true);
+  const keep = () => {
+    typed.isUnordered = false;
+    onChange(0);
+  };
+  const shown = (text) => `“${withEscapes(text.trim())}”`;
+  return el("p", { class: "note" }, `Are ${shown(count)} the landings of ${name}, and does one need ${shown(cost)}? `,
+    button("No, swap the columns", swapped, { class: "quiet" }), button("Yes, so it is", keep, { class: "quiet" }));
+}
+
+/** Per head is another rule, so nobody gets other shares without a word. */
+function perHeadQuestion(players, { setMeasure }) {
+  return el("p", { class: "note" }, "A group’s loss was to count per head. That is worked out for up to 8 players, ",
+    `and here are ${countText(players)}. By the group as a whole the shares are others. `,
+    button("Count it as a whole", () => setMeasure("plain"), { class: "quiet" }));
 }
 
 /** Asks how many landings a number says: until that is settled there is no answer. */

@@ -126,7 +126,11 @@ class ListGrid {
     const targets = columnsFor(own, headings, { rows, mark: this.mark(), ofFour: this.kind.ofFour });
     const given = rows.slice(headings ? 1 : 0), below = given.slice(0, this.kind.most * 4);
     const isCut = below.length < given.length && `Of ${given.length} rows only the first ${below.length} were taken.`;
-    if (Number(r) === 0) this.forgetExample(targets, below.length);
+    const hasNames = targets.some((target) => target?.key === this.kind.columns[0].key);
+    if (Number(r) === 0 && hasNames && (headings || below.length > 1) && this.isExample()) this.leaveExample();
+    else if (Number(r) === 0) this.forgetExample(targets, below.length);
+    const isBoth = this.kind.ofFour && ["cost", "count"].every((one) => targets.some((target) => target?.key === one));
+    if (isBoth) this.typed.isUnordered = !headings;
     const filled = below.map((row, k) => {
       const target = (this.typed.rows[Number(r) + k] ??= this.blank());
       row.forEach((text, c) => targets[c] && (target[targets[c].key] = text));
@@ -150,6 +154,23 @@ class ListGrid {
       const put = `${column.fallback} was put into each of its open cells.`;
       return open.length > 0 && `No “${column.title}” were pasted: ${put}`;
     });
+  }
+
+  /** Whether nothing stands in the rows but the worked example. */
+  isExample() {
+    const { columns } = this.kind, told = (rows) => JSON.stringify(rows.filter((row) => !this.isBlank(row))
+      .map((row) => columns.map(({ key }) => row[key] ?? "")));
+    return told(this.typed.rows) === told(this.kind.example().rows);
+  }
+
+  /** Nothing of the worked example counts beside a list that is pasted over it: no row, and no estate or quota. */
+  leaveExample() {
+    const { typed, kind } = this, { key } = kind.single ?? {}, given = kind.example();
+    typed.rows = [];
+    if (key && typed[key] === given[key]) {
+      typed[key] = "";
+      this.showSingles();
+    }
   }
 
   /** Names of the worked example don't stay where all its numbers are pasted over, without names. */

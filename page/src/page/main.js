@@ -8,12 +8,14 @@ import { AnswerView } from "./answer-view.js";
 import { casePanel } from "./case-panel.js";
 import { Documents } from "./documents.js";
 import { el, refill } from "./dom.js";
+import { isDeciding, marginsOf, tipOf } from "./margins-part.js";
 import { Paper } from "./paper.js";
 import { changedCells, keptTree, pinOfTree } from "./pinned.js";
 import { Session } from "./session.js";
+import { demo } from "./demo.js";
 import { startCards } from "./start.js";
 import { verifyPanel } from "./verify.js";
-import { showPart, showView, viewOfAddress, watchAnswer } from "./views.js";
+import { showPart, showView, viewOfAddress, watchAnswer, watchParts } from "./views.js";
 
 const at = (id) => document.getElementById(id);
 const WAYS = { round: "Round all to four decimals", whole: "All times a power of ten" };
@@ -29,12 +31,21 @@ const session = new Session({
     view.showWaiting(session.reading, panel);
     verify.beside(session.reading.text ?? null);
   },
-  answer: (came) => view.show(came),
+  answer: (came) => {
+    view.show(came);
+    if (!came || came === "margins") panel.setTips(tipsOf());
+  },
   busy: (isBusy) => view.busy(isBusy),
   fault: (fault) => view.fault(fault),
 });
 const view = new AnswerView(session);
 const paper = new Paper(session, view);
+
+/** What is said of the numbers in the cells of a table; null while nobody knows. */
+function tipsOf() {
+  const found = session.result && !view.isHidden ? marginsOf(session.result) : null, format = session.format();
+  return found && ((mask) => ({ isDeciding: isDeciding(mask, found), text: tipOf(mask, found, format) }));
+}
 
 // ---- Cases
 
@@ -76,6 +87,7 @@ function asked(kind) {
   return {
     changed: () => session.pinned && changedCells(session.pinned.typed, session.typed),
     mark: () => session.marks.ofCells(), setEntry: (mark) => session.setEntry(mark),
+    setMeasure: (measure) => session.setMeasure(measure),
     readList: (what) => session.reader.ask("readList", { ...what, mark: session.marks.ofCells() }),
     readCells: (text) => session.reader.ask("readCells", { text }),
     help: (task, what) => session.reader.ask(task, what),
@@ -153,6 +165,7 @@ function listen() {
     else show(link.dataset.show);
   });
   watchAnswer();
+  watchParts();
   let width = innerWidth;
   addEventListener("resize", () => {
     if (innerWidth !== width && session.result) view.show();
@@ -162,6 +175,16 @@ function listen() {
   addEventListener("afterprint", () => paper.after());
   addEventListener("popstate", () => show(viewOfAddress()));
   addEventListener("beforeunload", (event) => isUnsaved && event.preventDefault());
+}
+
+/** The example of the start: asked for when the start is seen. */
+function beginDemo() {
+  const example = demo({
+    helpers: session, spelling: () => session.marks.spelling(),
+    onOpen: (typed) => openCase(costs, structuredClone(typed), { before: replaced(costs, "Open this example") }),
+  });
+  refill(at("demo"), example.element);
+  if (!viewOfAddress()) example.start();
 }
 
 function begin() {
@@ -186,6 +209,7 @@ function begin() {
   listen();
   session.places = 2;
   session.warmUp();
+  beginDemo();
   if (viewOfAddress()) show(viewOfAddress());
 }
 

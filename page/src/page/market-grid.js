@@ -19,7 +19,8 @@ class MarketGrid {
     Object.assign(this, { kind, typed, onChange, remember });
     this.holder = el("div", { class: "scroll" });
     this.tools = el("p", { class: "tools" });
-    this.element = el("div", {}, this.holder, this.tools);
+    this.none = el("p", { class: "tools" });
+    this.element = el("div", {}, this.holder, this.tools, this.none);
     moveByKeys(this.holder, (cell, step) => {
       const [what, a, b] = cell.split(".");
       return what === "values" ? `values.${Number(a) + step}.${b}` : `${what}.${Number(a) + step}`;
@@ -63,6 +64,18 @@ class MarketGrid {
     }), { class: "quiet" });
     refill(this.tools, buyers.length < most && tool("Add a buyer", 1, 0),
       sellers.length < most && tool("Add a seller", 0, 1), sellers.length > 1 && tool("Remove the last seller", 0, -1));
+    this.showNone();
+  }
+
+  /** Pairs without a number, where others have one, may be such as can't trade. */
+  showNone() {
+    const all = this.typed.values.flat(), isOpen = all.some((text) => !text.trim()) && all.some((text) => text.trim());
+    const title = "The empty pairs can’t trade: 0", fill = () => this.change(() => {
+      this.remember(title);
+      this.typed.values = this.typed.values.map((row) => row.map((text) => (text.trim() ? text : "0")));
+    });
+    if (this.none.childElementCount === Number(isOpen)) return;
+    refill(this.none, isOpen && button(title, fill, { class: "quiet" }));
   }
 
   nameInput(side, k, placeholder) {
@@ -81,6 +94,7 @@ class MarketGrid {
       label: `${withEscapes(buyer) || `Buyer ${i + 1}`} with ${withEscapes(seller) || `seller ${j + 1}`}`,
       onInput: (text) => {
         this.typed.values[i][j] = text;
+        this.showNone();
         this.onChange();
       },
     });
@@ -113,9 +127,11 @@ class MarketGrid {
   /** A block of numbers; with names in front or above where it is pasted over a name. */
   fill(cell, rows) {
     const [what, a, b] = cell.split("."), { typed, kind: { most } } = this;
-    const isHeaded = what === "buyers" && a === "0" && isHeading(rows);
+    const isName = ([text]) => !text || Boolean(readNumber(text).fault);
+    const isCorner = ["buyers.0", "sellers.0", "values.0.0"].includes(cell);
+    const isHeaded = isCorner && isHeading(rows) && (what === "buyers" || rows.every(isName));
     const top = what === "sellers" || isHeaded ? -1 : Number(a);
-    const left = what === "buyers" ? -1 : Number(what === "values" ? b : a);
+    const left = what === "buyers" || isHeaded ? -1 : Number(what === "values" ? b : a);
     const within = (now, needed) => Math.min(most, Math.max(now, needed));
     const width = rows.reduce((wide, row) => Math.max(wide, row.length), 0);
     this.forgetExample(rows, top, left);

@@ -41,7 +41,9 @@ function keptOf({ names, sums = [], shares }, key, rows, format) {
   const place = new Map(names.map((name, k) => [name, k])), valueOf = (step) => new Rational(step).over(unit);
   const values = rows.map(({ label }) => (place.has(label) ? valueOf(steps[place.get(label)]) : null));
   const exact = rows.map(({ label }) => (place.has(label) ? Rational.of(shares[key][place.get(label)]) : null));
-  return { values, exact, sum: valueOf(withSum(steps).at(-1)) };
+  const isGone = ({ label }) => rows.every((row) => row.label !== label);
+  const gone = own.filter(isGone).map(({ label }) => ({ label, value: valueOf(steps[place.get(label)]) }));
+  return { values, exact, gone, sum: valueOf(withSum(steps).at(-1)) };
 }
 
 /** What a saved case has of it: the old texts of the cells that have changed since, beside what was kept. */
@@ -95,13 +97,14 @@ export function markChanged(element, changed) {
   }
 }
 
-/** How much more a row has than the kept one by the same rule, in small print. The rounding that makes all add up is
- * no change. */
-export function sinceKept(step, total, kept, r, format) {
+/** How much more a row has than the kept one by the same rule, in small print; with the kept one, where that isn't in a
+ * column of its own. The rounding that makes all add up is no change. */
+export function sinceKept(step, total, kept, r, format, isBeside = true) {
   const before = kept?.values[r];
   if (!before) return null;
   const isSame = format.text(step) === format.show(before) || total.equals(kept.exact[r]);
-  return isSame ? el("small", { class: "same" }, "as before") : changeBelow(step, before, format);
+  if (isSame) return el("small", { class: "same" }, "as before");
+  return [!isBeside && el("small", { class: "was" }, `was ${format.show(before)}`), changeBelow(step, before, format)];
 }
 
 /** Who bears the change, in sentences: by one rule, {key, title, totals}, for the numbers that are shown. */

@@ -64,6 +64,9 @@ async function askBeside(result, checker, onPart) {
   onPart(result, "reasons");
   result.checks.anew = await settled(checker("checkLine"));
   onPart(result, "checks");
+  if (!result.game.isTable() || result.game.ballots || result.game.n < 2) return;
+  result.margins = await checker("margins");
+  onPart(result, "margins");
 }
 
 /** A checker that fails is told as a fault, and doesn't keep the other from its word. */

@@ -34,6 +34,7 @@ export class Session {
     const { measure = "plain", texts = [], todays = null, pinned = null, doubt = "", file = null } = settings;
     const { places = kind.places ?? 2, mark, entry } = settings;
     Object.assign(this, { kind, typed, measure, texts, todays, pinned, doubt, places, isTyped });
+    this.wasPerHead = measure === "per-head"; // whether that was asked, by the case or by a person
     this.marks.open({ isFile, mark, entry });
     Object.assign(this, { reading: null, result: null, judged: {}, proposal: proposalOf([], [], this.marks.entry) });
     this.changed(0);
@@ -71,6 +72,7 @@ export class Session {
 
   setMeasure(measure) {
     this.measure = measure;
+    this.wasPerHead ||= measure === "per-head";
     this.changed(0);
   }
 

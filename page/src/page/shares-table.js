@@ -2,6 +2,7 @@
 import { Rational } from "../exact/rational.js";
 import { fractionText } from "../exact/decimals.js";
 import { votesText } from "../draw/ranges.js";
+import { plainNames } from "../tell/rule-names.js";
 import { listed, Namer, plural } from "../tell/words.js";
 import { againstOf } from "./comparison.js";
 import { el } from "./dom.js";
@@ -36,7 +37,8 @@ export function sharesTable(result, settings) {
   return el("div", {},
     pinned && pinnedNote(pinned, columns[0], rows, settings),
     el("div", { class: "scroll" }, el("table", { class: kinds.filter(Boolean).join(" ") },
-      headOf(view), el("tbody", {}, linesOf(rows).map((line) => (line.of ? sumRow(line, view) : shareRow(line, view)))),
+      headOf(view), el("tbody", {}, linesOf(rows).map((line) => (line.of ? sumRow(line, view) : shareRow(line, view))),
+        (kept.get(columns[0].key)?.gone ?? []).map((one, k) => goneRow(one, k, view))),
       footOf(view))),
     proposal.shares && sameAs(points, proposal.shares),
     el("div", { class: "tools" }, pinned && pinTools(pinned),
@@ -51,7 +53,7 @@ function isMoved(points, rows, format) {
 export function roundingPart({ points }, { rows, format }) {
   return isMoved(points, rows, format) && el("details", { class: "meanings moved screen" },
     el("summary", {}, "How the shares are rounded"),
-    el("p", {}, `${movedText(rows)} The exact shares are in small print.`));
+    el("p", {}, `${movedText(rows)} “Options” shows the exact shares, too.`));
 }
 
 /** Why there is no column of the prenucleolus. */
@@ -76,8 +78,11 @@ function named({ isNarrow, span }, kind, name, cells) {
 }
 
 function headOf({ game, context, columns, proposal, today, pinned, against, isNarrow }) {
-  const column = ({ key, title }, k) => el("th", { scope: "col", class: kindOf(key, k), "data-point": key },
-    title, el("small", {}, subtitleOf(key, game)));
+  const column = ({ key, title }, k) => {
+    const { plain, name } = plainNames(key, title, game, k === 0);
+    return el("th", { scope: "col", class: kindOf(key, k), "data-point": key, title: subtitleOf(key, game) },
+      plain, el("small", {}, name || subtitleOf(key, game)));
+  };
   return el("thead", {}, el("tr", {},
     !isNarrow && el("th", { scope: "col" }, game.costs ? "Who pays" : "Who gets"),
     context && el("th", { scope: "col", class: "number context" }, context.title),
@@ -102,13 +107,26 @@ function shareRow({ row, r }, view) {
     today.texts && el("td", { class: "number today" }, ownInput(row, r, today, "today", todayTitle(game))),
     pinned?.pin && el("td", { class: "number kept" }, kept(columns[0].key) ? format.show(kept(columns[0].key)) : "–"),
     columns.map(({ key, texts, steps, shares, totals }, k) => {
-      const since = sinceKept(steps[r], totals[r], view.kept.get(key), r, format);
+      const since = sinceKept(steps[r], totals[r], view.kept.get(key), r, format, k === 0);
       const changes = [changeOf(steps[r], r, today, format), since];
       return shareCell(texts[r], shares[row.players[0]], count, format, changes, kindOf(key, k));
     }),
     proposal.canBe && el("td", { class: "number proposed" },
       ownInput(row, r, proposal, "proposal", "Your proposal")),
     against && el("td", { class: "number against" }, against.texts[r]),
+  ]);
+}
+
+/** Who was there when the answer was kept, and isn't any more: so that the kept column adds up. */
+function goneRow({ label }, g, view) {
+  const { context, columns, format, proposal, today, against } = view;
+  const [first, ...others] = columns.map(({ key }) => view.kept.get(key)?.gone[g]?.value);
+  return named(view, "gone", [label, el("small", {}, "gone since")], [
+    context && el("td", { class: "number context" }), today.texts && el("td"),
+    el("td", { class: "number kept" }, format.show(first)), el("td", { class: "number main" }, "–"),
+    others.map((value, k) => el("td", { class: kindOf(columns[k + 1].key, k + 1) }, "–",
+      value && el("small", { class: "was" }, `was ${format.show(value)}`))),
+    proposal.canBe && el("td", { class: "number proposed" }), against && el("td"),
   ]);
 }
 
@@ -171,13 +189,14 @@ function footOf(view) {
     proposal.canBe && el("td", { class: "number proposed" }, proposalSum(game, proposal, format)),
     against && el("td", { class: "number against" }, against.texts.at(-1)),
   ]);
-  const asked = (title, told, own) => named(view, "verdict", title, [
+  const isJudged = columns.some(({ verdict }) => verdict !== null);
+  const isTold = columns.some(({ verdict }) => verdict && !verdict.isCore); // a no of all is said by the seal alone
+  const asked = (title, told, own) => named(view, `verdict${isTold ? " told" : ""}`, title, [
     context && el("td", { class: "context" }), today.texts && el("td"), pinned?.pin && el("td", { class: "kept" }),
     columns.map((point, k) => el("td", { class: kindOf(point.key, k) }, told(point))),
     proposal.canBe && el("td", { class: "number proposed", colspan: against ? "2" : false, role: "status" },
       proposal.shares ? told(own) : "–"),
   ]);
-  const isJudged = columns.some(({ verdict }) => verdict !== null);
   return el("tfoot", {}, sum,
     isJudged && asked("Could a group do better by itself?", (one) => verdictText(game, one.verdict, format), proposal));
 }

@@ -119,13 +119,22 @@ function answerOf(view) {
   return el("section", {},
     !game.ballots && !game.isMarket() && (airlinesOf(view, point) ?? lead(result, point, { rows, format })),
     unit?.trim() && el("p", { class: "hint" }, `All amounts are in ${unit.trim()}.`),
-    halves(rows.length, heads.filter((head) => head !== undefined), line, sum),
+    halves(rows.length, heads.filter((head) => head !== undefined), line, [goneLines(kept, heads, format), sum]),
     format.isMoved(totals, rows) && el("p", { class: "hint" }, `${movedText(rows)} The fractions are exact.`),
     coarse?.times && [{ title, totals }, ...beside].map((one) => {
       return el("p", { class: "hint" }, dividedText(coarse, one.title, rows, one.totals));
     }),
     kept && el("p", { class: "hint" }, pinnedText(pinned, { ...point, totals }, rows, view)),
     saidOfAll(view, point, beside));
+}
+
+/** Who was there before and isn't any more: so that what was before adds up. */
+function goneLines(kept, heads, format) {
+  const shown = heads.filter((head) => head !== undefined), place = shown.indexOf("Before");
+  return (kept?.gone ?? []).map(({ label, value }) => el("tr", { class: "gone" },
+    el("th", { scope: "row" }, `${label} (gone since)`), shown.slice(1).map((_, k) => {
+      return el("td", { class: "number" }, k + 1 === place && format.show(value));
+    })));
 }
 
 /** What was kept to compare, and how much more the share is now. */
@@ -262,7 +271,11 @@ function powerOf(game, points, { show }) {
  * has no such numbers. */
 function savingsText(game, { shares }, rows, format) {
   if (!game.own || game.isMarket() || game.kind === "bankruptcy") return "";
-  const totals = totalsOf(rows, shares), alone = totalsOf(rows, game.own),
+  const isRunway = game.kind === "airport"; // the landings of a row need one runway, not one each
+  const isShared = ({ sum }, r) => sum !== undefined && rows.some((one, k) => k !== r && one.sum === sum);
+  if (isRunway && rows.some(isShared)) return ""; // nor do those of an airline
+  const totals = totalsOf(rows, shares);
+  const alone = isRunway ? rows.map(({ players: [i] }) => game.own[i]) : totalsOf(rows, game.own),
     unit = new Rational(10n ** BigInt(format.places));
   const steps = format.steps(totals, rows), shown = alone.map((value, r) => {
     const more = value.minus(new Rational(steps[r]).over(unit));

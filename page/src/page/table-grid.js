@@ -27,16 +27,27 @@ class TableGrid {
       return el("div", { class: name });
     });
     this.message = el("div", { class: "note", role: "status" });
+    this.legend = el("p", { class: "hint legend screen" });
     Object.assign(this, { players, pages, tools, list, fills, start: 0, wanted: "" });
-    this.element = el("div", {}, players, this.message, pages, list, fills);
+    this.element = el("div", {}, players, this.message, pages, list, this.legend, fills);
     this.element.more = tools;
+    this.element.setTips = (tips) => this.setTips(tips);
     this.order = masksBySize(typed.names.length);
     this.element.addEventListener("show-cell", ({ detail }) => this.showCell(detail));
     removeByKey(players);
     moveByKeys(list, (cell, step) => `numbers.${this.order[this.placeOf(cell) + step]}`);
     pasteCells(list, (cell, rows, text) => this.paste(cell, rows, text), readCells);
+    pasteCells(players, (cell, rows, text) => (rows.some((row) => row.length > 1) ? this.takeList(text)
+      : this.pasteNames(Number(cell.split(".")[1]), rows)), readCells);
     this.show();
     this.tellFilled();
+  }
+
+  /** A column of names that is pasted into a name: as many as there are players. */
+  pasteNames(first, rows) {
+    const { names } = this.typed;
+    this.remember("Paste");
+    this.change({ names: names.map((name, i) => rows[i - first]?.[0] ?? name) });
   }
 
   placeOf(cell) {
@@ -117,6 +128,28 @@ class TableGrid {
       el("ol", { class: count > 4 ? "long" : "" }, masks.map((mask) => this.groupRow(mask))),
     ]));
     this.list.classList.toggle("few", names.length <= 3);
+    this.showTips();
+  }
+
+  /** `tips(mask)` says of a number whether the answer rests on it: {isDeciding, text}; null while nobody knows. */
+  setTips(tips) {
+    this.tips = tips;
+    this.showTips();
+  }
+
+  showTips() {
+    for (const input of this.list.querySelectorAll("input")) {
+      const tip = this.tips?.(Number(input.dataset.cell.split(".")[1])), row = input.parentElement;
+      row.classList.toggle("decides", Boolean(tip?.isDeciding));
+      row.title = tip?.text ?? "";
+      if (tip) input.setAttribute("aria-description", tip.text);
+      else input.removeAttribute("aria-description");
+    }
+    const isKnown = Boolean(this.tips && this.order.length > 1);
+    refill(this.legend, isKnown && [el("span", { class: "dot", "aria-hidden": "true" }), " The shares rest on these ",
+      "numbers, and the others may be off: ", button("which numbers matter?", () => 0, {
+        class: "link", "data-part": "what-if",
+      })]);
   }
 
   groupRow(mask) {

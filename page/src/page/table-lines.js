@@ -40,9 +40,16 @@ export function roundingLines(points, { places, isExact }, { times, rounded } = 
 
 const landingsIn = ({ count, players }) => count ?? players.length;
 
-/** A cell as programs read it: without blanks in numbers, and without characters that aren't seen. */
+const NUMBER = /^[-−+]?[\d\u202f]+([.,]\d+)?(\/\d+)?$/;
+/** What some spreadsheet takes for a formula, also behind blanks. */
+const FORMULA = /^[\s\u00a0]*[=+@\-−＝＋＠－]/;
+
+/** A cell as programs read it: numbers without blanks; of a name only what isn't seen is left out, and in front of what
+ * a spreadsheet would take for a formula stands a mark. */
 function plain(text) {
-  return text.replace(/[\u2068\u2069\t]/g, "").replace(/\u202f/g, "").replace(/^−/, "-");
+  const seen = text.replace(/[\u2068\u2069\t\r\n]/g, "");
+  if (NUMBER.test(seen)) return seen.replace(/\u202f/g, "").replace(/^−/, "-");
+  return FORMULA.test(seen) ? `'${seen}` : seen;
 }
 
 /** For pasting: tabs between the cells. */
@@ -50,12 +57,13 @@ export function tabbed(lines) {
   return `${lines.map((line) => line.map(plain).join("\t")).join("\n")}\n`;
 }
 
-/** As a file: with a comma in front of decimals semicolons stand between the cells. A name that a spreadsheet would
- * take for a formula gets a mark in front. Tables, each of lines, stand one below the other. */
+/** As a file: with a comma in front of decimals semicolons stand between the cells. A text with any of the signs that
+ * part cells somewhere is quoted, so that no spreadsheet reads a part of a name. Tables, each of lines, stand one below
+ * the other. */
 export function csvText(tables, mark) {
-  const by = mark === "," ? ";" : ",", isOdd = (text) => text.includes(by) || /["\r\n]/.test(text);
+  const by = mark === "," ? ";" : ",", isOdd = (text) => text.includes(by) || /[",;]/.test(text) && !NUMBER.test(text);
   const cell = (text) => {
-    const safe = plain(text).replace(/^(?=[=+@]|-(?!\d+([.,]\d+)?(\/\d+)?$))/, "'");
+    const safe = plain(text);
     return isOdd(safe) ? `"${safe.replace(/"/g, '""')}"` : safe;
   };
   const texts = tables.filter(({ length }) => length).map((lines) => lines.map((line) => line.map(cell).join(by)));

@@ -15,6 +15,12 @@ function whichOf(game, format) {
   return game && game.costs ? `, a cost of ${format.show(game.whole())}` : "";
 }
 
+/** In what the two games differ: the sentence, or the first item where it only leads to these. */
+function whereOf({ sentence, items = [] }) {
+  const said = sentence.replace(/^No[.:,]?\s*/, ""), [first] = items;
+  return /[:]$/.test(said.trim()) || !said.trim() ? first ?? "" : said;
+}
+
 /** What the words come to, in a sentence; null while they are asked. */
 export function conclusion([same, ...checks], { answer, doubles = [], fault }, game, format) {
   if (fault) return lead("This line can’t be read, so nothing of it is checked.");
@@ -28,7 +34,10 @@ export function conclusion([same, ...checks], { answer, doubles = [], fault }, g
   }
   if (same.isYes) return lead(`Yes: these shares are the ${name} of ${agreed}${which}.`);
   const own = `The shares are the ${name} of the game in the line${which}.`;
-  if (same.isYes === false) return lead(`${own} But that isn’t ${agreed}.`);
+  if (same.isYes === false) {
+    return [lead(`No: it answers another game. ${whereOf(same)}`),
+      el("p", { class: "hint" }, `${own} But that isn’t ${agreed}.`)];
+  }
   return lead(same.isGiven ? `${own} But nobody can say whether it is ${same.isOfCase ? agreed : "the agreed one"}.`
     : `${own} See that it is the game you mean.`);
 }

@@ -21,9 +21,24 @@ export function showView(view) {
 export function showPart(id) {
   const part = at(id), calm = matchMedia("(prefers-reduced-motion: reduce)").matches;
   if (part.hidden) return;
-  if (part.tagName === "DETAILS") part.open = true;
+  if (part.tagName === "DETAILS") openPart(part);
   part.scrollIntoView({ behavior: calm ? "auto" : "smooth", block: "start" });
   (part.querySelector(":scope > summary") ?? part).focus({ preventScroll: true });
+}
+
+/** Beside each other the parts are tabs, of which one is open; on a page of one column they are folds. */
+function openPart(part) {
+  if (matchMedia("(min-width: 68.75rem)").matches) {
+    for (const other of part.parentElement.children) if (other !== part) other.open = false;
+  }
+  part.open = true;
+}
+
+/** Says at the ways to the parts which of them is open. */
+export function watchParts() {
+  at("parts").addEventListener("toggle", ({ target: { id, open } }) => {
+    at("next").querySelector(`[data-part="${id}"]`)?.setAttribute("aria-expanded", String(open));
+  }, true);
 }
 
 /** On a page of one column: keeps the answer's sentence in sight while the answer itself is out of it. */

@@ -8,7 +8,7 @@ const MOST_FAULTS = 3;
  * are ways to fill what is empty, if the case has any. */
 export function waitingParts(reading, { goTo, labelOf, choices }) {
   if (!reading) return el("p", {}, "Fill in the cells, and the answer appears here.");
-  const { faults, count, empty, isAsking } = reading;
+  const { faults, count, empty, isAsking, isPaused, notes } = reading;
   if (count) {
     const items = faults.slice(0, MOST_FAULTS).map(({ cell, sentence }) => {
       const name = labelOf(cell).replace(/^The (cost|gain) of /, "");
@@ -19,6 +19,7 @@ export function waitingParts(reading, { goTo, labelOf, choices }) {
       el("ul", {}, items, rest > 0 && el("li", {}, `and ${rest} more`))];
   }
   if (isAsking) return el("p", {}, "The answer waits for the question beside the cells.");
+  if (isPaused && !empty.count) return el("p", {}, notes.at(-1)); // all is there, and no answer needed
   if (!empty.count) return el("p", {}, "Fill in the cells, and the answer appears here.");
   return [el("p", {}, `${plural(empty.count, "cell is", "cells are")} still empty. Then the answer appears here.`),
     choices?.()];

@@ -1,6 +1,6 @@
 // The reasons: the principle, the rule of the class, and the levels of the certificate, those of a long one folded.
 // With them are the pictures and tables that the answer has no room for, and what the words mean.
-import { morePictures } from "./answer.js";
+import { morePictures, tradesPart } from "./answer.js";
 import { el } from "./dom.js";
 import { excessesPart } from "./excesses.js";
 import { meanings, monotonic, words } from "./meanings.js";
@@ -20,6 +20,7 @@ export function whyBody(result, { pair, ...settings }) {
   const pictures = morePictures(result, { ...settings, wide });
   const beside = [...pictures, ...(isTold ? [holdsPart(result, settings), pair] : [])].filter(Boolean);
   return [
+    tradesPart(result, { ...settings, wide }),
     el("div", { class: beside.length ? "halves-of-part" : "" }, el("div", {}, why),
       beside.length > 0 && el("div", {}, beside)),
     isTold && excessesPart(result, settings), same && el("p", { class: "hint" }, same),

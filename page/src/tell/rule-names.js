@@ -17,3 +17,18 @@ export function ruleFile(answer, isPerHead) {
 export function sourceOf(isPerHead) {
   return isPerHead ? "Grotte 1970" : "Schmeidler 1969";
 }
+
+const PLAIN = {
+  nucleolus: "Fairest to those who gain least", shapley: "By what each adds", bird: "Each its own link",
+};
+const OF_CLASS = { bankruptcy: "the Talmud’s rule", airport: "Littlechild’s rule" };
+
+/** A rule as somebody says it who doesn't know the field, with its name there: {plain, name}; the prenucleolus is said
+ * by what it differs in, where the nucleolus is beside it. */
+export function plainNames(key, title, { perHead, kind }, isAlone = true) {
+  const name = ruleName(key, perHead), other = key === "nucleolus" && !perHead ? OF_CLASS[kind] : "";
+  if (key === "prenucleolus") {
+    return { plain: isAlone ? PLAIN.nucleolus : "The same, but some may do worse than alone", name };
+  }
+  return PLAIN[key] ? { plain: PLAIN[key], name: other ? `${name}, ${other}` : name } : { plain: title, name: "" };
+}

@@ -26,20 +26,30 @@ export function readCase({ id, typed, mark, measure, isMarked = typed.isMarked }
   reading.askOfMixed(isMarked);
   const power = isBeyond && reading.isRight() ? powerBeyond(ballots, rows) : null;
   if (isBeyond && !power) reading.pause(TOO_MANY);
-  const { faults, count, empty, notes, asked, either, mixed, isTooFine = false, odds = [] } = reading;
+  const perHead = measure === "per-head" && tooManyPerHead(tree ? rows : landings ?? rows, tree);
+  if (perHead) reading.isOpen = true;
+  const { faults, count, empty, notes, asked, either, mixed, swap, isTooFine = false, odds = [] } = reading;
   const read = {
-    rows, faults, count, empty, notes, asked, either, mixed, isTooFine,
-    isAsking: Boolean(asked || either || mixed || reading.isOpen), odds,
+    rows, faults, count, empty, notes, asked, either, mixed, swap, perHead, isTooFine,
+    isAsking: Boolean(asked || either || mixed || swap || reading.isOpen), odds, isPaused: Boolean(reading.isPaused),
     isRight: reading.isRight(), ...marksOf(reading),
   };
   if (!read.isRight) return read;
   if (landings) read.beyond = beyondProgram(landings, rows);
   if (power) read.beyond = power;
   if (!tree) return read; // the program takes no such game
-  const players = rows.reduce((sum, row) => sum + row.players.length, 0), isMeasured = measure === "per-head";
-  const { class: name, ...others } = tree, canBe = players <= MOST_PER_HEAD && name !== "market";
-  const game = new Game(isMeasured && canBe ? { class: name, excess: "per-head", ...others } : tree);
+  const { class: name, ...others } = tree, isMeasured = measure === "per-head" && playersOf(rows) > 1;
+  const game = new Game(isMeasured ? { class: name, excess: "per-head", ...others } : tree);
   return { ...read, text: writeJson({ game: game.tree }), facts: factsOf(game, ballots), game };
+}
+
+const playersOf = (rows) => rows.reduce((sum, { players, count = 1 }) => sum + (players?.length ?? count), 0);
+
+/** How many players there are, where these are more than the program finds shares per head for; else false. Without
+ * being told nobody gets the shares of another rule. */
+function tooManyPerHead(rows, tree) {
+  const players = playersOf(rows);
+  return players > 1 && (players > MOST_PER_HEAD || !tree || tree.class === "market") && players;
 }
 
 /** All cells are read by one mark: where some show which, that one settles those that can be read both ways, unless the
@@ -83,11 +93,29 @@ export function openDocument({ text, mark }) {
   const game = new Game(tree.game), kind = caseOfClass(game.kind), typed = kind.fromGame(game);
   const isProposal = Array.isArray(tree.shares) && !("answer" in tree) && tree.shares.length === game.n;
   typed.notSums = true; // a document's players are players, whatever their names
-  const { rows } = kind.read(typed, ".");
+  const { rows, tree: made } = kind.read(typed, ".");
   return {
+    renamed: renamed(game, made?.names),
     id: kind.id, typed: kind.pack?.(typed) ?? typed, measure: game.perHead ? "per-head" : "plain",
     texts: isProposal ? textsOf(rows, tree.shares, mark) : [], other: otherShares(tree, game),
   };
+}
+
+/** In a sentence, that what the page makes of a document has other names; null where it has the same. */
+function renamed({ named, names }, made) {
+  if (!made) return null;
+  const k = named ? made.findIndex((name, i) => name !== names[i]) : -1;
+  const quoted = (name) => `“${[...name].map(codeOf).join("")}”`;
+  if (named && k < 0) return null;
+  return `${named ? `A name stands here as ${quoted(made[k])}, and in the document as ${quoted(names[k])}.`
+    : "The document has no names, and the page gives some."} What is saved here has the names of this page, so `
+    + "compared with the document it counts as another game.";
+}
+
+/** A letter as it is seen; one that isn't seen, or is a mark upon the letter before, by its number. */
+function codeOf(letter) {
+  const isSeen = /^[^\p{M}\p{C}\p{Z}]$/u.test(letter) || letter === " ";
+  return isSeen ? letter : `\\u${letter.codePointAt(0).toString(16).padStart(4, "0")}`;
 }
 
 /** The shares of a line, in a sentence, where the program finds others for its game; null where it finds the same. */

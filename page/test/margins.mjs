@@ -1,0 +1,96 @@
+// Which numbers of a table decide, against the program's check and the page's own checker, on random tables by a fixed
+// seed: at their bounds, or within them, all numbers at once leave the line proved; one beyond its bound never does.
+// And how long it takes for 12 and 16 players.
+import { readFileSync } from "node:fs";
+import { checkAnew } from "../src/check/check-anew.js";
+import { parseJson, writeJson } from "../src/exact/json.js";
+import { Rational } from "../src/exact/rational.js";
+import { Game } from "../src/game/game.js";
+import { membersOf } from "../src/game/groups.js";
+import { margins } from "../src/work/margins.js";
+import { lineOf } from "./program.mjs";
+
+const ROUNDS = 300, MOST_SECONDS = { 12: 1, 16: 3 }, SLACK = Number(process.env.SLACK ?? 3);
+let state = 11, tried = 0, faults = 0, beyond = 0;
+
+function draw(most) {
+  state = (state * 1103515245 + 12345) % 2 ** 31;
+  return Math.floor(state / 2048) % most;
+}
+
+function expect(what, found, wanted) {
+  tried += 1;
+  if (found === wanted) return;
+  faults += 1;
+  console.log(`${what}: found ${found}, wanted ${wanted}`);
+}
+
+/** A line with other numbers of its game, and all else as it was. */
+function withNumbers(tree, values) {
+  const { game: { players, class: kind, excess } } = tree, worths = values.slice(1).map((value) => value.toDocument());
+  const game = { class: kind, version: 2n, players, worths, ...(excess ? { excess } : {}) };
+  return writeJson({ ...tree, game });
+}
+
+/** What both checkers say. */
+function words(text) {
+  const own = checkAnew(new TextEncoder().encode(text)), { answer } = parseJson(lineOf("check", text));
+  return `${answer} ${own.refused ?? JSON.parse(own.line).answer}`;
+}
+
+const over = (unit) => (text) => (text === "" ? null : new Rational(BigInt(text), BigInt(unit)));
+
+/** One line: all at the bounds, all anywhere within them, and one beyond its own. */
+function tryLine(name, line) {
+  const tree = parseJson(line), game = new Game(tree.game), found = margins(tree, game);
+  const bounds = found.bounds.split("\n").map(over(found.unit)), way = Rational.of(game.costs ? 1 : -1);
+  const free = bounds.flatMap((bound, mask) => (bound ? [mask] : []));
+  expect(`${name}: each group but all`, free.length + found.decide.length, found.of);
+  const changed = (change) => game.amounts.map((own, mask) => (bounds[mask] ? change(bounds[mask], mask) : own));
+  expect(`${name}: at the bounds`, words(withNumbers(tree, changed((bound) => bound))), "yes yes");
+  const within = (bound) => bound.plus(way.times(new Rational(BigInt(draw(500)), 7n)));
+  expect(`${name}: within them`, words(withNumbers(tree, changed(within))), "yes yes");
+  for (const mask of free.length ? [free[draw(free.length)], ...found.closest.map(({ mask }) => mask)] : []) {
+    const past = bounds[mask].minus(way.times(new Rational(1n, 7n)));
+    const alone = changed((_, other) => (mask === other ? past : game.amounts[other]));
+    expect(`${name}: ${membersOf(mask)} beyond`, words(withNumbers(tree, alone)), "no no");
+    beyond += 1;
+  }
+}
+
+for (let round = 0; round < ROUNDS; round++) {
+  const n = 2 + draw(5), costs = draw(2), isPerHead = draw(3) === 0, word = draw(2) ? "prenucleolus" : "nucleolus";
+  const top = [3, 60, 1000][draw(3)];
+  const worths = Array.from({ length: 2 ** n - 1 }, (_, k) => BigInt(draw(top * membersOf(k + 1).length + 1)));
+  const game = { class: costs ? "cost-table" : "table", players: BigInt(n), worths };
+  const document = writeJson({ game: isPerHead ? { ...game, excess: "per-head" } : game });
+  const line = lineOf(word, document);
+  if (parseJson(line).certificate) tryLine(document.slice(0, 200), line);
+}
+
+/** The examples of the repository: Lund's water, and the Tennessee Valley. */
+function tryExample(name, decide, closest, bound) {
+  const document = readFileSync(new URL(`../../examples/${name}.json`, import.meta.url), "utf8");
+  const line = lineOf("nucleolus", document), tree = parseJson(line), game = new Game(tree.game);
+  const found = margins(tree, game), told = (mask) => membersOf(mask).map((i) => game.names[i]).join("+");
+  tryLine(name, line);
+  expect(`${name}: those that decide`, found.decide.map(told).sort().join(", "), decide);
+  expect(`${name}: the closest`, told(found.closest[0].mask), closest);
+  const least = found.bounds.split("\n").map(over(found.unit))[found.closest[0].mask];
+  expect(`${name}: its bound`, String(least), bound);
+}
+
+tryExample("lund-water", "A, A+H+K+M+T, A+H+L, A+K+L+M+T, H+K+L, M, M+T, T", "A+H", "10384/3");
+const TVA = "flood control, navigation, power";
+tryExample("tennessee-valley", TVA, "navigation+power", "366330");
+
+for (const [n, most] of Object.entries(MOST_SECONDS)) {
+  const worths = Array.from({ length: 2 ** n - 1 }, (_, k) => BigInt(membersOf(k + 1).length ** 2 * 10 + draw(40)));
+  const line = lineOf("nucleolus", writeJson({ game: { class: "table", players: BigInt(n), worths } }));
+  const tree = parseJson(line), game = new Game(tree.game), start = performance.now();
+  const { decide } = margins(tree, game), seconds = (performance.now() - start) / 1000;
+  console.log(`${n} players: ${decide.length} numbers decide, found in ${seconds.toFixed(2)} s`);
+  expect(`${n} players within ${most} s`, seconds < most * SLACK, true);
+}
+console.log(`${tried} expectations of which numbers decide, ${beyond} of them beyond a bound; ${faults} faults`);
+process.exit(faults || !tried ? 1 : 0);
