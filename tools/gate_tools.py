@@ -48,6 +48,7 @@ TOOLS = (
     Tool("try-languages", uses=("Rscript", "node", "julia", "cc"), takes_program=False, needs_kit=True),
     Tool("try-schema"),
     Tool("read-examples"),
+    Tool("try-literature"),
     Tool("refuse-memory", uses=("cc",), has_folder=False, needs_kit=True),
     Tool("hostile-ports", uses=("cc",), needs_ports=True),
     Tool("try-page-face", needs=("node",), uses=("chromium", "firefox-esr"), is_alone=True),

@@ -13,8 +13,10 @@ from typing import Any, Callable, Iterable, Mapping, Optional, Sequence, Union
 from .amounts import Amount, factor_for, fraction_of, fractions_of, written
 from .errors import BadInput
 from .game import MOST_IN_A_TABLE, Game, encoded
+from .linear import sums
 from .masks import by_mask, mask_of, members
 from .vectors import in_mask_order
+from .votes import whole_votes
 
 Amounts = Union[Mapping[str, Amount], Sequence[Amount]]
 Group = Union[str, int, Iterable[Union[str, int]]]
@@ -22,6 +24,7 @@ Table = Union[Mapping[Any, Amount], Sequence[Amount]]
 Rows = Sequence[Sequence[Amount]]
 MOST_NAME = 64  # bytes
 MOST_LANDINGS = 64
+MOST_VOTES = 1000
 
 
 def table(
@@ -159,13 +162,22 @@ def market(matrix: Rows, names: Optional[Sequence[str]] = None, *, digits: Optio
     return made("market", {"matrix": rows_of(matrix, digits)}, names, digits=digits)
 
 
-def voting(quota: int, weights: Union[Mapping[str, int], Sequence[int]], names: Optional[Sequence[str]] = None) -> Game:
-    """A vote by weights and the quota that wins."""
+def voting(quota: Amount, weights: Amounts, names: Optional[Sequence[str]] = None) -> Game:
+    """A vote by weights and the quota that wins. Decimals, and votes that add to more than 1,000, become the least
+    whole votes by which the same groups win. Where these add to more than 1,000 too, it is the table of who wins, of at
+    most 16 voters; `votes.shapley` takes more."""
     names, amounts = named(weights, names, None)
     whole = fraction_of(quota)
-    if any(value.denominator > 1 for value in [whole, *amounts]):
-        raise BadInput("the quota and the votes have to be integers")
-    return made("voting", {"quota": whole, "weights": amounts}, names)
+    if all(value.denominator == 1 for value in [whole, *amounts]) and sum(amounts) <= MOST_VOTES:
+        return made("voting", {"quota": whole, "weights": amounts}, names)
+    need, votes = whole_votes(whole, amounts)
+    if sum(votes) <= MOST_VOTES:
+        return made("voting", {"quota": Fraction(need), "weights": list(map(Fraction, votes))}, names)
+    if len(votes) > MOST_IN_A_TABLE:
+        told = f"the votes add to {sum(votes)}, above {MOST_VOTES}, and {len(votes)} voters are too many for a table"
+        raise BadInput(f"{told}: coop.votes.shapley works out their power")
+    worths = [Fraction(total >= need) for total in sums(votes)[1:]]
+    return made("table", {"players": len(votes), "worths": worths}, names)
 
 
 # ---- What they share

@@ -39,7 +39,7 @@ class Scripts(unittest.TestCase):
             self.assertIn(sentence, errors)
 
     def test_help_and_words(self) -> None:
-        self.assertEqual(len(SCRIPTS), 16)
+        self.assertEqual(len(SCRIPTS), 18)
         for name in SCRIPTS:
             status, text, errors = script(name, "--help")
             self.assertEqual((status, errors), (0, ""), name)

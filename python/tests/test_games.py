@@ -98,7 +98,7 @@ class Constructors(unittest.TestCase):
             ("itself", lambda: coop.tree([[0, 1], [1, 1]])),
             ("as many columns", lambda: coop.tree([[0, 1]])),
             ("rows of the same length", lambda: coop.assignment([[1, 2], [3]])),
-            ("integers", lambda: coop.voting("2.5", [1, 2])),  # type: ignore[arg-type]
+            ("1.5 is a float", lambda: coop.voting(1.5, [1, 2])),
             ("64 landings", lambda: coop.landings([("Aer", 1, 65)])),
             ("number of landings", lambda: coop.landings([("Aer", 1, 0)])),
             ("2.40", lambda: coop.airport([2**40])),

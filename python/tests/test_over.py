@@ -42,7 +42,8 @@ LINES: list[tuple[Any, Any]] = [
 
 class Over(unittest.TestCase):
     def test_each_group_is_worth_so_much_less(self) -> None:
-        for name in sorted(set(os.listdir(EXAMPLES)) - VOTES):
+        names = {name for name in os.listdir(EXAMPLES) if name.endswith(".json")}
+        for name in sorted(names - VOTES):
             with open(os.path.join(EXAMPLES, name), encoding="utf-8") as file:
                 tree = json.load(file)
             game, less = Game(tree["game"]), Game(divided(tree, 7)["game"])

@@ -1,0 +1,163 @@
+"""Rules side by side: the program's, and those that contracts and agencies use; each division judged by the program.
+
+    for row in coop.versus.rules(game):
+        print(row.rule, row.shares, row.leaving, row.by)
+
+The shares by the nucleolus and Shapley are the program's. The formulas of practice are worked out here, in fractions,
+and nobody has proved them. What is said of each division, that no group could do better or which one could, is the
+program's word (`propose`).
+"""
+from __future__ import annotations
+
+from dataclasses import dataclass
+from fractions import Fraction
+from typing import Callable, Iterator, Mapping, Optional
+
+from . import calls
+from .amounts import Amount, fraction_of
+from .answers import Blocked, Names, Nucleolus, Shapley, Shares
+from .errors import BadInput, Usage
+from .game import Game
+
+__all__ = ["FORMULAS", "Row", "alone_and_added", "rules"]
+
+
+@dataclass(frozen=True)
+class Row:
+    """A rule and its division. `leaving` is the group that could do better by itself by the most, and `by` how much: of
+    a division in the core there is none. `is_proved` says whether the shares are the program's."""
+
+    rule: str
+    shares: Shares
+    is_proved: bool
+    leaving: Optional[Names]
+    by: Optional[Fraction]
+
+    @property
+    def is_in_core(self) -> bool:
+        """Whether no group could do better by itself."""
+        return self.leaving is None
+
+
+def rules(
+    game: Game, benefits: Optional[Mapping[str, Amount]] = None, program: calls.Chosen = None
+) -> Iterator[Row]:
+    """A row for each rule by which the game has a division. Of `benefits`, if these are known, separable costs and
+    remaining benefits takes account."""
+    for rule, find in PROVED.items():
+        try:
+            answer = find(game, program)
+        except Usage:  # more players than the command takes
+            continue
+        if isinstance(answer, (Nucleolus, Shapley)):
+            yield judged(game, rule, answer.shares, True, program)
+    for rule, formula in FORMULAS.items():
+        shares = formula(game) if rule != REMAINING else remaining(game, benefits)
+        if shares is not None:
+            yield judged(game, rule, shares, False, program)
+
+
+def judged(game: Game, rule: str, shares: Shares, is_proved: bool, program: calls.Chosen) -> Row:
+    """A division, and what `propose` says of it."""
+    said = calls.propose(game, shares, program)
+    if isinstance(said, Blocked):
+        return Row(rule, shares, is_proved, said.coalition, said.excess)
+    return Row(rule, shares, is_proved, None, None)
+
+
+# ---- The program's
+
+
+def nucleolus(game: Game, program: calls.Chosen) -> object:
+    """The nucleolus by plain excess."""
+    return calls.nucleolus(measured(game, False), program)
+
+
+def per_head(game: Game, program: calls.Chosen) -> object:
+    """The nucleolus by excess per head."""
+    return calls.nucleolus(measured(game, True), program)
+
+
+def measured(game: Game, is_per_head: bool) -> Game:
+    """The same game by another measure."""
+    tree = {key: part for key, part in game.tree.items() if key != "excess"}
+    return Game({**tree, "excess": "per-head"} if is_per_head else tree, game.factor)
+
+
+PROVED: dict[str, Callable[[Game, calls.Chosen], object]] = {
+    "nucleolus": nucleolus,
+    "nucleolus per head": per_head,
+    "Shapley shares": calls.shapley,
+}
+"""The rules of the program, by their names."""
+
+
+# ---- Those of practice
+
+
+def alone_and_added(game: Game) -> tuple[Fraction, list[Fraction], list[Fraction]]:
+    """What all are worth or cost together, each alone, and what each adds to all the others: its separable cost."""
+    sign = -1 if game.costs else 1
+    whole = game.whole() / game.factor
+    alone = [game.alone(i) / game.factor for i in range(game.n)]
+    added = [whole - sign * game.worth(game.everyone & ~(1 << i)) / game.factor for i in range(game.n)]
+    return whole, alone, added
+
+
+def spread(game: Game, base: list[Fraction], weights: list[Fraction], whole: Fraction) -> Optional[Shares]:
+    """A base for each, and what is left of the whole by weights; nothing where these add to 0, and something is
+    left."""
+    total, rest = sum(weights), whole - sum(base)
+    if not total:
+        return dict(zip(game.names, base)) if not rest else None
+    return {name: b + w * rest / total for name, b, w in zip(game.names, base, weights)}
+
+
+def in_proportion(game: Game) -> Optional[Shares]:
+    """In proportion to what each costs, or is worth, alone; of an estate to the claims, and of a vote to the votes."""
+    whole, alone, _ = alone_and_added(game)
+    weights = game.amounts if game.kind in ("bankruptcy", "voting") else alone
+    return spread(game, [Fraction(0)] * game.n, weights, whole)
+
+
+def remaining(game: Game, benefits: Optional[Mapping[str, Amount]] = None) -> Optional[Shares]:
+    """Separable costs and remaining benefits, as US agencies have it since the Tennessee Valley: each bears what it
+    adds to the others, and the rest goes by what is left of its benefit. That is at most what it costs alone, and
+    counts as that where it isn't known (alternative cost avoided). One with nothing left bears none of the rest."""
+    whole, alone, added = alone_and_added(game)
+    if benefits is not None:
+        if not game.costs:
+            raise BadInput("benefits are for costs, and this game has worths")
+        if set(benefits) != set(game.names):
+            raise BadInput(f"give the benefit of each of {', '.join(game.names)}")
+        alone = [min(cost, fraction_of(benefits[name])) for cost, name in zip(alone, game.names)]
+    left = [a - b if game.costs else b - a for a, b in zip(alone, added)]
+    return spread(game, added, [max(Fraction(0), q) for q in left], whole)
+
+
+def equal_savings(game: Game) -> Optional[Shares]:
+    """Each what it costs alone, less an equal part of what all save."""
+    whole, alone, _ = alone_and_added(game)
+    return spread(game, alone, [Fraction(1)] * game.n, whole)
+
+
+def equal_charge(game: Game) -> Optional[Shares]:
+    """The equal charge method: each what it adds to the others, and an equal part of the rest."""
+    whole, _, added = alone_and_added(game)
+    return spread(game, added, [Fraction(1)] * game.n, whole)
+
+
+def equal_shares(game: Game) -> Optional[Shares]:
+    """Each the same."""
+    return spread(game, [Fraction(0)] * game.n, [Fraction(1)] * game.n, game.whole() / game.factor)
+
+
+REMAINING = "separable costs, remaining benefits"
+FORMULAS: dict[str, Callable[[Game], Optional[Shares]]] = {
+    "in proportion": in_proportion,
+    REMAINING: remaining,
+    "equal savings": equal_savings,
+    "equal charge": equal_charge,
+    "equal shares": equal_shares,
+}
+"""The formulas of practice, by the names of the rules. Of a game without a division by one it gives None."""

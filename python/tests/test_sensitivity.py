@@ -1,0 +1,256 @@
+"""Margins, paths and ranges: by hand, and over random games of each class against the program."""
+import random
+import unittest
+from fractions import Fraction
+from typing import Any, Optional
+
+import coop
+from coop import sensitivity
+from coop.amounts import Amount
+from coop.calls import check
+from coop.errors import BadInput
+from coop.games import made
+from coop.grounds import told
+from coop.moving import Moving, what_moves
+from coop.sensitivity import along, margins, ranges
+from coop.worths import worths_of
+
+from .asking import needs_program
+from .test_excesses import drawn_games
+
+RUNWAY = coop.airport({"light": 2, "medium": 4, "heavy": 6})
+ESTATE = coop.bankruptcy(200, {"Anna": 100, "Bert": 200, "Cleo": 300})
+NETWORK = coop.tree([[0, 10, 10], [10, 0, 1], [10, 1, 0]], ["harbour", "mill"])
+MARKET = coop.assignment([[8, 5], [7, 6]], ["Ann", "Ben", "house", "flat"])
+VALLEY = coop.cost_table(
+    {"n": 163520, "f": 140826, "p": 250096, "n+f": 301607, "n+p": 378821, "f+p": 367370, "n+f+p": 412584}
+)
+
+
+def nucleolus(game: coop.Game, rule: str = "nucleolus") -> coop.Nucleolus:
+    """The answer of a game that has one."""
+    answer = coop.nucleolus(game) if rule == "nucleolus" else coop.prenucleolus(game)
+    assert isinstance(answer, coop.Nucleolus)
+    return answer
+
+
+def words(shares: "dict[str, Fraction]") -> str:
+    """Numbers in one text."""
+    return " ".join(map(str, shares.values()))
+
+
+class Worths(unittest.TestCase):
+    def test_all_groups_at_once(self) -> None:
+        for game in drawn_games(random.Random(3)):
+            unit, found = worths_of(game)
+            wanted = [game.worth(group) / game.factor for group in range(game.everyone + 1)]
+            self.assertEqual([Fraction(worth, unit) for worth in found], wanted, game)
+
+    def test_along_a_change(self) -> None:
+        """The game after a change, by its worths, its slopes and its document."""
+        draw = random.Random(4)
+        for game in drawn_games(draw):
+            if game.kind == "voting":
+                continue
+            moving = Moving(game, {draw.choice(what_moves(game)): Fraction(1, 2)})
+            low, high = moving.room("prenucleolus")
+            t = max(low, Fraction(-1)) + (min(high, Fraction(1)) - max(low, Fraction(-1))) / 3
+            tree, factor = moving.tree_at(t)
+            written = coop.Game(tree, factor)
+            unit, found = moving.worths(t)
+            for group in range(1, game.everyone + 1):
+                self.assertEqual(written.worth(group) / factor, moving.worth(t, group), game)
+                self.assertEqual(Fraction(found[group], unit), moving.worth(t, group), game)
+                if game.n > 3:
+                    continue
+                step = Fraction(1, 10**6)
+                near = (moving.worth(t + step, group) - moving.worth(t, group)) / step
+                self.assertEqual(moving.slope(t, group, 1), near, game)
+
+
+@needs_program
+class SensitivityOfMargins(unittest.TestCase):
+    def test_by_hand(self) -> None:
+        found = margins(nucleolus(VALLEY))
+        self.assertEqual([margin.group for margin in found.counted()], [("n",), ("f",), ("p",)])
+        bounds = [(margin.group, margin.bound, margin.room) for margin in found.closest(2)]
+        self.assertEqual(bounds, [(("n", "p"), 366330, 12491), (("f", "p"), 343636, 23734)])
+        self.assertEqual((len(found), found[2].group, len(found[1:3])), (6, ("n", "f"), 2))
+        self.assertEqual([margin.bound for margin in margins(nucleolus(coop.airport([3])))], [])
+        with self.assertRaisesRegex(BadInput, "17 players"):
+            margins(nucleolus(coop.airport([1] * 17)))
+
+    def test_bounds_hold_and_are_tight(self) -> None:
+        """All bounds at once, and one beyond its own, by the program."""
+        draw = random.Random(5)
+        for _ in range(25):
+            n, costs, per_head = draw.choice([3, 4, 5]), draw.random() < 0.5, draw.random() < 0.3
+            numbers = [Fraction(draw.randint(0, 60 * bin(group).count("1"))) for group in range(1, 2**n)]
+            game = (coop.cost_table if costs else coop.table)(numbers, order="mask", per_head=per_head)
+            answer = coop.nucleolus(game) or coop.prenucleolus(game)
+            assert isinstance(answer, coop.Nucleolus)
+            found, sign = list(margins(answer)), -1 if costs else 1
+            free = [margin for margin in found if margin.bound is not None]
+            together = [q.number if q.bound is None else q.bound - sign * draw.choice([0, 0, 9]) for q in found]
+            self.assertTrue(check(with_numbers(answer, [*together, numbers[-1]])), answer.line)
+            one = draw.choice(free) if free else None
+            if one is not None and one.bound is not None:
+                beyond = [one.bound + sign * Fraction(1, 7) if q is one else q.number for q in found]
+                self.assertFalse(check(with_numbers(answer, [*beyond, numbers[-1]])), answer.line)
+
+    def test_told(self) -> None:
+        text = " ".join(told(nucleolus(VALLEY), most=1).split())
+        self.assertIn("Of the 6 smaller groups 3 count as they are: n alone; f alone; and p alone.", text)
+        self.assertIn("Each of the other 3 may cost anything that is at least its bound, all of them at once.", text)
+        self.assertIn("n and p together 378821 366330 3.3 %", text)
+        text = told(nucleolus(ESTATE))
+        self.assertIn("Of 4 numbers 2 matter", text)
+        self.assertIn("the estate         200   150    250     0   1/2   1/2", text)
+        self.assertIn("the link source - harbour  10     0   10        1     0\n", told(nucleolus(NETWORK)))
+        for game, sentence in ((coop.voting(2, [1, 1, 1]), "power jumps"), (big_network(), "at most 10")):
+            with self.assertRaisesRegex(BadInput, sentence):
+                told(nucleolus(game))
+
+
+def with_numbers(answer: coop.Nucleolus, numbers: "list[Fraction]") -> bytes:
+    """The line of an answer over another table."""
+    game = made(answer.game.kind, {"players": answer.game.n, "worths": numbers}, None, answer.game.per_head)
+    factor = game.factor
+    levels = [
+        {**level, "excess": str(Fraction(level["excess"]) * factor)} for level in answer.certificate["levels"]
+    ]
+    shares = [str(share * factor) for share in answer.shares.values()]
+    return game.document(answer=answer.rule, certificate={**answer.certificate, "levels": levels}, shares=shares)
+
+
+def big_network() -> coop.Game:
+    """A network of eleven players."""
+    return coop.tree([[0 if i == j else 1 + i * j % 3 for j in range(12)] for i in range(12)])
+
+
+@needs_program
+class Paths(unittest.TestCase):
+    def test_by_hand(self) -> None:
+        """The Talmud's rule along the estate: thirds, then the two larger claims, and so on, and back again."""
+        path = along(ESTATE, "estate", -200, 400)
+        self.assertEqual(path.bends(), [-50, 50, 150, 250])
+        slopes = ["1/3 1/3 1/3", "0 1/2 1/2", "0 0 1", "0 1/2 1/2", "1/3 1/3 1/3"]
+        self.assertEqual([words(piece.slopes) for piece in path.pieces], slopes)
+        self.assertEqual((words(path.at(0)), words(path.at("1/2")), words(path.at(400))), (
+            "50 75 75", "50 301/4 301/4", "100 200 300"
+        ))
+        self.assertTrue(path.is_proved and path.check() and path.check(anew=True))
+        for t in (-201, 401):
+            with self.assertRaisesRegex(BadInput, "isn't between"):
+                path.at(t)
+
+    def test_each_class(self) -> None:
+        cases: list[tuple[coop.Game, Any, Amount, Amount, str]] = [
+            (RUNWAY, ("cost", "medium"), -4, 10, "-8/3 -2 -1 2"),
+            (RUNWAY, {"light": 1, "heavy": 1}, 0, 4, "2/3 2"),
+            (NETWORK, ("link", "mill", "harbour"), -1, 30, "9"),
+            (NETWORK, ("link", "source", "mill"), -10, 5, "0"),
+            (MARKET, ("pair", "Ann", "flat"), -5, 10, "-8/3 0 2 4"),
+            (VALLEY, "n+p", -20000, 5, "-12491"),
+            (coop.landings([("Aer", 2, 3), ("Bee", 4, 1)]), ("cost", "Aer"), -1, 1, ""),
+        ]
+        for game, what, low, high, bends in cases:
+            path = along(game, what, low, high)
+            self.assertTrue(path.check() and path.check(anew=True), what)
+            self.assertEqual(" ".join(map(str, path.bends())), bends, what)
+
+    def test_random_games(self) -> None:
+        """Shares along a path are those of the program, and the lines are taken."""
+        draw = random.Random(6)
+        for game in drawn_games(draw):
+            if game.kind == "voting" or game.per_head and game.n > 4:
+                continue
+            moves = what_moves(game)
+            rates: list[Amount] = [-1, 1, Fraction(1, 2)]
+            what: dict[Any, Amount] = {move: draw.choice(rates) for move in draw.sample(moves, min(2, len(moves)))}
+            rule = draw.choice(["nucleolus", "prenucleolus"])
+            moving = Moving(game, what)
+            try:
+                low, high = moving.room(rule)
+            except BadInput:
+                continue
+            low, high = max(low, Fraction(-5)), min(high, Fraction(17, 3))
+            if low == high:
+                continue
+            path = along(game, what, low, high, rule)
+            self.assertTrue(path.check(), game)
+            for part in range(5):
+                t = low + (high - low) * Fraction(part, 4)
+                tree, factor = moving.tree_at(t)
+                self.assertEqual(nucleolus(coop.Game(tree, factor), rule).shares, path.at(t), (game, what, t))
+
+    def test_a_spoilt_path(self) -> None:
+        """Lines of another game, other shares, another certificate, or one line too few show nothing."""
+        path = along(ESTATE, "estate", -40, 40)
+        piece, other = path.pieces[0], along(ESTATE, "estate", -40, 30).pieces[0]
+        self.assertTrue(path.check())
+        for lines in (piece.lines[:2], other.lines, [(t, line.replace(b'"75"', b'"76"')) for t, line in piece.lines]):
+            wrong = sensitivity.Piece(
+                piece.low, piece.high, piece.at_low, piece.at_high, piece.slopes, tuple(lines)
+            )
+            spoilt = sensitivity.Path([wrong], path.rule, path.moving)
+            self.assertFalse(spoilt.check() and spoilt.is_proved)
+
+    def test_an_end_that_no_document_has(self) -> None:
+        """Numbers so large that a bend's denominator makes them too large: the lines stand beside it, and say so."""
+        a, b, c = 10**11 + 1, 10**11 + 7, 10**11 + 11
+        game = coop.cost_table(
+            {"a": a, "b": b, "c": c, "a+b": 2 * a - 3, "a+c": 2 * a + 1, "b+c": 2 * b - 5, "a+b+c": 3 * a - 11}
+        )
+        path = along(game, "a+b", -40, 40)
+        self.assertTrue(path.check())
+        for piece in path.pieces:
+            self.assertTrue(piece.low <= piece.proved[0] < piece.proved[1] <= piece.high)
+        self.assertEqual(path.at(0), nucleolus(game).shares)
+
+    def test_what_is_refused(self) -> None:
+        cases: list[tuple[str, coop.Game, Any, Amount, Amount, str]] = [
+            ("power jumps", coop.voting(2, [1, 1]), "1", 0, 1, "nucleolus"),
+            ("has no nucleolus", coop.market([[1]]), ("pair", "1", "2"), 0, 1, "nucleolus"),
+            ("2 isn't below 2", ESTATE, "estate", 2, 2, "nucleolus"),
+            ("of 401 the claims add to less than", ESTATE, "estate", 0, 401, "nucleolus"),
+            ("of -201 the estate is below 0", ESTATE, "estate", -201, 0, "nucleolus"),
+            ("the cost of light is below 0", RUNWAY, "light", -3, 0, "nucleolus"),
+            ("the link of harbour and mill is below 0", NETWORK, ("link", "harbour", "mill"), -2, 0, "nucleolus"),
+            ("after a change of 200000 there is no imputation", VALLEY, "n+f+p", 0, 200000, "nucleolus"),
+            ("'x' isn't a player", ESTATE, ("claim", "x"), 0, 1, "nucleolus"),
+            ("is no number of such a game", ESTATE, ("cost", "Anna"), 0, 1, "nucleolus"),
+            ("needs two ends", NETWORK, ("link", "mill", "mill"), 0, 1, "nucleolus"),
+            ("no pair of a buyer and a seller", MARKET, ("pair", "house", "Ann"), 0, 1, "nucleolus"),
+            ("the empty group has no number", VALLEY, (), 0, 1, "nucleolus"),
+            ("all rates are 0", VALLEY, {"n": 0}, 0, 1, "nucleolus"),
+            ("name nucleolus or prenucleolus", VALLEY, "n", 0, 1, "shapley"),
+        ]
+        for sentence, game, what, low, high, rule in cases:
+            with self.assertRaisesRegex(BadInput, sentence):
+                along(game, what, low, high, rule)
+
+
+@needs_program
+class Ranges(unittest.TestCase):
+    def test_by_hand(self) -> None:
+        def ends(game: coop.Game, what: Any) -> "tuple[Optional[Fraction], Optional[Fraction], str, str]":
+            found, = ranges(game, [what])
+            return found.down, found.up, words(found.below), words(found.above)
+
+        self.assertEqual(ends(ESTATE, "estate"), (50, 50, "0 1/2 1/2", "0 1/2 1/2"))
+        self.assertEqual(ends(ESTATE, ("claim", "Cleo")), (150, None, "0 0 0", "0 0 0"))
+        self.assertEqual(ends(RUNWAY, "heavy"), (2, None, "0 0 1", "0 0 1"))
+        self.assertEqual(ends(NETWORK, ("link", "source", "harbour")), (10, None, "1 0", "1/2 -1/2"))
+        self.assertEqual(ends(VALLEY, "n+p"), (12491, None, "0 0 0", "0 0 0"))
+        whole = coop.bankruptcy(600, {"Anna": 100, "Bert": 200, "Cleo": 300})
+        self.assertEqual(ends(whole, "estate"), (150, 0, "1/3 1/3 1/3", ""))
+
+    def test_which_matter(self) -> None:
+        matter = [found.what for found in ranges(ESTATE) if found.matters]
+        self.assertEqual(matter, [("estate",), ("claim", "Anna")])
+        self.assertEqual(len(ranges(MARKET)), 4)
+
+
+if __name__ == "__main__":
+    unittest.main()

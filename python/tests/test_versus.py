@@ -1,0 +1,82 @@
+"""Rules side by side: by published numbers and by hand."""
+import unittest
+from fractions import Fraction
+
+import coop
+from coop import versus
+from coop.errors import BadInput
+from coop.rivals import csv, told
+from coop.styles import EXACT, Style
+
+from .asking import needs_program
+from .test_sensitivity import ESTATE, RUNWAY, VALLEY, words
+
+
+class Formulas(unittest.TestCase):
+    def test_by_hand(self) -> None:
+        cases = {
+            "in proportion": "1 2 3",
+            versus.REMAINING: "4/5 8/5 18/5",
+            "equal savings": "0 2 4",
+            "equal charge": "4/3 4/3 10/3",
+            "equal shares": "2 2 2",
+        }
+        for rule, wanted in cases.items():
+            shares = versus.FORMULAS[rule](RUNWAY)
+            assert shares is not None
+            self.assertEqual((words(shares), sum(shares.values())), (wanted, 6), rule)
+
+    def test_published(self) -> None:
+        """The Tennessee Valley, by its agency's rule (Straffin and Heaney 1981)."""
+        shares = versus.remaining(VALLEY)
+        assert shares is not None
+        self.assertEqual([round(share) for share in shares.values()], [117476, 99157, 195951])
+
+    def test_benefits(self) -> None:
+        shares = versus.remaining(VALLEY, {"n": 50000, "f": 150000, "p": "300000"})
+        assert shares is not None
+        whole, alone, added = versus.alone_and_added(VALLEY)
+        self.assertEqual((sum(shares.values()), shares["n"]), (whole, added[0] + (50000 - added[0]) * (
+            whole - sum(added)
+        ) / (50000 - added[0] + alone[1] - added[1] + alone[2] - added[2])))
+        for game, benefits, sentence in (
+            (VALLEY, {"n": 1}, "give the benefit of each of n, f, p"),
+            (ESTATE, {name: 1 for name in ESTATE.names}, "benefits are for costs"),
+        ):
+            with self.assertRaisesRegex(BadInput, sentence):
+                versus.remaining(game, benefits)
+
+    def test_estates_and_votes(self) -> None:
+        self.assertEqual(words(versus.in_proportion(ESTATE) or {}), "100/3 200/3 100")
+        self.assertEqual(words(versus.in_proportion(coop.voting(3, [2, 1, 1])) or {}), "1/2 1/4 1/4")
+        self.assertIsNone(versus.in_proportion(coop.table([0, 0, 1], order="mask")))
+
+
+@needs_program
+class Judged(unittest.TestCase):
+    def test_rows(self) -> None:
+        rows = {row.rule: row for row in versus.rules(RUNWAY)}
+        self.assertEqual(list(rows), [*versus.PROVED, *versus.FORMULAS])
+        self.assertEqual(words(rows["Shapley shares"].shares), "2/3 5/3 11/3")
+        self.assertEqual([row.rule for row in rows.values() if not row.is_proved], list(versus.FORMULAS))
+        self.assertEqual([row.rule for row in rows.values() if not row.is_in_core], [])
+        blocked = coop.airport({"small": 1, "large": 9})
+        same = {row.rule: row for row in versus.rules(blocked)}["equal shares"]
+        self.assertEqual((same.leaving, same.by), (("small",), Fraction(7, 2)))
+        self.assertNotIn("nucleolus per head", [row.rule for row in versus.rules(coop.airport([1] * 9))])
+
+    def test_told(self) -> None:
+        game = coop.airport({"small": 1, "large": 9})
+        rows = list(versus.rules(game))
+        text = told(game, rows, Style(2))
+        self.assertIn("small          0.50                0.50            0.50           0.90\n", text)
+        self.assertIn("By equal shares: small alone could save 3.50, and no group more.\n", text)
+        self.assertIn("It didn't work out: in proportion;", " ".join(text.split()))
+        lines = csv(game, rows, EXACT).splitlines()
+        self.assertEqual(lines[:2] + lines[-1:], [
+            "rule,player,share,leaving,by", "nucleolus,small,1/2,,", "equal shares,large,9/2,small,7/2"
+        ])
+
+
+if __name__ == "__main__":
+    unittest.main()
