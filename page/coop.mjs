@@ -4,7 +4,8 @@
 //     node page/coop.mjs COMMAND < DOCUMENT
 //
 // It prints the program's line and ends with the program's status; or with 70, and says why, where there is no answer
-// since a file of the page is missing or the module stops. docs/page.md says what is trusted.
+// since a file of the page is missing or the module stops. docs/page.md says what is trusted. --version, which is no word
+// of the program, prints the version that the page names.
 const REFUSED = 3;
 // No status of the program. Nor does a broken page end with 1, which is an answer.
 const NO_ANSWER = 70;
@@ -25,9 +26,22 @@ function answer(words, coop, ports) {
   return first.status === REFUSED ? coop(module, words, input(ports)) : first;
 }
 
+async function version() {
+  const { readFileSync } = await import("node:fs");
+  const page = readFileSync(new URL("coop.html", import.meta.url), "latin1");
+  const found = page.match(/The program inside: coop (\S+), of the sources/);
+  if (!found) throw new Error("the page doesn't name its version");
+  return Buffer.from(`coop ${found[1]}, answered by page/coop.mjs under Node ${process.version}\n`);
+}
+
 async function main() {
   try {
     const [ports, { coop }] = await Promise.all([import("./engine/ports.js"), import("./engine/host.js")]);
+    if (process.argv.length === 3 && process.argv[2] === "--version") {
+      ports.needOutput();
+      ports.print(await version());
+      return 0;
+    }
     const { status, line } = answer(process.argv.slice(2), coop, ports);
     ports.needOutput();
     ports.print(line);

@@ -2,6 +2,10 @@
 
 Beside the modules stand the page, with what runs the module in it under Node, and the second checker. They are the
 files of the repository; an archive of sources has copies.
+
+Where there is a C compiler, the wheel has the C library too, so that the package answers without Node. It is the
+module in the page, as C by portable.py. `--config-settings library=` chooses: `no` leaves it out, `yes` makes it a fault
+if it can't be built, and a path takes a library that is built, such as c/libcoop.so.
 """
 from __future__ import annotations
 
@@ -10,13 +14,26 @@ import hashlib
 import io
 import os
 import re
+import shlex
+import shutil
+import subprocess
+import sys
+import sysconfig
 import tarfile
+import tempfile
 import zipfile
+from concurrent.futures import ThreadPoolExecutor
+from platform import machine
 from typing import Any, Optional
+
+from portable import files_of
 
 HERE = os.path.dirname(os.path.abspath(__file__))
 PACKAGE = "coop"
-WHEEL = "Wheel-Version: 1.0\nGenerator: coop\nRoot-Is-Purelib: true\nTag: py3-none-any\n"
+WHEEL = "Wheel-Version: 1.0\nGenerator: coop\nRoot-Is-Purelib: {}\nTag: py3-none-{}\n"
+OLDEST = (2, 17)  # glibc of manylinux2014, the oldest for which wheels are still made
+PARTS = 4  # that are compiled at the same time, where there are so many processors
+COMPILED = ("-O1", "-fPIC", "-fvisibility=hidden")
 FIRST_DAY = (1980, 1, 1, 0, 0, 0)  # the same bytes at each build
 
 
@@ -27,6 +44,9 @@ DATA = {
     "scripts": ("check-anew",),
 }
 """What a package has beside its modules, by the folders of the repository."""
+
+SOURCES = {"c": ("coop.h", "portable/host.c", "portable/portable.h", "portable/wasm.h")}
+"""What the library is built from, beside the page."""
 
 
 def field(key: str, file: str = "pyproject.toml") -> str:
@@ -92,13 +112,14 @@ def contents(files: dict[str, str]) -> dict[str, bytes]:
     return found
 
 
-def wheel_of(directory: str, files: dict[str, bytes]) -> str:
-    """Writes a wheel of these files, and gives its name."""
+def wheel_of(directory: str, files: dict[str, bytes], platform: str = "any") -> str:
+    """Writes a wheel of these files for a platform, and gives its name."""
     info = f"{stem()}.dist-info"
-    files = {**files, f"{info}/METADATA": metadata().encode(), f"{info}/WHEEL": WHEEL.encode()}
+    about = WHEEL.format("true" if platform == "any" else "false", platform)
+    files = {**files, f"{info}/METADATA": metadata().encode(), f"{info}/WHEEL": about.encode()}
     record = [f"{name},sha256={sum_of(data)},{len(data)}\n" for name, data in files.items()]
     record.append(f"{info}/RECORD,,\n")
-    name = f"{stem()}-py3-none-any.whl"
+    name = f"{stem()}-py3-none-{platform}.whl"
     with zipfile.ZipFile(os.path.join(directory, name), "w") as archive:
         for path, data in {**files, f"{info}/RECORD": "".join(record).encode()}.items():
             archive.writestr(zipfile.ZipInfo(path, FIRST_DAY), data, zipfile.ZIP_DEFLATED)
@@ -110,12 +131,94 @@ def sum_of(data: bytes) -> str:
     return base64.urlsafe_b64encode(hashlib.sha256(data).digest()).rstrip(b"=").decode()
 
 
+# ---- The C library
+
+
+class NotBuilt(Exception):
+    """The library can't be built."""
+
+
+def library_name() -> str:
+    """How the package calls it on this system."""
+    return {"darwin": "libcoop.dylib", "win32": "coop.dll"}.get(sys.platform, "libcoop.so")
+
+
+def compiler() -> Optional[list[str]]:
+    """The C compiler: what CC names, or the first of the common ones."""
+    if os.environ.get("CC"):
+        return shlex.split(os.environ["CC"])
+    return next(([name] for name in ("cc", "gcc", "clang") if shutil.which(name)), None)
+
+
+def run(words: list[str], folder: str) -> None:
+    """Runs a compiler."""
+    try:
+        subprocess.run(words, cwd=folder, check=True)
+    except (OSError, subprocess.CalledProcessError) as fault:
+        raise NotBuilt(f"the C library isn't built: {fault}") from None
+
+
+def write_sources(folder: str, parts: int = PARTS) -> list[str]:
+    """Writes what the library is built from, and gives the names of what is compiled."""
+    for name in SOURCES["c"]:
+        shutil.copy(os.path.join(folder_of("c"), name), folder)
+    with open(os.path.join(folder_of("page"), "coop.html"), "rb") as file:
+        texts = files_of(file.read(), parts)
+    for name, text in texts.items():
+        with open(os.path.join(folder, name), "w", encoding="ascii") as target:
+            target.write(text)
+    return [*(name for name in texts if name.endswith(".c")), "host.c"]
+
+
+def built_library() -> bytes:
+    """The library, as the C compiler makes it in a minute of one processor. Its bytes don't depend on the folder."""
+    command = compiler()
+    if command is None:
+        raise NotBuilt("the C library isn't built: there is no C compiler")
+    with tempfile.TemporaryDirectory() as folder, ThreadPoolExecutor(min(PARTS, os.cpu_count() or 1)) as pool:
+        names, words = write_sources(folder), [*command, *COMPILED, "-c"]
+        list(pool.map(lambda name: run([*words, name], folder), names))
+        objects, kind = [f"{name[:-2]}.o" for name in names], "-dynamiclib" if sys.platform == "darwin" else "-shared"
+        run([*command, kind, "-o", library_name(), *objects], folder)
+        with open(os.path.join(folder, library_name()), "rb") as file:
+            return file.read()
+
+
+def library_of(settings: Optional[dict[str, Any]]) -> Optional[bytes]:
+    """The library that the settings ask for, if any."""
+    wanted = (settings or {}).get("library", "")
+    if wanted == "no":
+        return None
+    if wanted not in ("", "yes"):
+        with open(os.path.join(HERE, wanted), "rb") as file:
+            return file.read()
+    try:
+        return built_library()
+    except NotBuilt as fault:
+        if wanted:
+            raise
+        print(f"{fault}; the package will need Node", file=sys.stderr)
+        return None
+
+
+def platform_of(library: bytes) -> str:
+    """The platform of a wheel with this library; on Linux with the oldest glibc that has all it needs."""
+    platform = re.sub("[-.]", "_", sysconfig.get_platform()).replace("universal2", machine())
+    if not platform.startswith("linux_") or b"libc.so.6" not in library:
+        return platform
+    found = [(int(one), int(two)) for one, two in re.findall(rb"\0GLIBC_(\d+)\.(\d+)", library)]
+    return f"manylinux_{'_'.join(map(str, max([*found, OLDEST])))}_{platform[6:]}"
+
+
 # ---- What pip calls
 
 
-def build_wheel(directory: str, settings: Any = None, prepared: Optional[str] = None) -> str:
+def build_wheel(directory: str, settings: Optional[dict[str, Any]] = None, prepared: Optional[str] = None) -> str:
     """A wheel of the package."""
-    return wheel_of(directory, contents(sources()))
+    files, library = contents(sources()), library_of(settings)
+    if library is None:
+        return wheel_of(directory, files)
+    return wheel_of(directory, {**files, f"{PACKAGE}/{library_name()}": library}, platform_of(library))
 
 
 def build_editable(directory: str, settings: Any = None, prepared: Optional[str] = None) -> str:
@@ -124,10 +227,11 @@ def build_editable(directory: str, settings: Any = None, prepared: Optional[str]
 
 
 def build_sdist(directory: str, settings: Any = None) -> str:
-    """The sources as an archive, with the folders of DATA inside."""
-    files = {name: os.path.join(HERE, name) for name in ("pyproject.toml", "backend.py", field("readme"))}
+    """The sources as an archive, with the folders of DATA and SOURCES inside."""
+    own = ("pyproject.toml", "backend.py", "portable.py", field("readme"))
+    files = {name: os.path.join(HERE, name) for name in own}
     files.update((f"{PACKAGE}/{name}", os.path.join(HERE, PACKAGE, name)) for name in modules())
-    for part, names in DATA.items():
+    for part, names in {**DATA, **SOURCES}.items():
         files.update((f"{part}/{name}", os.path.join(folder_of(part), name)) for name in names)
     name = f"{stem()}.tar.gz"
     with tarfile.open(os.path.join(directory, name), "w:gz") as archive:

@@ -8,6 +8,8 @@
 The constructors make games (`games`), the calls ask the program (`calls`) and give answers (`answers`) or raise
 (`errors`). docs/python.md of the project tells more.
 """
+from typing import Any
+
 from .answers import Answer, Bird, Blocked, Convex, CorePoint, EmptyCore, InCore, InPrekernel, Matching, No
 from .answers import NoImputation, NotConvex, NotEfficient, NotInPrekernel, Nucleolus, Shapley, Yes
 from .calls import bird, check, convex, core, kernel, least_core, matching, nucleolus, prenucleolus, propose, shapley
@@ -71,3 +73,12 @@ __all__ = [  # fmt: skip
     "tree",
     "voting",
 ]
+
+
+def __getattr__(name: str) -> Any:
+    """A module of the package by its name, as `coop.readers`, when it is first asked for."""
+    import importlib.util
+
+    if name.startswith("_") or importlib.util.find_spec(f"{__name__}.{name}") is None:
+        raise AttributeError(f"module {__name__!r} has no attribute {name!r}")
+    return importlib.import_module(f"{__name__}.{name}")

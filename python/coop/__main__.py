@@ -1,7 +1,8 @@
 """The package as a command: python -m coop COMMAND < DOCUMENT, or python -m coop page.
 
 The first prints the program's line and ends with the program's status; or with 70, and says why, if there is no program
-or it can't answer. The second opens the page in a browser, and prints where it is. --version prints the version.
+or it can't answer. The second opens the page in a browser, and prints where it is. --version
+prints the version and what answers.
 """
 from __future__ import annotations
 
@@ -10,7 +11,7 @@ import sys
 from typing import Sequence
 
 from .errors import CoopError, NoAnswer, NotFound
-from .program import find, page_folder
+from .program import find, page_folder, said
 from .version import VERSION
 
 MOST = 8 * 1024 * 1024 + 1  # bytes of a document, one more than any may have
@@ -49,12 +50,20 @@ def show_page() -> int:
     return 0
 
 
+def found() -> str:
+    """What answers."""
+    try:
+        return said(find())
+    except NotFound as fault:
+        return f"nobody: {fault}"
+
+
 def run(words: Sequence[str]) -> int:
     """Prints what the words ask for, and gives the status."""
     if list(words) == ["page"]:
         return show_page()
     if list(words) == ["--version"]:
-        print(VERSION)
+        print(f"coop {VERSION}, answered by {found()}")
         return 0
     if not words or words[0] in ("help", "-h", "--help"):
         print(USAGE, file=sys.stderr)

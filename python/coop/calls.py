@@ -111,6 +111,8 @@ def ask(command: str, game: Game, shares: Optional[Proposal] = None, program: Ch
 
 def document_of(game: Game, shares: Optional[Proposal] = None) -> bytes:
     """The bytes of the document of a game, and of shares of it."""
+    if not isinstance(game, Game):
+        raise BadInput(f"{type(game).__name__} isn't a game: make one, such as coop.table({{..}})")
     return game.document() if shares is None else game.document(shares=items_of(game, shares))
 
 

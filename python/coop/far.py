@@ -85,7 +85,7 @@ class Batch:
             except CoopError:
                 raise
             except Exception as cause:
-                if is_late(cause):
+                if seconds is not None and is_late(cause):
                     raise self.lost(f"the executor took more than {seconds} s") from cause
                 if not left:
                     raise self.lost(f"the executor lost them {TRIES} times") from cause
@@ -123,7 +123,12 @@ def many_by(
     source, count = iter(games), 0
     try:
         while some := list(islice(source, batch)):
-            waiting.append(Batch(executor, count, words, some, program))
+            try:
+                waiting.append(Batch(executor, count, words, some, program))
+            except Lost:  # rows that are there come first; the batch that is really lost is named
+                while waiting:
+                    yield from waiting.popleft().rows(seconds)
+                raise
             count += len(some)
             if len(waiting) >= AHEAD:
                 yield from waiting.popleft().rows(seconds)

@@ -1,8 +1,8 @@
 """Many games at a time, over all processors."""
 from __future__ import annotations
 
-import os
 import sys
+import threading
 import time
 from collections import deque
 from typing import TYPE_CHECKING, Any, Callable, Iterable, Iterator, Optional, Sequence, TypeVar, Union
@@ -11,7 +11,8 @@ from .answers import Answer
 from .calls import Chosen, ask
 from .errors import NoAnswer
 from .game import Game
-from .program import Program, find
+from .program import Program, end_calls, find
+from .server import processors as usable
 
 if TYPE_CHECKING:
     from .far import Executor
@@ -69,7 +70,7 @@ def spread(
 ) -> Iterator[Result]:
     """The results of some work on items, in their order, by as many threads as there are processors: each waits for a
     process, or for the C library, and others go on meanwhile."""
-    return shown(by_threads(work, items, processors or os.cpu_count() or 1), items, progress)
+    return shown(by_threads(work, items, processors or usable()), items, progress)
 
 
 def by_threads(work: Callable[[Item], Result], items: Iterable[Item], count: int) -> Iterator[Result]:
@@ -77,13 +78,19 @@ def by_threads(work: Callable[[Item], Result], items: Iterable[Item], count: int
     from concurrent.futures import Future, ThreadPoolExecutor
 
     waiting: deque[Future[Result]] = deque()
-    with ThreadPoolExecutor(count) as pool:
-        for item in items:
-            waiting.append(pool.submit(work, item))
-            if len(waiting) >= AHEAD * count:
+    threads: set[int] = set()
+    with ThreadPoolExecutor(count, initializer=lambda: threads.add(threading.get_ident())) as pool:
+        try:
+            for item in items:
+                waiting.append(pool.submit(work, item))
+                if len(waiting) >= AHEAD * count:
+                    yield waiting.popleft().result()
+            while waiting:
                 yield waiting.popleft().result()
-        while waiting:
-            yield waiting.popleft().result()
+        except BaseException:  # nobody waits for the others
+            pool.shutdown(wait=False, cancel_futures=True)
+            end_calls(threads)
+            raise
 
 
 def shown(results: Iterator[Result], items: Iterable[Any], progress: Optional[bool]) -> Iterator[Result]:

@@ -3,13 +3,16 @@
 A program is anything with `run`: words and the bytes of a document to a status and the bytes of the line. Here are
 two, a command of the system and the C library; `server` has a third. The first that is found is taken, in this order:
 what is named as an argument; the environment's `COOP`, a command; its `COOP_LIBRARY`, the C library; `coop` on the
-path; the built program of the repository in which this package stands; by Node, the module in the page, which an
-installed package has too; and `bin/coop` of the repository, which builds the program where the kit is.
+path; the built program of the repository in which this package stands; the C library inside an installed package; by
+Node, the module in the page, which such a package has too; and `bin/coop` of the repository, which builds the program
+where the kit is.
 """
 from __future__ import annotations
 
+import _thread
 import os
-from typing import Any, Optional, Protocol, Sequence, Union
+import threading
+from typing import Any, Container, Optional, Protocol, Sequence, Union
 
 from .errors import BadInput, Fault, NotFound
 
@@ -17,7 +20,10 @@ TOP = os.path.dirname(os.path.dirname(os.path.dirname(os.path.abspath(__file__))
 BUILT = os.path.join(TOP, "crates", "coop_program", "out", "coop_program")
 """Where a repository has the built program."""
 
-NO_ROOM = 6
+LIBRARIES = ("libcoop.so", "libcoop.dylib", "coop.dll")
+"""How the library inside a package may be called."""
+
+NO_ROOM, TOO_LATE = 6, 124
 GROWTH, FIRST_ROOM, MOST_ROOM = 8, 1 << 16, 1 << 28
 
 
@@ -74,33 +80,106 @@ def run_elsewhere(words: list[str], document: bytes) -> tuple[int, bytes]:
 
 
 class Library:
-    """The C library, which answers within this process: see c/coop.h."""
+    """The C library, which answers within this process: see c/coop.h. A call that takes more than so many seconds is
+    ended, with the status 124. The library in plain C can be ended, so Ctrl-C ends a call too. In the one that c/build
+    makes, Ctrl-C waits for the answer, and a call that is too late goes on behind its status."""
 
-    def __init__(self, path: str):
+    def __init__(self, path: str, seconds: Optional[float] = None):
         import ctypes
 
-        self.path = path
+        self.path, self.seconds = path, seconds
         self.ctypes: Any = ctypes
+        text, size, self.can_end = ctypes.c_char_p, ctypes.c_size_t, True
+        kinds = [text, size, text, size, text, size, ctypes.POINTER(size), ctypes.POINTER(ctypes.c_int)]
         try:
-            self.call: Any = ctypes.CDLL(path).coop_run
+            library = ctypes.CDLL(path)
+            try:
+                self.function: Any = library.coop_run_until
+            except AttributeError:
+                self.function, self.can_end = library.coop_run, False
         except (OSError, AttributeError) as fault:
             raise NotFound(f"{path} isn't a library of coop: {fault}") from None
-        text, size = ctypes.c_char_p, ctypes.c_size_t
-        self.call.restype = ctypes.c_uint32
-        self.call.argtypes = [text, size, text, size, text, size, ctypes.POINTER(size)]
+        self.function.restype = ctypes.c_uint32
+        self.function.argtypes = kinds if self.can_end else kinds[:-1]
 
     def __reduce__(self) -> tuple[Any, ...]:
-        return Library, (self.path,)
+        return Library, (self.path, self.seconds)
 
     def run(self, words: Sequence[str], document: bytes) -> tuple[int, bytes]:
-        """One call. Where the line has no room, another with more."""
+        """One call. Safe in threads."""
+        call = Call(self.ctypes.c_int())
+        _running.add(call)
+        try:
+            is_main = threading.current_thread() is threading.main_thread()
+            if self.seconds is None and not (is_main and self.can_end):
+                return self.answered(call.ends, words, document)
+            if self.can_end:  # most calls are short, and then need no other thread
+                status, line = self.answered(self.ctypes.c_int(1), words, document)
+                if status != TOO_LATE:
+                    return status, line
+            return self.awaited(call, words, document)
+        finally:
+            _running.discard(call)
+
+    def awaited(self, call: Call, words: Sequence[str], document: bytes) -> tuple[int, bytes]:
+        """One call by another thread, so that Ctrl-C or the time ends it: the main thread is told of Ctrl-C only while
+        it isn't in the library."""
+        box: list[tuple[int, bytes]] = []
+        done = threading.Lock()
+        done.acquire()
+
+        def answer() -> None:
+            try:
+                box.append(self.answered(call.ends, words, document))
+            except MemoryError:
+                pass
+            finally:
+                done.release()
+
+        _thread.start_new_thread(answer, ())
+        is_done = False
+        try:
+            is_done = done.acquire(timeout=-1 if self.seconds is None else self.seconds)
+        finally:
+            if not is_done:
+                call.ends.value = 1
+                if self.can_end:
+                    done.acquire()
+        if not is_done:
+            return TOO_LATE, b""
+        if not box:
+            raise MemoryError
+        return box[0]
+
+    def answered(self, ends: Any, words: Sequence[str], document: bytes) -> tuple[int, bytes]:
+        """One call by this thread, and where the line has no room, another with more. If the number that ends it isn't
+        0 from the beginning, it ends after some milliseconds."""
         typed, room = b"\0".join(word.encode() for word in words), max(FIRST_ROOM, GROWTH * len(document))
+        more = [ends] if self.can_end else []
         while True:
             line, count = self.ctypes.create_string_buffer(room), self.ctypes.c_size_t()
-            status = self.call(typed, len(typed), document, len(document), line, room, self.ctypes.byref(count))
+            given = (typed, len(typed), document, len(document), line, room, self.ctypes.byref(count))
+            status = self.function(*given, *more)
             if status != NO_ROOM or room >= MOST_ROOM:
                 return int(status), bytes(self.ctypes.string_at(line, count.value))
             room *= GROWTH
+
+
+class Call:
+    """A call of the library: the thread that asks, and the number that ends it where it isn't 0."""
+
+    def __init__(self, ends: Any):
+        self.thread, self.ends = threading.get_ident(), ends
+
+
+_running: set[Call] = set()
+
+
+def end_calls(threads: Container[int]) -> None:
+    """Ends the calls of the library for which these threads wait, as when nobody wants them any more."""
+    for call in list(_running):
+        if call.thread in threads:
+            call.ends.value = 1
 
 
 # ---- Finding it
@@ -120,7 +199,7 @@ def find(program: Union[None, str, Program] = None) -> Program:
 
 def named(text: str) -> Program:
     """The program of a text: a file, a library, or words of a command."""
-    if text.endswith((".so", ".dylib")):
+    if text.endswith((".so", ".dylib", ".dll")):
         return Library(text)
     if os.path.exists(text) or " " not in text.strip():
         return Command([text])
@@ -149,6 +228,9 @@ def found() -> Program:
     path = built()
     if path:
         return Command([path])
+    inside = library_inside()
+    if inside:
+        return inside
     page, builder = page_folder(), os.path.join(TOP, "bin", "coop")
     node = which("node") or which("nodejs")
     if node and page:
@@ -159,8 +241,30 @@ def found() -> Program:
         return Command([builder])
     others = "or name a program, set COOP to it, or put it on the path"
     if page:
-        raise NotFound(f"no program found: put Node 18 or later on the path (nodejs.org), {others}")
+        wanted = "put Node 18 or later on the path (nodejs.org), install the package again where a C compiler is"
+        raise NotFound(f"no program found: {wanted}, {others}")
     raise NotFound(f"no program found, and the page is missing: install the package again, {others}")
+
+
+def library_inside() -> Optional[Library]:
+    """The library of an installed package that was built with one, if this system can load it."""
+    folder = os.path.dirname(os.path.abspath(__file__))
+    for name in LIBRARIES:
+        path = os.path.join(folder, name)
+        if os.path.exists(path):
+            try:
+                return Library(path)
+            except NotFound:  # it was built for another system
+                return None
+    return None
+
+
+def said(program: Program) -> str:
+    """What answers, in words."""
+    if isinstance(program, Library):
+        return f"the library {program.path}"
+    command = getattr(program, "command", None)
+    return " ".join(command) if command else repr(program)
 
 
 def page_folder() -> Optional[str]:

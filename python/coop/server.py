@@ -22,6 +22,13 @@ TOO_LATE = 124
 GRACE = 0.5  # seconds that a process has to end by itself
 
 
+def processors() -> int:
+    """How many processors this process may use: a container, a batch system or taskset may give it less than all."""
+    if hasattr(os, "sched_getaffinity"):
+        return len(os.sched_getaffinity(0))
+    return os.cpu_count() or 1
+
+
 class Ended(Exception):
     """A process ended before it answered."""
 
@@ -36,8 +43,9 @@ class Worker:
         self.output: IO[bytes] = self.process.stdout
         self.is_late = False
 
-    def ask(self, request: bytes, seconds: Optional[float]) -> tuple[int, bytes]:
-        """The status and the line. Where they don't come in time, the process is ended."""
+    def ask(self, request: Optional[bytes], seconds: Optional[float]) -> tuple[int, bytes]:
+        """The status and the line; without a request, that it is there. Where they don't come in time, the process is
+        ended."""
         if seconds is None:
             return self.asked(request)
         timer = threading.Timer(seconds, self.stop_late)
@@ -49,9 +57,9 @@ class Worker:
             timer.cancel()
             timer.join()  # so that it is settled whether it was late
 
-    def asked(self, request: bytes) -> tuple[int, bytes]:
-        """The answer to a request."""
-        rest = memoryview(request)
+    def asked(self, request: Optional[bytes]) -> tuple[int, bytes]:
+        """The answer to a request, or the first one."""
+        rest = memoryview(request or b"")
         try:
             while rest:
                 rest = rest[self.input.write(rest) :]
@@ -104,9 +112,12 @@ class Server:
 
     def __init__(self, command: Sequence[str], processes: Optional[int] = None, seconds: Optional[float] = None):
         self.command = list(command)
-        self.processes = processes or os.cpu_count() or 1
+        self.processes = processes or processors()
         self.seconds = seconds
         self.begin()
+        if hasattr(os, "register_at_fork"):
+            mine = weakref.ref(self)
+            os.register_at_fork(after_in_child=lambda: begin_anew(mine))
 
     def begin(self) -> None:
         """No process yet."""
@@ -158,9 +169,11 @@ class Server:
         except OSError as fault:
             raise Fault(f"{self.command[0]} doesn't run: {fault.strerror}", -1) from None
         try:
-            worker.receive()
+            worker.ask(None, self.seconds)
         except Ended:
             code = worker.stop()
+            if worker.is_late:
+                raise Fault(f"{' '.join(self.command)} didn't begin in {self.seconds} s", TOO_LATE) from None
             raise Fault(f"{' '.join(self.command)} ended with {code} when it began", code) from None
         except BaseException:
             worker.kill()
@@ -171,6 +184,13 @@ class Server:
     def close(self) -> None:
         """Ends the processes that are free. A later call begins new ones."""
         stop_all(self.free, self.owner)
+
+
+def begin_anew(server: weakref.ref[Server]) -> None:
+    """What was forked off has no process yet; it is told before it has threads, which could take the parent's."""
+    found = server()
+    if found is not None:
+        found.begin()
 
 
 def stop_all(workers: list[Worker], owner: int) -> None:

@@ -58,7 +58,10 @@ class Command(unittest.TestCase):
                 self.assertEqual(file.read(), f"file://{page}\n")
 
     def test_the_version(self) -> None:
-        self.assertEqual(ended(["--version"]), (0, f"{VERSION}\n".encode(), b""))
+        said = f"coop {VERSION}, answered by ".encode()
+        self.assertEqual(ended(["--version"], COOP="/nowhere/coop"), (0, said + b"/nowhere/coop\n", b""))
+        library = ended(["--version"], COOP="", COOP_LIBRARY="/nowhere/libcoop.so")
+        self.assertEqual((library[0], library[1][: len(said) + 6]), (0, said + b"nobody"))
 
 
 if __name__ == "__main__":

@@ -2,14 +2,17 @@
 import ctypes
 import os
 import pickle
+import signal
 import subprocess
 import sys
 import tempfile
+import time
 import unittest
+from concurrent.futures import FIRST_COMPLETED, ThreadPoolExecutor, wait
 from typing import Any
 
 from coop import Fault, NotFound
-from coop.program import TOP, Command, Library, find, named, run_elsewhere, spawned
+from coop.program import TOP, Call, Command, Library, _running, end_calls, find, named, run_elsewhere, spawned
 
 PACKAGE = os.path.join(TOP, "python")
 FIND = "import coop; print(coop.find().command)"
@@ -75,7 +78,8 @@ class Finding(unittest.TestCase):
         """A program goes to the processes of an executor by what names it."""
         self.assertEqual(pickle.loads(pickle.dumps(Command(["node", "x"]))).command, ["node", "x"])
         library = Library.__new__(Library)
-        library.path, library.ctypes = "/nowhere/libcoop.so", ctypes  # which can't be pickled
+        library.path, library.seconds = "/nowhere/libcoop.so", None
+        library.ctypes = ctypes  # which can't be pickled
         with self.assertRaisesRegex(NotFound, "/nowhere/libcoop.so"):
             pickle.loads(pickle.dumps(library))
 
@@ -85,7 +89,7 @@ class Calling(unittest.TestCase):
 
     def test_a_call(self) -> None:
         library, asked = Library.__new__(Library), []
-        library.ctypes = ctypes
+        library.ctypes, library.seconds, library.can_end = ctypes, None, False
 
         def call(words: bytes, length: int, document: bytes, size: int, line: Any, room: int, count: Any) -> int:
             answer = b"x" * 200000
@@ -94,10 +98,42 @@ class Calling(unittest.TestCase):
             count._obj.value = min(room, len(answer))
             return 6 if room < len(answer) else 1
 
-        library.call = call
+        library.function = call
         self.assertEqual(library.run(["gen", "table", "2", "1"], b"{}"), (1, b"x" * 200000))
         self.assertEqual([words for words, _, _ in asked], [b"gen\0table\0002\0001"] * 2)
         self.assertEqual([room for _, _, room in asked], [1 << 16, 1 << 19])
+
+    def test_a_call_that_is_ended(self) -> None:
+        """The time, Ctrl-C and whoever waits no more end a call, and leave nothing behind."""
+        library = Library.__new__(Library)
+        library.ctypes, library.seconds, library.can_end = ctypes, 0.05, True
+
+        def call(*given: Any) -> int:
+            while not given[-1].value:
+                time.sleep(0.001)
+            return 124  # at once, where it is set from the beginning
+
+        library.function = call
+        self.assertEqual(library.run(["core"], b"{}"), (124, b""))
+        library.seconds = None
+        before = signal.signal(signal.SIGALRM, signal.default_int_handler)
+        try:
+            signal.setitimer(signal.ITIMER_REAL, 0.05)
+            with self.assertRaises(KeyboardInterrupt):
+                library.run(["core"], b"{}")
+        finally:
+            signal.signal(signal.SIGALRM, before)
+        with ThreadPoolExecutor(2) as pool:
+            mine, other = pool.submit(library.run, ["core"], b""), pool.submit(library.run, ["core"], b"")
+            while len(_running) < 2:
+                time.sleep(0.001)
+            one, two = sorted(_running, key=lambda call: call.thread)
+            end_calls({one.thread})
+            done, left = wait((mine, other), return_when=FIRST_COMPLETED)
+            self.assertEqual((len(left), one.ends.value, two.ends.value), (1, 1, 0))
+            end_calls({two.thread})
+        self.assertFalse(_running)
+        self.assertIsInstance(one, Call)
 
 
 class Running(unittest.TestCase):

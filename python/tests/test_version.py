@@ -11,6 +11,8 @@ REPEATED = {
     "CITATION.cff": r"^version: (.*)$",
     "docs/definitions.md": r"YEAR, version (.*?), commit",
     "CHANGELOG.md": r"^## (\d+\.\d+\.\d+),",
+    "c/coop.h": r'^#define COOP_VERSION "(.*)"$',
+    "r/DESCRIPTION": r"^Version: (.*)$",
     "page/coop.html": r"The program inside: coop (\S+), of the sources",
 }
 """Where the number is repeated, and behind which words."""

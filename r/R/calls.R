@@ -1,0 +1,135 @@
+# What the program answers.
+
+nucleolus <- function(game, ...) shares_or_stop("nucleolus", as_game(game, ...))
+prenucleolus <- function(game, ...) shares_or_stop("prenucleolus", as_game(game, ...))
+shapley <- function(game, ...) shares_or_stop("shapley", as_game(game, ...))
+bird <- function(game, ...) shares_or_stop("bird", as_game(game, ...))
+core <- function(game, ...) answer_or_stop("core", as_game(game, ...))
+convex <- function(game, ...) answer_or_stop("convex", as_game(game, ...))
+matching <- function(game, ...) answer_or_stop("matching", as_game(game, ...))
+propose <- function(game, shares, ..., share_digits = 4)
+  answer_or_stop("propose", as_game(game, ...), proposed(shares, share_digits))
+kernel <- function(game, shares, ..., share_digits = 4)
+  answer_or_stop("kernel", as_game(game, ...), proposed(shares, share_digits))
+
+check <- function(answer) {
+  line <- if (is.character(answer)) answer else attr(answer, "line")
+  if (length(line) != 1 || !nzchar(line)) stop("what is checked is an answer of nucleolus or prenucleolus, or its line")
+  answer_of(asked("check", line), "check", NULL)
+}
+
+# The shares of each game of a list, in order. A vector of NA has the program's line as its attribute "why".
+solve_games <- function(command, games, ...) {
+  lapply(games, function(game) {
+    game <- as_game(game, ...)
+    got <- asked(command, document_of(game))
+    if (got$status <= 1 && grepl('"shares":', got$line, fixed = TRUE)) return(shares_of(got$line, game))
+    why <- if (nzchar(got$line)) got$line else paste("status", got$status)
+    structure(stats::setNames(rep(NA_real_, length(game$names)), game$names), why = why)
+  })
+}
+
+exact <- function(x) attr(x, "exact")
+holds <- function(x) identical(attr(x, "status"), 0L)
+
+# One call of the library: the status and the line.
+asked <- function(command, document) {
+  got <- .Call(coop_call, enc2utf8(command), enc2utf8(document))
+  list(status = got[[1]], line = sub("\n$", "", got[[2]]))
+}
+
+document_of <- function(game, shares = NULL)
+  sprintf('{"game":%s%s}', game$text, if (is.null(shares)) "" else paste0(',"shares":', array_of(shares)))
+
+# Shares that are proposed: those of an answer, as exact as they are; texts; or numbers, rounded to so many digits.
+proposed <- function(shares, digits) {
+  texts <- if (!is.null(exact(shares))) exact(shares) else shares
+  numbers_of(unname(texts), if (is.character(texts)) 0 else digits)
+}
+
+no_answer <- function(got, command) {
+  said <- if (nzchar(got$line)) got$line else "no line"
+  stop(structure(class = c("coop_no_answer", "error", "condition"),
+                 list(message = sprintf("%s has no answer, status %d: %s", command, got$status, said), call = NULL,
+                      status = got$status, line = got$line)))
+}
+
+shares_or_stop <- function(command, game) {
+  got <- asked(command, document_of(game))
+  if (got$status != 0) no_answer(got, command)
+  shares_of(got$line, game)
+}
+
+answer_or_stop <- function(command, game, shares = NULL)
+  answer_of(asked(command, document_of(game, shares)), command, game)
+
+answer_of <- function(got, command, game) {
+  if (got$status > 1) no_answer(got, command)
+  if (command == "core" && got$status == 0) return(shares_of(got$line, game))
+  found <- parsed(got$line)
+  structure(found, class = "coop_answer", status = got$status, line = got$line, names_of_players = game$names)
+}
+
+# The shares of a line, as numbers; the exact fractions are beside them.
+shares_of <- function(line, game) {
+  texts <- strsplit(gsub('"', "", sub('.*"shares":\\[([^]]*)\\].*', "\\1", line)), ",")[[1]]
+  structure(values_of(texts), names = game$names, exact = stats::setNames(texts, game$names), line = line, status = 0L,
+            class = "coop_shares")
+}
+
+values_of <- function(texts)
+  vapply(strsplit(texts, "/", fixed = TRUE), function(parts) Reduce(`/`, as.numeric(parts)), 0)
+
+print.coop_shares <- function(x, ...) {
+  print(data.frame(share = as.numeric(x), exact = unname(exact(x)), row.names = make.unique(names(x))), ...)
+  invisible(x)
+}
+
+`[.coop_shares` <- function(x, i) {
+  values <- stats::setNames(as.numeric(x), names(x))[i]
+  structure(values, exact = exact(x)[i], class = "coop_shares")
+}
+
+print.coop_answer <- function(x, ...) {
+  cat(attr(x, "line"), "\n", sep = "")
+  invisible(x)
+}
+
+# ---- A line of the program, as lists: an array of numbers or of texts is a vector.
+
+parsed <- function(line) {
+  tokens <- regmatches(line, gregexpr('"(?:[^"\\\\]|\\\\.)*"|-?[0-9][0-9.eE+-]*|[][{}:,]|[a-z]+', line, perl = TRUE))[[1]]
+  at <- 0
+  take <- function() tokens[at <<- at + 1]
+  value <- function() {
+    token <- take()
+    if (token == "{") return(members())
+    if (token == "[") return(items())
+    if (startsWith(token, '"')) text_of(token) else as.numeric(token)
+  }
+  members <- function() {
+    found <- list()
+    while (tokens[at + 1] != "}") {
+      name <- gsub(" ", "_", text_of(take()), fixed = TRUE)
+      take()
+      found[[name]] <- value()
+      if (tokens[at + 1] == ",") take()
+    }
+    take()
+    found
+  }
+  items <- function() {
+    found <- list()
+    is_nested <- FALSE
+    while (tokens[at + 1] != "]") {
+      is_nested <- is_nested || tokens[at + 1] %in% c("[", "{")
+      found[[length(found) + 1]] <- value()
+      if (tokens[at + 1] == ",") take()
+    }
+    take()
+    if (is_nested) found else unlist(found)
+  }
+  value()
+}
+
+text_of <- function(token) gsub("\\\\(.)", "\\1", substr(token, 2, nchar(token) - 1))
