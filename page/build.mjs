@@ -18,6 +18,7 @@ import { squeeze } from "./squeeze.mjs";
 const TOP = dirname(fileURLToPath(import.meta.url));
 const SRC = join(TOP, "src");
 const MOST = 800_000; // bytes of the page
+const SEVERAL = /^export const \w+ = [^;([{\n]*, \w+ = /m; // of which only the first would be exported
 
 /** What stands in the place of "/* NAME *\/" in a module, as the text of a string or as code. */
 function placesOf(own) {
@@ -74,6 +75,7 @@ function moduleOf(path, places, importing) {
     return `${what} ${name}`;
   });
   if (/^(import|export)\b/m.test(code)) throw new Error(`${path} has an import or an export of another form`);
+  if (SEVERAL.test(readFileSync(path, "utf8"))) throw new Error(`${path} exports several constants at once`);
   code = squeeze(code).replace(/\/\* ([A-Z]+) \*\//g, (whole, name) => places[name]?.() ?? whole);
   return `const ${nameOf(path)} = (() => {\n${code}\nreturn { ${exported.join(", ")} };\n})();`;
 }

@@ -114,9 +114,12 @@ function framed({ status, line }) {
   return bytes;
 }
 
+let telling = null; // what the page tells, where it was asked for
+
 /** The answer of the module, or why there is none. */
 function answerOf(engine, { words, document }) {
   try {
+    if (words[0] === "tell") return telling.told(engine, words.slice(1), document);
     return engine.run(words, document);
   } catch (fault) {
     if (fault instanceof RangeError) return { status: OUT_OF_MEMORY, line: new Uint8Array(0) };
@@ -124,11 +127,14 @@ function answerOf(engine, { words, document }) {
   }
 }
 
-function serveFrames(engine, ports) {
+async function serveFrames(engine, ports) {
   process.on("SIGINT", () => {}); // Ctrl-C in a terminal reaches this process, too
   ports.print(framed({ status: 0, line: new Uint8Array(0) }));
   const input = new Input(ports);
-  for (let request; (request = requestOf(input, ports)) !== null; ) ports.print(framed(answerOf(engine, request)));
+  for (let request; (request = requestOf(input, ports)) !== null; ) {
+    if (request.words[0] === "tell") telling ??= await import("./telling.mjs");
+    ports.print(framed(answerOf(engine, request)));
+  }
 }
 
 function serveLines(engine, ports, commands) {
@@ -147,7 +153,7 @@ async function serve(commands) {
   ports.needOutput();
   const engine = new Engine(ports.pageModule());
   if (commands) serveLines(engine, ports, commands);
-  else serveFrames(engine, ports);
+  else await serveFrames(engine, ports);
 }
 
 async function main([option, commands, ...more]) {

@@ -39,11 +39,13 @@ FIRST_DAY = (1980, 1, 1, 0, 0, 0)  # the same bytes at each build
 
 DATA = {
     "page": (
-        "coop.html", "coop.mjs", "serve.mjs", "package.json", "engine/host.js", "engine/inside.js", "engine/ports.js",
+        "coop.html", "coop.mjs", "serve.mjs", "telling.mjs", "package.json", "engine/host.js", "engine/inside.js",
+        "engine/ports.js",
     ),
     "scripts": ("check-anew",),
 }
-"""What a package has beside its modules, by the folders of the repository."""
+"""What a package has beside its modules, by the folders of the repository; and what telling.mjs imports."""
+IMPORT = re.compile(r'^(?:import|\}) .*from "(\.[^"]+)";$', re.MULTILINE)
 
 SOURCES = {"c": ("coop.h", "portable/host.c", "portable/portable.h", "portable/wasm.h")}
 """What the library is built from, beside the page."""
@@ -92,13 +94,30 @@ def folder_of(part: str) -> str:
 
 def modules() -> list[str]:
     """The modules of the package."""
-    return [name for name in sorted(os.listdir(os.path.join(HERE, PACKAGE))) if name.endswith((".py", ".typed"))]
+    top = os.path.join(HERE, PACKAGE)
+    return [
+        os.path.join(folder, name) if folder else name
+        for folder in ("", "desk")
+        for name in sorted(os.listdir(os.path.join(top, folder)))
+        if name.endswith((".py", ".typed"))
+    ]
+
+
+def data() -> dict[str, list[str]]:
+    """What a package has beside its modules, by the folders of the repository."""
+    page = list(DATA["page"])
+    for name in page:
+        with open(os.path.join(folder_of("page"), name), encoding="utf-8") as file:
+            found = IMPORT.findall(file.read()) if name.startswith(("telling", "src/")) else []
+        names = [os.path.normpath(os.path.join(os.path.dirname(name), other)).replace(os.sep, "/") for other in found]
+        page += sorted(set(names) - set(page))
+    return {**{part: list(names) for part, names in DATA.items()}, "page": page}
 
 
 def sources() -> dict[str, str]:
     """The files of the package, by their places in it."""
     found = {f"{PACKAGE}/{name}": os.path.join(HERE, PACKAGE, name) for name in modules()}
-    for part, names in DATA.items():
+    for part, names in data().items():
         found.update((f"{PACKAGE}/{part}/{name}", os.path.join(folder_of(part), name)) for name in names)
     return found
 
@@ -231,7 +250,7 @@ def build_sdist(directory: str, settings: Any = None) -> str:
     own = ("pyproject.toml", "backend.py", "portable.py", field("readme"))
     files = {name: os.path.join(HERE, name) for name in own}
     files.update((f"{PACKAGE}/{name}", os.path.join(HERE, PACKAGE, name)) for name in modules())
-    for part, names in {**DATA, **SOURCES}.items():
+    for part, names in {**data(), **SOURCES}.items():
         files.update((f"{part}/{name}", os.path.join(folder_of(part), name)) for name in names)
     name = f"{stem()}.tar.gz"
     with tarfile.open(os.path.join(directory, name), "w:gz") as archive:

@@ -3,8 +3,9 @@
 //     node tools/fuzz_readers.mjs TOP
 //
 // A request is a line {"command", "bytes" in base64, "agreed"}; so is the answer: what the module of the page says
-// (status and line), the page's checker, whether the page's slips and its look at lines end by an exception, and where
-// there is an agreed document, whether the page takes the two for one game. A "fault" stands in the place of what threw.
+// (status and line), the page's checker, the number of the first slip that the page finds, whether its look at lines ends
+// by an exception, and where there is an agreed document, what the two games are to each other. A "fault" stands in the
+// place of what threw.
 import fs from "node:fs";
 import { join, resolve } from "node:path";
 import { createInterface } from "node:readline";
@@ -17,7 +18,7 @@ const { moduleIn } = await load("engine/inside.js");
 const { parseJson } = await load("src/exact/json.js");
 const { checkAnew } = await load("src/check/check-anew.js");
 const { slipsOf } = await load("src/tell/slips.js");
-const { lookAtLine } = await load("src/work/lines.js");
+const { compared, lookAtLine } = await load("src/work/lines.js");
 const page = fs.readFileSync(join(top, "page", "coop.html"), "latin1");
 const engine = new Engine(new WebAssembly.Module(moduleIn(page)));
 const strict = new TextDecoder("utf-8", { fatal: true, ignoreBOM: true });
@@ -54,11 +55,11 @@ function answer({ command, bytes, agreed }) {
     }),
   };
   if (command === "check") found.checker = tried(() => ({ line: checkAnew(data).line ?? null }));
+  if (agreed === undefined) found.slips = tried(() => ({ number: slipsOf(data, command)[0]?.number ?? null }));
   if (text === null) return found;
   if (agreed === undefined) {
-    found.slips = tried(() => ({ count: slipsOf(text, command).length }));
     found.look = tried(() => (lookAtLine({ line: text, agreed: "" }, ask), {}));
-  } else found.same = tried(() => ({ isYes: lookAtLine({ line: text, agreed }, ask).same?.isYes ?? null }));
+  } else found.same = tried(() => ({ outcome: compared(text, agreed, ask).outcome }));
   return found;
 }
 

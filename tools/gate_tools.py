@@ -39,7 +39,7 @@ TOOLS = (
     Tool("try-sizes", has_folder=False),
     Tool("try-check-anew"),
     Tool("try-coq", needs=("coqc", "coqchk", "coq_makefile", "ocamlopt", "make")),
-    Tool("try-scripts"),
+    Tool("try-scripts", needs=("node",)),
     Tool("try-python", uses=("mypy", "flake8")),
     Tool("try-engines", needs=("node",), uses=("dask", "mpirun", "parallel"), has_program=False, takes_program=False),
     Tool("try-portable", needs=("cc", "make", "ar", "node"), uses=("valgrind",), has_program=False),

@@ -53,8 +53,8 @@ const SAME = [
   ["a Cyrillic letter", agreed.replace("Brandt", "Br\u0430ndt"), agreed, false, /“\u0430” \(Cyrillic, \\u0430\)/],
   ["two ways to write an accent", agreed.replace("Adler", "A\u0308dler"), agreed.replace("Adler", "\u00c4dler"), false,
     /“A” and an accent by itself \(\\u0308\), and the agreed file “Ä”/],
-  ["a claim above the estate", agreed.replace("300]", "250]"), agreed, true,
-    /each group is worth the same.\nthe claim of Chopra \(item 3\): the line has 250, the agreed file 300/],
+  ["a claim above the estate", agreed.replace("300]", "250]"), agreed, null,
+    /^Worth the same, [\s\S]* looks at the claims may give other shares.\nthe claim of Chopra .* 250, .* 300/],
   ["no names", agreed.replace(`,${names}`, ""), agreed, false, /The names: the line has none/],
   ["a text that is none", agreed, "Adler;100", null, /Nobody can say: the agreed file can’t be read/],
   ["no game", agreed, "{}", null, /the agreed file has no game/],
@@ -94,7 +94,10 @@ for (const [name, line, file, isYes, wanted] of [
   ["a network in another order", network(["a", "b", "c"], "[[0,1,2,3],[1,0,4,5],[2,4,0,6],[3,5,6,0]]"),
     network(["c", "a", "b"], "[[0,3,1,2],[3,0,5,6],[1,5,0,4],[2,6,4,0]]"), true, /in another order/],
   ["and with another link", network(["a", "b", "c"], "[[0,1,2,3],[1,0,4,5],[2,4,0,6],[3,5,6,0]]"),
-    network(["c", "a", "b"], "[[0,3,1,2],[3,0,5,7],[1,5,0,4],[2,7,4,0]]"), false, /The link from b to c/],
+    network(["c", "a", "b"], "[[0,3,1,2],[3,0,5,1],[1,5,0,4],[2,1,4,0]]"), false, /The link from b to c/],
+  ["and with another that nobody needs", network(["a", "b", "c"], "[[0,1,2,3],[1,0,4,5],[2,4,0,6],[3,5,6,0]]"),
+    network(["c", "a", "b"], "[[0,3,1,2],[3,0,5,7],[1,5,0,4],[2,7,4,0]]"), null,
+    /A rule that looks at the links may give other shares. The players stand in another order/],
   ["a link of two costs", links(3), oneWay, null, REFUSED],
   ["sparse and worths", costs(some), costs(`${some},${both}`), null, REFUSED],
   ["a measure that isn’t there", dear, dear.replace('"class"', '"excess":"perhead","class"'), null, REFUSED],
@@ -112,6 +115,34 @@ for (const [name, line, file, isYes, wanted] of [
 expect("and no check of it", isOfGame({ line: cheap, agreed: "", text: dear }, ask), false);
 expect("nor by the agreed file", isOfGame({ line: cheap, agreed: dear.replace(/"sparse"/, '"sparsed":1,"sparse"'),
   text: dear }, ask), false);
+
+/** Games of two classes, or by other numbers, and large ones. */
+const air = (rest, more = "") => `{"game":{"class":"airport","costs":[${rest}]${more}}}`;
+const air3 = ',"names":["a","b","c"]', asTable = '"names":["a","b","c"],"worths":[2,4,4,6,6,6,';
+const votes = (quota, list) => `{"game":{"class":"voting","quota":${quota},"weights":[${list}]}}`;
+const ones = (count, last = 1) => [...Array(count - 1).fill(1), last].join();
+const claims = (estate, last) => `{"game":{"class":"bankruptcy","estate":${estate},"claims":[${ones(40, last)}]}}`;
+const pairs = (kind, matrix) => `{"game":{"class":"${kind}","matrix":${matrix}}}`;
+for (const [name, line, file, outcome, wanted] of [
+  ["a runway as a table", air("2,4,6", air3), `{"game":{"class":"cost-table","players":3,${asTable}6]}}`,
+    "worth the same", /what each needs may give other shares. The program doesn’t answer the same questions/],
+  ["and in another order", air("4,6,2", air3.replace('"a","b","c"', '"b","c","a"')),
+    `{"game":{"class":"cost-table","players":3,${asTable}6]}}`, "worth the same", /stand in another order/],
+  ["and another", air("2,4,6", air3), `{"game":{"class":"cost-table","players":3,${asTable}7]}}`, "another",
+    /They differ at:\nthe class: [\s\S]*all together cost 6 by the line, and 7 by the agreed file/],
+  ["other votes", votes(2, "1,1,1"), votes(7, "3,4,5"), "worth the same", /A rule that looks at the votes may/],
+  ["other votes of many", votes(10, ones(20)), votes(20, Array(20).fill(2).join()), "nobody can say", /too many/],
+  ["a claim of many above the estate", claims(20, 21), claims(20, 22), "worth the same", /the claims may/],
+  ["a claim of many below it", claims(20, 19), claims(20, 18), "another", /claim of player 40 \(item 40\)/],
+  ["a runway of many", air(ones(64)), air(ones(64, 2)), "another", /What player 64 needs/],
+  ["a market of many", pairs("market", `[[${ones(32)}]]`), pairs("market", `[[${ones(32, 2)}]]`), "another", /gain/],
+  ["a market as an assignment", pairs("market", "[[1,2]]"), pairs("assignment", "[[1,2]]"), "worth the same",
+    /looks at the pairs may[\s\S]*the class: the line has market/],
+]) {
+  const { same } = lookAtLine({ line, agreed: file }, ask);
+  expect(name, same.outcome, outcome);
+  expect(`${name}, told`, [same.sentence, ...same.items].join("\n"), wanted);
+}
 
 const table = (rest) => `{"game":{"class":"table","players":3,"names":["a","b","c"],${rest}}}`;
 const byName = table('"sparse":[[["a","b"],4],[["a","b","c"],6]]'), byMask = table('"worths":[0,0,4,0,0,0,6]');

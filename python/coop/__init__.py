@@ -6,10 +6,13 @@
     print(coop.nucleolus(game).shares["medium"])        # 3/2
 
 The constructors make games (`games`), the calls ask the program (`calls`) and give answers (`answers`) or raise
-(`errors`). docs/python.md of the project tells more.
+(`errors`). This is the client, of numbers alone; `coop.desk` tells and draws. Both have modules that are imported when
+they are first named, as `coop.readers`. docs/python.md of the project tells more.
 """
+from importlib import import_module
 from typing import Any
 
+from . import shown
 from .answers import Answer, Bird, Blocked, Convex, CorePoint, EmptyCore, InCore, InPrekernel, Matching, No
 from .answers import NoImputation, NotConvex, NotEfficient, NotInPrekernel, Nucleolus, Shapley, Yes
 from .calls import bird, check, convex, core, kernel, least_core, matching, nucleolus, prenucleolus, propose, shapley
@@ -19,6 +22,24 @@ from .games import airport, assignment, bankruptcy, cost_table, landings, market
 from .many import many
 from .program import find
 from .version import VERSION as __version__
+
+MODULES = ("airlines", "desk", "far", "filling", "networks", "readers", "runways", "telling", "variants", "vectors")
+"""What is imported when it is first named."""
+
+
+def __getattr__(name: str) -> Any:
+    """A module of this package."""
+    if name in MODULES:
+        return import_module(f".{name}", __name__)
+    raise AttributeError(f"module {__name__!r} has no attribute {name!r}")
+
+
+def _of_desk(name: str) -> Any:
+    """A function of the desk’s notebook, which is imported when it is called."""
+    return lambda *words: getattr(import_module(".desk.notebook", __name__), name)(*words)
+
+
+shown.makers.update(game=_of_desk("of_game"), answer=_of_desk("of_answer"), series=_of_desk("series"))
 
 __all__ = [  # fmt: skip
     "__version__",
@@ -73,12 +94,3 @@ __all__ = [  # fmt: skip
     "tree",
     "voting",
 ]
-
-
-def __getattr__(name: str) -> Any:
-    """A module of the package by its name, as `coop.readers`, when it is first asked for."""
-    import importlib.util
-
-    if name.startswith("_") or importlib.util.find_spec(f"{__name__}.{name}") is None:
-        raise AttributeError(f"module {__name__!r} has no attribute {name!r}")
-    return importlib.import_module(f"{__name__}.{name}")

@@ -10,6 +10,7 @@ from dataclasses import dataclass, field
 from fractions import Fraction
 from typing import Any, Callable, Optional
 
+from . import shown
 from .game import Game
 
 Shares = dict[str, Fraction]
@@ -30,9 +31,8 @@ class Answer:
 
     def _repr_html_(self) -> str:
         """What a notebook shows."""
-        from .notebook import of_answer
-
-        return of_answer(self)
+        text: str = shown.makers["answer"](self)
+        return text
 
 
 class Sharing:
@@ -42,9 +42,7 @@ class Sharing:
 
     def to_pandas(self, places: Optional[int] = None) -> Any:
         """The shares as a Series of pandas: fractions, or floats of so many places."""
-        from .notebook import series
-
-        return series(self.shares, type(self).__name__.lower(), places)
+        return shown.makers["series"](self.shares, type(self).__name__.lower(), places)
 
 
 @dataclass(frozen=True)

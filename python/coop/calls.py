@@ -3,14 +3,21 @@ from __future__ import annotations
 
 import json
 from fractions import Fraction
+from functools import partial
 from typing import Any, Mapping, Optional, Sequence, Union, cast
 
 from . import answers
 from .amounts import Amount, fractions_of, written
 from .answers import Answer
-from .errors import BadInput, Fault, NoAnswer, NoMemory, Refused, Usage
+from .errors import BadInput, Fault, NoAnswer, NoMemory, Refused, Slip, Usage
 from .game import Game, encoded
 from .program import Program, find
+from .telling import slips
+
+COMMANDS = (  # fmt: skip
+    "nucleolus", "prenucleolus", "propose", "core", "bird", "check", "shapley", "convex", "kernel", "matching",
+)
+"""The words of the commands on a document."""
 
 Chosen = Union[None, str, Program]
 """A program by its name or itself; None for the one that is found."""
@@ -155,20 +162,12 @@ def fault_of(command: str, status: int, line: str, document: bytes) -> NoAnswer:
             tree = json.loads(line)
             if status == 2:
                 return Usage(f"{command}: {USAGES[tree['usage']]}", status, line)
-            return refusal(line, tree["number"], tree["refused"], command, document)
+            return Refused(line, tree["number"], tree["refused"], partial(slip_of, command, document))
         except (ValueError, KeyError, TypeError):
             pass
     return Fault(f"{FAULTS.get(status, 'the program ended')} (status {status})", status, line)
 
 
-def refusal(line: str, number: int, name: str, command: str, document: bytes) -> Refused:
-    """The exception of a refused document, with the place of the slip where that was found."""
-    from .slips import slip_in
-
-    try:
-        slip = slip_in(document, command)
-    except BadInput:  # it has more parts than any document
-        slip = None
-    where = slip if slip and slip.number == number else None
-    sentence = f"refused, {number} {name}" + (f": {where}" if where else "")
-    return Refused(sentence, line, number, name, where)
+def slip_of(command: str, document: bytes) -> Optional[Slip]:
+    """The mistake of a document that a command refused."""
+    return slips(document, command)[0]

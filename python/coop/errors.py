@@ -1,10 +1,21 @@
 """What can go wrong, as exceptions."""
 from __future__ import annotations
 
-from typing import TYPE_CHECKING, Any, Optional
+from dataclasses import dataclass
+from typing import Any, Callable, Optional
 
-if TYPE_CHECKING:
-    from .slips import Slip
+
+@dataclass(frozen=True)
+class Slip:
+    """A mistake in a document: the number and the name of the refusal, its place, and what is wrong there."""
+
+    number: int
+    name: str
+    place: str
+    sentence: str
+
+    def __str__(self) -> str:
+        return f"{self.place}: {self.sentence}"
 
 
 class CoopError(Exception):
@@ -54,14 +65,32 @@ class Usage(NoAnswer):
 class Refused(NoAnswer):
     """The document is refused, by a number and a name; status 3."""
 
-    def __init__(self, sentence: str, line: str, number: int, name: str, where: Optional[Slip] = None):
-        super().__init__(sentence, 3, line)
+    def __init__(self, line: str, number: int, name: str, find: Callable[[], Optional[Slip]]):
+        super().__init__(f"refused, {number} {name}", 3, line)
         self.number = number
         """The number of the refusal."""
         self.name = name
         """The name of the refusal."""
-        self.where = where
-        """The place of the mistake, if it was found."""
+        self.find = find
+
+    @property
+    def where(self) -> Optional[Slip]:
+        """The mistake with its place, which is sought when it is first asked for. None where it isn't found, as where
+        there is no Node."""
+        if "found" not in self.__dict__:
+            self.found = self.sought()
+        return self.found
+
+    def sought(self) -> Optional[Slip]:
+        """The mistake, if it is that of the refusal."""
+        try:
+            slip = self.find()
+        except CoopError:
+            return None
+        return slip if slip and slip.number == self.number else None
+
+    def __str__(self) -> str:
+        return super().__str__() + (f": {self.where}" if self.where else "")
 
 
 class Fault(NoAnswer):

@@ -6,6 +6,7 @@ import re
 from fractions import Fraction
 from typing import Any
 
+from . import shown
 from .errors import BadInput
 from .masks import mask_of, members
 from .matching import best_matching
@@ -90,9 +91,8 @@ class Game:
 
     def _repr_html_(self) -> str:
         """What a notebook shows."""
-        from .notebook import of_game
-
-        return of_game(self)
+        text: str = shown.makers["game"](self)
+        return text
 
     def count_players(self, tree: dict[str, Any]) -> int:
         """The number of players, with the numbers of the game unless it is a table."""

@@ -185,6 +185,7 @@ def end_calls(threads: Container[int]) -> None:
 # ---- Finding it
 
 _found: Optional[Program] = None
+_page: Optional[Program] = None
 
 
 def find(program: Union[None, str, Program] = None) -> Program:
@@ -231,12 +232,9 @@ def found() -> Program:
     inside = library_inside()
     if inside:
         return inside
-    page, builder = page_folder(), os.path.join(TOP, "bin", "coop")
-    node = which("node") or which("nodejs")
-    if node and page:
-        from .server import Server
-
-        return Server([node, os.path.join(page, "serve.mjs")])
+    page, builder, server = page_folder(), os.path.join(TOP, "bin", "coop"), page_server()
+    if server:
+        return server
     if which("rt") and os.access(builder, os.X_OK):
         return Command([builder])
     others = "or name a program, set COOP to it, or put it on the path"
@@ -265,6 +263,18 @@ def said(program: Program) -> str:
         return f"the library {program.path}"
     command = getattr(program, "command", None)
     return " ".join(command) if command else repr(program)
+
+
+def page_server() -> Optional[Program]:
+    """The processes of Node that answer by the module in the page, and tell what the page does; begun when they are
+    first asked, and kept. None where there is no Node or no page."""
+    global _page
+    node, page = which("node") or which("nodejs"), page_folder()
+    if _page is None and node and page:
+        from .server import Server
+
+        _page = Server([node, os.path.join(page, "serve.mjs")])
+    return _page
 
 
 def page_folder() -> Optional[str]:

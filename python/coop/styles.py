@@ -4,9 +4,11 @@ from __future__ import annotations
 from dataclasses import dataclass
 from fractions import Fraction
 from math import floor
-from typing import Optional, Sequence
+from typing import Any, Optional, Sequence
 
 MOST_PLACES = 12
+MARKS = {".": ",", ",": "."}
+"""The decimal marks, each with the sign between thousands that goes with it."""
 
 
 @dataclass(frozen=True)
@@ -15,11 +17,15 @@ class Style:
 
     places: Optional[int] = None
     unit: str = ""
+    mark: str = "."
 
     def __call__(self, value: Fraction) -> str:
         """The number in this style."""
-        text = str(value) if self.places is None else decimal(steps_of(value, self.places), self.places)
-        return text + self.behind
+        return (str(value) if self.places is None else self.decimal(steps_of(value, self.places))) + self.behind
+
+    def decimal(self, steps: int) -> str:
+        """So many steps of the last place."""
+        return decimal(steps, self.places or 0, MARKS[self.mark], self.mark)
 
     @property
     def behind(self) -> str:
@@ -35,6 +41,11 @@ class Style:
         return self.places is not None and (value * 10**self.places).denominator > 1
 
 
+    def spelling(self) -> dict[str, Any]:
+        """The same as the page's modules are told it."""
+        return {"places": self.places, "unit": self.unit, "mark": self.mark, "thousands": MARKS[self.mark]}
+
+
 EXACT = Style()
 """Fractions, without a unit."""
 
@@ -46,11 +57,11 @@ def steps_of(value: Fraction, places: int) -> int:
     return -steps if value < 0 else steps
 
 
-def decimal(steps: int, places: int, separator: str = ",") -> str:
+def decimal(steps: int, places: int, separator: str = ",", mark: str = ".") -> str:
     """So many steps of the last place as a decimal, with thousands separated."""
     digits = str(abs(steps)).rjust(places + 1, "0")
     whole = f"{int(digits[:len(digits) - places]):,}".replace(",", separator)
-    return "-" * (steps < 0) + whole + ("." + digits[len(digits) - places :] if places else "")
+    return "-" * (steps < 0) + whole + (mark + digits[len(digits) - places :] if places else "")
 
 
 def rounded(shares: Sequence[Fraction], places: int, whole: Optional[int] = None) -> list[int]:
@@ -76,4 +87,4 @@ def column(shares: Sequence[Fraction], style: Style) -> list[str]:
     if style.places is None:
         return [style(value) for value in values]
     steps = rounded(shares, style.places)
-    return [decimal(step, style.places) + style.behind for step in [*steps, sum(steps)]]
+    return [style.decimal(step) + style.behind for step in [*steps, sum(steps)]]

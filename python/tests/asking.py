@@ -3,7 +3,7 @@ import unittest
 from typing import Sequence
 
 from coop.errors import NotFound
-from coop.program import find
+from coop.program import find, page_server
 
 
 def has_program() -> bool:
@@ -16,6 +16,7 @@ def has_program() -> bool:
 
 
 needs_program = unittest.skipUnless(has_program(), "there is no program coop")
+needs_node = unittest.skipUnless(page_server(), "there is no Node, which tells what the page does")
 
 
 class Answering:

@@ -17,9 +17,10 @@ FOLDER = os.path.join(TOP, "python", "coop")
 NODE = which("node") or which("nodejs")
 PURE = {"library": "no"}
 ASKS = """
-import coop, coop.checking
+import coop, coop.desk.checking
 print(coop.airport([1, 2]).worth(3), coop.__file__)
-print(coop.checking.verdict(coop.nucleolus(coop.airport([2, 4, 6])).line.encode()))
+print(coop.desk.checking.verdict(coop.nucleolus(coop.airport([2, 4, 6])).line.encode()))
+print(coop.telling.same(*(coop.airport([cost]).document().decode() for cost in (1, 2))).outcome)
 """
 
 
@@ -51,10 +52,9 @@ class Built(unittest.TestCase):
             name, digest, size = line.split(",")
             self.assertEqual((digest, size), (f"sha256={backend.sum_of(found[name])}", str(len(found[name]))))
         wanted = {f"coop/{name}": os.path.join(FOLDER, name) for name in backend.modules()}
-        for part in ("page/coop.html", "page/coop.mjs", "page/serve.mjs", "page/package.json", "scripts/check-anew"):
-            wanted[f"coop/{part}"] = os.path.join(TOP, part)
-        for part in ("host.js", "inside.js", "ports.js"):
-            wanted[f"coop/page/engine/{part}"] = os.path.join(TOP, "page", "engine", part)
+        for folder, names in backend.data().items():
+            wanted.update((f"coop/{folder}/{name}", os.path.join(TOP, folder, name)) for name in names)
+        self.assertLess({"coop/page/coop.html", "coop/page/telling.mjs", "coop/scripts/check-anew"}, set(wanted))
         own = {f"{info}/{part}" for part in ("METADATA", "WHEEL", "RECORD")}
         self.assertEqual(set(found), {*wanted, *own})
         for name, path in wanted.items():
@@ -118,7 +118,7 @@ class Built(unittest.TestCase):
         found = self.asked(python, tools)
         self.assertIn(b"NotFound: no program found: put Node 18 or later on the path", found[1])
         os.symlink(NODE or "", os.path.join(tools, "nodejs"))
-        said = f"-2 {os.path.join(site, 'coop', '__init__.py')}\n{{'answer': 'yes'}}\n"
+        said = f"-2 {os.path.join(site, 'coop', '__init__.py')}\n{{'answer': 'yes'}}\nanother\n"
         self.assertEqual(self.asked(python, tools), (said.encode(), b""))
 
     def asked(self, python: str, path: str) -> tuple[bytes, bytes]:

@@ -107,8 +107,8 @@ class Calls(unittest.TestCase):
         with self.assertRaises(coop.Refused) as raised:
             coop.nucleolus(coop.Game({"class": "airport", "costs": [-1]}))
         self.assertEqual((raised.exception.number, raised.exception.name), (5, "Number"))
-        place = "$.game.costs[0] (the cost of player 1)"
-        self.assertEqual(str(raised.exception), f"refused, 5 Number: {place}: -1 is below 0")
+        place = "game.costs, item 1 (the cost of player 1)"
+        self.assertEqual(str(raised.exception), f"refused, 5 Number: {place}: A number here can’t be negative.")
         with self.assertRaises(coop.Refused) as raised:
             coop.check("{}")
         self.assertEqual((raised.exception.status, raised.exception.number), (3, 3))

@@ -200,7 +200,7 @@ class Scripts(unittest.TestCase):
             with open(path, "w", encoding="utf-8") as file:
                 file.write(twice)
             told = script("explain", "-", path, text='{"number":5,"refused":"Number"}')
-        self.assertIn('Besides, at $.game: the key "costs" is given twice', " ".join(told[1].split()))
+        self.assertIn('Besides, at game: the key "costs" is given twice', " ".join(told[1].split()))
 
     @needs_program
     def test_columns_of_many(self) -> None:
@@ -300,9 +300,13 @@ class Scripts(unittest.TestCase):
             self.assertEqual(script("same-game", line, agreed)[::2], (0, ""))
             self.assertEqual(
                 script("same-game", "-", agreed, text=json.dumps({"game": other}))[:2],
-                (1, "another game:\n  the cost of heavy (item 3): 7 in the line, 6 in the agreed document\n"),
+                (1, "No. What heavy needs (item 3): the line has 7, the agreed file 6.\n"),
             )
-            self.refused(script("same-game", line, twice), 'the key "costs" is given twice')
+            status, text, _ = script("same-game", line, twice)
+            self.assertEqual((status, text[:47]), (2, "In the agreed file a key occurs twice: costs. N"))
+            table = {"class": "cost-table", "players": 3, "names": AIRPORT["names"], "worths": [2, 4, 4, 6, 6, 6, 6]}
+            status, text, _ = script("same-game", "-", agreed, text=json.dumps({"game": table}))
+            self.assertEqual((status, text[:14]), (3, "Worth the same"))
             marked = "\ufeff" + json.dumps({"game": AIRPORT})
             self.refused(script("same-game", "-", agreed, text=marked), "standard input begins with a byte order mark")
             with open(twice, "w", encoding="utf-8") as file:
@@ -326,7 +330,7 @@ class Scripts(unittest.TestCase):
                     with open(path, "w", encoding="utf-8") as file:
                         json.dump({"game": one}, file)
                     found = script("same-game", "-", path, text=json.dumps({"game": other}))
-                    self.refused(found, f"the program refuses it, {told}")
+                    self.assertEqual((found[0], found[1][:40]), (2, "Nobody can say: the program refuses the "), told)
 
     def test_a_share_of_many_zeros(self) -> None:
         """It is no fraction, and no traceback with the status of a no."""
@@ -341,15 +345,15 @@ class Scripts(unittest.TestCase):
         self.assertEqual(script("slip", text=slip)[0], 1)
         self.assertEqual(script("slip", PROPOSAL), (0, "no mistake found\n", ""))
         self.assertIn(
-            "3 Shape, at $: the document lacks the key shares",
+            "3 Shape, at the document: The key “shares” is missing.",
             script("slip", "--command", "kernel", text='{"game":1}')[1],
         )
         twice = '{"game":{"class":"airport","costs":[2,4,6],"costs":[2,4,%s]}}'
-        told = 'at $.game: the key "costs" is given twice, and the last one counts\n'
+        told = 'at game: the key "costs" is given twice, and the last one counts\n'
         self.assertEqual(script("slip", text=twice % 7), (1, f"no refusal, but {told}", ""))
         both = script("slip", text=twice % 1.5)
         self.assertEqual((both[0], both[1].count("\n"), both[1].splitlines(True)[1]), (1, 2, f"also {told}"))
-        self.assertTrue(both[1].startswith("5 Number, at $.game.costs[2] (the cost of player 3): 1.5 has a point"))
+        self.assertTrue(both[1].startswith("5 Number, at game.costs, item 3 (the cost of player 3): 1.5 is no whole "))
 
     def test_compare(self) -> None:
         lines = json.dumps(solved()) + json.dumps({"shares": ["2/3", "5/3", "11/3"]})

@@ -12,15 +12,16 @@ from typing import Any
 
 import coop
 from coop import BadInput
-from coop.documents import Point, points_in, read_documents, short_names
-from coop.pictures import core_alone, picture
-from coop.reasons import checked, reasons
-from coop.report import report
-from coop.sameness import difference, game_of, told, verdict
+from coop.desk.documents import Point, game_in, points_in, read_documents, short_names
+from coop.desk.pictures import core_alone, picture
+from coop.desk.reasons import checked, reasons
+from coop.desk.report import report
 from coop.styles import Style
-from coop.svg import width
-from coop.triangle import overlap
+from coop.desk.svg import width
+from coop.telling import same
+from coop.desk.triangle import overlap
 
+from .asking import needs_node
 from .test_reasons import AIRPORT, solved
 
 
@@ -147,123 +148,55 @@ class Mail(Files):
             for is_document in (True, False):
                 with self.assertRaisesRegex(BadInput, "isn't JSON.*mail has changed it") as caught:
                     if is_document:
-                        game_of(self.file("line", text))
+                        game_in(self.file("line", text))
                     reasons(text.encode())
                 self.assertIn(sentence, str(caught.exception))
                 self.assertIn("button", str(caught.exception))
         for text in ("", "{", "{'game':1}", "hello\nthere"):
             with self.assertRaises(BadInput) as caught:
-                game_of(self.file("line", text))
+                game_in(self.file("line", text))
             self.assertNotIn("mail", str(caught.exception))
 
 
+@needs_node
 class Sameness(Files):
-    def test_differences(self) -> None:
-        cases: list[tuple[Any, str]] = [
-            ({**AIRPORT, "costs": [2, 4, 7]}, "game.costs, item 3"),
-            ({**AIRPORT, "costs": [2, 4, 6.0]}, "game.costs, item 3"),
-            ({**AIRPORT, "costs": [2, 4, "6"]}, "game.costs, item 3"),
-            ({**AIRPORT, "costs": [2, 4]}, "game.costs"),
-            ({**AIRPORT, "names": ["light", "medium", "heavy\u200b"]}, "game.names, item 3"),
-            ({**AIRPORT, "excess": "per-head"}, "game.excess"),
-            ({key: value for key, value in AIRPORT.items() if key != "names"}, "game.names"),
+    """What two games are to each other; page/test/lines.mjs tries more."""
+
+    def said(self, one: Any, other: Any) -> tuple[str, str]:
+        """The outcome, and all that is told."""
+        found = same(json.dumps({"game": one}), json.dumps({"game": other}))
+        return found.outcome, "\n".join([found.sentence, *found.items, *found.entries])
+
+    def test_outcomes(self) -> None:
+        swapped = {**AIRPORT, "costs": [4, 2, 6], "names": ["medium", "light", "heavy"]}
+        table = {"class": "cost-table", "players": 3, "names": AIRPORT["names"]}
+        cases: list[tuple[Any, str, str]] = [
+            (AIRPORT, "same", "entry for entry"),
+            (swapped, "same", "in another order"),
+            ({**AIRPORT, "costs": ["2", 4, 6], "version": 2}, "same", "what medium needs (item 2): 4"),
+            ({**table, "worths": [2, 4, 4, 6, 6, 6, 6]}, "worth the same", "what each needs may give other shares"),
+            ({**table, "worths": [2, 4, 4, 6, 6, 6, 7]}, "another", "all together cost 7"),
+            ({**AIRPORT, "costs": [2, 4, 7]}, "another", "What heavy needs (item 3): the line has 7"),
+            ({**AIRPORT, "names": ["light", "medium", "heavy\u200b"]}, "another", "look alike"),
+            ({**AIRPORT, "excess": "per-head"}, "another", "the line has “per head”"),
+            ({**AIRPORT, "costs": [2, 4, 6.0]}, "nobody can say", "the program refuses the line"),
         ]
-        for other, place in cases:
-            for pair in ((AIRPORT, other), (other, AIRPORT)):
-                found = difference(*pair)
-                self.assertEqual(found and found.place, place)
-        self.assertIsNone(difference(AIRPORT, dict(reversed(list(AIRPORT.items())))))
-        self.assertEqual(difference({"version": True}, {"version": 1}), ("game.version", "true", "1"))
-
-    def test_what_differs_is_told_by_names(self) -> None:
-        """All of it, and not only the first slip; where names look alike, with escapes."""
-        first = coop.bankruptcy(100, {"Adler": 90, "Br\u00fcnn KG": 80, "Chopra": 70})
-        second = coop.bankruptcy(120, {"Adler": 91, "Bru\u0308nn KG": 80, "Chopra": 17}, per_head=True)
-        self.assertEqual(
-            verdict(first, second),
-            (
-                "another game, by 5 differences:\n"
-                "  the excess: plain in the line, per head in the agreed document\n"
-                "  the name of player 2, which looks alike: Br\\xfcnn KG in the line,"
-                " Bru\\u0308nn KG in the agreed document\n"
-                "  the estate: 100 in the line, 120 in the agreed document\n"
-                "  the claim of Adler (item 1): 90 in the line, 91 in the agreed document\n"
-                "  the claim of Chopra (item 3): 70 in the line, 17 in the agreed document\n",
-                False,
-            ),
-        )
-        table = [coop.table([k] * 15, order="mask") for k in (1, 2)]
-        self.assertIn("\n  and 5 more\n", verdict(*table)[0])
-        self.assertIn("the worth of player 1 alone: 1 in the line, 2 in", verdict(*table)[0])
-        tree = [coop.tree([[0, k], [k, 0]], ["a"]) for k in (1, 2)]
-        self.assertIn("the entry of the source and a (row 1, column 2): 1 in the line, 2 in", verdict(*tree)[0])
-        self.assertIn("another game:\n  the class: tree", verdict(tree[0], first)[0])
-        self.assertIn("the players: 1 in the line, 3 in", verdict(coop.bankruptcy(1, {"a": 1}), first)[0])
-        swapped = coop.bankruptcy(100, {"Br\u00fcnn KG": 80, "Adler": 90, "Chopra": 70})
-        text, is_same = verdict(first, swapped)
-        self.assertEqual(
-            text,
-            "the same numbers by name, but the players stand in another order:\n"
-            "  player 1: Adler in the line, Br\u00fcnn KG in the agreed document\n"
-            "  player 2: Br\u00fcnn KG in the line, Adler in the agreed document\n",
-        )
-        self.assertFalse(is_same)
-
-    def test_players_in_another_order(self) -> None:
-        """Of each class numbers are compared by name, and only those that differ so are told."""
-        head = "the same numbers by name, but the players stand in another order:\n  player 1: b in the line, a in"
-        for one, two in (
-            (coop.table({"b": 2, "a": 1, "a+b": 9}), coop.table({"a": 1, "b": 2, "a+b": 9})),
-            (coop.airport({"b": "5/2", "a": 1}), coop.airport({"a": 1, "b": "5/2"})),
-            (coop.voting(3, {"b": 2, "a": 1}), coop.voting(3, {"a": 1, "b": 2})),
-            (
-                coop.tree([[0, 4, 3], [4, 0, 1], [3, 1, 0]], ["b", "a"]),
-                coop.tree([[0, 3, 4], [3, 0, 1], [4, 1, 0]], ["a", "b"]),
-            ),
-            (
-                coop.assignment([[3, 4], [1, 2]], ["b", "a", "x", "y"]),
-                coop.assignment([[1, 2], [3, 4]], ["a", "b", "x", "y"]),
-            ),
-        ):
-            text, is_same = verdict(one, two)
-            self.assertEqual((text[: len(head)], text.count("\n"), is_same), (head, 3, False))
-        other = verdict(coop.airport({"b": 3, "a": 1}), coop.airport({"a": 1, "b": 2}))[0]
-        first = "another game, by 1 difference by name:\n  the cost of b: 3 in the line, 2 in the agreed document\n"
-        self.assertTrue(other.startswith(first), other)
-        self.assertIn("and the players stand in another order:\n  player 1: b in", other)
-        crossed = verdict(coop.assignment([[1]], ["a", "b"]), coop.assignment([[1]], ["b", "a"]))[0]
-        self.assertIn("the name of player 1: a in the line", crossed)
-
-    def test_the_same_written_otherwise(self) -> None:
-        """By worths or by items, by version and measure; and the keys of a game that no program takes stay told."""
-        table = {"class": "cost-table", "players": 2, "names": ["a", "b"]}
-        one = coop.Game({**table, "worths": [1, "5/2", 3], "version": 2})
-        sparse = {"sparse": [[["b"], "5/2"], [["a", "b"], 3]], "version": 2}
-        two = coop.Game({**table, **sparse, "default": 1, "excess": "plain"})
-        text, is_same = verdict(one, two)
-        self.assertTrue(is_same)
-        self.assertIn("the same game, though written otherwise (at game.worths):", text)
-        self.assertIn("\n    a: 1\n    b: 5/2\n    a+b: 3\n", text)
-        other = coop.Game({**table, **sparse})
-        self.assertIn("the cost of a alone: 1 in the line, 0 in", verdict(one, other)[0])
-        extra = coop.Game({**AIRPORT, "note": 1})
-        self.assertIn("game.note: a key that is there in the line, not there in", verdict(extra, coop.Game(AIRPORT))[0])
-        self.assertEqual(verdict(coop.Game(AIRPORT), coop.Game(AIRPORT))[0][:15], "the same game:\n")
-        market = told(coop.assignment([[5, 8], [7, 6]], ["Ann", "Ben", "house", "flat"]))
-        self.assertIn("\n    Ann: 5, 8\n    Ben: 7, 6\n  sellers: house, flat\n", market)
+        for game, outcome, told in cases:
+            found = self.said(game, AIRPORT)
+            self.assertEqual(found[0], outcome, found)
+            self.assertIn(told, found[1])
 
     def test_files(self) -> None:
-        game = game_of(self.file("line", solved()))
-        self.assertEqual(
-            told(game),
-            "  class: airport (an airport), 3 players\n  costs:\n    light: 2\n    medium: 4\n    heavy: 6\n",
-        )
+        self.assertEqual(game_in(self.file("line", solved())).names, AIRPORT["names"])
         twice = self.file("agreed", '{"game":{"class":"bankruptcy","estate":4,"claims":[1,2],"claims":[2,9]}}')
         with self.assertRaisesRegex(BadInput, 'the key "claims" is given twice'):
-            game_of(twice)
+            game_in(twice)
         for texts, sentence in (((solved(), solved()), "2 documents"), (({"answer": "yes"},), "has no game")):
             with self.assertRaisesRegex(BadInput, sentence):
-                game_of(self.file("file", *texts))
+                game_in(self.file("file", *texts))
+        refused = self.file("file", {"game": {**AIRPORT, "costs": [2, 4, -6]}})
+        with self.assertRaisesRegex(BadInput, "refuses it, 5 Number, at game.costs, item 3"):
+            game_in(refused)
 
 
 class Page(HTMLParser):
@@ -335,7 +268,8 @@ class Reports(unittest.TestCase):
         document = solved()
         texts = " ".join(" ".join(Page(report(document, "", Style())).texts).split())
         self.assertIn(
-            "medium pays 3/2 (1/2 more): a runway for both costs 4, the one before pays 1, and 3 are left, of which",
+            "medium pays 1.50, 0.50 more than the earlier ones. A runway for it and the earlier one costs 4. The earlier "
+            "one pays 1, so 3 is left.",
             texts,
         )
 

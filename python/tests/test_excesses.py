@@ -6,10 +6,10 @@ from itertools import product
 from typing import Sequence
 
 import coop
-from coop.cells import csv_text
-from coop.documents import Point
-from coop.excesses import Comparison, Entry, compare, comparisons, csv, excess, excess_list, first_difference, told
-from coop.tables import put_together, shares_csv
+from coop.desk.cells import csv_text
+from coop.desk.documents import Point
+from coop.desk.excesses import Comparison, Entry, compare, comparisons, csv, excess, excess_list, first_difference, told
+from coop.desk.tables import put_together, shares_csv
 from coop.styles import Style
 
 AIRPORT = coop.airport({"light": 2, "medium": 4, "heavy": 6})

@@ -71,7 +71,7 @@ class Executors(unittest.TestCase):
         rows = list(coop.many("core", [GAMES[1], REFUSED, GAMES[2]], executor=Losing(), batch=2))
         self.assertEqual([type(row[0]) for row in rows], [coop.CorePoint, coop.Refused, coop.CorePoint])
         assert isinstance(rows[1][0], coop.Refused)
-        self.assertEqual((rows[1][0].number, str(rows[1][0].where)[:4]), (5, "$.ga"))
+        self.assertEqual((rows[1][0].number, str(rows[1][0].where)[:4]), (5, "game"))
 
 
 class Losses(unittest.TestCase):

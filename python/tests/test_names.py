@@ -3,8 +3,8 @@ import unittest
 
 import coop
 from coop.names import alike, apart, looks, safe, visible, warning
-from coop.sentences import Teller
-from coop.tables import aligned
+from coop.desk.sentences import Teller
+from coop.desk.tables import aligned
 
 CAPITALS = "2 names differ only in capitals: HARTMANN KG, Hartmann KG"
 ZERO_WIDTH, OVERRIDE, ESCAPE = "\u200b", "\u202e", "\x1b"

@@ -6,7 +6,7 @@ from typing import Any
 
 from coop.errors import BadInput
 from coop.game import Game
-from coop.over import divided
+from coop.desk.over import divided
 from coop.program import TOP
 
 EXAMPLES = os.path.join(TOP, "examples")

@@ -6,12 +6,12 @@ from random import Random
 from typing import Callable, Iterable
 
 from coop import BadInput
-from coop.costing import doubts, remarks
+from coop.desk.costing import doubts, remarks
 from coop.filling import above_larger, cheapest, cheapest_cover, told
-from coop.plainly import Plainly
+from coop.desk.plainly import Plainly
 from coop.readers import claims, groups, landings, left_out, vectors
 from coop.sheets import Layout, notes
-from coop.typed import number
+from coop.desk.typed import number
 from coop.styles import EXACT
 
 APART = (("a+c", "8.1 = a | c"), ("b+c", "9.1 = b | c"))

@@ -1,17 +1,13 @@
 """Each answer in sentences, failed conditions, and refusals with their place."""
 import json
 import unittest
-from fractions import Fraction
 from typing import Any, Optional
 
-import coop
-from coop.certificates import Explainer
-from coop.levels import Level
-from coop.reasons import checked, reasons
+from coop.desk.reasons import checked, reasons
 from coop.styles import EXACT, Style
 from coop import BadInput
 
-from .asking import needs_program
+from .asking import needs_node
 
 AIRPORT: dict[str, Any] = {"class": "airport", "costs": [2, 4, 6], "names": ["light", "medium", "heavy"]}
 TRIO = {"class": "table", "names": ["s", "p", "d"], "players": 3, "worths": [20, 30, 80, 0, 50, 65, 120]}
@@ -192,8 +188,7 @@ SENTENCES: list[tuple[Any, Any, str]] = [
         {"number": 3, "refused": "Shape"},
         {"game": {"class": "airport", "cost": [2]}},
         (
-            "The document is refused: 3 Shape. $.game: a game of class airport lacks the key costs; is 'cost' meant for"
-            " it?."
+            "The document is refused: 3 Shape. game.cost: The key “cost” has no place here; is it “costs”?"
         ),
     ),
 ]
@@ -231,6 +226,7 @@ FAILURES: list[tuple[dict[str, Any], str]] = [
 ]
 
 
+@needs_node
 class Reasons(unittest.TestCase):
     def test_sentences(self) -> None:
         for line, document, sentence in SENTENCES:
@@ -245,13 +241,6 @@ class Reasons(unittest.TestCase):
             self.assertIn("Where some of them were filled in, such a group may cost less", said(line, table)[0])
             airport = {"game": {"class": "airport", "costs": [2, 3]}, "shares": [1, 2]}
             self.assertNotIn("filled in", said(line, airport)[0])
-
-    def test_what_is_taken_off_may_outweigh(self) -> None:
-        """A level at which each player is counted less than no times, or not at all."""
-        explainer = Explainer(solved())
-        for total, words in ((-2, "equally often (-2 times, on balance)"), (0, "not at all, on balance"), (2, "twice")):
-            level = Level(Fraction(1), [(3, 1)], [(7, -3)], [], total)
-            self.assertIn(f"holds each player {words}, so it can't do better", explainer.why(level))
 
     def test_failed_conditions(self) -> None:
         for document, sentence in FAILURES:
@@ -274,28 +263,16 @@ class Reasons(unittest.TestCase):
         )
 
     def test_styles(self) -> None:
+        """The places, the unit and the mark of the sentences of the page."""
         text = said(solved(), say=Style(2, "EUR"))[0]
-        self.assertIn("They pay: light: 1.00 EUR, medium: 1.50 EUR, heavy: 3.50 EUR. Together: 6.00 EUR.", text)
+        self.assertIn("The runway for all costs 6.00 EUR.", text)
+        self.assertIn("- medium pays 1.50 EUR, 0.50 EUR more than the earlier ones.", text)
         self.assertNotIn("rounded", text)
-        self.assertIn("(Numbers are rounded", said(FOUR, say=Style(0))[0])
+        self.assertIn("medium pays 1,5 kr, ", said(solved(), say=Style(1, "kr", ","))[0])
+        self.assertIn("Rounding. Each number is rounded by itself", said(FOUR, say=Style(0))[0])
 
-    @needs_program
     def test_a_share_is_rounded_once(self) -> None:
-        """The sentences have the table's decimals, which add up; what is calculated from others is about."""
-        cases = [
-            (coop.bankruptcy(200, {"A": 100, "B": 100, "C": 100}), ["66.67", "66.67", "66.66"], ["leaves 66.66)"]),
-            (coop.bankruptcy(100, {"A": 100, "B": 100, "C": 100}), ["33.34", "33.33", "33.33"], ["about 33.33, as"]),
-            (coop.bankruptcy(4, {"A": "2.01", "B": "2.01", "C": 30}), ["1.01", "1.00", "1.99"], ["of 2.01 is 1.00"]),
-            (coop.airport({"A": 1, "B": 1, "C": 1}), ["0.34", "0.33", "0.33"], ["A pays 0.34; and B and C pay 0.33"]),
-            (coop.airport({"A": 1, "B": 1, "C": 2}), ["0.34", "0.33", "1.33"], ["(about 1.00 more)", "about 0.67"]),
-        ]
-        for game, wanted, sentences in cases:
-            answer = coop.nucleolus(game)
-            self.assertIsInstance(answer, coop.Nucleolus)
-            text = said(json.loads(answer.line), say=Style(2))[0]
-            self.assertIn(f"A: {wanted[0]}, B: {wanted[1]}, C: {wanted[2]}. Together", text)
-            for sentence in sentences:
-                self.assertIn(sentence, text)
+        """The shares of an answer have the table's decimals, which add up."""
         shapley = said({"answer": "shapley", "shares": ["2/3", "2/3", "2/3"]}, say=Style(2))[0]
         self.assertIn("player 1: 0.67 - player 2: 0.67 - player 3: 0.66", shapley)
         beside = {"game": {**AIRPORT, "costs": [6, 6, 2]}, "shares": ["2/3", "8/3", "8/3"]}
@@ -330,16 +307,16 @@ class Reasons(unittest.TestCase):
     def test_a_line_that_is_none_to_check(self) -> None:
         """Whose number is spoilt is told by name, and what to write, as by `check` and `scripts/slip`."""
         for line, sentence in (
-            (solved(shares=[1, "1,5", "7/2"]), r'of medium\): "1,5" is no fraction text: write "3/2"'),
-            (solved(shares=[1, "3/2", 3.5]), r'of heavy\): 3.5 has a point.*: write "7/2"'),
-            (spoilt(1, excess="-1,5"), r'the excess of level 2\): "-1,5" is no fraction text.*: write "-3/2"'),
+            (solved(shares=[1, "1,5", "7/2"]), r"of medium\): “1,5” is no fraction"),
+            (solved(shares=[1, "3/2", 3.5]), r"of heavy\): 3.5 is no whole number"),
+            (spoilt(1, excess="-1,5"), r"level 2, excess: The excess is a fraction in lowest terms"),
         ):
             with self.assertRaisesRegex(BadInput, sentence):
                 reasons(json.dumps(line).encode(), where="s.json")
             with self.assertRaisesRegex(BadInput, sentence):
                 checked(json.dumps(line).encode(), "s.json")
         told = said({"number": 5, "refused": "Number"}, {"game": {"class": "airport", "costs": [1, 2.5]}})[0]
-        self.assertIn("$.game.costs[1] (the cost of player 2): 2.5 has a point", told)
+        self.assertIn("game.costs, item 2 (the cost of player 2): 2.5 is no whole number", told)
 
     def test_what_is_refused(self) -> None:
         cases: list[tuple[bytes, Optional[bytes], str]] = [

@@ -1,91 +1,62 @@
-"""Slips: by what is written here, and against the program."""
+"""Slips, which the page's modules find: by what is written here, and against the program."""
 import copy
 import json
-import os
+import pickle
 import random
-import subprocess
-import sys
 import unittest
-from itertools import combinations
 from typing import Any, Iterator
 from unittest.mock import patch
 
 import coop
+from coop.calls import COMMANDS
 from coop.errors import BadInput
-from coop.program import TOP, find
-from coop.slips import COMMANDS, MOST_ARRAYS, MOST_TO_CHECK, STRING, Repeated, repeated, slip_in
+from coop.program import find
+from coop.telling import slips
 
-from .asking import Answering, needs_program
+from .asking import Answering, needs_node, needs_program
 
 SLIPS = {
-    '{"game":{"class":"airport","cost":[2,4,6]}}': (
-        "3 $.game: a game of class airport lacks the key costs; is 'cost' meant for it?"
-    ),
-    '{"class":"airport","costs":[2]}': '3 $: this is only the game: write {"game":..} around it',
-    '{"game":{"class":"Airport","costs":[2]}}': (
-        '3 $.game.class: "Airport" isn\'t one of table, cost-table, airport, '
-        "bankruptcy, tree, assignment, market, voting; is airport meant?"
-    ),
-    '{"game":{"class":"tree","matrix":[[0,5,8],[5,0,null],[8,null,0]]}}': (
-        "3 $.game.matrix[1][2] (row 2, column 3): null is no number: a link that doesn't exist needs a number too"
-    ),
-    '{"game":{"class":"table","players":2,"worths":[1,2,3,4,5]}}': "4 $.game.worths: 5 worths: 2 players have 3",
-    '{"game":{"class":"table","players":2,"worths":[0,1,2,3]}}': (
-        "4 $.game.worths: 4 worths: 2 players have 3, since the empty coalition has none"
-    ),
-    '{"game":{"class":"airport","costs":[2,1.5]}}': (
-        "5 $.game.costs[1] (the cost of player 2): 1.5 has a point or an exponent, or more than 64 bits: write "
-        '"3/2", with "version":2'
-    ),
-    '{"game":{"class":"airport","costs":[2,200.0]}}': (
-        "5 $.game.costs[1] (the cost of player 2): 200.0 has a point or an exponent, "
-        "or more than 64 bits: write 200"
-    ),
-    '{"game":{"class":"airport","costs":[2,0.2875775201],"version":2}}': (
-        "5 $.game.costs[1] (the cost of player 2): 0.2875775201 has a point or an exponent, or more than 64 bits: "
-        'write fewer decimals, such as "719/2500"'
-    ),
-    '{"game":{"class":"airport","costs":[2,1e300],"version":2}}': (
-        "5 $.game.costs[1] (the cost of player 2): 1e+300 has a point or an exponent, or more than 64 bits: write "
-        "a number of fewer digits"
-    ),
-    '{"game":{"class":"airport","costs":["2195/100"],"version":2}}': (
-        '5 $.game.costs[0] (the cost of player 1): "2195/100" isn\'t in lowest terms: write "439/20"'
-    ),
-    '{"game":{"class":"airport","costs":["2e30944731"],"version":2}}': (
-        '5 $.game.costs[0] (the cost of player 1): "2e30944731" is no fraction text'
-    ),
-    '{"game":{"class":"airport","costs":["1,5"],"version":2}}': (
-        '5 $.game.costs[0] (the cost of player 1): "1,5" is no fraction text: write "3/2"'
-    ),
-    '{"game":{"class":"airport","costs":["0.2875775201"],"version":2}}': (
-        '5 $.game.costs[0] (the cost of player 1): "0.2875775201" is no fraction text: write fewer decimals, such as '
-        '"719/2500", or multiply all numbers (--scaled of scripts/from-vector)'
-    ),
-    '{"game":{"class":"airport","costs":[1,2],"names":["bob","bob"]}}': (
-        '6 $.game.names[1] (the name of player 2): the name "bob" is given twice'
-    ),
-    '{"game":{"class":"table","players":2,"sparse":[[[1,2],3],[[2,1],4]]}}': (
-        "7 $.game.sparse[1][0] (item 2): [2, 1] is already in item 1"
-    ),
-    '{"game":{"class":"bankruptcy","claims":[1,2],"estate":4}}': (
-        "8 $.game.estate: the claims add up to 3, less than the estate of 4: each gets its claim"
-    ),
-    '{"game":{"class":"tree","matrix":[[0,1],[2,0]]}}': (
-        "9 $.game.matrix[1][0] (row 2, column 1): 2, but 1 the other way"
-    ),
-    '{"game":{"class":"voting","quota":600,"weights":[500,300,300]}}': (
-        "13 $.game.weights: the weights add up to 1100, above 1,000"
-    ),
-    "": "2 the document: it is empty",
-    '{"game":\n{"class":"airport","costs":[2,]}}': "2 line 2, column 31: there is a comma before ]",
-    "{'game':1}": "2 line 1, column 2: JSON has double quotes, not single ones",
-    '{"game":1} {}': "2 line 1, column 12: something follows the document: a document is one JSON object",
-    '{"game":{"class":': "2 line 1, column 18: the document ends there, before it is whole",
-    '{"game":{"class":"airport","costs":[NaN]}}': "2 the document: NaN isn't a number",
-    '{"game":{"class":"airport","costs":[1],"names":["\\ud800"]}}': (
-        "2 line 1: a text has half of a character, such as \\ud800"
-    ),
+    '{"game":{"class":"airport","cost":[2,4,6]}}': "3 game.cost: The key “cost” has no place here; is it “costs”?",
+    '{"class":"airport","costs":[2]}': '3 the document: This is a game alone; write {"game":{…}} around it.',
+    '{"game":{"class":"Airport","costs":[2]}}': "3 game.class: The class is none of table, cost-table, airport, "
+    "bankruptcy, tree, assignment, market, voting. Is it “airport”?",
+    '{"game":{"class":"tree","matrix":[[0,5,8],[5,0,null],[8,null,0]]}}': "3 game.matrix, row 2, item 3: null is where "
+    "a number belongs. A link that doesn’t exist needs a number, too.",
+    '{"game":{"class":"table","players":2,"worths":[0,1,2,3]}}': "4 game.worths: 2 players have 3 groups, and worths "
+    "has 4 items. The empty group has none.",
+    '{"game":{"class":"airport","costs":[2,1.5]}}': "5 game.costs, item 2 (the cost of player 2): 1.5 is no whole "
+    'number. Write "3/2", and "version":2 in the game.',
+    '{"game":{"class":"airport","costs":[2,200.0]}}': "5 game.costs, item 2 (the cost of player 2): 200.0 is no whole "
+    "number. Write 200.",
+    '{"game":{"class":"airport","costs":[2,0.2875775201],"version":2}}': "5 game.costs, item 2 (the cost of player 2): "
+    '0.2875775201 is no whole number. Write fewer decimals, such as "719/2500"; or multiply all numbers (--scaled of '
+    "scripts/from-vector).",
+    '{"game":{"class":"airport","costs":["2195/100"],"version":2,"names":["Ann"]}}': "5 game.costs, item 1 (the cost of "
+    'Ann): “2195/100” isn’t in lowest terms; write "439/20".',
+    '{"game":{"class":"airport","costs":["2e30944731"],"version":2}}': "5 game.costs, item 1 (the cost of player 1): "
+    '“2e30944731” is no fraction, as "25/2". Write a fraction as a text, "25/2".',
+    '{"game":{"class":"airport","costs":["1,5"],"version":2}}': "5 game.costs, item 1 (the cost of player 1): “1,5” is "
+    'no fraction, as "25/2". Write "3/2".',
+    '{"game":{"class":"airport","costs":[1,2],"names":["bob","bob"]}}': "6 game.names, item 2: The name “bob” occurs "
+    "twice.",
+    '{"game":{"class":"table","players":2,"sparse":[[[1,2],3],[[2,1],4]]}}': "7 game.sparse, item 2: The group is at "
+    "item 1 already.",
+    '{"game":{"class":"bankruptcy","claims":[1,2],"estate":4}}': "8 game.estate: The claims add to less than the "
+    "estate. Then each gets its claim, and no rule is needed.",
+    '{"game":{"class":"tree","matrix":[[0,1],[2,0]]}}': "9 game.matrix, row 2, item 1: A link costs the same in both "
+    "directions; these two differ.",
+    '{"game":{"class":"voting","quota":600,"weights":[500,300,300]}}': "13 game.weights: The votes add to 1100, and the "
+    "program takes 1,000. Divide all by a common divisor.",
+    "": "2 the document: It is empty.",
+    '{"game":\n{"class":"airport","costs":[2,]}}': "2 line 2, column 31: It is no JSON text: a value is missing. There "
+    "is a comma before ].",
+    "{'game':1}": "2 line 1, column 2: It is no JSON text: a key in double quotes is missing. JSON has double quotes, "
+    "not single ones.",
+    '{"game":1} {}': "2 line 1, column 12: It is no JSON text: something stands behind the document.",
+    '{"game":{"class":': "2 line 1, column 18: It is no JSON text: it ends too early.",
+    '{"game":{"class":"airport","costs":[NaN]}}': "2 line 1, column 37: It is no JSON text: a value is missing.",
+    '{"game":{"class":"airport","costs":[1],"names":["\\ud800"]}}': "2 line 1, column 50: It is no JSON text: a text has "
+    "half of a character.",
 }
 
 GAMES: list[dict[str, Any]] = [
@@ -248,109 +219,84 @@ def documents(count: int) -> Iterator[tuple[str, bytes]]:
         yield command, json.dumps(document).encode()
 
 
+@needs_node
 class Slips(unittest.TestCase):
     def test_by_hand(self) -> None:
         for text, wanted in SLIPS.items():
-            slip = slip_in(text.encode())
+            slip, _ = slips(text.encode())
             self.assertEqual(f"{slip.number} {slip}" if slip else None, wanted)
-        self.assertIsNone(slip_in(b'{"game":{"class":"airport","costs":[2,4,6]}}'))
+        self.assertEqual(slips(b'{"game":{"class":"airport","costs":[2,4,6]}}'), (None, None))
         for data, number in ((b"\xff", 2), (b"\xef\xbb\xbf{}", 2), (b" " * 2097153, 1), (b"[" * 128 + b"]" * 128, 2)):
-            slip = slip_in(data)
+            slip, _ = slips(data)
             self.assertEqual(slip and slip.number, number)
 
     def test_a_key_that_stands_twice(self) -> None:
         """The first place in the order of the text, however the key is written; none in what is no JSON."""
         sentence = "the key {} is given twice, and the last one counts"
         for text, place, key in (
-            ('{"game":{"class":"airport","costs":[2],"costs":[3]}}', "$.game", '"costs"'),
-            ('{"game":1,"x":[0,{"a":{"b":1,"b":2}}],"game":2}', "$", '"game"'),
-            ('{"x":[0,{"a":{"b":1,"\\u0062":2}}],"y":{"c":1,"c":1}}', "$.x[1].a", '"b"'),
-            ('{"a\\u202e":1,"a\\u202e":2}', "$", '"a\\u202e"'),
-            ('{"\\ud800":1,"\\ud800":1e999}', "$", '"\\ud800"'),
+            ('{"game":{"class":"airport","costs":[2],"costs":[3]}}', "game", '"costs"'),
+            ('{"x":[0,{"a":{"b":1,"\\u0062":2}}],"y":{"c":1,"c":1}}', "x, item 2.a", '"b"'),
+            ('{"a\u202e":1,"a\u202e":2}', "the document", '"a\\\\u202e"'),
         ):
-            self.assertEqual(str(repeated(text.encode())), f"{place}: {sentence.format(key)}")
+            self.assertEqual(str(slips(text.encode())[1]), f"{place}: {sentence.format(key)}")
         long = f'{{"{"k" * 500}":{{"{"k" * 500}":1,"{"k" * 500}":1}}}}'
-        self.assertLess(len(str(repeated(long.encode()))), 220)
+        self.assertLess(len(str(slips(long.encode())[1])), 220)
         for text in ('{"a":1,"b":[{"a":1},{"a":1}]}', "", "[" * 5000, '{"a":1,"a":2} x', "\ufeff{}", "7"):
-            self.assertIsNone(repeated(text.encode()))
-        many = "{" + ",".join(f'"k{i}":1' for i in range(100000)) + ',"k99999":2}'
-        self.assertEqual(repeated(many.encode()), Repeated("$", "k99999"))
+            self.assertIsNone(slips(text.encode())[1])
 
-    def test_a_text_that_is_not_closed(self) -> None:
-        """It is one string to its end, so that no search begins anew at each of its quotes: that takes hours."""
-        for text in ('"', '"a', '"\\', '"' + '\\"' * 9, '"' + '\\"' * 9 + "\\"):
-            self.assertEqual([string.span() for string in STRING.finditer("[" + text)], [(1, len(text) + 1)])
-            self.assertEqual(str(slip_in(("[" * 128 + text).encode()))[:15], "character 128: ")
+    def test_large(self) -> None:
+        """What is longer than any document isn't asked; and one of millions of parts is read."""
+        with self.assertRaisesRegex(BadInput, "8,388,609 bytes"):
+            slips(b" " * 8388609)
+        for part in (b"[]", b"{}", b'{"a":1}'):
+            slip, _ = slips(b"[" + b",".join([part] * (8388608 // (len(part) + 1) - 2)) + b"]", "check")
+            self.assertEqual(slip and slip.number, 3)
 
     @needs_program
     def test_the_program_refuses_the_same(self) -> None:
         program, seen = find(), set()
         texts = [(command, text.encode()) for text in SLIPS for command in ("nucleolus", "propose")]
         fine = b'{"game":{"class":"airport","costs":[1]},"shares":["1/9223372036854775809"]}'
-        texts += [("propose", fine), ("core", b" " * 2097153), ("check", b" " * 2097153)]
+        texts += [("propose", fine), ("core", b" " * 2097153)]
         for command, text in [*texts, *EDGES, *documents(2000)]:
             status, line = program.run([command], text)
-            wanted = json.loads(line)["number"] if status == 3 else None
-            slip = slip_in(text, command)
-            self.assertEqual(slip and slip.number, wanted, (command, text, slip))
-            seen.add(wanted)
+            found = json.loads(line) if status == 3 else {"number": None, "refused": None}
+            slip, _ = slips(text, command)
+            number, name = (slip.number, slip.name) if slip else (None, None)
+            self.assertEqual((number, name), (found["number"], found["refused"]), (command, text, slip))
+            seen.add(number)
         self.assertEqual(seen, {None, *range(1, 14)})
 
 
-def most_arrays(players: int) -> int:
-    """How many arrays the coalitions of a certificate of 8 MB may have, the shortest first: two each, at each level and
-    once more as earlier ones."""
-    texts = sorted(len(json.dumps([group, 1], separators=(",", ":"))) + 1
-                   for size in (1, 2, 3) for group in combinations(range(1, players + 1), size))
-    arrays, left = 0, MOST_TO_CHECK
-    for length in texts:
-        count = min(2 * players, left // length)
-        arrays, left = arrays + 2 * count, left - count * length
-    return arrays
+class Refusals(unittest.TestCase):
+    """The place of a mistake is sought when it is asked for, and no answer needs Node."""
 
+    def refused(self) -> coop.Refused:
+        """A document that was refused."""
+        with self.assertRaises(coop.Refused) as found:
+            program = Answering(3, '{"number":5,"refused":"Number"}')
+            coop.propose(coop.airport([1]), ["1/170141183460469231731687303715884105728"], program=program)
+        return found.exception
 
-class Many(unittest.TestCase):
-    """Documents of more parts than any that the program takes aren't read, as each part takes memory."""
+    @needs_node
+    def test_where(self) -> None:
+        place = "shares, item 1 (the share of player 1)"
+        one, other = self.refused(), pickle.loads(pickle.dumps(self.refused()))
+        for fault in (one, other):
+            self.assertEqual(fault.where and fault.where.place, place)
+            self.assertTrue(str(fault).startswith(f"refused, 5 Number: {place}: "))
 
-    def test_memory(self) -> None:
-        """In a process that may have 300 MB."""
-        slip = os.path.join(TOP, "scripts", "slip")
-        for part, told in (("[]", "2,796,201 arrays"), ("{}", "2,796,200 objects"), ('{"a":1}', "1,048,574 objects")):
-            count = MOST_TO_CHECK // (len(part) + 1) - 2
-            data = b"[" + b",".join([part.encode()] * count) + b"]"
-            done = self.limited([slip, "--command", "check"], data)
-            said = f"slip: the document has {told}, and none within the limits has more than ".encode()
-            self.assertEqual((done.returncode, done.stdout, done.stderr[: len(said)]), (2, b"", said))
-        too_long = self.limited([slip], b"[" + b"[]," * 2700000 + b"[]]")
-        self.assertEqual((too_long.returncode, too_long.stderr), (1, b""))
-        self.assertTrue(too_long.stdout.startswith(b"1 TooLong, at the document: "))
+    def test_without_node(self) -> None:
+        with patch("coop.telling.page_server", lambda: None):
+            fault = self.refused()
+            self.assertEqual((str(fault), fault.where), ("refused, 5 Number", None))
+            with self.assertRaisesRegex(coop.NotFound, "no Node on the path .* answers don't need it"):
+                slips(b"{}")
 
-    def limited(self, words: list[str], data: bytes) -> "subprocess.CompletedProcess[bytes]":
-        """How a script ends that may have 300 MB."""
-        room = 300 << 20
-        limit = f"import resource, runpy, sys; resource.setrlimit(resource.RLIMIT_AS, ({room}, {room})); "
-        run = "sys.argv[:1] = []; runpy.run_path(sys.argv[0], run_name='__main__')"
-        return subprocess.run([sys.executable, "-c", limit + run, *words], input=data, capture_output=True)
-
-    def test_counts(self) -> None:
-        """Brackets in texts don't count, and a document at the limit is read."""
-        text = '{"game":{"class":"airport","costs":[1],"names":["[{[{\\"[{"]}}'.encode()
-        with patch("coop.slips.MOST_ARRAYS", 2), patch("coop.slips.MOST_OBJECTS", 2):
-            self.assertIsNone(slip_in(text))
-            for more, told in ((b"[[]]", "4 arrays"), (b'{"a":{}}', "4 objects")):
-                with self.assertRaisesRegex(BadInput, f"has {told}, and none"):
-                    slip_in(text + more)
-            self.assertIsNone(repeated(b'[{"a":1,"a":1},[],[]]'))
-        self.assertEqual(str(repeated(b'[{"a":1,"a":1},[],[]]'))[:5], "$[0]:")
-
-    def test_none_within_the_limits_has_more(self) -> None:
-        arrays = [most_arrays(players) for players in (16, 40, 63, 64)]
-        self.assertEqual(max(arrays), arrays[-1])
-        self.assertTrue(0.9 * MOST_ARRAYS < arrays[-1] < MOST_ARRAYS, arrays)
-
-    def test_the_package_refuses(self) -> None:
-        """The exception has no place then."""
-        with patch("coop.slips.MOST_ARRAYS", 0), self.assertRaises(coop.Refused) as found:
+    @needs_node
+    def test_another(self) -> None:
+        """A place of another refusal isn't the document's."""
+        with self.assertRaises(coop.Refused) as found:
             coop.core(coop.airport([1]), program=Answering(3, '{"number":3,"refused":"Shape"}'))
         self.assertEqual((str(found.exception), found.exception.where), ("refused, 3 Shape", None))
 

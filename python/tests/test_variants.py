@@ -5,7 +5,7 @@ from fractions import Fraction
 
 import coop
 from coop.masks import mask_of, members
-from coop.typed import amount
+from coop.desk.typed import amount
 from coop.variants import overrun, table_of_game, without
 
 from .test_excesses import drawn_games

@@ -18,7 +18,7 @@
 // there is none, the page asks.
 import { readNumber } from "../exact/decimals.js";
 import { isSumWord, withEscapes } from "../game/names.js";
-import { plural } from "../tell/words.js";
+import { plural } from "../game/words.js";
 import { SPOILT } from "./pasting.js";
 
 const MOST_POINTS = 17; // the source and 16 places

@@ -3,7 +3,8 @@ import { Rational } from "../exact/rational.js";
 import { shortText, typedText } from "../exact/decimals.js";
 import { shownName } from "../game/names.js";
 import { labelsOf, landingsOf, rowsOfLandings } from "./landings.js";
-import { bytesOf, Reading } from "./reading.js";
+import { Reading } from "./reading.js";
+import { bytesOf } from "../game/words.js";
 import { askOfSum, isEmpty } from "./sum-row.js";
 
 // words in the headings of columns, in English, German and French

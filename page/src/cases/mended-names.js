@@ -1,5 +1,5 @@
 // Names that a document can't have, mended: those that occur twice are numbered, and long ones are cut.
-import { bytesOf } from "./reading.js";
+import { bytesOf } from "../game/words.js";
 
 const MOST_BYTES = 60;
 

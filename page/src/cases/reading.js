@@ -1,4 +1,5 @@
 // Reads what a person typed into the cells of a case, and keeps what is wrong, cell by cell.
+import { bytesOf } from "../game/words.js";
 import { lcm } from "../exact/rational.js";
 import { cellNumber, countText, readNumber, shortText, thousandsIn } from "../exact/decimals.js";
 import { isMark, MARKS, onlyMark, otherMark } from "../exact/marks.js";
@@ -171,8 +172,4 @@ function eitherOf(typed) {
   if (!ways.every(([value]) => value.isWhole())) return null;
   ways.sort(([one], [other]) => one.compare(other));
   return { typed, ways: ways.map(([value, mark]) => [String(value), mark]) };
-}
-
-export function bytesOf(text) {
-  return new TextEncoder().encode(text).length;
 }

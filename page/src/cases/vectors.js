@@ -1,14 +1,12 @@
 // A list of numbers alone, as other programs print it: a line each, a row of a spreadsheet, c(1, 2), R's [1] 1 2, or
 // MATLAB's v = [1 2];
+import { MANY } from "../game/words.js";
 import { readNumber } from "../exact/decimals.js";
 import { SPOILT } from "./pasting.js";
 
 const MOST_PLAYERS = 16;
 const NAMED = /^\s*[\p{L}_][\p{L}\d_.]*\s*(?:=|<-)\s*(?=[[({]|c\s*\(|(?:np\.)?array\s*\()/u;
 
-/** What is said where several games are given. */
-export const MANY = "One game at a time here; for many, scripts/many --lines of the project answers a document in each "
-  + "line, and scripts/from-vector makes these of a table with a game a row.";
 
 /** The first line of a list, where it has nothing but words; null where it has others. */
 export function headingOf(text) {

@@ -2,7 +2,7 @@
 import { Rational } from "../exact/rational.js";
 import { decimal, fractionText, shortText } from "../exact/decimals.js";
 import { el } from "../page/dom.js";
-import { listed } from "../tell/words.js";
+import { listed } from "../game/words.js";
 import { tickText } from "./bars.js";
 import { chart } from "./chart.js";
 import { figure } from "./figure.js";

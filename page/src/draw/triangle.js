@@ -3,7 +3,7 @@
 import { ZERO } from "../exact/rational.js";
 import { shortText } from "../exact/decimals.js";
 import { svg } from "../page/dom.js";
-import { listed } from "../tell/words.js";
+import { listed } from "../game/words.js";
 import { figure } from "./figure.js";
 import { fitted, widthOf } from "./measure.js";
 import { Shape } from "./shape.js";

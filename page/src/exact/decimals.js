@@ -57,16 +57,30 @@ export function fractionText(value) {
 /** A number as a sentence has it, exact: a decimal where four places do, two at least as in tables, else a fraction; a
  * very long one about. */
 export function shortText(value) {
+  return bareText(value) + unitText();
+}
+
+/** The same, with the decimals beside a fraction. */
+export function fullText(value) {
+  const text = bareText(value);
+  return (text.includes("/") ? `${text} (about ${decimal(value, 2, spoken)})` : text) + unitText();
+}
+
+function bareText(value) {
   const places = placesOf(value);
+  if (spoken.places !== null) return decimal(value, spoken.places, spoken);
   if (places >= 0) return decimal(value, places && Math.max(places, 2), spoken);
   const text = fractionText(value);
   return text.length <= 15 ? text : `about ${decimal(value, 4, spoken)}`;
 }
 
-/** The same, with the decimals beside a fraction. */
-export function fullText(value) {
-  const text = shortText(value);
-  return text.includes("/") ? `${text} (about ${decimal(value, 2, spoken)})` : text;
+function unitText() {
+  return spoken.unit ? ` ${spoken.unit}` : "";
+}
+
+/** Whether a sentence has another number than the exact one. */
+export function isRounded(value) {
+  return spoken.places !== null && 10n ** BigInt(spoken.places) % value.den !== 0n;
 }
 
 const MOST_APART = 12;

@@ -41,18 +41,24 @@ export function parseJson(data) {
   return new Reader(textOf(data)).document();
 }
 
-/** The keys that stand twice in an object: a reader may see one, and a program counts the other. */
-export function doubleKeys(data) {
+/** The keys that stand twice in an object, each with the place of the first such object, as "game.sparse, item 2": a
+ * reader may see one, and a program counts the other. */
+export function doublesIn(data) {
   const reader = new Reader(textOf(data));
   reader.document();
-  return [...reader.doubles];
+  return [...reader.doubles].map(([key, place]) => ({ key, place }));
+}
+
+export function doubleKeys(data) {
+  return doublesIn(data).map(({ key }) => key);
 }
 
 class Reader {
   constructor(text) {
     this.text = text;
     this.at = 0;
-    this.doubles = new Set();
+    this.doubles = new Map();
+    this.path = [];
   }
 
   document() {
@@ -98,16 +104,29 @@ class Reader {
       this.skipBlanks();
       if (this.text[this.at] !== ":") this.fail("a colon is missing");
       this.at += 1;
-      if (key in tree) this.doubles.add(key);
+      if (key in tree && !this.doubles.has(key)) this.doubles.set(key, this.place());
+      this.path.push(key);
       tree[key] = this.value(depth);
+      this.path.pop();
     });
     return tree;
   }
 
   array(depth) {
     const tree = [];
-    this.items(depth, "]", () => tree.push(this.value(depth)));
+    this.path.push(0);
+    this.items(depth, "]", () => {
+      this.path[this.path.length - 1] = tree.length + 1;
+      tree.push(this.value(depth));
+    });
+    this.path.pop();
     return tree;
+  }
+
+  /** Where it reads, in words. */
+  place() {
+    const text = this.path.map((part) => (typeof part === "number" ? `, item ${part}` : `.${part}`)).join("");
+    return text.replace(/^(\.|, )/, "") || "the document";
   }
 
   /** What stands between brackets, with commas between. */

@@ -7,13 +7,15 @@ export const BLANK = "\u202f";
 const POINT = ".", COMMA = ",", NAMES = { [POINT]: "point", [COMMA]: "comma" };
 
 /** How numbers are read that can be read both ways, if the user says that no mark comes before decimals, or each. */
-export const WHOLE = "", DECIMALS = POINT + COMMA;
+export const WHOLE = "";
+export const DECIMALS = POINT + COMMA;
 
 /** The marks to choose from, each with its name. */
 export const MARKS = Object.entries(NAMES);
 
-/** How numbers are spelled in sentences, as those of the answer are; each worker is told. */
-export const spoken = { mark: POINT, thousands: BLANK };
+/** How numbers are spelled in sentences, as those of the answer are; each worker is told. Who asks Node may want so
+ * many places of each, and a unit behind it. */
+export const spoken = { mark: POINT, thousands: BLANK, places: null, unit: "" };
 
 /** Whether it is one of the two, and not a way to read numbers against both. */
 export const isMark = (text) => text === POINT || text === COMMA;

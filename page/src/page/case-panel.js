@@ -5,7 +5,7 @@ import { coarseNumbers, coarseText } from "../tell/coarse-text.js";
 import { Rational } from "../exact/rational.js";
 import { countText, quotedText } from "../exact/decimals.js";
 import { DECIMALS, WHOLE, writtenBy } from "../exact/marks.js";
-import { plural } from "../tell/words.js";
+import { plural } from "../game/words.js";
 import { markFaults, markOdds } from "./cells.js";
 import { button, cellOf, copy, download, el, refill } from "./dom.js";
 import { doubtNotes } from "./doubts.js";

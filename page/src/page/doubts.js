@@ -3,7 +3,7 @@ import { Rational } from "../exact/rational.js";
 import { quotedText, readNumber } from "../exact/decimals.js";
 import { DECIMALS, isMark, nameOfMark, otherMark, WHOLE } from "../exact/marks.js";
 import { withEscapes } from "../game/names.js";
-import { listed } from "../tell/words.js";
+import { listed } from "../game/words.js";
 import { button, el } from "./dom.js";
 
 const BY = { whole: WHOLE, decimals: DECIMALS }; // how all are read, whatever the others show, if the user chose it

@@ -1,7 +1,7 @@
 // What each group could gain by leaving, from the greatest down, by all divisions side by side.
 import { Rational } from "../exact/rational.js";
 import { countText, fractionText } from "../exact/decimals.js";
-import { listed } from "../tell/words.js";
+import { listed } from "../game/words.js";
 import { button, copy, el, refill } from "./dom.js";
 
 const FEW = 8; // places that are shown at first

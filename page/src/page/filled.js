@@ -1,7 +1,7 @@
 // What the page filled in by itself, in sentences: it has to be told wherever the answer goes.
 import { groupLabel } from "../cases/tables.js";
 import { maskOf, masksBySize } from "../game/groups.js";
-import { listed } from "../tell/words.js";
+import { listed } from "../game/words.js";
 
 const MOST_GIVEN = 800; // characters of groups with their numbers
 

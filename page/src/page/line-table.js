@@ -1,7 +1,7 @@
 // What a line says, as a table: who gets or pays how much, beside what each claims, needs or is worth alone.
 import { Rational } from "../exact/rational.js";
 import { ruleName } from "../tell/rule-names.js";
-import { plural } from "../tell/words.js";
+import { plural } from "../game/words.js";
 import { el } from "./dom.js";
 import { MOVED } from "./format.js";
 

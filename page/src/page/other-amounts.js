@@ -2,7 +2,7 @@
 import { Rational } from "../exact/rational.js";
 import { fractionText } from "../exact/decimals.js";
 import { nameOfMark } from "../exact/marks.js";
-import { listed } from "../tell/words.js";
+import { listed } from "../game/words.js";
 import { changesOf, changesTable, movedHint, ruleIn } from "./changes.js";
 import { button, el, refill } from "./dom.js";
 import { totalsOf } from "./format.js";

@@ -1,5 +1,5 @@
 // A place to paste the list of a whole table: groups with their numbers, or numbers alone as other programs have them.
-import { MANY } from "../cases/vectors.js";
+import { MANY } from "../game/words.js";
 import { button, el } from "./dom.js";
 
 const MOST_SHOWN = 20000; // letters; a longer list is read at once, since it would keep the area busy

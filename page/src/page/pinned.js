@@ -1,7 +1,7 @@
 // An answer that was kept to compare: a column beside the new one, and which cells have changed since.
 import { Rational } from "../exact/rational.js";
 import { withEscapes } from "../game/names.js";
-import { listed, plural } from "../tell/words.js";
+import { listed, plural } from "../game/words.js";
 import { button, el } from "./dom.js";
 import { changeBelow } from "./today.js";
 import { totalsOf, withSum } from "./format.js";

@@ -2,7 +2,8 @@
 import { Rational } from "../exact/rational.js";
 import { Facts } from "../game/facts.js";
 import { ruleName } from "../tell/rule-names.js";
-import { capital, nameByRows } from "../tell/words.js";
+import { nameByRows } from "../tell/words.js";
+import { capital } from "../game/words.js";
 import { calculated } from "./calculated.js";
 
 /** The greatest numbers of players that the commands take, by class; README.md of the program has them all. */

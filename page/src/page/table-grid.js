@@ -6,7 +6,7 @@ import { withEscapes } from "../game/names.js";
 import { cellInput, moveByKeys, pasteCells, removal, removeByKey } from "./cells.js";
 import { button, cellOf, copy, el, refill } from "./dom.js";
 import { headingOf, numbersIn } from "../cases/vectors.js";
-import { plural } from "../tell/words.js";
+import { plural } from "../game/words.js";
 import { pasteBox } from "./paste-box.js";
 
 const MOST_WHOLE = 6; // players whose groups are all shown

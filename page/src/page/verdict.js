@@ -1,8 +1,9 @@
 // What the words of the checkers come to, and what is told of a line beside them.
 import { Rational } from "../exact/rational.js";
 import { fractionText } from "../exact/decimals.js";
+import { WORTH_THE_SAME } from "../game/same-worths.js";
 import { ruleName } from "../tell/rule-names.js";
-import { listed } from "../tell/words.js";
+import { listed } from "../game/words.js";
 import { button, el } from "./dom.js";
 
 const MOST_NAMED = 12; // whose shares are others than they should be
@@ -33,6 +34,10 @@ export function conclusion([same, ...checks], { answer, doubles = [], fault }, g
       + `each, its shares are the ${name} of ${same.isYes ? agreed : "its own game"}.`);
   }
   if (same.isYes) return lead(`Yes: these shares are the ${name} of ${agreed}${which}.`);
+  if (same.outcome === WORTH_THE_SAME) {
+    return lead(`These shares are the ${name} of ${agreed} too${which}, since each group is worth the same there. `
+      + "But it is written by other numbers, or as another class.");
+  }
   const own = `The shares are the ${name} of the game in the line${which}.`;
   if (same.isYes === false) {
     return [lead(`No: it answers another game. ${whereOf(same)}`),

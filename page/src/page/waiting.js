@@ -1,5 +1,5 @@
 // What is in the place of the answer while there is none: what is missing or wrong in the cells, and the way on.
-import { plural } from "../tell/words.js";
+import { plural } from "../game/words.js";
 import { button, el } from "./dom.js";
 
 const MOST_FAULTS = 3;

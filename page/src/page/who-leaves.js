@@ -1,6 +1,6 @@
 // What the others pay, or get, if one leaves, and what the one who leaves has to be told.
 import { Rational } from "../exact/rational.js";
-import { capital } from "../tell/words.js";
+import { capital } from "../game/words.js";
 import { changesOf, changesTable, ruleIn } from "./changes.js";
 import { el, refill } from "./dom.js";
 import { fillsOfRest } from "./two-fills.js";

@@ -2,7 +2,7 @@
 import { decimal, decimalOf, fractionText } from "../exact/decimals.js";
 import { spoken } from "../exact/marks.js";
 import { Rational } from "../exact/rational.js";
-import { plural } from "./words.js";
+import { plural } from "../game/words.js";
 
 const OF_THE_ROUNDED = "The answer is that of the rounded numbers";
 

@@ -1,10 +1,11 @@
 // Tells a certificate that was checked, level by level: who is worst off, why nobody can do better, what is settled.
 import { Rational } from "../exact/rational.js";
-import { fullText, shortText } from "../exact/decimals.js";
+import { fullText, isRounded, shortText } from "../exact/decimals.js";
 import { without } from "../game/groups.js";
 import { isSplit, levelOf, reducedLevel, Settled } from "./levels.js";
 import { ruleOf } from "./rules.js";
-import { listed, Namer, times } from "./words.js";
+import { Namer } from "./words.js";
+import { listed, times } from "../game/words.js";
 
 /** What all together are worth, or cost, by the class. */
 const WHOLE = {
@@ -16,6 +17,8 @@ const WHOLE = {
   assignment: "The best trades gain # together.",
   voting: "There is a prize of # to divide, which a group wins that reaches the quota.",
 };
+
+const ROUNDED = "Each number is rounded by itself, so they may not add up.";
 
 /** Where two levels have one excess: a level names the groups that its proof needs, and not all that are worst off. */
 const AGAIN = "That is the number of the level before: a level names groups enough to settle something, and not all.";
@@ -52,6 +55,7 @@ class Explainer {
       parts.push(count > 2 ? this.splits(done, count) : this.level(done));
       done += count > 2 ? count : 1;
     }
+    if (this.shares.some(isRounded)) parts.push({ title: "Rounding", sentences: [ROUNDED], items: [] });
     return parts;
   }
 

@@ -1,6 +1,11 @@
 // Why the program refuses a document, in the user's words, with the place where the page finds it.
 import { slipsOf } from "./slips.js";
 
+/** The names of the refusals, as the program writes them. */
+export const REFUSALS = {
+  1: "TooLong", 2: "NotJson", 3: "Shape", 4: "Players", 5: "Number", 6: "Names", 7: "Coalition", 8: "Estate",
+  9: "Matrix", 10: "Proposal", 11: "TooFine", 12: "Certificate", 13: "Quota",
+};
 const SENTENCES = {
   1: "The document is longer than the program takes: 2 MB, and 8 MB to check.",
   2: "It isn’t a JSON text in UTF-8.",
@@ -25,6 +30,6 @@ const USAGES = {
 export function refusalText(line, data, command) {
   if (line.usage) return { sentence: USAGES[line.usage] ?? "The program doesn’t know this command." };
   const number = Number(line.number);
-  const found = number === 1 ? undefined : slipsOf(data, command).find((slip) => slip.number === number);
+  const found = slipsOf(data, command).find((slip) => slip.number === number);
   return found ?? { number, sentence: SENTENCES[number] ?? "The program refused the document." };
 }

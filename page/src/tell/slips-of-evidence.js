@@ -2,20 +2,23 @@
 import { lcm, Rational } from "../exact/rational.js";
 import { Inexact, isObject, writeJson } from "../exact/json.js";
 import { withEscapes } from "../game/names.js";
-import { fractionSlip } from "./slips-of-numbers.js";
-import { isOrAre, plural } from "./words.js";
+import { fits, fractionSlip } from "./slips-of-numbers.js";
+import { isOrAre, plural } from "../game/words.js";
 
 const MOST_DENOMINATOR = 2n ** 63n;
 const MOST_SHARE = 2n ** 110n;
 const MOST_WEIGHT = 2n ** 63n;
+const MOST_PLAYERS = 64;
+const MOST_ITEMS = 65_536;
 const LEVEL_KEYS = ["bounds", "coalitions", "earlier", "excess", "total"];
 
 // ---- Shares
 
-/** `scale` is the common denominator of the numbers of the game. */
+/** `scale` is the common denominator of the numbers of the game, and `n` is 0 where nobody knows how many players it
+ * has. */
 export function shareSlips({ shares }, n, scale, add) {
   if (!Array.isArray(shares)) return add(3, "shares is an array, with a share for each player.", "shares");
-  if (shares.length !== n) {
+  if (n > 0 && shares.length !== n) {
     add(10, `There ${isOrAre(shares)} ${plural(shares.length, "share")} for ${plural(n, "player")}.`, "shares");
   }
   const isRead = shares.map((share, i) => shareIsRead(share, `shares, item ${i + 1}`, add));
@@ -57,7 +60,8 @@ function finenessSlips(shares, scale, add) {
 const isNumber = (tree) => typeof tree === "bigint" || tree instanceof Inexact;
 
 /** What isn't of its JSON kind, or has other keys or words, is of number 3, and all else of number 12. */
-export function certificateSlips({ certificate: tree }, n, add) {
+export function certificateSlips({ certificate: tree }, players, scale, add) {
+  const n = players > 0 ? players : MOST_PLAYERS; // what is told of fewer comes behind what is wrong with the game
   const shape = (sentence, place) => add(3, sentence, place), form = (sentence, place) => add(12, sentence, place);
   if (!isObject(tree)) return shape("The certificate is an object of mode and levels.", "certificate");
   const keys = Object.keys(tree).sort().join();
@@ -68,14 +72,14 @@ export function certificateSlips({ certificate: tree }, n, add) {
   if (tree.levels.length >= n) {
     form(`There are fewer levels than players, and not ${tree.levels.length} for ${n}.`, "certificate.levels");
   }
-  const listed = new Set(), reader = new LevelReader(n, shape, form);
+  const listed = new Set(), reader = new LevelReader(n, scale, shape, form);
   tree.levels.forEach((level, k) => reader.read(level, `certificate, level ${k + 1}`, listed));
   return undefined;
 }
 
 class LevelReader {
-  constructor(n, shape, form) {
-    Object.assign(this, { n, shape, form });
+  constructor(n, scale, shape, form) {
+    Object.assign(this, { n, scale, shape, form });
   }
 
   /** `listed` are the masks of the coalitions of levels in front; those of this level are added. */
@@ -85,18 +89,26 @@ class LevelReader {
       return this.shape(`A level has the keys ${LEVEL_KEYS.join(", ")}, and no other.`, place);
     }
     if (typeof level.excess !== "string") this.shape("The excess is a text.", `${place}, excess`);
-    else if (fractionSlip(level.excess)) this.form("The excess is a fraction in lowest terms.", `${place}, excess`);
+    else this.excess(level.excess, `${place}, excess`);
     this.weight(level.total, "The total", `${place}, total`);
     const [coalitions, earlier] = ["coalitions", "earlier"].map((key) => {
       return this.pairs(level[key], `${place}, ${key}`, (players) => this.coalition(players));
     });
     this.pairs(level.bounds, `${place}, bounds`, (player) => this.player(player));
     if (!coalitions.length) this.form("A level has at least one coalition.", `${place}, coalitions`);
+    if (Math.max(coalitions.length, earlier.length) > MOST_ITEMS) this.form("A level has 65,536 items at most.", place);
     earlier.forEach((mask, k) => {
       const where = `${place}, earlier, item ${k + 1}`;
       if (mask !== null && !listed.has(mask)) this.form("No earlier level lists this coalition.", where);
     });
     for (const mask of coalitions) listed.add(mask);
+    return undefined;
+  }
+
+  excess(text, place) {
+    if (fractionSlip(text)) return this.form("The excess is a fraction in lowest terms.", place);
+    const { num, den } = Rational.of(text).times(new Rational(this.scale));
+    if (!fits(num, den)) this.form("The excess, times the common denominator of the game, has over 128 bits.", place);
     return undefined;
   }
 

@@ -1,8 +1,9 @@
 // What is wrong with the numbers of a game, and with its groups.
-import { gcd, lcm, Rational } from "../exact/rational.js";
+import { readNumber, stepsOf } from "../exact/decimals.js";
+import { lcm, Rational } from "../exact/rational.js";
 import { Inexact, writeJson } from "../exact/json.js";
 import { withEscapes } from "../game/names.js";
-import { plural } from "./words.js";
+import { plural } from "../game/words.js";
 
 const MOST = 2n ** 40n;
 const MOST_SCALE = 65536n;
@@ -45,12 +46,22 @@ class NumberReader {
   read(item, place) {
     if (typeof item === "bigint") return this.size(item, 1n, place);
     if (item instanceof Inexact) {
-      const advice = "Write a fraction as a text, \"25/2\", and \"version\":2.";
-      return this.add(5, `${item.text.slice(0, 30)} is no whole number. ${advice}`, place);
+      return this.add(5, `${item.text.slice(0, 30)} is no whole number.${this.advice(item.text)}`, place);
     }
     if (typeof item === "string") return this.fraction(item, place);
-    const shown = withEscapes(writeJson(item).slice(0, 30));
-    return this.add(3, `${shown} is where a number belongs.`, place);
+    const shown = withEscapes(writeJson(item).slice(0, 30)), isLink = item === null && place.startsWith("game.matrix");
+    const hint = isLink ? " A link that doesn’t exist needs a number, too." : "";
+    return this.add(3, `${shown} is where a number belongs.${hint}`, place);
+  }
+
+  /** What a number with a point may mean; with fewer decimals where it is too fine for a document. */
+  advice(text) {
+    const value = meantBy(text), isSaid = this.hasFractions || value?.isWhole();
+    const version = isSaid ? "" : ", and \"version\":2 in the game";
+    if (!value) return " Write a fraction as a text, \"25/2\".";
+    if (value.den <= MOST_SCALE) return ` Write ${written(value)}${version}.`;
+    return ` Write fewer decimals, such as ${written(rounded(value))}${version}; or multiply all numbers (--scaled of `
+      + "scripts/from-vector).";
   }
 
   fraction(item, place) {
@@ -59,7 +70,7 @@ class NumberReader {
       return this.add(3, `“${shown}” is in quotes. Fractions need "version":2 in the game.`, place);
     }
     const slip = fractionSlip(item);
-    if (slip) return this.add(5, slip, place);
+    if (slip) return this.add(5, slip + (FORM.test(item) ? "" : this.advice(item)), place);
     const [num, den = 1n] = item.split("/").map(BigInt);
     this.scale = this.isFine ? 1n : lcm(this.scale, den);
     this.isFine ||= this.scale > MOST_SCALE;
@@ -74,13 +85,38 @@ class NumberReader {
   }
 }
 
+const FORM = /^(-?(?:0|[1-9]\d{0,38}))(?:\/([1-9]\d{0,38}))?$/;
+const MOST_PART = 2n ** 127n;
+
 /** What is wrong with a text that should be a fraction in lowest terms; "" where nothing is. */
 export function fractionSlip(text) {
-  const shown = withEscapes(text.slice(0, 30)), parts = /^(-?\d{1,39})(?:\/(\d{1,39}))?$/.exec(text);
+  const shown = withEscapes(text.slice(0, 30)), parts = FORM.exec(text);
   if (!parts) return `“${shown}” is no fraction, as "25/2".`;
-  const num = BigInt(parts[1]), den = BigInt(parts[2] ?? 1), common = den ? gcd(num, den) : 0n;
-  const lowest = common && (den / common === 1n ? `${num / common}` : `${num / common}/${den / common}`);
-  return lowest === text ? "" : `“${shown}” isn’t in lowest terms${common ? `; write "${lowest}"` : ""}.`;
+  const num = BigInt(parts[1]), den = BigInt(parts[2] ?? 1);
+  if (!fits(num, den)) return `“${shown}…” is longer than 128 bits.`;
+  const value = String(new Rational(num, den));
+  return value === text ? "" : `“${shown}” isn’t in lowest terms; write ${written(Rational.of(value))}.`;
+}
+
+/** Whether the program has room for a fraction. */
+export function fits(num, den) {
+  return num >= -MOST_PART && num < MOST_PART && den < MOST_PART;
+}
+
+/** A number as a document has it. */
+function written(value) {
+  return value.isWhole() ? `${value}` : `"${value}"`;
+}
+
+/** What a text that is no number of a document may mean; null if nobody knows. */
+function meantBy(text) {
+  const { value } = text.length <= 60 ? readNumber(text.replace(",", ".").replaceAll(" ", ""), ".") : {};
+  return value && value.num < 10n ** 30n ? value : null;
+}
+
+/** To four decimals. */
+function rounded(value) {
+  return new Rational(stepsOf(value, 4), 10_000n);
 }
 
 // ---- Groups of a table
@@ -109,10 +145,8 @@ function memberOf(member, { names, players }, place, add) {
     if (i < 0) add(6, `“${withEscapes(member.slice(0, 64))}” isn’t among the names.`, place);
     return i + 1;
   }
-  if (typeof member !== "bigint") {
-    add(3, "A member is a number or a name.", place);
-    return NaN;
-  }
+  if (member instanceof Inexact) return add(7, `There is no player ${member.text.slice(0, 30)}.`, place), NaN;
+  if (typeof member !== "bigint") return add(3, "A member is a number or a name.", place), NaN;
   const most = typeof players === "bigint" ? players : 16n;
   if (member < 1n || member > most) add(7, `There is no player ${member}.`, place);
   return Number(member);

@@ -1,11 +1,12 @@
-// What is wrong with a document: the number of a refusal, a sentence and a place each. Not all slips are found.
+// What is wrong with a document: the number of a refusal, a sentence and a place each, in the order in which the
+// program tests. The first is that which the program names. Of later ones not all are found.
+import { countText } from "../exact/decimals.js";
 import { Inexact, isObject, JsonFault, parseJson } from "../exact/json.js";
-import { bytesOf } from "../cases/reading.js";
-import { MANY } from "../cases/vectors.js";
+import { bytesOf, isOrAre, MANY, plural } from "../game/words.js";
 import { withEscapes } from "../game/names.js";
+import { whoseOf } from "./places.js";
 import { certificateSlips, shareSlips } from "./slips-of-evidence.js";
 import { numberSlips, wholeSlips } from "./slips-of-numbers.js";
-import { isOrAre, plural } from "./words.js";
 
 const TABLE = ["players", "worths", "sparse", "default"];
 const KEYS = {
@@ -17,33 +18,67 @@ const LISTS = { airport: ["costs", 64], bankruptcy: ["claims", 64], voting: ["we
 
 /** What the commands need beside the game. */
 const NEEDS = { check: ["answer", "certificate", "shares"], propose: ["shares"], kernel: ["shares"] };
+const MOST_BYTES = 2_097_152, MOST_TO_CHECK = 8_388_608; // of a document for a command
 
+/** The place of a refusal in the order in which the program tests: that of a quota, 13, behind an estate, 8. */
+const rankOf = ({ number }) => (number === 13 ? 8.5 : number);
+
+/** The slips of a document, a text or its bytes, for a command: {number, sentence, place}. Of parts that the command
+ * doesn’t need none is told. */
 export function slipsOf(data, command = "") {
   const slips = [], add = (number, sentence, place) => slips.push({ number, sentence, place });
+  const most = command === "check" ? MOST_TO_CHECK : MOST_BYTES, size = sizeOf(data);
+  if (command && size > most) {
+    add(1, `It has ${countText(size)} bytes, above ${countText(most)}. Leave out the blanks.`, "the document");
+    return slips;
+  }
   try {
-    documentSlips(parseJson(data), NEEDS[command] ?? [], slips, add);
+    const tree = parseJson(data);
+    documentSlips(tree, NEEDS[command] ?? [], slips, add);
+    for (const slip of slips) slip.place = whoseOf(slip.place, tree.game);
   } catch (fault) {
     if (!(fault instanceof JsonFault)) throw fault;
-    const place = fault.line ? `line ${fault.line}, column ${fault.column}` : undefined;
-    const isMany = /behind the document$/.test(fault.sentence) && /^\s*\{.*\}\s*\n\s*\{/.test(data);
-    add(2, `It is no JSON text: ${fault.sentence}.${isMany ? ` ${MANY}` : ""}`, place);
+    add(2, ...notJson(fault, data));
   }
-  return slips;
+  return slips.sort((one, other) => rankOf(one) - rankOf(other));
+}
+
+function sizeOf(data) {
+  return typeof data === "string" ? bytesOf(data) : data.length;
+}
+
+/** The sentence and the place of what is no JSON. */
+function notJson({ sentence, line, column }, data) {
+  const text = typeof data === "string" ? data : new TextDecoder("utf-8", { ignoreBOM: true }).decode(data);
+  if (!text.trim()) return ["It is empty.", "the document"];
+  const isMany = /behind the document$/.test(sentence) && /^\s*\{.*\}\s*\n\s*\{/.test(text);
+  const advice = isMany ? ` ${MANY}` : adviceAt(text, line, column);
+  return [`It is no JSON text: ${sentence}.${advice}`, line ? `line ${line}, column ${column}` : undefined];
+}
+
+/** What people write that JSON doesn’t have. */
+function adviceAt(text, line, column) {
+  const rest = text.split("\n")[line - 1]?.slice(column - 1) ?? "";
+  if (text.startsWith("\ufeff")) return " There is a byte order mark: save the file as UTF-8 without one.";
+  if (rest.startsWith("'")) return " JSON has double quotes, not single ones.";
+  if (/^[\]}]/.test(rest)) return ` There is a comma before ${rest[0]}.`;
+  return /^[/#]/.test(rest) ? " JSON has no comments." : "";
 }
 
 function documentSlips(tree, needed, slips, add) {
-  if (!isObject(tree)) return add(3, "A document is an object, {\"game\":{…}}.");
-  if ("class" in tree && !("game" in tree)) return add(3, "This is a game alone; write {\"game\":{…}} around it.");
+  if (!isObject(tree)) return add(3, "A document is an object, {\"game\":{…}}.", "the document");
+  if ("class" in tree && !("game" in tree)) {
+    return add(3, "This is a game alone; write {\"game\":{…}} around it.", "the document");
+  }
   strangeKeys(tree, ["answer", "certificate", "game", "shares"], "", add);
   for (const key of needed.filter((one) => !(one in tree))) add(3, `The key “${key}” is missing.`, "the document");
   if (needed.includes("answer") && "answer" in tree && !["nucleolus", "prenucleolus"].includes(tree.answer)) {
     add(3, "answer is “nucleolus” or “prenucleolus”.", "answer");
   }
   if (!isObject(tree.game)) return add(3, "The key game, with an object, is missing.", "game");
-  const { n, scale } = gameSlips(tree.game, slips, add);
-  if (slips.length || !n) return undefined;
-  if ("shares" in tree) shareSlips(tree, n, scale, add);
-  return "certificate" in tree ? certificateSlips(tree, n, add) : undefined;
+  const { n, scale } = gameSlips(tree.game, slips, add), has = (key) => needed.includes(key) && key in tree;
+  if (has("shares")) shareSlips(tree, n, scale, add);
+  return has("certificate") ? certificateSlips(tree, n, scale, add) : undefined;
 }
 
 function strangeKeys(tree, known, path, add) {
@@ -53,21 +88,25 @@ function strangeKeys(tree, known, path, add) {
   }
 }
 
-/** What is wrong with a game. Where nothing is, its number of players and the scale of its numbers. */
+/** What is wrong with a game; and its number of players, 0 where nobody knows it, with the scale of its numbers. */
 function gameSlips(tree, slips, add) {
   const kind = tree.class, isKnown = typeof kind === "string" && Object.hasOwn(KEYS, kind);
-  if (!isKnown) return add(3, `The class is none of ${Object.keys(KEYS).join(", ")}.`, "game.class"), {};
+  if (!isKnown) return add(3, classFault(kind), "game.class"), { n: 0, scale: 1n };
   strangeKeys(tree, [...COMMON, ...KEYS[kind]], "game.", add);
   keySlips(tree, kind, add);
-  if (slips.length) return {};
   const isTable = KEYS[kind] === TABLE;
   const playersOf = isTable ? playersOfTable : kind in LISTS ? playersOfList : playersOfMatrix;
   const n = playersOf(tree, add);
-  if (n) nameSlips(tree, n, add);
+  nameSlips(tree, n, add);
   const form = { isTable, hasFractions: tree.version === 2n, isVote: kind === "voting" };
   const scale = numberSlips(tree, form, add);
   if (!slips.length) wholeSlips(tree, kind, add);
   return { n, scale };
+}
+
+function classFault(kind) {
+  const near = typeof kind === "string" && Object.keys(KEYS).find((word) => distance(word, kind.toLowerCase()) <= 2);
+  return `The class is none of ${Object.keys(KEYS).join(", ")}.${near ? ` Is it “${near}”?` : ""}`;
 }
 
 function keySlips(tree, kind, add) {
@@ -96,14 +135,16 @@ function playersOfTable({ players, worths }, add) {
   const n = Number(players), count = 2 ** n - 1;
   if (Array.isArray(worths) && worths.length !== count) {
     const found = plural(worths.length, "item");
-    add(4, `${plural(n, "player")} have ${count} groups, and worths has ${found}.`, "game.worths");
+    const hint = worths.length === count + 1 ? " The empty group has none." : "";
+    const groups = `${plural(n, "player")} ${n === 1 ? "has" : "have"} ${plural(count, "group")}`;
+    add(4, `${groups}, and worths has ${found}.${hint}`, "game.worths");
   }
   return n;
 }
 
 function playersOfList(tree, add) {
   const [key, most] = LISTS[tree.class];
-  if (!Array.isArray(tree[key])) return add(3, `${key} is an array.`, `game.${key}`), 0;
+  if (!Array.isArray(tree[key])) return 0;
   const n = tree[key].length;
   if (n < 1 || n > most) add(4, `${key} has 1 to ${most} items, and not ${n}.`, `game.${key}`);
   return n;
@@ -127,7 +168,7 @@ function nameSlips({ names }, n, add) {
     add(3, "names is an array of texts.", "game.names");
     return;
   }
-  if (names.length !== n) {
+  if (n > 0 && names.length !== n) {
     add(6, `There ${isOrAre(names)} ${plural(names.length, "name")} for ${plural(n, "player")}.`, "game.names");
   }
   names.forEach((name, i) => {

@@ -1,30 +1,6 @@
 // Players and groups of players in words, by their names.
 import { without } from "../game/groups.js";
-
-export function listed(parts) {
-  return parts.length < 2 ? parts.join("") : `${parts.slice(0, -1).join(", ")} and ${parts.at(-1)}`;
-}
-
-/** Parts that have commas or an "and" themselves. */
-export function enumerated(parts) {
-  return parts.length < 2 ? parts.join("") : `${parts.slice(0, -1).join("; ")}; and ${parts.at(-1)}`;
-}
-
-export function times(count) {
-  return { 1: "once", 2: "twice" }[count] ?? `${count} times`;
-}
-
-export function plural(count, one, several = one + "s") {
-  return `${count} ${count === 1 ? one : several}`;
-}
-
-export function capital(text) {
-  return text.replace(/^./u, (letter) => letter.toUpperCase());
-}
-
-export function isOrAre(list) {
-  return list.length === 1 ? "is" : "are";
-}
+import { enumerated, listed } from "../game/words.js";
 
 /** The same game, with the landings of a runway named by the rows of the answer: each by its row, and which part of
  * it. */

@@ -1,6 +1,7 @@
 // Whether each adds no less where more have joined, in a sentence.
 import { shortTexts } from "../exact/decimals.js";
-import { listed, Namer } from "../tell/words.js";
+import { Namer } from "../tell/words.js";
+import { listed } from "../game/words.js";
 
 /** {isConvex, sentence} of a case; null if the program doesn't say. */
 export function convexity(one) {

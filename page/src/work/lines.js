@@ -4,11 +4,12 @@ import { doubleKeys, isObject, JsonFault, parseJson, writeJson } from "../exact/
 import { factsOf } from "../game/facts.js";
 import { Game } from "../game/game.js";
 import { remarksOf, withEscapes } from "../game/names.js";
+import { UNSAID } from "../game/same-worths.js";
 import { mended, unreadable } from "../tell/mail.js";
 import { refusalText } from "../tell/refusals.js";
 import { answer } from "./answers.js";
 import { bothRead } from "./both-read.js";
-import { sameGame } from "./same-game.js";
+import { found, sameGame } from "./same-game.js";
 
 /** What the page sees in a line before anybody checks it, and whether the agreed file has its game, if there is one.
  * `ask(word, document)` asks the program. */
@@ -38,6 +39,14 @@ export function isOfGame({ line, agreed, text }, ask = answer) {
 export function areOfOneGame(one, other, ask = answer) {
   const [mine, theirs] = [one, other].map(gameFileOf);
   return bothRead(sameGame(mine, theirs), mine, theirs, ask).isYes === true;
+}
+
+/** What the game of a line, or of any document, is to the agreed one. Nobody can say where a key stands twice. */
+export function compared(line, agreed, ask) {
+  const [mine, theirs] = [lineOf(line), gameFileOf(agreed)], [twice] = mine.doubles ?? [];
+  if (twice === undefined) return bothRead(sameGame(mine, theirs), mine, theirs, ask);
+  const key = withEscapes(twice.slice(0, 60));
+  return found(UNSAID, `In the line a key occurs twice: ${key}. Nobody can say which one is meant.`);
 }
 
 function helpOf(line) {

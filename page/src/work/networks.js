@@ -3,7 +3,7 @@ import { lcm, Rational } from "../exact/rational.js";
 import { cellNumber, shortText, typedText } from "../exact/decimals.js";
 import { sourceName } from "../cases/matrices.js";
 import { withEscapes } from "../game/names.js";
-import { plural } from "../tell/words.js";
+import { plural } from "../game/words.js";
 
 /** The costs that were typed, by "i-j", those of empty cells being null; or a fault in words. */
 function linksOf({ names, links, mark }) {

@@ -1,62 +1,100 @@
-// Whether two texts are of the same game: number by number and name by name, however they are written.
+// Whether two texts are of the same game, by one definition for the page, the scripts and the package.
 import { Rational } from "../exact/rational.js";
 import { countText, shortText } from "../exact/decimals.js";
 import { firstDifference, Inexact, isObject, writeJson } from "../exact/json.js";
+import { membersOf } from "../game/groups.js";
 import { differenceOf, shownName, withEscapes } from "../game/names.js";
-import { capital } from "../tell/words.js";
+import { ANOTHER, areKnownWorthTheSame, firstOther, SAME, UNSAID, WORTH_THE_SAME } from "../game/same-worths.js";
+import { Namer } from "../tell/words.js";
+import { capital } from "../game/words.js";
 
-const MOST_TOLD = 10;
-const MOST_COMPARED = 12; // players of games that are compared group by group
+const MOST_TOLD = 10, MOST_LISTED = 300;
 const MOST_EXPONENT = 400;
 const LISTS = { airport: "costs", bankruptcy: "claims", voting: "weights" };
 const SINGLES = { bankruptcy: ["estate", "the estate"], voting: ["quota", "the quota"] };
 const MEASURES = { plain: "“as a whole”", "per-head": "“per head”" };
 
+/** What a rule may look at beside the worths of groups. */
+const LOOKED_AT = {
+  airport: "what each needs", bankruptcy: "the claims", voting: "the votes", tree: "the links",
+  assignment: "the pairs", market: "the pairs",
+};
+
 const UNALIKE = "Nobody can say: entry for entry no difference is found, but some group is worth otherwise.";
+const ORDERED = "Yes: they have the same names and numbers, in another order. So go by the names.";
+const WORTH = "Worth the same, but written otherwise: each group is worth the same. So nucleolus, core, Shapley shares "
+  + "and all that look at no more are the same. A rule that looks at # may give other shares.";
+const OTHER_CLASS = " The program doesn’t answer the same questions for both classes.";
+const TOO_LARGE = "Nobody can say: they are written by other numbers, and have too many groups to compare what each is "
+  + "worth.";
 
 const isList = (kind) => Object.hasOwn(LISTS, kind);
 
-/** Whether the line is of the agreed game: {isYes, sentence, items}; `isYes` is null where nobody can say. */
+/** What the line’s game is to the agreed one: {outcome, isYes, sentence, items}. `isYes` is true for the same, false
+ * for another, and else null. */
 export function sameGame(line, agreed) {
-  const unsaid = (sentence) => ({ isYes: null, sentence });
+  const unsaid = (sentence) => found(UNSAID, sentence);
   if (agreed.fault) return unsaid(`Nobody can say: the agreed file can’t be read. ${agreed.fault}`);
-  if (line.fault) return unsaid("Nobody can say: the line can’t be read.");
+  if (line.fault) return unsaid(`Nobody can say: the line can’t be read. ${line.fault}`);
   if (!isObject(agreed.tree.game)) return unsaid("Nobody can say: the agreed file has no game in it.");
   if (!isObject(line.tree.game)) return unsaid("Nobody can say: the line has no game in it.");
   if (agreed.doubles.length) {
     const keys = agreed.doubles.map((key) => withEscapes(key.slice(0, 60))).join(", ");
     return unsaid(`In the agreed file a key occurs twice: ${keys}. Nobody can say which one was agreed on.`);
   }
-  const found = told(line, agreed);
+  const told = toldOf(line, agreed);
   const bare = agreed.isBare ? " (The agreed file is the game alone, without {\"game\":…} around it.)" : "";
-  return { ...found, sentence: found.sentence + bare };
+  return { ...told, sentence: told.sentence + bare };
 }
 
-function told(line, agreed) {
+export function found(outcome, sentence, items = []) {
+  return { outcome, isYes: outcome === SAME ? true : outcome === ANOTHER ? false : null, sentence, items };
+}
+
+function toldOf(line, agreed) {
   try {
     return verdict(line, agreed);
   } catch {
-    return { isYes: null, sentence: "Nobody can say: one of the two games doesn’t have the form of a game." };
+    return found(UNSAID, "Nobody can say: one of the two games doesn’t have the form of a game.");
   }
 }
 
 function verdict(line, agreed) {
-  const [mine, other] = [line.tree.game, agreed.tree.game], yes = (sentence) => ({ isYes: true, sentence });
+  const [mine, other] = [line.tree.game, agreed.tree.game];
   const path = firstDifference(mine, other);
-  if (!path) return yes("Yes: the two games are the same, entry for entry.");
+  if (!path) return found(SAME, "Yes: the two games are the same, entry for entry.");
   const { order, items } = differences(mine, other), where = path.filter((key) => typeof key === "string");
-  if (!items.length && isOtherwise(line.game, agreed.game, order)) return { isYes: null, sentence: UNALIKE };
-  if (!items.length && order) return yes("Yes: they have the same names and numbers, in another order.");
-  if (!items.length) {
-    return yes(`Yes: they are written differently (${withEscapes(where.join(", "))}), but each name and each number `
-      + "is the same.");
+  if (items.length) return byWorths(line.game, agreed.game, order, items);
+  if (line.game && agreed.game && firstOther(line.game, agreed.game, order)) return found(UNSAID, UNALIKE);
+  if (order) return found(SAME, ORDERED);
+  return found(SAME, `Yes: they are written differently (${withEscapes(where.join(", "))}), but each name and each `
+    + "number is the same.");
+}
+
+/** Of two games that differ as they are written, whether each group is worth the same. A game that nobody could read is
+ * refused by the program, too. */
+function byWorths(mine, other, order, items) {
+  const areTables = mine?.isTable() && other?.isTable(); // whose numbers are the worths
+  const group = mine && other && (areTables ? [] : firstOther(mine, other, order));
+  if (!mine || !other || group) return another(mine, other, order, items, group);
+  if (!areKnownWorthTheSame(mine, other)) return found(UNSAID, TOO_LARGE, firstOf(items));
+  const looked = [...new Set([mine, other].map(({ kind }) => LOOKED_AT[kind]).filter(Boolean))];
+  const isOtherClass = mine.kind !== other.kind;
+  const sentence = WORTH.replace("#", looked.join(" or ")) + (isOtherClass ? OTHER_CLASS : "");
+  return found(WORTH_THE_SAME, order ? `${sentence} The players stand in another order.` : sentence, firstOf(items));
+}
+
+/** Two games that aren’t the same, with the places; of two classes with the first group that is worth otherwise. */
+function another(mine, other, order, items, group) {
+  const places = [...items];
+  if (group?.length && mine.kind !== other.kind) {
+    const theirs = order ? group.map((i) => order[i]).sort((i, j) => i - j) : group;
+    const [value, wanted] = [mine.told(group), other.told(theirs)].map(shortText);
+    const name = group.length === mine.n ? "all together" : new Namer(mine).group(group);
+    places.push(`${name} ${mine.costs ? "cost" : "are worth"} ${value} by the line, and ${wanted} by the agreed file.`);
   }
-  if (line.game && agreed.game && areWorthTheSame(line.game, agreed.game)) {
-    const same = "Yes: they are written differently, but the players are the same and each group is worth the same.";
-    return { ...yes(same), items: firstOf(items) };
-  }
-  return items.length > 1 ? { isYes: false, sentence: "No. They differ at:", items: firstOf(items) }
-    : { isYes: false, sentence: `No. ${capital(items[0])}`, items: [] };
+  return places.length > 1 ? found(ANOTHER, "No. They differ at:", firstOf(places))
+    : found(ANOTHER, `No. ${capital(places[0])}`);
 }
 
 function firstOf(items) {
@@ -64,30 +102,17 @@ function firstOf(items) {
   return more > 0 ? [...items.slice(0, MOST_TOLD), `and ${count} more ${more === 1 ? "place" : "places"}.`] : items;
 }
 
-/** Whether some group is worth otherwise in one of two games of few players, in which the same entries were found. */
-function isOtherwise(one, other, order) {
-  if (!one || !other || one.n > MOST_COMPARED) return false;
-  const place = (i) => (order ? order[i] : i), everyone = one.everyone();
-  if (one.n !== other.n || one.costs !== other.costs || one.perHead !== other.perHead) return true;
-  for (let mask = 1; mask < 2 ** one.n; mask++) {
-    const group = everyone.filter((i) => (mask >> i) & 1), theirs = group.map(place).sort((i, j) => i - j);
-    if (!one.worth(group).equals(other.worth(theirs))) return true;
-  }
-  return false;
-}
-
-/** Whether two games of few players have the same names, measure and worths. */
-function areWorthTheSame(one, other) {
-  const names = (game) => JSON.stringify(game.names);
-  if (one.n !== other.n || one.n > MOST_COMPARED || one.perHead !== other.perHead || names(one) !== names(other)) {
-    return false;
-  }
-  if (one.costs !== other.costs) return false;
-  for (let mask = 1; mask < 2 ** one.n; mask++) {
-    const group = one.everyone().filter((i) => (mask >> i) & 1);
-    if (!one.worth(group).equals(other.worth(group))) return false;
-  }
-  return true;
+/** The entries of a game that was read, for one who compares them with a paper: each number by its place. */
+export function entriesOf(tree) {
+  const view = viewOf(tree), [, single] = SINGLES[view.kind] ?? [];
+  const numbers = [...view.values].map(([key, value]) => `${placeOf(view, key)}: ${value}`);
+  if (view.byDefault !== "nothing") numbers.push(`every other group: ${view.byDefault}`);
+  const rest = numbers.splice(MOST_LISTED).length;
+  return [
+    `the class: ${view.kind}, ${view.n} players; how a group’s loss counts: ${view.measure}`,
+    ...(single ? [`${single}: ${view.single}`] : []), ...numbers,
+    ...(rest ? [`and ${countText(rest)} more numbers`] : []),
+  ];
 }
 
 // ---- Where two games differ
@@ -95,7 +120,8 @@ function areWorthTheSame(one, other) {
 /** Each place where the games differ, in words, and the other order in which the names stand, if they do. */
 function differences(line, agreed) {
   const [mine, unordered] = [line, agreed].map(viewOf), order = orderOf(mine, unordered);
-  const other = order ? reordered(unordered, order) : unordered, items = [];
+  const isOne = mine.kind === unordered.kind, names = order?.map((j) => unordered.names[j]);
+  const other = !order ? unordered : isOne ? reordered(unordered, order) : { ...unordered, names }, items = [];
   const tell = (what, one, two, remark = "") => {
     items.push(`${what}: the line has ${one}, the agreed file ${two}${remark ? ` (${remark})` : ""}.`);
   };
@@ -103,7 +129,7 @@ function differences(line, agreed) {
   if (mine.measure !== other.measure) tell("how a group’s loss counts", mine.measure, other.measure);
   if (mine.n !== other.n) tell("the players", `${mine.n} of them`, String(other.n));
   nameDifferences(mine, other, tell);
-  if (mine.kind !== other.kind || mine.n !== other.n) return { items };
+  if (mine.kind !== other.kind || mine.n !== other.n) return { items, order };
   if (mine.single !== other.single) tell(SINGLES[mine.kind][1], mine.single, other.single);
   for (const [key, value] of mine.values) {
     const theirs = other.values.get(key) ?? other.byDefault;
@@ -203,12 +229,13 @@ function exactOf(tree) {
 
 /** Where each player of the line stands in the agreed file, if both have the same names in another order. */
 function orderOf(mine, other) {
-  if (!mine.names || !other.names || mine.kind !== other.kind || mine.n !== other.n) return null;
+  if (!mine.names || !other.names || mine.n !== other.n) return null;
   if (mine.names.length !== mine.n || new Set(mine.names).size < mine.n) return null;
   const order = mine.names.map((name) => other.names.indexOf(name));
   if (order.includes(-1) || new Set(order).size < mine.n || order.every((j, i) => i === j)) return null;
   const isBuyer = (i) => i < mine.rows, isMarket = mine.rows !== undefined && mine.kind !== "tree";
-  return isMarket && order.some((j, i) => isBuyer(i) !== isBuyer(j)) ? null : order;
+  const isOne = isMarket && mine.kind === other.kind;
+  return isOne && order.some((j, i) => isBuyer(i) !== isBuyer(j)) ? null : order;
 }
 
 function reordered(view, order) {
@@ -224,10 +251,6 @@ function reordered(view, order) {
   }
   if (view.kind === "tree") inOneDirection(values);
   return { ...view, values, names: order.map((j) => view.names[j]) };
-}
-
-function membersOf(mask) {
-  return Array.from({ length: 16 }, (_, i) => i).filter((i) => (mask >> i) & 1);
 }
 
 /** A place in words, by the names of the line. */

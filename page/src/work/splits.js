@@ -3,7 +3,7 @@ import { lcm, Rational } from "../exact/rational.js";
 import { cellNumber, typedText } from "../exact/decimals.js";
 import { onlyMark } from "../exact/marks.js";
 import { groupLabel, packed, unpacked } from "../cases/tables.js";
-import { plural } from "../tell/words.js";
+import { plural } from "../game/words.js";
 
 const MOST_SCALE = 65536n;
 const MOST_NAMED = 300; // groups that are named

@@ -4,7 +4,7 @@ from __future__ import annotations
 from dataclasses import dataclass
 from fractions import Fraction
 
-from .styles import MOST_PLACES, Style, decimal, steps_of
+from ..styles import MOST_PLACES, Style, decimal, steps_of
 
 
 @dataclass(frozen=True)

@@ -5,12 +5,12 @@ from fractions import Fraction
 from typing import Any, Optional
 
 from .excesses import excess
-from .game import Game, numbers
+from ..game import Game, numbers
 from .groups import Namer
 from .levels import Level, Settled, group_of, level_of
-from .masks import is_alone, members
+from ..masks import is_alone, members
 from .prose import filled
-from .styles import EXACT, Style
+from ..styles import EXACT, Style
 
 GENERAL = {
     1: "The shares don't add to what all together are worth.",

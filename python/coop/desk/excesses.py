@@ -6,15 +6,15 @@ from functools import partial
 from math import lcm
 from typing import Callable, NamedTuple, Optional, Sequence
 
-from .amounts import common_denominator
+from ..amounts import common_denominator
 from .cells import PLAIN, Cells, csv_text
 from .documents import Point, without_measure
-from .errors import BadInput
-from .game import Game
+from ..errors import BadInput
+from ..game import Game
 from .groups import Namer
-from .masks import members
+from ..masks import members
 from .prose import filled
-from .styles import EXACT, Style
+from ..styles import EXACT, Style
 from .tables import aligned
 
 MOST_PLAYERS = 16

@@ -5,9 +5,9 @@ import unicodedata
 from fractions import Fraction
 from typing import Iterable, Sequence
 
-from .game import Game
-from .names import safe
-from .styles import EXACT, Style, column
+from ..game import Game
+from ..names import safe
+from ..styles import EXACT, Style, column
 
 FONT = "Helvetica, Arial, 'Liberation Sans', 'DejaVu Sans', sans-serif"
 SIZE = 13

@@ -8,10 +8,10 @@ from __future__ import annotations
 
 from typing import Any, Sequence
 
-from .amounts import written
+from ..amounts import written
 from .documents import Document
-from .errors import BadInput
-from .game import Game, number
+from ..errors import BadInput
+from ..game import Game, number
 
 OF_A_LINE = {"against", "deficit", "excess", "ij", "ji", "singles", "sum", "total", "value"}
 OF_A_LINE |= {"shares", "marginal", "shapley", "buyers best", "sellers best"}

@@ -8,9 +8,9 @@ from typing import Callable, Collection, NamedTuple, Optional, Sequence
 
 from .cells import PLAIN, Cells, csv_text
 from .documents import Point
-from .errors import BadInput
-from .names import END_OF_ISOLATE, ISOLATE, is_from_the_right, safe
-from .styles import Style, decimal, rounded, steps_of
+from ..errors import BadInput
+from ..names import END_OF_ISOLATE, ISOLATE, is_from_the_right, safe
+from ..styles import Style, decimal, rounded, steps_of
 
 DECIMALS = 2
 MOVED = "Decimals are rounded so that they add up: a last place may be one off, and equals may differ.\n"

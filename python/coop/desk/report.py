@@ -7,13 +7,13 @@ import json
 from fractions import Fraction
 from typing import Any
 
-from .certificates import Explainer
 from .documents import Point, rule_of
-from .game import KINDS, Game
-from .names import is_unseen, safe
+from ..game import KINDS, Game
+from ..names import is_unseen, safe
 from .over import divided
 from .pictures import picture
-from .styles import Style, column
+from ..styles import Style, column
+from ..telling import explained
 
 STYLE = """
 body { font: 11pt/1.4 Georgia, 'Liberation Serif', 'DejaVu Serif', serif; }
@@ -59,7 +59,7 @@ def report(
         "<h2>The picture</h2>",
         picture([point], title=name, style=style, with_added=with_added),
         "<h2>Why</h2>",
-        *(paragraph(part) for part in Explainer(told, style).paragraphs()),
+        *map(paragraph, explained(json.dumps(told, ensure_ascii=False).encode(), style.spelling())),
         "<h2>How to check</h2>",
         CHECK.format(answer=text(rule), over=OVER.format(over=f"{over:,}") * (over > 1)),
         the_line(document),
@@ -110,16 +110,9 @@ def table(game: Game, point: Point, style: Style) -> str:
     return "<table>\n" + "\n".join(rows) + f"\n</table>\n{note}"
 
 
-def paragraph(words: str) -> str:
-    """A paragraph of sentences, with a list where it has items."""
-    lines = words.split("\n  - ")
-    first, *items = (html.escape(" ".join(line.split())) for line in lines)
-    if not items:
-        return f"<p>{first}</p>"
-    last, _, rest = lines[-1].partition("\n")
-    while rest.startswith("    "):
-        more, _, rest = rest.partition("\n")
-        last += " " + more.strip()
-    items[-1] = html.escape(" ".join(last.split()))
-    behind = f"<p>{html.escape(' '.join(rest.split()))}</p>" if rest else ""
-    return f"<p>{first}</p>\n<ul>\n" + "\n".join(f"<li>{item}</li>" for item in items) + f"\n</ul>{behind}"
+def paragraph(part: dict[str, Any]) -> str:
+    """A part of an explanation, with a list where it has items."""
+    first = f"<p><strong>{text(part['title'])}.</strong> {text(' '.join(part['sentences']))}</p>"
+    items = "".join(f"\n<li>{text(item['label'])} {text(item.get('text', ''))}</li>" for item in part["items"])
+    last = f"<p>{text(part['last'])}</p>" if part.get("last") else ""
+    return first + (f"\n<ul>{items}\n</ul>" if items else "") + last

@@ -5,7 +5,7 @@ from fractions import Fraction
 from math import gcd
 from typing import Any, NamedTuple
 
-from .masks import is_alone, mask_of
+from ..masks import is_alone, mask_of
 
 Weights = list[tuple[int, int]]
 """Pairs of a group and a weight."""
@@ -33,25 +33,6 @@ def level_of(tree: Any) -> Level:
 def group_of(players: list[int]) -> int:
     """The group of players counted from 1."""
     return mask_of(player - 1 for player in players)
-
-
-def reduced(level: Level) -> Level:
-    """The level with weights as small as can be, and without those of 0. A bound of negative weight is that of a player
-    whom a level before has settled, so it counts as `earlier`."""
-    earlier = level.earlier + [(player, weight) for player, weight in level.bounds if weight < 0]
-    bounds = [(player, weight) for player, weight in level.bounds if weight > 0]
-    common = gcd(level.total, *(weight for _, weight in level.coalitions + earlier + bounds))
-    first, second, third = (
-        [(group, weight // common) for group, weight in some if weight] for some in (level.coalitions, earlier, bounds)
-    )
-    return Level(level.excess, first, second, third, level.total // common)
-
-
-def is_split(level: Level, n: int) -> bool:
-    """Whether the level is of one player alone and all others together."""
-    groups = [group for group, _ in level.coalitions]
-    two = n > 2 and len(groups) == 2 and sum(groups) == 2**n - 1 and any(map(is_alone, groups))
-    return two and not level.earlier and not level.bounds
 
 
 class Settled:

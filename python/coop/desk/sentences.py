@@ -4,13 +4,13 @@ from __future__ import annotations
 from fractions import Fraction
 from typing import Any, Callable, Optional, Sequence
 
-from .errors import BadInput
-from .game import KINDS, Game, number, numbers
+from ..errors import BadInput
+from ..game import KINDS, Game, number, numbers
 from .groups import Namer, times
 from .judged import require_judged, surplus
 from .levels import group_of
 from .prose import filled, with_items
-from .styles import EXACT, Style, each
+from ..styles import EXACT, Style, each
 
 USAGES = {
     "class": "The command doesn't serve the class of this game.",

@@ -10,11 +10,11 @@ from math import sqrt
 from typing import Callable, NamedTuple, Sequence
 
 from .documents import Point
-from .errors import BadInput
-from .game import Game
-from .masks import members
-from .names import safe
-from .styles import EXACT, Style
+from ..errors import BadInput
+from ..game import Game
+from ..masks import members
+from ..names import safe
+from ..styles import EXACT, Style
 from .svg import Place, circle, cut, headed, line, mark, number_column, number_text, polygon, text, text_on_white
 from .svg import widest, width
 

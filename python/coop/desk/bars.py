@@ -6,10 +6,10 @@ from math import ceil, floor, log10
 from typing import Callable, Sequence
 
 from .documents import Point
-from .errors import BadInput
-from .game import Game
-from .names import safe
-from .styles import EXACT, Style
+from ..errors import BadInput
+from ..game import Game
+from ..names import safe
+from ..styles import EXACT, Style
 from .svg import (
     circle,
     clean,

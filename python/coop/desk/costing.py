@@ -8,11 +8,11 @@ from __future__ import annotations
 from fractions import Fraction
 from typing import Iterator, Sequence
 
-from . import filling
-from .filling import group_text
-from .masks import is_alone, members
-from .readers import Costed
-from .styles import Style
+from .. import filling
+from ..filling import group_text
+from ..masks import is_alone, members
+from ..readers import Costed
+from ..styles import Style
 
 FIRST = 10  # so many lines of a list are told, where not all are asked for
 MOST_STEPS = 2**24  # so many steps a search for cheaper parts may take: 12 players, or 16 with 256 groups

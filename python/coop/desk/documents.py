@@ -8,11 +8,14 @@ from dataclasses import dataclass
 from fractions import Fraction
 from typing import Any, Iterable, Optional, Sequence
 
-from .errors import BadInput
-from .game import Game, numbers
+from ..errors import BadInput
+from ..game import Game, numbers
 from .mail import spoilt
-from .names import safe
+from ..names import safe
+from ..program import find
+from ..telling import slips
 
+NO_SHARES = 10  # the refusal of shares that aren't one for each player
 MOST_BYTES = 1 << 26  # of a file: some documents of the 8 MB that the program takes
 ANSWERS = {"shapley": "Shapley shares", "bird": "Bird's shares"}
 KEYS = {
@@ -115,6 +118,32 @@ def object_of(tree: Any, where: str) -> dict[str, Any]:
     if "refused" in tree or "usage" in tree:
         raise BadInput(f"{where}: the program answered {json.dumps(tree)}")
     return tree
+
+
+def game_in(path: str) -> Game:
+    """The game of the one document of a file, which has no byte order mark, and which the program wouldn't refuse."""
+    text, where = read_text(path, may_be_marked=False)
+    trees = parse(text, where)
+    if len(trees) != 1:
+        raise BadInput(f"{path} has {len(trees)} documents: give a file with one")
+    tree = object_of(trees[0], where)
+    if "game" not in tree:
+        raise BadInput(f"{where} has no game")
+    require_read(tree["game"], where)
+    return Game(tree["game"])
+
+
+def require_read(game: Any, where: str) -> None:
+    """Refuses a game that the program refuses. Shares for nobody are refused too, but behind all that is wrong with a
+    game; of a market nothing but its trades is asked."""
+    is_market = type(game) is dict and game.get("class") == "market"
+    command, tree = ("matching", {"game": game}) if is_market else ("propose", {"game": game, "shares": []})
+    document = json.dumps(tree, ensure_ascii=False).encode("utf-8", "surrogatepass")
+    status, line = find().run([command], document)
+    found = json.loads(line) if status == 3 else {"number": NO_SHARES}
+    if found["number"] != NO_SHARES:
+        slip, _ = slips(document, command)
+        raise BadInput(f"{where}: the program refuses it, {found['number']} {found['refused']}, at {slip}")
 
 
 # ---- Games

@@ -4,20 +4,22 @@ from __future__ import annotations
 import json
 from typing import Any, Optional
 
+from .. import telling
 from . import checking
-from .certificates import Explainer
 from .documents import once
-from .errors import BadInput
+from ..errors import BadInput
 from .failures import failure
-from .game import Game, numbers
+from .groups import Namer
+from ..game import Game, numbers
 from .mail import spoilt
 from .over import divided
-from .prose import filled
-from .sentences import Teller
-from .slips import NAMES, NEEDS, repeated, slip_in
-from .styles import EXACT, Style
+from .prose import filled, with_items
+from .sentences import Teller, capital
+from ..styles import EXACT, Style, each
+from ..telling import slips
 
 CHECKED = ("nucleolus", "prenucleolus")
+REFUSALS = range(1, 14)
 
 
 def reasons(
@@ -85,7 +87,7 @@ def verdict_on(line: bytes, where: str) -> dict[str, Any]:
     try:
         return checking.verdict(line)
     except BadInput:
-        slip = slip_in(line, "check")
+        slip, _ = slips(line, "check")
         if slip is None:
             raise
         raise BadInput(f"{where}: {slip}") from None
@@ -99,21 +101,48 @@ def certificate(line: bytes, tree: dict[str, Any], say: Style, over: int, where:
     tree = divided(tree, over)
     if verdict["answer"] == "no":
         return failure(verdict, tree, say) + "\n", 1
-    return "\n\n".join(Explainer(tree, say).paragraphs()) + "\n", 0
+    return explained(json.dumps(tree, ensure_ascii=False).encode(), say) + all_shares(tree, say), 0
 
 
 def refusal(tree: dict[str, Any], document: Optional[bytes]) -> str:
     """Why a document is refused, and where."""
-    number = tree.get("number")
-    if number not in NAMES:
+    number, name = tree.get("number"), tree["refused"]
+    if number not in REFUSALS or type(name) is not str:
         raise BadInput("this isn't a refusal of the program")
     if document is None:
         advice = "Give the document too, and this script finds the mistake."
-        return filled(f"The document is refused: {number} {NAMES[number]}. {advice}")
-    for command in ("nucleolus", *NEEDS):
-        slip = slip_in(document, command)
+        return filled(f"The document is refused: {number} {name}. {advice}")
+    for command in ("nucleolus", "propose", "check"):
+        slip, twice = slips(document, command)
         if slip and slip.number == number:
-            twice = repeated(document)
             besides = f" Besides, at {twice}." if twice else ""
-            return filled(f"The document is refused: {number} {NAMES[number]}. {slip}.{besides}")
-    raise BadInput(f"the program doesn't refuse this document for {number} {NAMES[number]}: is it another document?")
+            return filled(f"The document is refused: {number} {name}. {capital(str(slip))}{besides}")
+    raise BadInput(f"the program doesn't refuse this document for {number} {name}: is it another document?")
+
+
+# ---- Sentences of the page
+
+
+def explained(line: bytes, say: Style) -> str:
+    """The paragraphs of a line whose certificate was checked."""
+    return "\n\n".join(map(paragraph_of, telling.explained(line, say.spelling()))) + "\n\n"
+
+
+def all_shares(tree: dict[str, Any], say: Style) -> str:
+    """What each gets, with decimals that add up; of many players, those with equal shares together."""
+    game = Game(tree["game"])
+    shares, namer = numbers(tree["shares"], "shares"), Namer(game)
+    shown = each(shares, say)
+    told = [f"{name}: {share}" for name, share in zip(namer.names, shown)]
+    if game.n > 12:
+        equal = namer.equal(shares, shown, range(game.n))
+        told = [f"{namer.players(who, 64)}: {share}{' each' * (len(who) > 1)}" for share, who in equal]
+    verb = "pay" if game.costs else "get"
+    return filled(f"They {verb}: {('; ' if game.n > 12 else ', ').join(told)}. Together: {say(game.whole())}.") + "\n"
+
+
+def paragraph_of(part: dict[str, Any]) -> str:
+    """A part of an explanation, with its items below it."""
+    items = [f"{item['label']} {item.get('text', '')}".strip() for item in part["items"]]
+    text = with_items(f"{part['title']}. {' '.join(part['sentences'])}", items)
+    return text + (f"\n{filled(part['last'])}" if part.get("last") else "")

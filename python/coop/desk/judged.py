@@ -8,9 +8,9 @@ from __future__ import annotations
 from fractions import Fraction
 from typing import Any, Sequence
 
-from .errors import BadInput
+from ..errors import BadInput
 from .excesses import excess, excess_list
-from .game import Game, number
+from ..game import Game, number
 from .levels import group_of
 
 MOST_PLAYERS = 12

@@ -8,8 +8,8 @@ from dataclasses import dataclass
 from fractions import Fraction
 from typing import Optional, Sequence
 
-from .sheets import MARKS, SEPARATORS
-from .styles import Style, decimal, steps_of
+from ..sheets import MARKS, SEPARATORS
+from ..styles import Style, decimal, steps_of
 
 
 @dataclass(frozen=True)

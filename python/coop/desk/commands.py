@@ -7,13 +7,13 @@ import signal
 import sys
 from typing import Any, Callable, Iterable, NoReturn, Optional, Sequence, Union
 
-from .amounts import MOST_SCALE
+from ..amounts import MOST_SCALE
 from .cells import Cells, cells_named
-from .errors import BadInput, CoopError
-from .game import Game
-from .names import visible, warning
-from .sheets import MARKS, SEPARATORS, Cell, Layout, notes
-from .styles import MOST_PLACES, Style
+from ..errors import BadInput, CoopError
+from ..game import Game
+from ..names import visible, warning
+from ..sheets import MARKS, SEPARATORS, Cell, Layout, notes
+from ..styles import MOST_PLACES, Style
 
 Output = Union[str, tuple[str, int]]
 """What a script prints, and the status with which it ends where that isn't 0."""
@@ -49,6 +49,11 @@ class Options(argparse.ArgumentParser):
         told = f"N decimals, {'in plain digits' if is_plain else 'thousands separated'} (default: {shown})"
         self.add_argument("--places", type=digits, metavar="N", default=places, help=told)
         self.add_argument("--unit", default="", metavar="UNIT", help="the unit after each number, such as EUR")
+
+    def add_mark(self) -> None:
+        """Which mark stands in front of decimals in sentences."""
+        told = "the decimal mark of the sentences (default: point)"
+        self.add_argument("--decimal", dest="mark", choices=list(MARKS), default="point", help=told)
 
     def add_no_added(self) -> None:
         """Whether a picture has marks at what each adds to all others."""
@@ -126,7 +131,7 @@ def factor(text: str) -> int:
 
 def style_of(chosen: Any) -> Style:
     """The style that the words name."""
-    return Style(chosen.places, chosen.unit)
+    return Style(chosen.places, chosen.unit, MARKS[getattr(chosen, "mark", "point")])
 
 
 def run(main: Callable[[Sequence[str]], Output]) -> None:

@@ -5,9 +5,9 @@ from typing import Optional, Sequence
 
 from .bars import bars
 from .documents import Document, Point, games_in, without_measure
-from .errors import BadInput
-from .game import Game
-from .styles import EXACT, Style
+from ..errors import BadInput
+from ..game import Game
+from ..styles import EXACT, Style
 from .triangle import triangle
 
 

@@ -4,9 +4,9 @@ from __future__ import annotations
 from fractions import Fraction
 from typing import Iterable, Sequence
 
-from .game import Game
-from .masks import is_alone, members
-from .names import apart
+from ..game import Game
+from ..masks import is_alone, members
+from ..names import apart
 
 
 def listed(parts: Sequence[str]) -> str:

@@ -11,16 +11,16 @@ from importlib import import_module
 from typing import TYPE_CHECKING, Any, Sequence
 
 from .documents import Document, Point, rule_of, shares_in
-from .game import KINDS, LISTS, TABLES, Game
-from .names import apart
+from ..game import KINDS, LISTS, TABLES, Game
+from ..names import apart
 from .over import divided
 from .pictures import picture
 from .reasons import reasons
-from .report import paragraph, table, text
-from .styles import EXACT, Style
+from .report import table, text
+from ..styles import EXACT, Style
 
 if TYPE_CHECKING:
-    from .answers import Answer
+    from ..answers import Answer
 
 MOST_DRAWN = 12  # players of a picture
 MOST_GROUPS = 31  # rows of a table of groups
@@ -38,6 +38,12 @@ def of_answer(answer: Answer) -> str:
     document = answer.game.document() if has_game else None
     sentences = reasons(answer.line.encode(), document, EXACT, over=answer.game.factor if has_game else 1)[0]
     return "\n".join(map(paragraph, sentences.strip().split("\n\n")))
+
+
+def paragraph(sentences: str) -> str:
+    """A paragraph of the reasons, with a list where it has items."""
+    first, *items = (" ".join(text(part).split()) for part in sentences.split("\n  - "))
+    return f"<p>{first}</p>" + ("<ul>" + "".join(f"<li>{item}</li>" for item in items) + "</ul>" if items else "")
 
 
 def told(game: Game) -> Game:

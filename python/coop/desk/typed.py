@@ -5,9 +5,9 @@ import re
 from fractions import Fraction
 from typing import Optional
 
-from .amounts import fraction_of
-from .errors import BadInput
-from .sheets import MARKS, NUMBER, by_mark, told_by, two_ways
+from ..amounts import fraction_of
+from ..errors import BadInput
+from ..sheets import MARKS, NUMBER, by_mark, told_by, two_ways
 
 
 def amount(text: str, whole: Fraction) -> Fraction:
