@@ -2,6 +2,7 @@ pub mod Right
 pub mod Needs
 pub mod PlayerLimits
 pub mod Solved
+pub mod Checked
 pub mod NoImputation
 pub mod CorePoints
 pub mod FineLevels

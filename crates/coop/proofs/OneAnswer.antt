@@ -8,7 +8,7 @@ use Rattle.std.proofs.lemmas.Bool.{true≢false}
 use Rattle.std.proofs.lemmas.Option.{none-some, same_Some}
 use Rattle.serde_json.specs.Data.{Data}
 use Rattle.definitions.specs.Games.{Allocation}
-use Rattle.definitions.specs.Certificates.{Certifies}
+use Rattle.definitions.specs.Certificates.{HasForm, Certifies}
 use Rattle.definitions.specs.Failures.{IsFirstFailure}
 use Rattle.definitions.specs.declared.Family.{Family}
 use Rattle.kohlberg.specs.Certificate.{CertificateData}
@@ -36,6 +36,7 @@ use Rattle.coop.specs.Checks.{Checks, HasEvidence}
 use Rattle.coop.specs.Headline.{AnswersTo, IsAnsweredFor, Answers}
 use Rattle.coop.specs.ReadBack.{SaysSame, CheckSaysYes}
 use Rattle.coop.specs.Words.{word_of}
+use Rattle.coop.proofs.Checked.{is_checked}
 use Rattle.coop.proofs.Requests.{one_command}
 
 -- ---- one command, one tree, one document
@@ -87,7 +88,8 @@ module _ (d : Contents) (f : Family) (x : Allocation) (c : CertificateData) (evi
 
   only_verdict : (answer : Answer) → Checks d answer → answer ≡ Verdict Yes
   only_verdict (Verdict Yes) h = refl
-  only_verdict (Verdict (No r)) h = absurd (not_failing h.1.0 h.1.1.0 h.1.1.1.0 h.1.1.1.1.0 r h.1.1.1.1.1)
+  only_verdict (Verdict (No r)) h =
+      absurd (not_failing h.1.family h.1.shares h.1.certificate h.1.evidence r h.1.verdict)
   only_verdict (Usage Players) h = absurd (omega (arith, h, taken))
   only_verdict answer h = absurd h
 
@@ -143,7 +145,14 @@ check_says_yes bytes d document f printed x c says = record {
             document,
             document_of_class command.Check bytes d document,
             refl,
-            (says.served, (says.taken, (f, (says.shares, (c, (says.evidence, says.certifies)))))),
+            (
+              says.served,
+              (
+                says.taken,
+                is_checked d f says.shares c Yes says.taken says.players says.certifies says.evidence
+                    (subst (λ (n : ℕ). HasForm c.mode n c.levels) (sym says.players) says.form),
+              ),
+            ),
           ),
         ),
       ),

@@ -18,7 +18,7 @@ use Rattle.serde_json.specs.View.{view}
 use Rattle.serde_json.specs.Written.{compact_text}
 use Rattle.serde_json.specs.declared.value.Value.{Value}
 use Rattle.definitions.specs.Games.{Allocation, IsAllocation, IsShares}
-use Rattle.definitions.specs.Certificates.{Level, Certifies}
+use Rattle.definitions.specs.Certificates.{Level, HasForm, Certifies}
 use Rattle.definitions.specs.declared.Family.{Family}
 use Rattle.kohlberg.specs.Certificate.{CertificateData, IsCertificate}
 use Rattle.game_text.specs.Classes.{tree}
@@ -143,6 +143,7 @@ module _ (family : Family) (d : Contents) (value : Value) (are_costs : Bool) (x 
       let again = of.shares.2 in
       let games : d.game ≡ e.game = accepted.described ∙ ap description_of printed_game ∙ sym of.game in
       let measures : d.measure ≡ e.measure = accepted.measured ∙ ap measure_of printed_game ∙ sym of.measure in
+      let count = ap (λ g. (game_of g).players) games in
       let here = subst (λ g. IsAllocation (game_of g) x) games allocation in
       let checked : (game_of d.game).players ≤ check_limit d.measure =
       omega (arith, taken, within_check d.measure d.game) in
@@ -158,6 +159,8 @@ module _ (family : Family) (d : Contents) (value : Value) (are_costs : Bool) (x 
         shares = of.shares.0;
         evidence = record { family = of.family; shares = of.shares.1; certificate = of.certificate };
         same = again.same (game_of e.game) here;
+        players = found.players ∙ count;
+        form = subst (λ (n : ℕ). HasForm c.mode n c.levels) (found.players ∙ count) h.form;
         certifies =
             same_certify c.mode family e.measure (game_of e.game) x of.shares.0 c.levels
             (again.allocation (game_of e.game) here) (again.same (game_of e.game) here)

@@ -11,7 +11,7 @@ use Rattle.std.specs.Prelude.{true, None, unsigned_abs}
 use Rattle.serde_json.specs.Data.{Data}
 use Rattle.serde_json.specs.View.{view}
 use Rattle.definitions.specs.Games.{Allocation, IsSame}
-use Rattle.definitions.specs.Certificates.{Certifies}
+use Rattle.definitions.specs.Certificates.{HasForm, Certifies}
 use Rattle.definitions.specs.declared.Family.{Family}
 use Rattle.kohlberg.specs.Certificate.{CertificateData}
 use Rattle.game_text.specs.Classes.{description_of, game_of}
@@ -33,7 +33,8 @@ use Rattle.coop.specs.Checks.{HasEvidence}
 use Rattle.coop.specs.Headline.{Answers}
 
 -- the document gives the game of this tree, its measure and its scale, the family, the same shares over some
--- denominator, and the certificate, which certifies them; the class and the number of players are checked
+-- denominator, and the certificate, which has its form and certifies them; the class and the number of players are
+-- checked
 pub record SaysSame (f : Family) (printed : Data) (x : Allocation) (c : CertificateData) (d : Contents) : Type 0
   where
     pub tree : d.tree ≡ printed
@@ -45,6 +46,8 @@ pub record SaysSame (f : Family) (printed : Data) (x : Allocation) (c : Certific
     pub shares : Allocation
     pub evidence : HasEvidence d f shares c
     pub same : IsSame (game_of d.game) x shares
+    pub players : c.players ≡ (game_of d.game).players
+    pub form : HasForm c.mode (game_of d.game).players c.levels
     pub certifies : Certifies c.mode f d.measure (game_of d.game) shares c.levels
 
 -- the line is no longer than a document to check may be, no test refuses its tree, and it says the same

@@ -46,3 +46,6 @@ pub mod RenumberingChangesNothing
 pub mod ExchangeChangesNothing
 pub mod ShapleyIsAnonymous
 pub mod ShapleyIsCovariant
+mod MixedCertificates
+mod MixedPairs
+mod ShapleyIsReasonable

@@ -12,3 +12,5 @@ pub mod CommonScales
 pub mod SmallNucleoli
 pub mod Renumbering
 pub mod ShapleyEquivalence
+pub mod Mixtures
+pub mod Reasonable

@@ -8,7 +8,9 @@
 pub mod airports;
 pub mod common_scales;
 pub mod estates;
+pub mod mixtures;
 pub mod nucleolus;
+pub mod reasonable;
 pub mod renumbering;
 pub mod shapley_equivalence;
 pub mod shapley_value;

@@ -1,5 +1,6 @@
 -- An objection of k against l at a kernel point can be countered: by l alone, if k outweighs l, and otherwise by a
--- coalition that has the surplus of l against k (Davis and Maschler 1967). At a core point nobody has an objection.
+-- coalition that has the surplus of l against k (Davis and Maschler 1967). At a point of the prekernel nobody outweighs
+-- anybody, so the latter counters always. At a core point nobody has an objection.
 use Rattle.std.proofs.Common.{◌≡◌, ◌≢◌, ℕ, zero, suc, ◌<◌, false, ℤ, pos, ◌*ℤ◌, ◌≤ℤ◌, sym, ap, ◌∙◌, inl, inr, arith}
 use Rattle.std.proofs.Common.{Bool, cond}
 use Rattle.std.proofs.lemmas.Bool.{false≢true}
@@ -11,14 +12,15 @@ use Rattle.definitions.proofs.Parts.{part}
 use Rattle.definitions.proofs.Ring.{linear, mul-leℤ}
 use Rattle.definitions.proofs.SumsOver.{amount-at}
 use Rattle.theorems.proofs.Moves.{parted}
-use Rattle.theorems.proofs.Transfers.{surplus_of, holds_without-singleton}
+use Rattle.theorems.proofs.Transfers.{surplus_of, holds_without-singleton, prenucleolus_in_prekernel}
 use Rattle.definitions.specs.Sums.{sum_below}
 use Rattle.definitions.specs.Coalitions.{has_player, singleton}
 use Rattle.definitions.specs.Games.{Game, Allocation, share, excess, IsAllocation, InCore}
 use Rattle.definitions.specs.Prekernel.{IsSurplus}
 use Rattle.definitions.specs.declared.Family.TheVariants.{Imputations}
 use Rattle.stability.specs.BargainingSet.{IsObjection, IsCounter, KernelIsInBargainingSet, NucleolusIsInBargainingSet}
-use Rattle.stability.specs.BargainingSet.{BargainingSetIsntEmpty, CoreIsInBargainingSet}
+use Rattle.stability.specs.BargainingSet.{BargainingSetIsntEmpty, CoreIsInBargainingSet, PrekernelCounters}
+use Rattle.stability.specs.BargainingSet.{PrenucleolusCounters}
 use Rattle.laws.proofs.NucleolusIsInCore.{core_family, core_low}
 use Rattle.stability.proofs.Kernel.{nucleolus_in_kernel, kernel_isnt_empty}
 use Rattle.stability.proofs.Counters.{answer, counters, rise, rise-within, rise-all}
@@ -45,6 +47,19 @@ counters_alone g x k l p y hx hk hl ne o alone = record {
     lacks : has_player p l ≡ false
     lacks = from_not (has_player p l) (parted (has_player p k) (has_player p l) o.without).1
 
+-- with the coalition that has the surplus of l against k, if that is no less than the surplus of k against l
+counters_by_surplus : (g : Game) (x : Allocation) (k l p : ℕ) (y : Allocation) (m w : ℤ) → IsAllocation g x
+    → l < g.players → IsObjection g x k l p y → IsSurplus g x k l m → IsSurplus g x l k w → m ≤ℤ w
+    → (q : ℕ) × (z : Allocation) × IsCounter g x k l p y q z
+counters_by_surplus g x k l p y m w hx hl o most other le =
+    let q = other.0.0 in
+    let no_less : excess g x p ≤ℤ excess g x q =
+    omega (arith, linear, le, most.1 p (o.within, o.without), other.0.2) in (
+      q,
+      answer g x k l p y q hx o hl other.0.1.0 other.0.1.1 no_less,
+      counters g x k l p y q hx o hl other.0.1.0 other.0.1.1 no_less,
+    )
+
 pub kernel_in_bargaining_set : KernelIsInBargainingSet
 kernel_in_bargaining_set g x h = (
   h.0,
@@ -58,16 +73,8 @@ kernel_in_bargaining_set g x h = (
         counters_alone g x k l p y h.0.0 hk hl ne o
             (h.1 k l hk hl ne (most.0, other.0, most.1, other.1, lt)),
       ))
-      (λ le. (
-        other.1.0.0,
-        answer g x k l p y other.1.0.0 h.0.0 o hl other.1.0.1.0 other.1.0.1.1 (no_less k l p y o most other le),
-        counters g x k l p y other.1.0.0 h.0.0 o hl other.1.0.1.0 other.1.0.1.1 (no_less k l p y o most other le),
-      )),
+      (λ le. counters_by_surplus g x k l p y most.0 other.0 h.0.0 hl o most.1 other.1 le),
 )
-  where
-    no_less : (k l p : ℕ) (y : Allocation) (o : IsObjection g x k l p y) (most : (m : ℤ) × IsSurplus g x k l m)
-        (other : (m : ℤ) × IsSurplus g x l k m) → most.0 ≤ℤ other.0 → excess g x p ≤ℤ excess g x other.1.0.0
-    no_less k l p y o most other le = omega (arith, linear, le, most.1.1 p (o.within, o.without), other.1.0.2)
 
 pub nucleolus_in_bargaining_set : NucleolusIsInBargainingSet
 nucleolus_in_bargaining_set g x h = kernel_in_bargaining_set g x (nucleolus_in_kernel g x h)
@@ -76,6 +83,17 @@ pub bargaining_set_isnt_empty : BargainingSetIsntEmpty
 bargaining_set_isnt_empty g y h =
     let (x, hx) = kernel_isnt_empty g y h in
     (x, kernel_in_bargaining_set g x hx)
+
+-- ---- the prekernel
+
+-- both surpluses are one number
+pub prekernel_counters : PrekernelCounters
+prekernel_counters g x h k l p y hk hl ne o =
+    let same = h.2 k l hk hl ne in
+    counters_by_surplus g x k l p y same.0 same.0 h.0 hl o same.1 same.2 (omega (arith, linear))
+
+pub prenucleolus_counters : PrenucleolusCounters
+prenucleolus_counters g x h = prekernel_counters g x (prenucleolus_in_prekernel g x h)
 
 -- ---- the core
 

@@ -14,7 +14,7 @@ use Rattle.definitions.specs.declared.Family.TheVariants.{Imputations, Preimputa
 use Rattle.definitions.specs.declared.Measure.TheVariants.{Plain}
 use Rattle.laws.proofs.SmallNucleoli.{majority_gets_thirds}
 use Rattle.laws.specs.SmallNucleoli.{thirds}
-use Rattle.stability.specs.BargainingSet.{IsObjection, IsCounter, InBargainingSet}
+use Rattle.stability.specs.BargainingSet.{IsObjection, IsCounter, AreCountered, InBargainingSet}
 use Rattle.stability.specs.Kernel.{InKernel}
 use Rattle.stability.specs.LeastCore.{IsGreatestExcess, InLeastCore}
 use Rattle.stability.specs.Majority.{majority, first_takes_all, last_halves, MajorityShares}
@@ -91,10 +91,13 @@ no_counter q z c = elim (first_alone_or_third q c.within c.without) [
     twice : (a : ℤ) → a *ℤ pos 2 ≡ a +ℤ a
     twice a = omega (arith, ints)
 
-not_in_bargaining_set : ¬ InBargainingSet majority first_takes_all
-not_in_bargaining_set h =
-    let counter = h.1 1 0 6 last_halves (omega arith) (omega arith) (λ e. omega (arith, e)) objection in
+pub not_countered : ¬ AreCountered majority first_takes_all
+not_countered h =
+    let counter = h 1 0 6 last_halves (omega arith) (omega arith) (λ e. omega (arith, e)) objection in
     no_counter counter.0 counter.1 counter.2
+
+not_in_bargaining_set : ¬ InBargainingSet majority first_takes_all
+not_in_bargaining_set h = not_countered h.1
 
 -- ---- the least core
 

@@ -23,3 +23,5 @@ mod GreatestGain
 mod JustifiedObjection
 mod Desirability
 mod SuperadditiveGames
+mod BalancedIsReasonable
+mod CoreTransfers

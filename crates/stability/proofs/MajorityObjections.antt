@@ -18,7 +18,8 @@ use Rattle.stability.specs.Kernel.{Outweighs}
 use Rattle.stability.specs.LeastCore.{IsGreatestExcess}
 use Rattle.stability.specs.Majority.{majority, first_takes_all, last_halves, outer_halves, MajorityObjections}
 use Rattle.stability.proofs.FirstTakesAll.{second_surplus, first_surplus, objection, first_alone_or_third, no_counter}
-use Rattle.stability.proofs.FirstTakesAll.{greatest_of_thirds}
+use Rattle.stability.proofs.FirstTakesAll.{greatest_of_thirds, not_countered}
+use Rattle.stability.proofs.BargainingSet.{prenucleolus_counters}
 use Rattle.stability.proofs.Kernel.{none_outweighs}
 use Rattle.theorems.proofs.Products.{products}
 
@@ -84,5 +85,6 @@ majority_objections = (
   ((pos 1, pos 0, second_surplus, first_surplus, search rules), nobody_outweighs),
   (objection, no_objection),
   (half_objection, half_counter, no_counter),
+  (prenucleolus_counters majority thirds (majority_gets_thirds Preimputations Plain), not_countered),
   (greatest_of_thirds, not_twice),
 )

@@ -1,12 +1,15 @@
 -- Two voters: by computation.
-use Rattle.std.proofs.Common.{◌≡◌, ℕ, zero, suc, ◌<◌, ◌+◌, ◌-◌, Bool, true, false, nat_eq, ◌||◌, pos}
+use Rattle.std.proofs.Common.{◌≡◌, ◌≢◌, not, ℕ, zero, suc, ◌<◌, ◌+◌, ◌-◌, Bool, true, false, nat_eq, ◌||◌, pos}
 use Rattle.std.proofs.Common.{◌+ℤ◌, ◌-ℤ◌, ◌*ℤ◌, int_le, refl, arith, rules}
 use Rattle.std.proofs.lemmas.Bool.{false≢true}
 use Rattle.std.proofs.lemmas.Int.{ints}
 use Rattle.definitions.proofs.Cases.{or_other, nat_eq-other}
 use Rattle.definitions.proofs.Splits.{passes_below, passes_below-at}
 use Rattle.definitions.specs.Coalitions.{has_player, singleton}
-use Rattle.definitions.specs.Games.{amount}
+use Rattle.definitions.specs.Games.{amount, excess}
+use Rattle.definitions.specs.Prekernel.{holds_without, IsSurplus, AreBalanced, InPrekernel}
+use Rattle.theorems.proofs.Examples.{from_either}
+use Rattle.stability.proofs.BargainingSet.{prekernel_counters}
 use Rattle.stability.specs.Subsidies.{IsSubsidyFree}
 use Rattle.stability.specs.TwoVoters.{both_agree, one_suffices, halves, TwoVoters}
 use Rattle.stability.specs.ZeroMonotonic.{IsZeroMonotonic}
@@ -70,10 +73,44 @@ each_joins = record {
     both (suc zero) lt = refl
     both (suc (suc i)) lt = absurd (omega (arith, lt))
 
+-- of two, only one alone holds the one and lacks the other
+first_surplus : IsSurplus one_suffices halves 0 1 (pos 1)
+first_surplus = (
+  (1, (omega arith, refl), refl),
+  λ s h. from_either _ _ _
+      (passes_below-at 4 (λ s. not (holds_without 0 1 s) || int_le (excess one_suffices halves s) (pos 1)) refl s h.0)
+      h.1,
+)
+
+second_surplus : IsSurplus one_suffices halves 1 0 (pos 1)
+second_surplus = (
+  (2, (omega arith, refl), refl),
+  λ s h. from_either _ _ _
+      (passes_below-at 4 (λ s. not (holds_without 1 0 s) || int_le (excess one_suffices halves s) (pos 1)) refl s h.0)
+      h.1,
+)
+
+halves_in_prekernel : InPrekernel one_suffices halves
+halves_in_prekernel = ((refl, search rules), refl, balanced)
+  where
+    balanced : (i j : ℕ) → i < 2 → j < 2 → i ≢ j → AreBalanced one_suffices halves i j
+    balanced zero zero hi hj ne = absurd (ne refl)
+    balanced zero (suc zero) hi hj ne = (pos 1, first_surplus, second_surplus)
+    balanced (suc zero) zero hi hj ne = (pos 1, second_surplus, first_surplus)
+    balanced (suc zero) (suc zero) hi hj ne = absurd (ne refl)
+    balanced zero (suc (suc j)) hi hj ne = absurd (omega (arith, hj))
+    balanced (suc zero) (suc (suc j)) hi hj ne = absurd (omega (arith, hj))
+    balanced (suc (suc i)) j hi hj ne = absurd (omega (arith, hi))
+
 pub two_voters : TwoVoters
 two_voters = (
   (does_no_harm, does_harm),
   (convex_is_superadditive both_agree refl convex, λ h. does_harm (superadditive_is_zero_monotonic one_suffices h)),
   (each_joins, λ h. false≢true (h.members 1 (omega arith))),
   (free, λ h. (let le = h.2 1 (omega arith) in omega (arith, ints, le))),
+  (
+    halves_in_prekernel,
+    prekernel_counters one_suffices halves halves_in_prekernel,
+    λ h. (let le = h.0.2 0 (omega arith) in omega (arith, ints, le)),
+  ),
 )

@@ -6,17 +6,20 @@
 --   GetsMore x y i               player i gets at y more than at x
 --   IsObjection g x k l p y      by the shares y of p, player k objects to what player l gets at x
 --   IsCounter g x k l p y q z    by the shares z of q, player l counters that
---   InBargainingSet g x          an imputation at which each objection can be countered
+--   AreCountered g x             at x each objection of a player against another can be countered
+--   InBargainingSet g x          an imputation at which that is so
 --   KernelIsInBargainingSet      the kernel lies in the bargaining set
 --   NucleolusIsInBargainingSet   so the nucleolus does
 --   BargainingSetIsntEmpty       if there is an imputation, some shares lie in the bargaining set
 --   CoreIsInBargainingSet        the core lies in it: at a core point nobody has an objection
+--   PrekernelCounters            at each point of the prekernel objections can be countered, imputation or not
+--   PrenucleolusCounters         so at the prenucleolus they can
 use Rattle.std.specs.Prelude.{◌≡◌, ◌≢◌, ℕ, ◌^◌, ◌<◌, true}
 use Rattle.std.specs.Prelude.{false, IsTrue, ◌*ℤ◌, ◌<ℤ◌, ◌≤ℤ◌}
 use Rattle.definitions.specs.Coalitions.{has_player}
 use Rattle.definitions.specs.Games.{Game, Allocation, share, amount, IsAllocation, InFamily, IsNucleolus, InCore}
-use Rattle.definitions.specs.Prekernel.{holds_without}
-use Rattle.definitions.specs.declared.Family.TheVariants.{Imputations}
+use Rattle.definitions.specs.Prekernel.{holds_without, InPrekernel}
+use Rattle.definitions.specs.declared.Family.TheVariants.{Imputations, Preimputations}
 use Rattle.definitions.specs.declared.Measure.TheVariants.{Plain}
 use Rattle.stability.specs.Kernel.{InKernel}
 
@@ -46,12 +49,15 @@ pub record IsCounter (g : Game) (x : Allocation) (k l p : ℕ) (y : Allocation) 
   pub as_promised : (i : ℕ) → i < g.players → has_player q i ≡ true → has_player p i ≡ true → GetsNoLess y z i
   pub as_before : (i : ℕ) → i < g.players → has_player q i ≡ true → has_player p i ≡ false → GetsNoLess x z i
 
+-- each objection of a player against another can be countered
+abbrev pub AreCountered : Game → Allocation → Type 0
+AreCountered g x =
+    (k l p : ℕ) (y : Allocation) → k < g.players → l < g.players → k ≢ l → IsObjection g x k l p y →
+    (q : ℕ) × (z : Allocation) × IsCounter g x k l p y q z
+
 -- an imputation at which each objection of a player against another can be countered
 abbrev pub InBargainingSet : Game → Allocation → Type 0
-InBargainingSet g x =
-    InFamily Imputations g x
-    × ((k l p : ℕ) (y : Allocation) → k < g.players → l < g.players → k ≢ l → IsObjection g x k l p y
-    → (q : ℕ) × (z : Allocation) × IsCounter g x k l p y q z)
+InBargainingSet g x = InFamily Imputations g x × AreCountered g x
 
 abbrev pub KernelIsInBargainingSet : Type 0
 KernelIsInBargainingSet = (g : Game) (x : Allocation) → InKernel g x → InBargainingSet g x
@@ -69,3 +75,10 @@ CoreIsInBargainingSet =
     (g : Game) (x : Allocation) → InCore g x →
     InBargainingSet g x
     × ((k l p : ℕ) (y : Allocation) → k < g.players → ¬ IsObjection g x k l p y)
+
+-- also where somebody gets less than its worth alone, so that the point isn't in the bargaining set
+abbrev pub PrekernelCounters : Type 0
+PrekernelCounters = (g : Game) (x : Allocation) → InPrekernel g x → AreCountered g x
+
+abbrev pub PrenucleolusCounters : Type 0
+PrenucleolusCounters = (g : Game) (x : Allocation) → IsNucleolus Preimputations Plain g x → AreCountered g x

@@ -8,3 +8,5 @@ pub mod Superadditive
 pub mod Subsidies
 pub mod TwoVoters
 pub mod EstateCores
+pub mod Reasonable
+pub mod CoreTransfers

@@ -12,7 +12,8 @@ use Rattle.definitions.specs.declared.Measure.TheVariants.{Plain}
 use Rattle.laws.specs.ClassGames.{voting_game}
 use Rattle.laws.specs.SmallNucleoli.{thirds}
 use Rattle.stability.specs.Kernel.{Outweighs, InKernel}
-use Rattle.stability.specs.BargainingSet.{GetsNoLess, GetsMore, IsObjection, IsCounter, InBargainingSet}
+use Rattle.stability.specs.BargainingSet.{GetsNoLess, GetsMore, IsObjection, IsCounter}
+use Rattle.stability.specs.BargainingSet.{AreCountered, InBargainingSet}
 use Rattle.stability.specs.LeastCore.{IsGreatestExcess, InLeastCore}
 
 -- three with a vote each, of whom two win
@@ -41,8 +42,8 @@ outer_halves = record { shares = pos 1 ∷ (pos 0 ∷ (pos 1 ∷ [])); den = pos
 
 -- Who has nothing outweighs who has all, and by thirds nobody outweighs anybody. The second objects to the first's all
 -- by halves with the third, which the first can't counter; the first has no objection to the second's nothing. By
--- thirds the first objects to the second's by halves with the third, and the second counters likewise. By thirds two
--- can have a third more, and no more.
+-- thirds the first objects to the second's by halves with the third, and the second counters likewise. By thirds all
+-- objections can be countered. By thirds two can have a third more, and no more.
 abbrev pub MajorityObjections : Type 0
 MajorityObjections =
     (GetsMore thirds first_takes_all 0 × ¬ GetsMore thirds first_takes_all 1)
@@ -54,4 +55,5 @@ MajorityObjections =
     × (IsObjection majority thirds 0 1 5 outer_halves
     × IsCounter majority thirds 0 1 5 outer_halves 6 last_halves
     × ((q : ℕ) (z : Allocation) → ¬ IsCounter majority first_takes_all 1 0 6 last_halves q z))
+    × (AreCountered majority thirds × ¬ AreCountered majority first_takes_all)
     × (IsGreatestExcess Plain majority thirds (pos 1) × ¬ IsGreatestExcess Plain majority thirds (pos 2))

@@ -6,10 +6,13 @@
 --   TwoVoters                  if both have to agree, who joins does no harm, and halves are free of subsidies;
 --                              if one suffices, who joins the other does harm. Both together are joined of each
 --                              alone, and one alone isn't. Of three who vote by majority, that the first takes all
---                              isn't free of subsidies
+--                              isn't free of subsidies. If one suffices, halves lie in the prekernel, and so each
+--                              objection can be countered; but alone each is worth more than its half
 use Rattle.std.specs.Prelude.{[], ◌∷◌, pos}
 use Rattle.definitions.specs.Games.{Game, Allocation}
+use Rattle.definitions.specs.Prekernel.{InPrekernel}
 use Rattle.laws.specs.ClassGames.{voting_game}
+use Rattle.stability.specs.BargainingSet.{AreCountered, InBargainingSet}
 use Rattle.stability.specs.Majority.{majority, first_takes_all}
 use Rattle.stability.specs.Subsidies.{IsSubsidyFree}
 use Rattle.stability.specs.Superadditive.{IsJoined, IsSuperadditive}
@@ -32,3 +35,4 @@ TwoVoters =
     × (IsSuperadditive both_agree × ¬ IsSuperadditive one_suffices)
     × (IsJoined 2 1 2 3 × ¬ IsJoined 2 1 2 1)
     × (IsSubsidyFree both_agree halves × ¬ IsSubsidyFree majority first_takes_all)
+    × (InPrekernel one_suffices halves × AreCountered one_suffices halves × ¬ InBargainingSet one_suffices halves)

@@ -10,4 +10,6 @@ pub mod kernels;
 pub mod least_cores;
 pub mod majority;
 pub mod objections;
+pub mod reasonable;
 pub mod subsidies;
+pub mod transfers;

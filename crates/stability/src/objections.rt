@@ -3,6 +3,7 @@
 
 ghost use Rattle.stability.specs.BargainingSet.{KernelIsInBargainingSet, NucleolusIsInBargainingSet};
 ghost use Rattle.stability.specs.BargainingSet.{BargainingSetIsntEmpty, CoreIsInBargainingSet};
+ghost use Rattle.stability.specs.BargainingSet.{PrekernelCounters, PrenucleolusCounters};
 
 /// The kernel lies in the bargaining set (Davis and Maschler 1967).
 pub fn kernel_is_in_bargaining_set()
@@ -23,4 +24,15 @@ pub fn bargaining_set_isnt_empty()
 /// The core lies in the bargaining set: at a core point nobody has an objection.
 pub fn core_is_in_bargaining_set()
     ensures { CoreIsInBargainingSet }
+{}
+
+/// At each point of the prekernel each objection of a player against another can be countered, also where somebody gets
+/// less than its worth alone (Davis and Maschler 1967).
+pub fn prekernel_counters()
+    ensures { PrekernelCounters }
+{}
+
+/// At the prenucleolus each objection of a player against another can be countered, whether or not it is an imputation.
+pub fn prenucleolus_counters()
+    ensures { PrenucleolusCounters }
 {}

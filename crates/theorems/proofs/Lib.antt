@@ -8,7 +8,7 @@ pub mod Bondareva
 pub mod OneVerdict
 pub mod ScaledLists
 pub mod Scaled
-mod ScaledLevels
+pub mod ScaledLevels
 mod Alike
 mod OneReason
 pub mod Forms

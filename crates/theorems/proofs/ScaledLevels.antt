@@ -23,26 +23,26 @@ use Rattle.theorems.proofs.Products.{products}
 -- ---- levels with the same lists fix the same
 
 -- the lists of the second are those of the first, one by one
-abbrev Alike : List Level → List Level → Type 0
+abbrev pub Alike : List Level → List Level → Type 0
 Alike [] [] = Unit {0}
 Alike [] (m ∷ ms) = ⊥
 Alike (l ∷ ls) [] = ⊥
 Alike (l ∷ ls) (m ∷ ms) = (m.coalitions ≡ l.coalitions) × (m.bounds ≡ l.bounds) × Alike ls ms
 
-Alike-turned : (ls ms : List Level) → Alike ls ms → Alike ms ls
+pub Alike-turned : (ls ms : List Level) → Alike ls ms → Alike ms ls
 Alike-turned [] [] h = tt
 Alike-turned [] (m ∷ ms) h = absurd h
 Alike-turned (l ∷ ls) [] h = absurd h
 Alike-turned (l ∷ ls) (m ∷ ms) h = (sym h.0, sym h.1, Alike-turned ls ms h.2)
 
-joined : (ls ms : List Level) (l m : Level) → Alike ls ms → m.coalitions ≡ l.coalitions → m.bounds ≡ l.bounds
+pub joined : (ls ms : List Level) (l m : Level) → Alike ls ms → m.coalitions ≡ l.coalitions → m.bounds ≡ l.bounds
     → Alike (ls ++ l ∷ []) (ms ++ m ∷ [])
 joined [] [] l m h c b = (c, b, tt)
 joined [] (k ∷ ms) l m h c b = absurd h
 joined (j ∷ ls) [] l m h c b = absurd h
 joined (j ∷ ls) (k ∷ ms) l m h c b = (h.0, h.1, joined ls ms l m h.2 c b)
 
-listed_alike : (ls ms : List Level) → Alike ls ms → (s : ℕ) → is_listed ls s ≡ is_listed ms s
+pub listed_alike : (ls ms : List Level) → Alike ls ms → (s : ℕ) → is_listed ls s ≡ is_listed ms s
 listed_alike [] [] h s = refl
 listed_alike [] (m ∷ ms) h s = absurd h
 listed_alike (l ∷ ls) [] h s = absurd h
@@ -98,13 +98,13 @@ span_alike n ls ms h s k = (
   k.4,
 )
 
-outside_alike : (mode : Mode) (n : ℕ) (ls ms : List Level) → Alike ls ms → (s : ℕ) → IsOutside mode n ls s
+pub outside_alike : (mode : Mode) (n : ℕ) (ls ms : List Level) → Alike ls ms → (s : ℕ) → IsOutside mode n ls s
     → IsOutside mode n ms s
 outside_alike Players n ls ms h s o =
     subst IsTrue (splits_alike n (is_free n ls) (is_free n ms) s (free_alike n ls ms h)) o
 outside_alike Span n ls ms h s o = (o.0, o.1, λ k. o.2 (span_alike n ms ls (Alike-turned ls ms h) s k))
 
-fixed_alike : (mode : Mode) (n : ℕ) (ls ms : List Level) → Alike ls ms → IsAllFixed mode n ls → IsAllFixed mode n ms
+pub fixed_alike : (mode : Mode) (n : ℕ) (ls ms : List Level) → Alike ls ms → IsAllFixed mode n ls → IsAllFixed mode n ms
 fixed_alike Players n ls ms h a = λ i j li lj fi fj. a i j li lj (subst IsTrue (sym (free_alike n ls ms h i)) fi)
     (subst IsTrue (sym (free_alike n ls ms h j)) fj)
 fixed_alike Span n ls ms h a = λ i lt. span_alike n ls ms h (singleton i) (a i lt)
@@ -182,7 +182,7 @@ tight_from : (k : ℤ) (f : Family) (g : Game) (x : Allocation) (b : ℕ × ℤ)
     → IsTightOver k f g x b
 tight_from k f g x b h = (sym (share_times k x b.0) ∙ h.0, h.1)
 
-weighs_alike : (ls ms : List Level) → Alike ls ms → (b : ℕ × ℤ) → BoundWeighs ls b → BoundWeighs ms b
+pub weighs_alike : (ls ms : List Level) → Alike ls ms → (b : ℕ × ℤ) → BoundWeighs ls b → BoundWeighs ms b
 weighs_alike ls ms h b w = elim w [
   | inl one ↦ inl one
   | inr earlier ↦ inr (subst IsTrue (bound_alike ls ms h b.0) earlier)

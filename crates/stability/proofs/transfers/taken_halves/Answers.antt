@@ -1,0 +1,5 @@
+use Rattle.stability.proofs.CoreTransfers.{taken_halves}
+use Rattle.stability.proofs.transfers.taken_halves.Goals as goal
+
+pub returns : goal.returns
+returns c = taken_halves
