@@ -3,7 +3,7 @@
 What it writes is compiled with the files of c/portable, which hold the module's memory and its heap. A value of the
 module's stack is an expression of C where nothing can change it before its use, and otherwise a variable that is set
 once. Each instruction has one row below; a module with another one is refused. No proof covers this translation:
-tools/try-portable compares what is built with the program.
+tools/gate/try-portable compares what is built with the program.
 """
 from __future__ import annotations
 

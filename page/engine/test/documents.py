@@ -30,7 +30,7 @@ class Run(NamedTuple):
 
 def tool(name: str) -> ModuleType:
     """A tool of the repository, for the documents that it has."""
-    loader = SourceFileLoader(name.replace("-", "_"), os.path.join(TOP, "tools", name))
+    loader = SourceFileLoader(name.replace("-", "_"), os.path.join(TOP, "tools", "gate", name))
     spec = spec_from_loader(loader.name, loader)
     assert spec is not None
     module = module_from_spec(spec)

@@ -2,7 +2,7 @@
 import { ruleName } from "../tell/rule-names.js";
 import { el } from "./dom.js";
 
-// What tools/try-page compares, at least.
+// What tools/gate/try-page compares, at least.
 const COMPARED = "7,194";
 
 const RULES = {
