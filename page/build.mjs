@@ -1,7 +1,7 @@
 #!/usr/bin/env node
 // Joins the modules, the styles and the program into one page.
 //
-//     node page/build.mjs --module page/engine/coop.wasm --commit COMMIT --out page/coop.html
+//     node page/build.mjs --module runtime/engine/coop.wasm --commit COMMIT --out page/coop.html
 //
 // COMMIT is the commit of the sources that the module was made from. Without --module, or without --commit, these are
 // those of the page that stands at --out already: so whoever changes the page alone needs neither the kit nor a module.
@@ -12,7 +12,7 @@ import { createHash } from "node:crypto";
 import { existsSync, readFileSync, writeFileSync } from "node:fs";
 import { dirname, join, resolve } from "node:path";
 import { fileURLToPath } from "node:url";
-import { packed, packedIn, unpacked } from "./engine/inside.js";
+import { packed, packedIn, unpacked } from "../runtime/engine/inside.js";
 import { squeeze } from "./squeeze.mjs";
 
 const TOP = dirname(fileURLToPath(import.meta.url));
@@ -46,7 +46,7 @@ function modulesOf(entry, places) {
 
 /** The modules that page and worker share, which stand in the page once, and those of each alone. */
 function scriptsOf(places) {
-  const page = modulesOf("page/main.js", places), worker = modulesOf("worker.js", places);
+  const page = modulesOf("view/main.js", places), worker = modulesOf("worker.js", places);
   const isShared = ([path]) => page.has(path) && worker.has(path);
   const script = (modules) => inScript(modules.map(([, code]) => code).join("\n"));
   return {

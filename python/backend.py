@@ -12,6 +12,7 @@ import base64
 import hashlib
 import io
 import os
+import posixpath
 import re
 import sys
 import sysconfig
@@ -28,13 +29,14 @@ FIRST_DAY = (1980, 1, 1, 0, 0, 0)  # the same bytes at each build
 
 
 DATA = {
-    "page": (
-        "coop.html", "coop.mjs", "serve.mjs", "telling.mjs", "package.json", "engine/host.js", "engine/inside.js",
-        "engine/ports.js",
+    "runtime": (
+        "coop.mjs", "serve.mjs", "telling.mjs", "package.json", "engine/host.js", "engine/inside.js", "engine/ports.js",
     ),
+    "page": ("coop.html", "package.json"),
     "scripts": ("check-anew",),
 }
-"""What a package has beside its modules, by the folders of the repository; and what telling.mjs imports."""
+"""What a package has beside its modules, by the folders of the repository; and what TELLING imports."""
+TELLING = "runtime/telling.mjs"
 IMPORT = re.compile(r'^(?:import|\}) .*from "(\.[^"]+)";$', re.MULTILINE)
 
 
@@ -92,13 +94,14 @@ def modules() -> list[str]:
 
 def data() -> dict[str, list[str]]:
     """What a package has beside its modules, by the folders of the repository."""
-    page = list(DATA["page"])
-    for name in page:
-        with open(os.path.join(folder_of("page"), name), encoding="utf-8") as file:
-            found = IMPORT.findall(file.read()) if name.startswith(("telling", "src/")) else []
-        names = [os.path.normpath(os.path.join(os.path.dirname(name), other)).replace(os.sep, "/") for other in found]
-        page += sorted(set(names) - set(page))
-    return {**{part: list(names) for part, names in DATA.items()}, "page": page}
+    paths = [TELLING]
+    for path in paths:
+        part, name = path.split("/", 1)
+        with open(os.path.join(folder_of(part), name), encoding="utf-8") as file:
+            others = {posixpath.normpath(f"{posixpath.dirname(path)}/{other}") for other in IMPORT.findall(file.read())}
+        paths += sorted(others - set(paths))
+    imported = [path[len("page/") :] for path in paths if path.startswith("page/")]
+    return {part: [*names, *(imported if part == "page" else ())] for part, names in DATA.items()}
 
 
 def sources() -> dict[str, str]:

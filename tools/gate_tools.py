@@ -22,7 +22,7 @@ class Tool(NamedTuple):
     # Whether it has to fail where the folders that it looks at are empty.
     has_folder: bool = True
     # Whether it needs the kit, or what only the kit builds; and whether without the kit its program has to be
-    # page/coop.mjs itself, and not what asks a process of Node that stays.
+    # runtime/coop.mjs itself, and not what asks a process of Node that stays.
     needs_kit: bool = False
     needs_ports: bool = False
     # The tool in front, which has to have ended before it starts.

@@ -1,5 +1,5 @@
 /* coop_run of c/coop.h, by the module of WebAssembly as C: the heap that the module asks for, and one call in an
-   instance of its own. What page/engine/host.js is to the page, this is to C. No proof covers it.
+   instance of its own. What runtime/engine/host.js is to the page, this is to C. No proof covers it.
 
    Beside the statuses of c/coop.h there are 70, when the module trapped, so there is no answer, and 124 of
    coop_run_until (portable.h). Nothing static is written but where each thread's call is, so there is no race. */

@@ -14,7 +14,7 @@ function codeOf(id) {
   return code.replace(/<\\\/script/gi, "</script").replace(/<\\!--/g, "<!--");
 }
 
-/** A worker: `ask(task, what, about)` as page/helper.js asks, but `about` is sent as it is. */
+/** A worker: `ask(task, what, about)` as view/helper.js asks, but `about` is sent as it is. */
 function started() {
   const waiting = new Map(), self = {
     postMessage: ({ id, result, fault }) => waiting.get(id)(fault === undefined ? result : new Error(fault)),

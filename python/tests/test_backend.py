@@ -51,7 +51,7 @@ class Built(unittest.TestCase):
         wanted = {f"coop/{name}": os.path.join(FOLDER, name) for name in backend.modules()}
         for folder, names in backend.data().items():
             wanted.update((f"coop/{folder}/{name}", os.path.join(TOP, folder, name)) for name in names)
-        self.assertLess({"coop/page/coop.html", "coop/page/telling.mjs", "coop/scripts/check-anew"}, set(wanted))
+        self.assertLess({"coop/page/coop.html", "coop/runtime/telling.mjs", "coop/scripts/check-anew"}, set(wanted))
         own = {f"{info}/{part}" for part in ("METADATA", "WHEEL", "RECORD")}
         self.assertEqual(set(found), {*wanted, *own})
         for name, path in wanted.items():

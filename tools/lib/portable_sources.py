@@ -57,9 +57,8 @@ def copy_to(folder: str, files: tuple[str, ...]) -> None:
 
 def write_module(path: str) -> None:
     """Writes the module that the page has inside."""
-    page = os.path.join(TOP, "page")
-    inside = f"file://{os.path.join(page, 'engine', 'inside.js')}"
-    words = ["node", "--input-type=module", "-e", MODULE_TO, inside, os.path.join(page, "coop.html"), path]
+    inside, page = os.path.join(TOP, "runtime", "engine", "inside.js"), os.path.join(TOP, "page", "coop.html")
+    words = ["node", "--input-type=module", "-e", MODULE_TO, f"file://{inside}", page, path]
     subprocess.run(words, check=True)
 
 

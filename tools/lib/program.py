@@ -13,7 +13,7 @@ import sys
 TOP = os.path.realpath(os.path.join(os.path.dirname(os.path.abspath(__file__)), "..", ".."))
 PROGRAM = os.path.join(TOP, "crates", "coop_program", "out", "coop_program")
 # The same compiled to WebAssembly, as a command that Node runs.
-MODULE = os.path.join(TOP, "page", "coop.mjs")
+MODULE = os.path.join(TOP, "runtime", "coop.mjs")
 
 
 def named_program(words: list[str]) -> str:

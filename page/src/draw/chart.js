@@ -1,5 +1,5 @@
 // Bars side by side, with marks and ranges, and what each means, in one picture of any width.
-import { svg } from "../page/dom.js";
+import { svg } from "../view/dom.js";
 import { fitted, widthOf } from "./measure.js";
 
 const [BAR, GAP, AIR, LINE, NOTED] = [11, 3, 18, 22, 20];

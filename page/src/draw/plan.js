@@ -1,6 +1,6 @@
 // The cheapest network, drawn from its source to the right: each place hangs on the one that it is joined to.
 import { Rational } from "../exact/rational.js";
-import { svg } from "../page/dom.js";
+import { svg } from "../view/dom.js";
 import { figure } from "./figure.js";
 import { fitted, widthOf } from "./measure.js";
 

@@ -87,7 +87,7 @@ def globals_in(section: bytes) -> Iterator[bool]:
 
 
 def stop_on_kept(of: dict[int, bytes]) -> None:
-    """Stops where a call may find what an earlier one left, though the host has wiped the memory (page/engine/host.js):
+    """Stops where a call may find what an earlier one left, though the host has wiped the memory (runtime/engine/host.js):
     the memory's length, or a global. One may change, the stack pointer, which a call that returns puts back."""
     if sum(globals_in(of.get(GLOBALS, b"\0"))) > 1:
         raise Unknown("more than one global may change")

@@ -7,14 +7,12 @@
 // which has to be left with the memory of a new one.
 import fs from "node:fs";
 import { coop, Engine } from "../host.js";
-import { moduleIn } from "../inside.js";
+import { pageModule } from "../ports.js";
 
 const OUT_OF_MEMORY = 7;
 const PAGE = 65536;
 
-const module = new WebAssembly.Module(moduleIn(fs.readFileSync(new URL("../../coop.html", import.meta.url), "latin1")));
-
-const engine = new Engine(module);
+const module = pageModule(), engine = new Engine(module);
 const begun = Buffer.from(new WebAssembly.Instance(module, { heap: imports() }).exports.memory.buffer);
 const ZEROS = Buffer.alloc(1 << 20);
 

@@ -2,8 +2,8 @@
 // coop as one process that stays, for a program that asks many times: requests on standard input, answers in their
 // order on standard output, by the module inside coop.html.
 //
-//     node page/serve.mjs
-//     node page/serve.mjs --lines COMMAND[,COMMAND..] < DOCUMENTS
+//     node runtime/serve.mjs
+//     node runtime/serve.mjs --lines COMMAND[,COMMAND..] < DOCUMENTS
 //
 // With --lines each line of the input is a document, and each answer a line: the status, a blank, and the program's
 // line. After a status of 7 nothing follows, and after 70 the reason. With several commands each document has one line
@@ -158,7 +158,7 @@ async function serve(commands) {
 
 async function main([option, commands, ...more]) {
   if (option !== undefined && (option !== "--lines" || commands === undefined || more.length)) {
-    console.error("usage: node page/serve.mjs [--lines COMMAND[,COMMAND..]]");
+    console.error("usage: node runtime/serve.mjs [--lines COMMAND[,COMMAND..]]");
     return USAGE;
   }
   try {

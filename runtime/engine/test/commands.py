@@ -1,4 +1,4 @@
-"""The module as a command: page/coop.mjs in processes of its own, and bin/coop where nothing is built."""
+"""The module as a command: runtime/coop.mjs in processes of its own, and bin/coop where nothing is built."""
 import base64
 import gzip
 import json
@@ -14,6 +14,7 @@ from stops import small_module
 
 AIRPORT = os.path.join(TOP, "examples", "airport.json")
 NO_ANSWER = 70
+NOT_COPIED = shutil.ignore_patterns("out")
 # What bin/coop calls, but for node and rt.
 CALLED = (
     "awk", "cat", "chmod", "date", "dirname", "env", "find", "flock", "grep", "mkdir", "nproc", "readlink", "rm", "sh",
@@ -33,9 +34,9 @@ def called(words: list[str], document: bytes = b"", path: str = "") -> tuple[int
     return done.returncode, done.stdout, done.stderr
 
 
-def faults_of_command(page: str, program: str, runs: list[Run]) -> Iterator[str]:
-    """Where page/coop.mjs ends otherwise than the program, on some of the runs and with hostile ports."""
-    command = os.path.join(page, "coop.mjs")
+def faults_of_command(top: str, program: str, runs: list[Run]) -> Iterator[str]:
+    """Where runtime/coop.mjs ends otherwise than the program, on some of the runs and with hostile ports."""
+    command = os.path.join(top, "runtime", "coop.mjs")
     for run in runs:
         wanted, found = called([program, *run.words], run.document), called(["node", command, *run.words], run.document)
         if found != (*wanted[:2], b""):
@@ -45,13 +46,13 @@ def faults_of_command(page: str, program: str, runs: list[Run]) -> Iterator[str]
         yield f"coop.mjs with hostile ports:\n{said.decode()}"
 
 
-def faults_without_answer(page: str) -> Iterator[str]:
-    """Where page/coop.mjs has no module, half of one or one that traps, and doesn't end with 70 and without a line."""
+def faults_without_answer(top: str) -> Iterator[str]:
+    """Where runtime/coop.mjs has no module, half of one or one that traps, and doesn't end with 70 and without a line."""
     with tempfile.TemporaryDirectory() as folder:
-        copy = os.path.join(folder, "page")
-        shutil.copytree(page, copy, ignore=shutil.ignore_patterns("coop.html", "out"))
-        html = Path(copy, "coop.html")
-        whole = Path(page, "coop.html").read_text("utf-8")
+        shutil.copytree(os.path.join(top, "runtime"), os.path.join(folder, "runtime"), ignore=NOT_COPIED)
+        html = Path(folder, "page", "coop.html")
+        html.parent.mkdir()
+        whole = Path(top, "page", "coop.html").read_text("utf-8")
         begins = whole.index("H4sI")
         half = whole[:begins + 100000] + whole[whole.index('"', begins):]
         pages = {"no page": None, "no module": "<p>", "two modules": whole + whole, "half of a module": half,
@@ -59,7 +60,7 @@ def faults_without_answer(page: str) -> Iterator[str]:
         for name, text in pages.items():
             if text is not None:
                 html.write_text(text, "utf-8")
-            words = ["node", os.path.join(copy, "coop.mjs"), "nucleolus"]
+            words = ["node", os.path.join(folder, "runtime", "coop.mjs"), "nucleolus"]
             status, line, errors = called(words, Path(AIRPORT).read_bytes())
             if (status, line) != (NO_ANSWER, b"") or not errors.startswith(b"coop: no answer: "):
                 yield f"coop.mjs with {name}: status {status}, {line!r}, {errors!r}"
@@ -95,11 +96,11 @@ ANSWERS = [
 ]
 
 
-def faults_of_engine(page: str) -> Iterator[str]:
+def faults_of_engine(top: str) -> Iterator[str]:
     """Where a call finds what an earlier one left, or one that stopped or took too much memory keeps its instance."""
     modules = [base64.b64encode(small_module(code=code)).decode() for code in (KEEPING, TRAPPING)]
-    places = [Path(page, "engine", name).resolve().as_uri() for name in ("host.js", "inside.js")]
-    words = ["node", "--input-type=module", "-e", ENGINES, *places, os.path.join(page, "coop.html"), *modules]
+    places = [Path(top, "runtime", "engine", name).resolve().as_uri() for name in ("host.js", "inside.js")]
+    words = ["node", "--input-type=module", "-e", ENGINES, *places, os.path.join(top, "page", "coop.html"), *modules]
     found = called(words)
     if found[0] or json.loads(found[1]) != ANSWERS:
         yield f"engines that stay: {found}, and not {ANSWERS}"
@@ -108,10 +109,12 @@ def faults_of_engine(page: str) -> Iterator[str]:
 class Bare:
     """A copy of what bin/coop needs, with nothing built, and a path of the tools that are put there."""
 
-    def __init__(self, folder: str, page: str) -> None:
+    def __init__(self, folder: str, top: str) -> None:
         self.top, self.tools = os.path.join(folder, "top"), os.path.join(folder, "tools")
-        shutil.copytree(page, os.path.join(self.top, "page"), ignore=shutil.ignore_patterns("out"))
         shutil.copytree(os.path.join(TOP, "bin"), os.path.join(self.top, "bin"))
+        shutil.copytree(os.path.join(top, "runtime"), os.path.join(self.top, "runtime"), ignore=NOT_COPIED)
+        os.mkdir(os.path.join(self.top, "page"))
+        shutil.copy(os.path.join(top, "page", "coop.html"), os.path.join(self.top, "page"))
         shutil.copy(os.path.join(TOP, "crates.txt"), self.top)
         for crate in ("coop", "coop_program"):
             os.makedirs(os.path.join(self.top, "crates", crate, "src"))
@@ -139,9 +142,9 @@ class Bare:
             os.utime(self.program, (1, 1))
 
 
-def faults_unbuilt(page: str) -> Iterator[str]:
+def faults_unbuilt(top: str) -> Iterator[str]:
     """Where bin/coop answers by another than it should: by the program, by the module, or not at all."""
-    module = (1, b'{"answer":"blocked","coalition":[2,3],"excess":"1"}\n', b"coop: answered by page/coop.mjs")
+    module = (1, b'{"answer":"blocked","coalition":[2,3],"excess":"1"}\n', b"coop: answered by runtime/coop.mjs")
     native, none = (0, b"the built program\n", b""), (NO_ANSWER, b"", b"coop: the program isn't built")
     steps = [  # what is on the path, what is typed, and what comes of it
         ("", "propose", none), ("node", "propose", module), ("node rt", "propose", module), ("node", "--build", none),
@@ -152,7 +155,7 @@ def faults_unbuilt(page: str) -> Iterator[str]:
         ("", "propose", native),
     ]
     with tempfile.TemporaryDirectory() as folder:
-        bare, document = Bare(folder, page), Path(TOP, "examples", "majority.json").read_bytes()
+        bare, document = Bare(folder, top), Path(TOP, "examples", "majority.json").read_bytes()
         for path, typed, wanted in steps:
             bare.put(path)
             if wanted is None:

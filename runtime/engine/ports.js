@@ -1,4 +1,4 @@
-// Standard input and output of Node, and the module of the page beside this folder: what the commands share.
+// Standard input and output of Node, and the module of the page: what the commands share.
 import fs from "node:fs";
 import { moduleIn } from "./inside.js";
 
@@ -21,7 +21,7 @@ export class PortFault extends Error {
 
 /** The module inside the page, compiled. */
 export function pageModule() {
-  return new WebAssembly.Module(moduleIn(fs.readFileSync(new URL("../coop.html", import.meta.url), "latin1")));
+  return new WebAssembly.Module(moduleIn(fs.readFileSync(new URL("../../page/coop.html", import.meta.url), "latin1")));
 }
 
 /** Reads some bytes of standard input to a place of a buffer: how many, and 0 at the end of the input. */

@@ -8,16 +8,16 @@
 // SETTINGS are JSON: {"places": N, "unit": TEXT, "mark": TEXT, "thousands": TEXT}, how numbers are spelled. The line
 // has JSON, and the status is 0; of `same` 1 for another game, 2 where nobody can say, 3 where it is worth the same; of
 // `slip` 1 where one is found.
-import { doublesIn, JsonFault, parseJson } from "./src/exact/json.js";
-import { spoken } from "./src/exact/marks.js";
-import { Game } from "./src/game/game.js";
-import { ANOTHER, SAME, UNSAID, WORTH_THE_SAME } from "./src/game/same-worths.js";
-import { withEscapes } from "./src/game/names.js";
-import { explain } from "./src/tell/explain.js";
-import { REFUSALS, refusalText } from "./src/tell/refusals.js";
-import { slipsOf } from "./src/tell/slips.js";
-import { compared } from "./src/work/lines.js";
-import { entriesOf } from "./src/work/same-game.js";
+import { doublesIn, JsonFault, parseJson } from "../page/src/exact/json.js";
+import { spoken } from "../page/src/exact/marks.js";
+import { Game } from "../page/src/game/game.js";
+import { ANOTHER, SAME, UNSAID, WORTH_THE_SAME } from "../page/src/game/same-worths.js";
+import { withEscapes } from "../page/src/game/names.js";
+import { explain } from "../page/src/tell/explain.js";
+import { REFUSALS, refusalText } from "../page/src/tell/refusals.js";
+import { slipsOf } from "../page/src/tell/slips.js";
+import { compared } from "../page/src/work/lines.js";
+import { entriesOf } from "../page/src/work/same-game.js";
 
 const PLAIN = { mark: ".", thousands: ",", places: null, unit: "" };
 const STATUS = { [SAME]: 0, [ANOTHER]: 1, [UNSAID]: 2, [WORTH_THE_SAME]: 3 };

@@ -95,7 +95,7 @@ def kept_by_clang(kit: str, crate: str, folder: str, flags: list[str]) -> Kept:
 def stop_on_other_words(found: list[str], known: list[str]) -> None:
     """Stops where words to clang aren't those that were looked at."""
     if found != known:
-        raise Other(f"the kit says to clang\n  {' '.join(found)}\nand not\n  {' '.join(known)}\nSee page/engine/kit.py")
+        raise Other(f"the kit says to clang\n  {' '.join(found)}\nand not\n  {' '.join(known)}\nSee runtime/engine/kit.py")
 
 
 def words_for_wasm(kit: str, folder: str, flags: list[str]) -> list[str]:

@@ -1,11 +1,11 @@
 #!/usr/bin/env node
 // coop as a command, by the module inside coop.html, on any system with Node 18 or later:
 //
-//     node page/coop.mjs COMMAND < DOCUMENT
+//     node runtime/coop.mjs COMMAND < DOCUMENT
 //
 // It prints the program's line and ends with the program's status; or with 70, and says why, where there is no answer
-// since a file of the page is missing or the module stops. docs/page.md says what is trusted. --version, which is no word
-// of the program, prints the version that the page names.
+// since a file is missing or the module stops. docs/page.md says what is trusted. --version, which is no word of the
+// program, prints the version that the page names.
 const REFUSED = 3;
 // No status of the program. Nor does a broken page end with 1, which is an answer.
 const NO_ANSWER = 70;
@@ -28,10 +28,10 @@ function answer(words, coop, ports) {
 
 async function version() {
   const { readFileSync } = await import("node:fs");
-  const page = readFileSync(new URL("coop.html", import.meta.url), "latin1");
+  const page = readFileSync(new URL("../page/coop.html", import.meta.url), "latin1");
   const found = page.match(/The program inside: coop (\S+), of the sources/);
   if (!found) throw new Error("the page doesn't name its version");
-  return Buffer.from(`coop ${found[1]}, answered by page/coop.mjs under Node ${process.version}\n`);
+  return Buffer.from(`coop ${found[1]}, answered by runtime/coop.mjs under Node ${process.version}\n`);
 }
 
 async function main() {
