@@ -8,6 +8,7 @@ from typing import Any, Optional
 from unittest.mock import patch
 
 import coop
+from coop import answers
 
 from .asking import needs_program
 
