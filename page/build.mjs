@@ -68,7 +68,12 @@ function moduleOf(path, places, importing) {
   const exported = [];
   let code = readFileSync(path, "utf8");
   code = code.replace(/^import \{([^}]*)\} from "([^"]+)";$/gm, (_, names, from) => {
-    return `const {${names.replace(/ as /g, ": ")}} = ${importing(resolve(dirname(path), from))};`;
+    const other = resolve(dirname(path), from), text = readFileSync(other, "utf8");
+    for (const name of names.split(",").map((one) => one.trim().split(" as ")[0]).filter(Boolean)) {
+      const isThere = new RegExp(`^export ((async )?function\\*?|class|const) ${name}\\b`, "m").test(text);
+      if (!isThere) throw new Error(`${path} imports ${name}, which ${other} doesn't export`);
+    }
+    return `const {${names.replace(/ as /g, ": ")}} = ${importing(other)};`;
   });
   code = code.replace(/^export ((?:async )?function\*?|class|const) (\w+)/gm, (_, what, name) => {
     exported.push(name);

@@ -48,7 +48,7 @@ TOOLS = (
     Tool("try-scripts", needs=("node",)),
     Tool("try-python", uses=("mypy", "flake8")),
     Tool("try-engines", needs=("node",), uses=("dask", "mpirun", "parallel"), has_program=False, takes_program=False),
-    Tool("try-portable", needs=("cc", "make", "ar", "node"), uses=("valgrind",), has_program=False),
+    Tool("try-portable", needs=("cc", "make", "ar", "node", "wasm2c"), uses=("valgrind",), has_program=False),
     Tool("fuzz-checkers", needs=("node",), has_program=False, takes_program=False),
     Tool("fuzz-same-game", needs=("node",), has_program=False, takes_program=False),
     Tool("try-languages", uses=("Rscript", "node", "julia", "cc"), takes_program=False, needs_kit=True),
