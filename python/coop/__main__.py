@@ -11,12 +11,12 @@ import os
 import sys
 from typing import Optional, Sequence, TextIO
 
-from .calls import COMMANDS
+from .classes import COMMANDS
 from .errors import CoopError, NoAnswer, NotFound
 from .program import find, folder_of, page_folder, said
 from .version import VERSION
 
-MOST = 8 * 1024 * 1024 + 1  # bytes of a document, one more than any may have
+MOST = max(row["bytes"] for row in COMMANDS.values()) + 1  # bytes of a document, one more than any may have
 MOST_SHOWN = 60  # letters of a word
 USAGE, REFUSED, READ_FAULT, WRITE_FAULT, NO_ANSWER = 2, 3, 5, 6, 70
 HINT = "type or paste the document, then Ctrl-D; or give a file: coop COMMAND FILE"

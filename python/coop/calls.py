@@ -6,7 +6,7 @@ from fractions import Fraction
 from functools import partial
 from typing import Any, Mapping, Optional, Sequence, Union, cast
 
-from . import answers
+from . import answers, classes
 from .amounts import Amount, fractions_of, named_items, written
 from .answers import Answer
 from .errors import BadInput, Fault, NoAnswer, NoMemory, Refused, Slip, Usage
@@ -14,10 +14,10 @@ from .game import Game, encoded
 from .program import Program, find
 from .telling import slips
 
-ON_A_GAME = ("nucleolus", "prenucleolus", "core", "bird", "shapley", "convex", "matching")
+COMMANDS = tuple(classes.COMMANDS)
+"""The words of the commands on a document."""
+ON_A_GAME = tuple(word for word, row in classes.COMMANDS.items() if row["needs"] == ["game"])
 """The words of the commands that a game alone is enough for."""
-COMMANDS = (*ON_A_GAME, "propose", "check", "kernel")
-"""The words of all commands on a document."""
 
 Chosen = Union[None, str, Program]
 """A program by its name or itself; None for the one that is found."""
