@@ -17,7 +17,7 @@ import { squeeze } from "./squeeze.mjs";
 
 const TOP = dirname(fileURLToPath(import.meta.url));
 const SRC = join(TOP, "src");
-const MOST = 800_000; // bytes of the page
+const MOST = 820_000; // bytes of the page
 const SEVERAL = /^export const \w+ = [^;([{\n]*, \w+ = /m; // of which only the first would be exported
 
 /** What stands in the place of "/* NAME *\/" in a module, as the text of a string or as code. */

@@ -23,7 +23,10 @@ from .many import many
 from .program import find
 from .version import VERSION as __version__
 
-MODULES = ("airlines", "desk", "far", "filling", "networks", "readers", "runways", "telling", "variants", "vectors")
+MODULES = (
+    "airlines", "checking", "desk", "families", "far", "filling", "networks", "readers", "runways", "sensitivity",
+    "telling", "variants", "vectors", "versus", "votes",
+)
 """What is imported when it is first named."""
 
 
