@@ -25,8 +25,8 @@ EXPORT = "coop_run"
 LAYOUT = "e-m:e-p:64:64-p10:8:8-p20:8:8-i64:64-i128:128-n32:64-S128-ni:1:10:20"
 TRIPLE = "wasm64-unknown-unknown"
 CPU = "lime1"
-# Bytes. With a stack of 256 KB each run of tools/try-page ended as it should; with 192 KB some trapped, and with 64 KB
-# a fifth. None answered otherwise.
+# Bytes. With a stack of 256 KB each run of tools/gate/try-page ended as it should; with 192 KB some trapped, and with
+# 64 KB a fifth. None answered otherwise.
 STACK = 1048576
 HEAP = ("rattle_alloc", "rattle_realloc", "rattle_dealloc")
 # LLVM makes these anew for any target.

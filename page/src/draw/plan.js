@@ -65,5 +65,5 @@ function placed(name, x, y, { isSource, isLeaf, price }) {
 
 export function plan(game, links, settings) {
   return figure("plan", "network", planPicture(game, links, settings),
-    "The cheapest network. The number at a place is its link to the place before, which it pays by Bird’s shares.");
+    "The cheapest network. The number at a place is its own link.");
 }

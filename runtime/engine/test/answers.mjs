@@ -1,4 +1,4 @@
-// Answers the runs on standard input by the module inside the page that stands above: for tools/try-page.
+// Answers the runs on standard input by the module inside the page that stands above: for tools/gate/try-page.
 //
 // Each line is a run: words, the document in base64 and, where it is to begin with little room for the line or memory
 // is to be refused, how. Each line printed is what came of it: status and line, in base64; or, where memory was

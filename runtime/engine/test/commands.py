@@ -41,7 +41,7 @@ def faults_of_command(top: str, program: str, runs: list[Run]) -> Iterator[str]:
         wanted, found = called([program, *run.words], run.document), called(["node", command, *run.words], run.document)
         if found != (*wanted[:2], b""):
             yield f"coop.mjs {run.words} on {run.document[:200]!r}: {found[:2]}, and not {wanted[:2]}"
-    status, said, _ = called([os.path.join(TOP, "tools", "hostile-ports"), command])
+    status, said, _ = called([os.path.join(TOP, "tools", "gate", "hostile-ports"), command])
     if status:
         yield f"coop.mjs with hostile ports:\n{said.decode()}"
 
