@@ -95,7 +95,7 @@ function asked(kind) {
     help: (task, what) => session.reader.ask(task, what),
     caseText: () => {
       const { pinned, reading, marks } = session, kept = pinned ? keptTree(pinned, session.typed) : undefined;
-      return caseText({ ...nowTyped(), kept, mark: marks.shown, entry: writtenBy(reading), text: reading.text });
+      return caseText({ ...nowTyped(), kind, kept, mark: marks.shown, entry: writtenBy(reading), text: reading.text });
     },
   };
 }

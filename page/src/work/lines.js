@@ -71,7 +71,7 @@ function lineOf(text) {
   try {
     const { tree, doubles } = readJson(text);
     if (!isObject(tree)) return { fault: "It isn’t an object, as a line is." };
-    if ("refused" in tree) return { fault: `The program refused a document. ${refusalText(tree, "{}", "").sentence}` };
+    if ("refused" in tree) return { fault: `The program refused a document. ${refusalText(tree).sentence}` };
     return { ...partsOf(tree), doubles: doubles.map(({ key }) => key) };
   } catch (fault) {
     if (!(fault instanceof JsonFault)) throw fault;
