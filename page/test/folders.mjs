@@ -5,11 +5,11 @@ import { fileURLToPath } from "node:url";
 
 const MAY = {
   exact: [], check: ["exact"], game: ["exact"], cases: ["exact", "game"], tell: ["exact", "game"],
-  draw: ["exact", "game", "view"], // elements alone: view/dom.js
+  draw: ["exact", "game"],
   work: ["exact", "game", "cases", "tell", "check"],
   view: ["exact", "check", "game", "cases", "tell", "draw"],
 };
-const ONLY = { check: "exact/json.js", draw: "view/dom.js" }; // the one module that they may name of the last folder
+const ONLY = { check: "exact/json.js" }; // the one module that it may name of the last folder
 const src = fileURLToPath(new URL("../src", import.meta.url));
 let imports = 0, faults = 0;
 

@@ -3,6 +3,7 @@ import { readNumber, typedText } from "../exact/decimals.js";
 import { mostOf } from "../game/classes.js";
 import { maskOf, masksBySize, membersOf } from "../game/groups.js";
 import { withEscapes } from "../game/names.js";
+import { filledGroups } from "./filled-cells.js";
 import { rowsOf } from "./lists.js";
 import { oddsOf } from "./odds.js";
 import { cellsOf, ROW_NUMBERS, withoutRowNumbers } from "./pasting.js";
@@ -22,15 +23,25 @@ export function unpacked({ numbers, ...others }) {
   return { ...others, numbers: typeof numbers === "string" ? numbers.split("\n") : numbers };
 }
 
+const OF_A_TABLE = {
+  unit: "group",
+  isTable: true,
+  grid: "table",
+  filled: filledGroups,
+  most: MOST_PLAYERS,
+  empty: () => ({ names: ["", "", ""], numbers: Array(8).fill("") }),
+  pack: packed,
+  unpack: unpacked,
+  labelOf: ({ names }, mask) => groupLabel(names, Number(mask)),
+  mapNumbers: (typed, change) => ({
+    ...typed, numbers: typed.numbers.map((text, mask) => (mask ? change(text) : text)),
+  }),
+};
+
 function tableCase(settings) {
   return {
     ...settings,
-    unit: "group",
-    isTable: true,
-    most: MOST_PLAYERS,
-    empty: () => ({ names: ["", "", ""], numbers: Array(8).fill("") }),
-    pack: packed,
-    unpack: unpacked,
+    ...OF_A_TABLE,
 
     read(sent, mark) {
       const state = unpacked(sent);

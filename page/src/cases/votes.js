@@ -4,7 +4,7 @@ import { readNumber, shortText, typedText } from "../exact/decimals.js";
 import { LIMITS, mostOf } from "../game/classes.js";
 import { membersOf } from "../game/groups.js";
 import { withEscapes } from "../game/names.js";
-import { readList } from "./lists.js";
+import { numbersMapped, readList } from "./lists.js";
 import { askOfSum } from "./sum-row.js";
 
 const MOST = mostOf("voting"), MOST_IN_TABLE = mostOf("table");
@@ -18,6 +18,8 @@ export const votes = {
   title: "Votes",
   teaser: "How much power does each voter have, with one quota or two?",
   unit: "voter",
+  grid: "list",
+  mapNumbers: numbersMapped,
   isVote: true,
   places: 3,
   single: {
