@@ -1,8 +1,8 @@
 """The package as a command: python -m coop COMMAND < DOCUMENT, python -m coop COMMAND FILE, or python -m coop page.
 
 The first two print the program's line and end with the program's status; or with 70, and say why, if there is no
-program or it can't answer. If the words are wrong, standard error has a sentence. The third opens the page in a browser,
-and prints where it is. --version prints the version and what answers; --help lists the commands.
+program or it can't answer. If the words are wrong, standard error has a sentence. The third opens the page in a
+browser, and prints where it is. --version prints the version and what answers; --help lists the commands.
 """
 from __future__ import annotations
 

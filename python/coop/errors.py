@@ -74,8 +74,8 @@ def restored(kind: type[NoAnswer], args: tuple[Any, ...], parts: dict[str, Any])
 
 @dataclass(frozen=True)
 class Failure:
-    """What a row of `many` has if a call has no answer. It counts as no, since it is false. It isn't an exception, but has
-    one."""
+    """What a row of `many` has if a call has no answer. It counts as no, since it is false. It isn't an exception, but
+    has one."""
 
     fault: NoAnswer
     """The exception that the call raises."""

@@ -113,7 +113,7 @@ class Losses(unittest.TestCase):
         rows = self.rows(Losing(range(3, 99)))
         for _ in range(8):
             self.assertEqual(next(rows)[0].shares["1"], Fraction(1))
-        with self.assertRaisesRegex(coop.Lost, "games 9 to 12, and all after .*: the executor lost them 3 times") as found:
+        with self.assertRaisesRegex(coop.Lost, "games 9 to 12, and all after.*: the executor lost them 3 times") as found:
             next(rows)
         again = pickle.loads(pickle.dumps(found.exception))
         self.assertEqual((again.first, again.last, str(again)), (9, 12, str(found.exception)))
@@ -136,7 +136,7 @@ class Losses(unittest.TestCase):
             list(self.rows(pool))  # type: ignore[arg-type]
 
     def test_a_pool_that_breaks(self) -> None:
-        """Rows of batches that are there come first, although the pool is found broken as a later one is handed over."""
+        """Rows of batches that are there come first, although the pool is broken as a later one is handed over."""
         rows, found = 0, None
         try:
             for _ in self.rows(Breaking(3)):

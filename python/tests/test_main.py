@@ -32,13 +32,14 @@ class Command(unittest.TestCase):
     @needs_program
     def test_words(self) -> None:
         """Wrong ones get the program's line, and a sentence."""
-        for words, said in (
+        cases: list[tuple[list[str], str]] = [
             ([], "which command?"),
             (["nuclolus"], '"nuclolus" is no command'),
             (["core", "/nowhere/game.json"], 'there is no file "/nowhere/game.json"'),
             (["core", "core", "core"], '"core core core" is no command'),
             (["\x1b" * 99], '"' + "\\u001b" * 60 + '.." is no command'),
-        ):
+        ]
+        for words, said in cases:
             found = ended(words)
             self.assertEqual(found[:2], (2, b'{"usage":"words"}\n'))
             self.assertTrue(found[2].startswith(f"coop: {said}".encode()), found)
