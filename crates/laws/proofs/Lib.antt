@@ -52,3 +52,4 @@ mod ShapleyIsReasonable
 mod PerHeadMayGiveLess
 mod OneMorePlayer
 mod BalancedContributions
+mod ScalesKeepBalance
