@@ -88,7 +88,7 @@ def modules() -> list[str]:
         os.path.join(folder, name) if folder else name
         for folder in ("", "desk")
         for name in sorted(os.listdir(os.path.join(top, folder)))
-        if name.endswith((".py", ".typed"))
+        if name.endswith((".py", ".typed", ".json"))
     ]
 
 
