@@ -1,6 +1,6 @@
--- An estate of 10 with claims of 6, 7 and 8, and one of 11 with claims of 7, 8 and 9: all together alone are worth more.
-use Rattle.std.proofs.Common.{◌≡◌, ℕ, ◌+◌, ◌<◌, List, [], ◌∷◌, ℤ, pos, ◌+ℤ◌, ◌*ℤ◌, refl, arith}
-use Rattle.std.proofs.lemmas.Int.{ints}
+-- An estate of 10 with claims of 6, 7 and 8, and one of 11 with claims of 7, 8 and 9: all together alone are worth
+-- more.
+use Rattle.std.proofs.Common.{ℕ, ◌+◌, List, [], ◌∷◌, ℤ, pos, ◌+ℤ◌, ◌*ℤ◌, refl, arith}
 use Rattle.std.specs.Int.{int_min}
 use Rattle.std.specs.Ordering.{int_eq}
 use Rattle.definitions.proofs.Ring.{linear}

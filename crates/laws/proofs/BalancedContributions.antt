@@ -1,5 +1,5 @@
--- What the Shapley total of i falls by if j adds nothing: at each coalition without both, what j changes at what i adds.
--- That is what i changes at what j adds, so the total of j falls by as much if i adds nothing.
+-- What the Shapley total of i falls by if j adds nothing: at each coalition without both, what j changes at what i
+-- adds. That is what i changes at what j adds, so the total of j falls by as much if i adds nothing.
 use Rattle.std.proofs.Common.{◌≡◌, ◌≢◌, ℕ, ◌+◌, ◌-◌, ◌^◌, ◌<◌, Bool, true, false, cond, ℤ, pos, ◌+ℤ◌, ◌-ℤ◌, ◌*ℤ◌, ◌<ℤ◌}
 use Rattle.std.proofs.Common.{refl, sym, ap, ◌∙◌, arith}
 use Rattle.definitions.proofs.Halves.{size_below, size_below-more}
@@ -8,9 +8,9 @@ use Rattle.definitions.proofs.Parts.{has_player-more_same, has_player-more_other
 use Rattle.definitions.proofs.Ring.{linear, mul-addℤ, mul-subℤ, mul-cancelℤ, mul_left_commℤ}
 use Rattle.definitions.specs.Sums.{sum_below}
 use Rattle.definitions.specs.Coalitions.{has_player}
-use Rattle.definitions.specs.Games.{Game, Allocation, share}
-use Rattle.definitions.specs.Shapley.{shapley_total, factorial, IsShapley}
-use Rattle.shapley.specs.Subsets.{orders_with, subset_term}
+use Rattle.definitions.specs.Games.{Game, share}
+use Rattle.definitions.specs.Shapley.{shapley_total, factorial}
+use Rattle.shapley.specs.Subsets.{orders_with}
 use Rattle.shapley.proofs.Orders.{orders_are_subsets}
 use Rattle.laws.proofs.ShapleyNoLess.{pair_term, by_pairs}
 use Rattle.laws.proofs.SharesAddToAll.{factorial-positive}

@@ -1,5 +1,5 @@
--- The Shapley total of a player with one player more: the old total, as many times as there are players now, and what the
--- newcomer changes at what the player adds to each coalition of the others.
+-- The Shapley total of a player with one player more: the old total, as many times as there are players now, and what
+-- the newcomer changes at what the player adds to each coalition of the others.
 --
 -- A coalition of k players, of n without the newcomer, comes in front of the player in k! (n - k)! orders alone, and in
 -- (k + 1)! (n - 1 - k)! with the newcomer: together n + 1 times k! (n - 1 - k)!.

@@ -6,7 +6,7 @@ use Rattle.definitions.proofs.Ring.{linear}
 use Rattle.definitions.specs.Coalitions.{singleton}
 use Rattle.definitions.specs.Games.{Game}
 use Rattle.definitions.specs.Players.{IsDummy}
-use Rattle.laws.specs.Reasonable.{IsReasonable, PerHeadMayGiveLess}
+use Rattle.laws.specs.Reasonable.{PerHeadMayGiveLess}
 use Rattle.laws.proofs.DummiesMayGetLess.{dummies_may_get_less}
 
 nobody_adds : (g : Game) (i : ℕ) → IsDummy g i → g.worth 0 ≡ pos 0

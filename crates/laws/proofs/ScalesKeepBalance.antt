@@ -1,10 +1,10 @@
 -- Over the scale k an excess is that of the whole game at the shares times k; so surpluses are. A core point y of the
 -- whole game is k times a core point over the scale: y over k times its denominator.
-use Rattle.std.proofs.Common.{◌≡◌, ℕ, ◌^◌, ◌<◌, IsTrue, ℤ, pos, ◌*ℤ◌, ◌<ℤ◌, ◌≤ℤ◌, sym, ap, subst, ◌∙◌, arith}
+use Rattle.std.proofs.Common.{◌≡◌, ℕ, ◌^◌, ◌<◌, IsTrue, ℤ, pos, ◌*ℤ◌, ◌≤ℤ◌, sym, ap, subst, ◌∙◌, arith}
 use Rattle.definitions.proofs.Ring.{linear, mul_assocℤ, mul-leℤ, mul-le_cancelℤ, mul-positiveℤ}
 use Rattle.definitions.specs.Coalitions.{grand_coalition}
 use Rattle.definitions.specs.Games.{Game, Allocation, share, amount, excess, InCore}
-use Rattle.definitions.specs.Prekernel.{holds_without, IsSurplus, AreBalanced, InPrekernel}
+use Rattle.definitions.specs.Prekernel.{holds_without, IsSurplus, InPrekernel}
 use Rattle.definitions.specs.Scales.{times, excess_over, InCoreOver}
 use Rattle.definitions.specs.Sides.{IsBestFor, IsBuyer, IsSeller}
 use Rattle.definitions.specs.Sums.{IsGreatest}
@@ -13,7 +13,7 @@ use Rattle.theorems.proofs.Products.{sorted_products}
 use Rattle.theorems.proofs.Scaled.{above_zero, share_times, excess_times, family_to, family_from, core_to, core_from}
 use Rattle.theorems.proofs.Scaled.{part}
 use Rattle.laws.proofs.NucleolusIsInCore.{core_low}
-use Rattle.laws.specs.CommonScales.{IsSurplusOver, AreBalancedOver, InPrekernelOver, IsBestForOver, ScalesKeepBalance}
+use Rattle.laws.specs.CommonScales.{IsSurplusOver, InPrekernelOver, IsBestForOver, ScalesKeepBalance}
 
 greatest_same : (n i j : ℕ) (f h : ℕ → ℤ) (m : ℤ) → ((s : ℕ) → f s ≡ h s)
     → IsGreatest (λ s. (s < 2 ^ n) × IsTrue (holds_without i j s)) f m

@@ -7,7 +7,7 @@
 --   ScaleDoesNotMatter     games of the same fractions are answered alike
 --   IsSurplusOver, AreBalancedOver, InPrekernelOver, IsBestForOver
 --                          the prekernel and the ends of a market, of a game over a scale
---   HaveSameBalance        what the shares are in the game over the scale, the shares times k are in that of whole worths
+--   HaveSameBalance        what shares are in the game over the scale, the shares times k are in that of whole worths
 --   ScalesKeepBalance      so it is of all shares
 --   TableTimes             a table of k times the worths
 --   CostTableTimes         of k times the costs that a game of costs negates

@@ -1,6 +1,6 @@
 -- Shapley shares if others join the players of a game. The first n players are worth among themselves what they are in
--- the game of all. (The numbers of players don't matter: `shapley_is_anonymous`.) Each law is the contract of a function
--- of this crate.
+-- the game of all. (The numbers of players don't matter: `shapley_is_anonymous`.) Each law is the contract of a
+-- function of this crate.
 -- Sources: Sprumont 1990; Myerson 1980; Peleg and Sudhölter, Introduction to the Theory of Cooperative Games.
 --
 --   first_players n g              the game of the first n players of g

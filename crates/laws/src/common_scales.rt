@@ -10,8 +10,8 @@ pub fn scale_does_not_matter()
     ensures { ScaleDoesNotMatter }
 {}
 
-/// A game over a scale and the game of its whole worths agree on surpluses, the prekernel and both ends of a market, for
-/// shares in fractions.
+/// A game over a scale and the game of its whole worths agree on surpluses, the prekernel and both ends of a market,
+/// for shares in fractions.
 pub fn scales_keep_balance()
     ensures { ScalesKeepBalance }
 {}
