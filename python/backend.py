@@ -30,7 +30,8 @@ FIRST_DAY = (1980, 1, 1, 0, 0, 0)  # the same bytes at each build
 
 DATA = {
     "runtime": (
-        "coop.mjs", "serve.mjs", "telling.mjs", "package.json", "engine/host.js", "engine/inside.js", "engine/ports.js",
+        "coop.mjs", "serve.mjs", "telling.mjs", "usage.txt", "package.json", "engine/host.js", "engine/inside.js",
+        "engine/ports.js",
     ),
     "page": ("coop.html", "package.json"),
     "scripts": ("check-anew",),
