@@ -1,6 +1,6 @@
 -- Constant-sum games: what a coalition and the others get adds to what they are worth; and the nucleolus of a vote, at
 -- which no excess reaches one half, since none does if shares go by votes (Peleg 1968).
-use Rattle.std.proofs.Common.{◌≡◌, ◌↔◌, ◌⊎◌, ℕ, ◌-◌, ◌^◌, ◌<◌, Bool, true, false, not, cond, List, [], ◌∷◌}
+use Rattle.std.proofs.Common.{◌≡◌, ◌≢◌, ◌↔◌, ◌⊎◌, ℕ, ◌+◌, ◌-◌, ◌^◌, ◌<◌, Bool, true, false, not, cond, List, [], ◌∷◌}
 use Rattle.std.proofs.Common.{length, get_or, map, int_eq, int_le, ℤ, pos, ◌+ℤ◌, ◌-ℤ◌, ◌*ℤ◌, ◌<ℤ◌, ◌≤ℤ◌, refl, sym, ap}
 use Rattle.std.proofs.Common.{◌∙◌, inl, inr, arith}
 use Rattle.std.proofs.lemmas.Bool.{false≢true}
@@ -12,7 +12,8 @@ use Rattle.definitions.proofs.Masks.{grand_coalition-within, singleton-within}
 use Rattle.definitions.proofs.Members.{sum_over-complement, sum_over-grand_coalition, sum_over-nonnegative}
 use Rattle.definitions.proofs.Members.{sum_over-singleton, has_player-complement, has_player-singleton}
 use Rattle.definitions.proofs.Members.{has_player-singleton_other}
-use Rattle.definitions.proofs.Parts.{part, sum_below-le}
+use Rattle.definitions.proofs.Members.{sum_below-same, sum_below-times, has_player-empty}
+use Rattle.definitions.proofs.Parts.{part, sum_below-le, sum_over-more, more-lt, has_player-more_other}
 use Rattle.definitions.proofs.Ring.{linear, mul-leℤ, mul-ltℤ}
 use Rattle.definitions.proofs.Splits.{passes_below-at, some_below-true, some_below-false}
 use Rattle.definitions.proofs.SumsOver.{amount-at, sum_over-same}
@@ -20,6 +21,7 @@ use Rattle.definitions.specs.Coalitions.{has_player, singleton, grand_coalition,
 use Rattle.definitions.specs.Coalitions.{some_below}
 use Rattle.definitions.specs.Games.{Game, Allocation, share, amount, excess, IsAllocation, IsEfficient, InFamily}
 use Rattle.definitions.specs.Games.{IsIndividuallyRational, IsSame, IsNucleolus, Beats}
+use Rattle.definitions.specs.Players.{IsDummy}
 use Rattle.definitions.specs.Sums.{sum_below}
 use Rattle.definitions.specs.declared.Family.{Family}
 use Rattle.definitions.specs.declared.Family.TheVariants.{Imputations, Preimputations}
@@ -29,10 +31,12 @@ use Rattle.theorems.proofs.OneWay.{beats_one_way}
 use Rattle.theorems.proofs.Products.{products, sorted_products}
 use Rattle.theorems.proofs.SortedLemmas.{ComesBefore-sorted}
 use Rattle.theorems.proofs.Soundness.{SameOrLow-range, SomeAbove-range}
+use Rattle.laws.proofs.DummiesGetTheirWorth.{dummies_get_worth}
 use Rattle.laws.proofs.NucleolusIsInCore.{core_low, same_excess}
 use Rattle.class_laws.proofs.VetoCores.{votes_are_simple}
 use Rattle.laws.specs.ClassGames.{voting_game}
 use Rattle.class_laws.specs.ConstantSums.{IsConstantSum, ConstantSumCores, NucleolusRepresents, MajorityIsConstantSum}
+use Rattle.class_laws.specs.ConstantSums.{EssentialSumsHaveNoCore}
 
 opposite-within : (n s : ℕ) → grand_coalition n - s < 2 ^ n
 opposite-within n s = let within = grand_coalition-within n in omega (arith, within)
@@ -62,6 +66,27 @@ constant_sum_cores g x s sums h lt =
       core_low g x h (grand_coalition n - s) (opposite-within n s),
       both_get g x s h.0 h.1 lt,
       ap (◌*ℤ◌ x.den) (sums s lt),
+    )
+
+-- at a core point each alone would get exactly its worth, and all together less than theirs
+pub essential_sums_have_no_core : EssentialSumsHaveNoCore
+essential_sums_have_no_core g x sums less h =
+    let n = g.players in
+    let alone = λ (i : ℕ). g.worth (singleton i) in
+    let each : (i : ℕ) → i < n → share x i ≡ x.den *ℤ alone i =
+    λ i lt. sym (sum_over-singleton n i (share x) lt) ∙ sym (amount-at g x (singleton i) h.0)
+    ∙ constant_sum_cores g x (singleton i) sums h (singleton-within n i lt) in
+    let all = sum_below-same n (share x) (λ i. x.den *ℤ alone i) each ∙ sum_below-times n alone x.den in
+    let one = h.0.1 in
+    let more = mul-ltℤ x.den (sum_below n alone) (g.worth (grand_coalition n)) (omega (arith, linear, one)) less in
+    omega (
+      arith,
+      linear,
+      all,
+      more,
+      sum_over-grand_coalition n (share x),
+      amount-at g x (grand_coalition n) h.0,
+      h.1,
     )
 
 -- ---- votes
@@ -331,10 +356,66 @@ module _ (quota : ℕ) (weights : List ℕ) (sums : IsConstantSum (voting_game q
           at_least_one : (z : ℤ) → int_le (pos 1) z ≡ true → pos 1 ≤ℤ z
           at_least_one z e = grind (arith, ints)
 
+  -- who gets less than nothing decides nothing, and so gets nothing
+  module _ (family : Family) (x : Allocation) (h : IsNucleolus family Plain g x) (i : ℕ) (hi : i < n) where
+    hx : IsAllocation g x
+    hx = allocation_of family g x h.0
+
+    e : IsEfficient g x
+    e = efficient_of family g x h.0
+
+    grown : (s : ℕ) → has_player s i ≡ false → amount x (s + singleton i) ≡ amount x s +ℤ share x i
+    grown s out =
+        amount-at g x (s + singleton i) hx ∙ sum_over-more n s i (share x) hi out
+        ∙ ap (λ (z : ℤ). z +ℤ share x i) (sym (amount-at g x s hx))
+
+    still_loses : share x i <ℤ pos 0 → (s : ℕ) → s < 2 ^ n → has_player s i ≡ false → g.worth s ≡ pos 0
+        → g.worth (s + singleton i) ≡ pos 0
+    still_loses less s lt out lost = elim (vote (s + singleton i) (more-lt n s i lt hi out)) [
+      | inl too ↦ too
+      | inr won ↦
+          let half = more_than_half family x h (s + singleton i) (more-lt n s i lt hi out) won in
+          let little = loses_half x hx e (more_than_half family x h) s lt lost in
+          absurd (omega (arith, linear, half, little, less, grown s out))
+    ]
+
+    still_wins : (s : ℕ) → s < 2 ^ n → has_player s i ≡ false → g.worth s ≡ pos 1 → g.worth (s + singleton i) ≡ pos 1
+    still_wins s lt out won = elim (vote (s + singleton i) (more-lt n s i lt hi out)) [
+      | inl lost ↦
+          let more = (votes_are_simple quota weights).more s (s + singleton i) lt (more-lt n s i lt hi out)
+          (λ k hk has. has_player-more_other s i k out (apart k has) ∙ has) in
+          absurd (omega (arith, ints, won, lost, more))
+      | inr too ↦ too
+    ]
+      where
+        apart : (k : ℕ) → has_player s k ≡ true → k ≢ i
+        apart k has same = false≢true (sym out ∙ ap (has_player s) (sym same) ∙ has)
+
+    alone_loses : share x i <ℤ pos 0 → g.worth (singleton i) ≡ pos 0
+    alone_loses less =
+        let lt : 0 < 2 ^ n = (let within = grand_coalition-within n in omega (arith, within)) in
+        let same : 0 + singleton i ≡ singleton i = omega arith in
+        ap g.worth (sym same) ∙ still_loses less 0 lt (has_player-empty i) nobody_loses
+
+    decides_nothing : share x i <ℤ pos 0 → IsDummy g i
+    decides_nothing less s lt out = elim (vote s lt) [
+      | inl lost ↦ omega (arith, ints, lost, still_loses less s lt out lost, alone_loses less)
+      | inr won ↦ omega (arith, ints, won, still_wins s lt out won, alone_loses less)
+    ]
+
+    not_below : pos 0 ≤ℤ share x i
+    not_below =
+        by_lt_z (share x i) (pos 0)
+        (λ less. absurd
+        (let same = dummies_get_worth family Plain g x i (inl refl) (inr refl) h hi (decides_nothing less) in
+        omega (products, less, same, ap (◌*ℤ◌ x.den) (alone_loses less)))) (λ le. le)
+
 pub nucleolus_represents : NucleolusRepresents
-nucleolus_represents family quota weights x s sums wins h lt =
-    represented quota weights sums wins x (allocation_of family (voting_game quota weights) x h.0)
-    (efficient_of family (voting_game quota weights) x h.0) (more_than_half quota weights sums wins family x h) s lt
+nucleolus_represents family quota weights x sums wins h = (
+  λ i lt. not_below quota weights sums wins family x h i lt,
+  λ s lt. represented quota weights sums wins x (allocation_of family (voting_game quota weights) x h.0)
+      (efficient_of family (voting_game quota weights) x h.0) (more_than_half quota weights sums wins family x h) s lt,
+)
 
 pub majority_is_constant_sum : MajorityIsConstantSum
 majority_is_constant_sum = (

@@ -4,6 +4,7 @@ mod ARisenClaim
 mod SmallerGroups
 mod CutClaims
 mod AGreaterWhole
+mod AllOfThree
 mod OrdersBegin
 mod OnlyConvexGames
 mod ConstantSumGames

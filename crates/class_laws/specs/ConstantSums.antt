@@ -3,12 +3,14 @@
 --
 --   IsConstantSum g           each coalition and the others are worth together what all are
 --   ConstantSumCores          at a core point of such a game each coalition gets exactly its worth
---   NucleolusRepresents       of such a vote, in which all together win, a coalition wins exactly when the nucleolus
---                             gives it more than half (Peleg 1968)
+--   EssentialSumsHaveNoCore   so if the players alone are worth less than all, there is no core point
+--   NucleolusRepresents       of such a vote, in which all together win, the nucleolus gives nobody less than nothing,
+--                             and a coalition wins exactly when it gives it more than half (Peleg 1968)
 --   MajorityIsConstantSum     an example that meets this definition, and one that doesn't
-use Rattle.std.specs.Prelude.{◌≡◌, ◌↔◌, ℕ, ◌-◌, ◌^◌, ◌<◌, List, [], ◌∷◌, pos, ◌+ℤ◌, ◌*ℤ◌, ◌<ℤ◌}
-use Rattle.definitions.specs.Coalitions.{grand_coalition}
-use Rattle.definitions.specs.Games.{Game, Allocation, amount, IsNucleolus, InCore}
+use Rattle.std.specs.Prelude.{◌≡◌, ◌↔◌, ℕ, ◌-◌, ◌^◌, ◌<◌, List, [], ◌∷◌, pos, ◌+ℤ◌, ◌*ℤ◌, ◌<ℤ◌, ◌≤ℤ◌}
+use Rattle.definitions.specs.Coalitions.{singleton, grand_coalition}
+use Rattle.definitions.specs.Games.{Game, Allocation, share, amount, IsNucleolus, InCore}
+use Rattle.definitions.specs.Sums.{sum_below}
 use Rattle.definitions.specs.declared.Family.{Family}
 use Rattle.definitions.specs.declared.Measure.TheVariants.{Plain}
 use Rattle.laws.specs.ClassGames.{voting_game}
@@ -24,15 +26,23 @@ ConstantSumCores =
     (g : Game) (x : Allocation) (s : ℕ) → IsConstantSum g → InCore g x → s < 2 ^ g.players →
     amount x s ≡ x.den *ℤ g.worth s
 
+-- an essential game of this kind has no core point: there is something to win together, and each win is another's loss
+abbrev pub EssentialSumsHaveNoCore : Type 0
+EssentialSumsHaveNoCore =
+    (g : Game) (x : Allocation) → IsConstantSum g →
+    sum_below g.players (λ i. g.worth (singleton i)) <ℤ g.worth (grand_coalition g.players) → ¬ InCore g x
+
 -- if exactly one of each coalition and its complement wins, the shares of the nucleolus, and of the prenucleolus, are
--- weights for the vote, with more than half as quota
+-- weights for the vote, none of them below 0, with more than half as quota
 abbrev pub NucleolusRepresents : Type 0
 NucleolusRepresents =
-    (family : Family) (quota : ℕ) (weights : List ℕ) (x : Allocation) (s : ℕ) →
+    (family : Family) (quota : ℕ) (weights : List ℕ) (x : Allocation) →
     IsConstantSum (voting_game quota weights) →
     (voting_game quota weights).worth (grand_coalition (voting_game quota weights).players) ≡ pos 1 →
-    IsNucleolus family Plain (voting_game quota weights) x → s < 2 ^ (voting_game quota weights).players →
-    ((voting_game quota weights).worth s ≡ pos 1) ↔ (x.den <ℤ (amount x s +ℤ amount x s))
+    IsNucleolus family Plain (voting_game quota weights) x →
+    ((i : ℕ) → i < (voting_game quota weights).players → pos 0 ≤ℤ share x i)
+    × ((s : ℕ) → s < 2 ^ (voting_game quota weights).players →
+    ((voting_game quota weights).worth s ≡ pos 1) ↔ (x.den <ℤ (amount x s +ℤ amount x s)))
 
 -- of three with a vote each two win, and of two with a vote each both have to agree
 abbrev pub MajorityIsConstantSum : Type 0

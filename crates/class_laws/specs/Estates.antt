@@ -5,7 +5,9 @@
 --   ARisenClaim                      whose claim rises gets no less, and nobody else gets more
 --   AGreaterWhole                    if all together are worth more, and each other coalition what it was, nobody
 --                                    gets less (aggregate monotonicity: Megiddo 1974)
-use Rattle.std.specs.Prelude.{◌≡◌, ◌≢◌, ℕ, ◌<◌, ◌≤◌, List, length, ◌++◌, ◌*ℤ◌, ◌≤ℤ◌, slice_index}
+--   of_ten, of_eleven                what claims of 6, 7 and 8 get of 10, and claims of 7, 8 and 9 of 11
+--   AllOfThreeAreWorthMore           an example of that: there all together alone are worth more
+use Rattle.std.specs.Prelude.{◌≡◌, ◌≢◌, ℕ, ◌<◌, ◌≤◌, List, [], ◌∷◌, length, ◌++◌, pos, ◌*ℤ◌, ◌≤ℤ◌, slice_index}
 use Rattle.definitions.specs.Classes.{bankruptcy_worth}
 use Rattle.definitions.specs.Coalitions.{grand_coalition}
 use Rattle.definitions.specs.Games.{Allocation, share}
@@ -38,3 +40,22 @@ AGreaterWhole =
     bankruptcy_worth estate claims s ≡ bankruptcy_worth more others s) →
     IsTalmud estate claims x → IsTalmud more others y → i < length claims →
     (share x i *ℤ y.den) ≤ℤ (share y i *ℤ x.den)
+
+-- ---- an example in which all together alone are worth more
+
+-- 3, 7/2 and 7/2
+abbrev pub of_ten : Allocation
+of_ten = record { shares = pos 6 ∷ (pos 7 ∷ (pos 7 ∷ [])); den = pos 2 }
+
+-- 7/2, 15/4 and 15/4
+abbrev pub of_eleven : Allocation
+of_eleven = record { shares = pos 14 ∷ (pos 15 ∷ (pos 15 ∷ [])); den = pos 4 }
+
+-- Of 10 with claims of 6, 7 and 8, and of 11 with claims of 7, 8 and 9, each coalition but that of all is worth the
+-- same. Each two claims cover the estate: of three or more claimants, all together alone can be worth more only then
+abbrev pub AllOfThreeAreWorthMore : Type 0
+AllOfThreeAreWorthMore =
+    ((s : ℕ) → s < grand_coalition 3 →
+    bankruptcy_worth 10 (6 ∷ (7 ∷ (8 ∷ []))) s ≡ bankruptcy_worth 11 (7 ∷ (8 ∷ (9 ∷ []))) s)
+    × IsTalmud 10 (6 ∷ (7 ∷ (8 ∷ []))) of_ten
+    × IsTalmud 11 (7 ∷ (8 ∷ (9 ∷ []))) of_eleven

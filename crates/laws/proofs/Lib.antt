@@ -8,7 +8,7 @@ pub mod WithACoreBothAreOne
 pub mod ShiftsChangeNothing
 pub mod EquivalentGamesAgree
 pub mod Withouts
-mod DummiesGetTheirWorth
+pub mod DummiesGetTheirWorth
 mod DummiesMayGetLess
 pub mod WhoAddsNoLessGetsNoLess
 mod AlikePlayersGetAlike
@@ -49,3 +49,7 @@ pub mod ShapleyIsCovariant
 mod MixedCertificates
 mod MixedPairs
 mod ShapleyIsReasonable
+mod PerHeadMayGiveLess
+mod OneMorePlayer
+mod BalancedContributions
+mod ScalesKeepBalance

@@ -22,10 +22,10 @@ use Rattle.shapley.proofs.Orders.{orders_are_subsets}
 use Rattle.theorems.proofs.Products.{sorted_products}
 
 -- what player i adds to s and to s with j, at each s without j
-abbrev pair_term : (ℕ → ℤ) → ℕ → ℕ → ℕ → ℕ → ℤ
+abbrev pub pair_term : (ℕ → ℤ) → ℕ → ℕ → ℕ → ℕ → ℤ
 pair_term v n i j s = if has_player s j then pos 0 else subset_term v n i s +ℤ subset_term v n i (s + 2 ^ j)
 
-by_pairs : (v : ℕ → ℤ) (n i j : ℕ) → j < n → subset_total v n i ≡ sum_below (2 ^ n) (pair_term v n i j)
+pub by_pairs : (v : ℕ → ℤ) (n i j : ℕ) → j < n → subset_total v n i ≡ sum_below (2 ^ n) (pair_term v n i j)
 by_pairs v n i j h =
     let f = subset_term v n i in
     let out = λ (s : ℕ). if has_player s j then pos 0 else f s in

@@ -14,3 +14,4 @@ pub mod Renumbering
 pub mod ShapleyEquivalence
 pub mod Mixtures
 pub mod Reasonable
+pub mod Newcomers

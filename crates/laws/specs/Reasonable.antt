@@ -1,14 +1,17 @@
 -- Reasonable shares: nobody gets more than the most that it adds to any coalition, nor less than the least.
--- Source: Milnor 1952; Peleg and Sudhölter, Introduction to the Theory of Cooperative Games. The law is the contract of
--- a function of this crate.
+-- Source: Milnor 1952; Peleg and Sudhölter, Introduction to the Theory of Cooperative Games. Each law is the contract
+-- of a function of this crate.
 --
 --   AddsAtMost g i m      player i adds at most m to each coalition without it
 --   AddsAtLeast g i m     player i adds at least m to each coalition without it
 --   IsReasonable g x      who adds at most m gets at most m, and who adds at least m gets at least m
 --   ShapleyIsReasonable   Shapley shares are so
-use Rattle.std.specs.Prelude.{◌≡◌, ℕ, ◌+◌, ◌^◌, ◌<◌, false, ℤ, ◌-ℤ◌, ◌*ℤ◌, ◌≤ℤ◌}
+--   PerHeadMayGiveLess    the prenucleolus per head may give a player less than the least that it adds
+use Rattle.std.specs.Prelude.{◌≡◌, ℕ, ◌+◌, ◌^◌, ◌<◌, false, ℤ, pos, ◌-ℤ◌, ◌*ℤ◌, ◌≤ℤ◌}
 use Rattle.definitions.specs.Coalitions.{has_player, singleton}
-use Rattle.definitions.specs.Games.{Game, Allocation, share}
+use Rattle.definitions.specs.Games.{Game, Allocation, share, IsNucleolus}
+use Rattle.definitions.specs.declared.Family.TheVariants.{Preimputations}
+use Rattle.definitions.specs.declared.Measure.TheVariants.{PerHead}
 use Rattle.definitions.specs.Shapley.{IsShapley}
 
 abbrev pub AddsAtMost : Game → ℕ → ℤ → Type 0
@@ -26,3 +29,8 @@ pub record IsReasonable (g : Game) (x : Allocation) : Type 0 where
 
 abbrev pub ShapleyIsReasonable : Type 0
 ShapleyIsReasonable = (g : Game) (x : Allocation) → IsShapley g x → IsReasonable g x
+
+-- in some game the prenucleolus per head gives a player less than it adds to each coalition
+abbrev pub PerHeadMayGiveLess : Type 0
+PerHeadMayGiveLess =
+    (g : Game) × (x : Allocation) × (g.worth 0 ≡ pos 0) × IsNucleolus Preimputations PerHead g x × ¬ IsReasonable g x

@@ -2,12 +2,18 @@
 //! answers.
 
 ghost use Rattle.laws.specs.CommonScales.{ScaleDoesNotMatter, TableTimes, CostTableTimes, AirportTimes, EstateTimes};
-ghost use Rattle.laws.specs.CommonScales.{TreeTimes, AssignmentTimes};
+ghost use Rattle.laws.specs.CommonScales.{TreeTimes, AssignmentTimes, ScalesKeepBalance};
 
 /// Two games that have the same fractions as worths, each over a scale of its own, have the same imputations and
 /// preimputations, comparisons, nucleoli and core.
 pub fn scale_does_not_matter()
     ensures { ScaleDoesNotMatter }
+{}
+
+/// A game over a scale and the game of its whole worths agree on surpluses, the prekernel and both ends of a market,
+/// for shares in fractions.
+pub fn scales_keep_balance()
+    ensures { ScalesKeepBalance }
 {}
 
 /// A table of k times the worths is of k times the worths.

@@ -9,6 +9,7 @@ pub mod airports;
 pub mod common_scales;
 pub mod estates;
 pub mod mixtures;
+pub mod newcomers;
 pub mod nucleolus;
 pub mod reasonable;
 pub mod renumbering;

@@ -15,7 +15,7 @@ use Rattle.real_shares.proofs.RealNumbers.{are_ordered}
 use Rattle.real_worths.proofs.OverWhole.{times_near}
 use Rattle.real_worths.proofs.Factors.{Goes, place, placed, quotient, quotient_adds, quotient_keeps, quotient_one}
 use Rattle.real_worths.proofs.Factors.{below_units, size}
-use Rattle.real_worths.specs.RealWorths.{FactorsAreChanges}
+use Rattle.real_worths.specs.RealWorths.{FactorsAreChanges, ChangesAreOne, IsUnitChange}
 
 -- additive, and keeps the order
 record Keeps (N : Numbers Real) (f : Real → Real) : Type 0 where
@@ -205,3 +205,33 @@ factors_are_changes N r k R some =
       record { adds = p.adds; keeps = p.keeps; keeps_back = q.keeps; there = there; again = again },
       is,
     )
+
+-- ---- one change for each unit
+
+module _ (N : Numbers Real) (R : AreReals N) (to back : Real → Real) (h : IsUnitChange N to back) where
+  to_keeps : Keeps N to
+  to_keeps = record { adds = h.adds; keeps = h.keeps }
+
+  of_equal_back : {a b : Real} → Equal N a b → Equal N (back a) (back b)
+  of_equal_back {a} {b} e = (h.keeps_back a b e.0, h.keeps_back b a e.1)
+
+  -- the change back is additive too
+  back_adds : (a b : Real) → Equal N (back (N.plus a b)) (N.plus (back a) (back b))
+  back_adds a b =
+      let L = are_ordered N R in
+      let parts = chain N L (h.adds (back a) (back b))
+      (chain N L (left N L (to (back b)) (h.there a)) (right N L a (h.there b))) in
+      chain N L (of_equal_back (turn N L parts)) (h.again (N.plus (back a) (back b)))
+
+  back_keeps : Keeps N back
+  back_keeps = record { adds = back_adds; keeps = h.keeps_back }
+
+pub changes_are_one : ChangesAreOne
+changes_are_one N to back other other_back R h k one a =
+    let L = are_ordered N R in
+    let p = to_keeps N R to back h in
+    let q = back_keeps N R other other_back k in
+    let unit = chain N L (of_equal_back N R other other_back k one) (k.again N.unit) in
+    let nothing = changes_nothing N R (λ b. other_back (to b)) (both_keep N R other_back to q p) unit a in
+    chain N L (turn N L (k.there (to a)))
+    (of_equal N R other (to_keeps N R other other_back k) nothing)

@@ -12,6 +12,7 @@
 --   IsUnitChange                   an additive change of all numbers that keeps their order, there and back
 --   changed_game, changed_shares   worths and shares in the new unit, and each player's number added
 --   FactorsAreChanges              each real factor above zero is such a change
+--   ChangesAreOne                  and the only one that makes the unit that factor
 --   EquivalentGamesAgree           the nucleolus changes as the worths do (covariance under strategic equivalence)
 use Rattle.std.specs.Prelude.{◌↔◌, ℕ, ◌<◌, List, length, map, pos}
 use Rattle.std.specs.List.{range_with_len}
@@ -90,6 +91,12 @@ abbrev pub FactorsAreChanges : Type 0
 FactorsAreChanges =
     (N : Numbers Real) (r : Real) (k : ℕ) → AreReals N → AtMost N N.unit (times N (pos k) r) →
     (to : Real → Real) × (back : Real → Real) × IsUnitChange N to back × Equal N (to N.unit) r
+
+-- two changes that make the unit the same number change each number alike
+abbrev pub ChangesAreOne : Type 0
+ChangesAreOne =
+    (N : Numbers Real) (to back other other_back : Real → Real) → AreReals N → IsUnitChange N to back →
+    IsUnitChange N other other_back → Equal N (to N.unit) (other N.unit) → (a : Real) → Equal N (to a) (other a)
 
 -- the worths in the new unit, each more by the numbers of its members
 abbrev pub changed_game : {C : Type 0} → Numbers C → (C → C) → (ℕ → C) → NumberGame C → NumberGame C

@@ -7,7 +7,7 @@
 ghost use Rattle.real_worths.specs.RealWorths.{NucleolusIsUnique, UnbeatenIsNucleolus, NucleolusIsInCore};
 ghost use Rattle.real_worths.specs.RealWorths.{WithACoreBothAreOne, WhoAddsNoLessGetsNoLess, AlikePlayersGetAlike};
 ghost use Rattle.real_worths.specs.RealWorths.{DummiesGetTheirWorth, RealsCanHalve, EquivalentGamesAgree};
-ghost use Rattle.real_worths.specs.RealWorths.{FactorsAreChanges};
+ghost use Rattle.real_worths.specs.RealWorths.{FactorsAreChanges, ChangesAreOne};
 ghost use Rattle.real_worths.specs.WholeWorths.{WholeWorthsAgree};
 ghost use Rattle.real_worths.specs.Existence.{NucleoliExist, PrenucleoliExist, ImputationsExist};
 ghost use Rattle.real_worths.specs.KohlbergTheorem.{KohlbergTheorem};
@@ -87,6 +87,12 @@ pub fn equivalent_games_agree()
 /// the factor.
 pub fn factors_are_changes()
     ensures { FactorsAreChanges }
+{}
+
+/// Two changes of the unit that make the unit the same number change each number alike: a change is determined by its
+/// factor.
+pub fn changes_are_one()
+    ensures { ChangesAreOne }
 {}
 
 /// Kohlberg's theorem (Kohlberg 1971; for the prenucleolus Sobolev 1975): shares that add to the worth of all are the
