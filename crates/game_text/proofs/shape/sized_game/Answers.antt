@@ -7,7 +7,7 @@ use Rattle.game_text.specs.Classes.{class_of, has_players, players, has_numbers,
 use Rattle.game_text.specs.Refusals.{unless}
 use Rattle.game_text.proofs.Choices.{passed_if, failed_if}
 use Rattle.game_text.proofs.OwnNumbers.{own_tested, are_own}
-use Rattle.game_text.proofs.shaped.sized_game.Goals as goal
+use Rattle.game_text.proofs.shape.sized_game.Goals as goal
 
 pub returns-in_default : goal.returns-in_default
 returns-in_default c =
