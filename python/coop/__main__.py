@@ -10,15 +10,16 @@ import os
 import sys
 from typing import Sequence
 
+from .classes import COMMANDS
 from .errors import CoopError, NoAnswer, NotFound
 from .program import find, page_folder, said
 from .version import VERSION
 
-MOST = 8 * 1024 * 1024 + 1  # bytes of a document, one more than any may have
+MOST = max(row["bytes"] for row in COMMANDS.values()) + 1  # bytes of a document, one more than any may have
 REFUSED, READ_FAULT, WRITE_FAULT, NO_ANSWER = 3, 5, 6, 70
 USAGE = """usage: python -m coop COMMAND < DOCUMENT
        python -m coop page
-COMMAND is nucleolus, prenucleolus, check, propose, core, shapley, convex, kernel, bird, matching, or gen KIND N SEED.
+COMMAND is WORDS, or gen KIND N SEED.
 docs/formats.md of the project describes the documents."""
 
 
@@ -66,7 +67,7 @@ def run(words: Sequence[str]) -> int:
         print(f"coop {VERSION}, answered by {found()}")
         return 0
     if not words or words[0] in ("help", "-h", "--help"):
-        print(USAGE, file=sys.stderr)
+        print(USAGE.replace("WORDS", ", ".join(COMMANDS)), file=sys.stderr)
     status, line = answer(words)
     return status if printed(line) else WRITE_FAULT
 

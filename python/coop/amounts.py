@@ -11,12 +11,14 @@ from math import gcd
 from operator import index
 from typing import Iterable, Optional, Union
 
+from .classes import LIMITS
 from .errors import BadInput
 
 Amount = Union[int, str, Fraction, Decimal, float]
 """What may be given for a number: "12", "12.50", "1e-05" and "25/2" are texts of numbers."""
 
-MOST_SCALE, LIMIT = 65536, 2**40
+MOST_SCALE: int = LIMITS["denominator"]
+LIMIT: int = 2 ** LIMITS["bits"]
 MOST_DIGITS, MOST_BITS = 40, 4096
 NUMBER = re.compile(r"-?([0-9]{1,40}(\.[0-9]{1,40})?([eE][-+]?[0-9]{1,2})?|[0-9]{1,40}/0*[1-9][0-9]{0,39})")
 

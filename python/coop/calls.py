@@ -6,7 +6,7 @@ from fractions import Fraction
 from functools import partial
 from typing import Any, Mapping, Optional, Sequence, Union, cast
 
-from . import answers
+from . import answers, classes
 from .amounts import Amount, fractions_of, written
 from .answers import Answer
 from .errors import BadInput, Fault, NoAnswer, NoMemory, Refused, Slip, Usage
@@ -14,9 +14,7 @@ from .game import Game, encoded
 from .program import Program, find
 from .telling import slips
 
-COMMANDS = (  # fmt: skip
-    "nucleolus", "prenucleolus", "propose", "core", "bird", "check", "shapley", "convex", "kernel", "matching",
-)
+COMMANDS = tuple(classes.COMMANDS)
 """The words of the commands on a document."""
 
 Chosen = Union[None, str, Program]

@@ -11,6 +11,7 @@ from operator import index
 from typing import Any, Callable, Iterable, Mapping, Optional, Sequence, Union
 
 from .amounts import Amount, factor_for, fraction_of, fractions_of, written
+from .classes import CLASSES, LIMITS
 from .errors import BadInput
 from .game import MOST_IN_A_TABLE, Game, encoded
 from .linear import sums
@@ -22,9 +23,9 @@ Amounts = Union[Mapping[str, Amount], Sequence[Amount]]
 Group = Union[str, int, Iterable[Union[str, int]]]
 Table = Union[Mapping[Any, Amount], Sequence[Amount]]
 Rows = Sequence[Sequence[Amount]]
-MOST_NAME = 64  # bytes
-MOST_LANDINGS = 64
-MOST_VOTES = 1000
+MOST_NAME = LIMITS["bytes of a name"]
+MOST_LANDINGS = CLASSES["airport"]["players"][1]
+MOST_VOTES = LIMITS["votes"]
 
 
 def table(
