@@ -1,7 +1,7 @@
 #!/usr/bin/env node
 // Joins the modules, the styles and the program into one page.
 //
-//     node page/build.mjs --module page/engine/coop.wasm --commit COMMIT --out page/coop.html
+//     node page/build.mjs --module runtime/engine/coop.wasm --commit COMMIT --out page/coop.html
 //
 // COMMIT is the commit of the sources that the module was made from. Without --module, or without --commit, these are
 // those of the page that stands at --out already: so whoever changes the page alone needs neither the kit nor a module.
@@ -12,12 +12,12 @@ import { createHash } from "node:crypto";
 import { existsSync, readFileSync, writeFileSync } from "node:fs";
 import { dirname, join, resolve } from "node:path";
 import { fileURLToPath } from "node:url";
-import { packed, packedIn, unpacked } from "./engine/inside.js";
+import { packed, packedIn, unpacked } from "../runtime/engine/inside.js";
 import { squeeze } from "./squeeze.mjs";
 
 const TOP = dirname(fileURLToPath(import.meta.url));
 const SRC = join(TOP, "src");
-const MOST = 800_000; // bytes of the page
+const MOST = 850_000; // bytes of the page
 const SEVERAL = /^export const \w+ = [^;([{\n]*, \w+ = /m; // of which only the first would be exported
 
 /** What stands in the place of "/* NAME *\/" in a module, as the text of a string or as code. */
@@ -46,7 +46,7 @@ function modulesOf(entry, places) {
 
 /** The modules that page and worker share, which stand in the page once, and those of each alone. */
 function scriptsOf(places) {
-  const page = modulesOf("page/main.js", places), worker = modulesOf("worker.js", places);
+  const page = modulesOf("view/main.js", places), worker = modulesOf("worker.js", places);
   const isShared = ([path]) => page.has(path) && worker.has(path);
   const script = (modules) => inScript(modules.map(([, code]) => code).join("\n"));
   return {
@@ -68,7 +68,12 @@ function moduleOf(path, places, importing) {
   const exported = [];
   let code = readFileSync(path, "utf8");
   code = code.replace(/^import \{([^}]*)\} from "([^"]+)";$/gm, (_, names, from) => {
-    return `const {${names.replace(/ as /g, ": ")}} = ${importing(resolve(dirname(path), from))};`;
+    const other = resolve(dirname(path), from), text = readFileSync(other, "utf8");
+    for (const name of names.split(",").map((one) => one.trim().split(" as ")[0]).filter(Boolean)) {
+      const isThere = new RegExp(`^export ((async )?function\\*?|class|const) ${name}\\b`, "m").test(text);
+      if (!isThere) throw new Error(`${path} imports ${name}, which ${other} doesn't export`);
+    }
+    return `const {${names.replace(/ as /g, ": ")}} = ${importing(other)};`;
   });
   code = code.replace(/^export ((?:async )?function\*?|class|const) (\w+)/gm, (_, what, name) => {
     exported.push(name);

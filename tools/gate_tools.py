@@ -1,11 +1,14 @@
-"""The tools that the gate runs behind `rt ci`: a row each, in the order in which what they print is shown."""
+"""The tools that the gate runs behind `rt ci`: a row each, in the order in which what they print is shown.
+
+gate/ has what the gate runs alone, with its tables; make/ has what makes something; lib/ has what they share.
+"""
 from __future__ import annotations
 
 from typing import NamedTuple
 
 
 class Tool(NamedTuple):
-    """A tool of this folder, and how tools/try-all and tools/try-tools run it."""
+    """A tool, and how tools/try-all and tools/gate/try-tools run it."""
 
     name: str
     # The words that it takes in front of a program.
@@ -19,19 +22,21 @@ class Tool(NamedTuple):
     # Whether it has to fail where the folders that it looks at are empty.
     has_folder: bool = True
     # Whether it needs the kit, or what only the kit builds; and whether without the kit its program has to be
-    # page/coop.mjs itself, and not what asks a process of Node that stays.
+    # runtime/coop.mjs itself, and not what asks a process of Node that stays.
     needs_kit: bool = False
     needs_ports: bool = False
     # The tool in front, which has to have ended before it starts.
     after: str = ""
     # Whether no other tool runs beside it: it starts when all in front have ended.
     is_alone: bool = False
+    # The folder of tools/ that has it.
+    folder: str = "gate"
 
 
 TOOLS = (
     Tool("short-lines", has_program=False, takes_program=False),
     Tool("try-prose", has_program=False, takes_program=False),
-    Tool("make-contracts", ("--check",), has_program=False, takes_program=False),
+    Tool("make-contracts", ("--check",), has_program=False, takes_program=False, folder="make"),
     Tool("try-library", needs=("cc", "ar", "ld", "objcopy"), uses=("valgrind",), needs_kit=True),
     Tool("shown-lines", uses=("cc",), takes_program=False, needs_kit=True, after="try-library"),
     Tool("try-page", needs=("node",)),
@@ -42,7 +47,7 @@ TOOLS = (
     Tool("try-scripts", needs=("node",)),
     Tool("try-python", uses=("mypy", "flake8")),
     Tool("try-engines", needs=("node",), uses=("dask", "mpirun", "parallel"), has_program=False, takes_program=False),
-    Tool("try-portable", needs=("cc", "make", "ar", "node"), uses=("valgrind",), has_program=False),
+    Tool("try-portable", needs=("cc", "make", "ar", "node", "wasm2c"), uses=("valgrind",), has_program=False),
     Tool("fuzz-checkers", needs=("node",), has_program=False, takes_program=False),
     Tool("fuzz-same-game", needs=("node",), has_program=False, takes_program=False),
     Tool("try-languages", uses=("Rscript", "node", "julia", "cc"), takes_program=False, needs_kit=True),

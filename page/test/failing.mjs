@@ -3,7 +3,7 @@ import { mkdtempSync, readFileSync, rmSync, writeFileSync } from "node:fs";
 import { tmpdir } from "node:os";
 import { join } from "node:path";
 import { pathToFileURL } from "node:url";
-import { packed, packedIn } from "../engine/inside.js";
+import { packed, packedIn } from "../../runtime/engine/inside.js";
 
 /** A module with the exports of the program, whose one call traps. */
 const TRAPPING = Buffer.from([

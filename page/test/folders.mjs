@@ -5,11 +5,11 @@ import { fileURLToPath } from "node:url";
 
 const MAY = {
   exact: [], check: ["exact"], game: ["exact"], cases: ["exact", "game"], tell: ["exact", "game"],
-  draw: ["exact", "game", "page"], // elements alone: page/dom.js
+  draw: ["exact", "game", "view"], // elements alone: view/dom.js
   work: ["exact", "game", "cases", "tell", "check"],
-  page: ["exact", "check", "game", "cases", "tell", "draw"],
+  view: ["exact", "check", "game", "cases", "tell", "draw"],
 };
-const ONLY = { check: "exact/json.js", draw: "page/dom.js" }; // the one module that they may name of the last folder
+const ONLY = { check: "exact/json.js", draw: "view/dom.js" }; // the one module that they may name of the last folder
 const src = fileURLToPath(new URL("../src", import.meta.url));
 let imports = 0, faults = 0;
 

@@ -7,7 +7,7 @@ import { runway } from "../src/cases/lists.js";
 import { packed, unpacked } from "../src/cases/tables.js";
 import { Game } from "../src/game/game.js";
 import { membersOf } from "../src/game/groups.js";
-import { missingText } from "../src/page/questions.js";
+import { missingText } from "../src/view/questions.js";
 import { compare } from "../src/work/compare.js";
 import { costsOfNetwork, fillLinks } from "../src/work/networks.js";
 import { fillSplits } from "../src/work/splits.js";

@@ -1,6 +1,6 @@
-// No line of the page's sources and tests is longer than 120 characters, no function longer than 40 lines, no file
-// longer than 400. A function begins where a line opens it, and ends with the line of the same indentation that closes
-// it.
+// No line of the sources and tests of page/ and runtime/ is longer than 120 characters, no function longer than 40
+// lines, no file longer than 400. A function begins where a line opens it, and ends with the line of the same
+// indentation that closes it.
 import { readdirSync, readFileSync } from "node:fs";
 import { join } from "node:path";
 import { fileURLToPath } from "node:url";
@@ -9,7 +9,7 @@ const [MOST_LETTERS, MOST_LINES, MOST_FILE] = [120, 40, 400];
 const NAMED = "function\\*? ?\\w*\\(.*|(?:get |set )?\\w+\\(.*\\)|(?:const|let) \\w+ = .*=>";
 const OPENS = new RegExp(`^( *)(?:export )?(?:async |static )*(?:${NAMED}) ?\\{$`);
 
-const top = fileURLToPath(new URL("..", import.meta.url));
+const top = fileURLToPath(new URL("../..", import.meta.url));
 let lines = 0, faults = 0;
 
 function fault(path, number, sentence) {
@@ -34,10 +34,9 @@ function look(path) {
   });
 }
 
-const files = ["", "src", "test"].flatMap((folder) => {
-  const names = readdirSync(join(top, folder), { recursive: folder !== "" });
-  return names.map((name) => join(folder, name));
-}).filter((path) => /\.(js|mjs|css|html)$/.test(path) && path !== "coop.html");
+const files = ["page", "runtime"].flatMap((folder) => {
+  return readdirSync(join(top, folder), { recursive: true }).map((name) => join(folder, name));
+}).filter((path) => /\.(js|mjs|css|html)$/.test(path) && !path.endsWith("coop.html"));
 files.forEach(look);
 console.log(`${files.length} files, ${lines} lines, ${faults} faults`);
 process.exit(faults || !files.length ? 1 : 0);

@@ -2,7 +2,7 @@
 import { decimal, readTogether } from "../src/exact/decimals.js";
 import { BLANK, Marks, onlyMark, spoken, writtenBy } from "../src/exact/marks.js";
 import { Rational } from "../src/exact/rational.js";
-import { beyondTexts } from "../src/page/beyond.js";
+import { beyondTexts } from "../src/view/beyond.js";
 
 const FREE = { entry: ".", mark: ".", settled: null, doubts: [] }; // cells that show no mark, read by the point
 const COMMAS = { ...FREE, settled: "," }; // 12,50

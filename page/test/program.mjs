@@ -1,6 +1,6 @@
 // The program as the page's modules ask it: for tests that Node runs.
 import { readFileSync } from "node:fs";
-import { packedIn } from "../engine/inside.js";
+import { packedIn } from "../../runtime/engine/inside.js";
 import { parseJson } from "../src/exact/json.js";
 import { refusalText } from "../src/tell/refusals.js";
 
@@ -9,7 +9,7 @@ const text = (name) => readFileSync(path(name), "utf8");
 
 // the module that asks the program, with the program of the page in its place
 const code = text("src/work/engine.js").replace("/* MODULE */", () => packedIn(text("coop.html")))
-  .replace('"../../engine/host.js"', () => JSON.stringify(path("engine/host.js").href));
+  .replace('"../../../runtime/engine/host.js"', () => JSON.stringify(path("../runtime/engine/host.js").href));
 const { solve, warmUp } = await import(`data:text/javascript;base64,${Buffer.from(code).toString("base64")}`);
 await warmUp();
 

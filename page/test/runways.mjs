@@ -1,8 +1,8 @@
 // What the page calculates of runways above the program's limits, against the program below them: on random lists of up
 // to 64 landings, and up to 32 for Shapley shares.
 import { readFileSync } from "node:fs";
-import { coop } from "../engine/host.js";
-import { moduleIn } from "../engine/inside.js";
+import { coop } from "../../runtime/engine/host.js";
+import { moduleIn } from "../../runtime/engine/inside.js";
 import { parseJson, writeJson } from "../src/exact/json.js";
 import { Rational } from "../src/exact/rational.js";
 import { landingsOf } from "../src/cases/landings.js";

@@ -269,19 +269,24 @@ def page_server() -> Optional[Program]:
     """The processes of Node that answer by the module in the page, and tell what the page does; begun when they are
     first asked, and kept. None where there is no Node or no page."""
     global _page
-    node, page = which("node") or which("nodejs"), page_folder()
-    if _page is None and node and page:
+    node, runtime = which("node") or which("nodejs"), folder_of("runtime", "serve.mjs")
+    if _page is None and node and runtime:
         from .server import Server
 
-        _page = Server([node, os.path.join(page, "serve.mjs")])
+        _page = Server([node, os.path.join(runtime, "serve.mjs")])
     return _page
 
 
 def page_folder() -> Optional[str]:
-    """Where the page and what runs its module stand: in an installed package, or in the repository."""
+    """Where the page is: in an installed package, or in the repository."""
+    return folder_of("page", "coop.html")
+
+
+def folder_of(part: str, name: str) -> Optional[str]:
+    """The folder of this name that has a file, in an installed package or in the repository."""
     here = os.path.dirname(os.path.abspath(__file__))
-    folders = (os.path.join(here, "page"), os.path.join(TOP, "page"))
-    return next((folder for folder in folders if os.path.exists(os.path.join(folder, "serve.mjs"))), None)
+    folders = (os.path.join(here, part), os.path.join(TOP, part))
+    return next((folder for folder in folders if os.path.exists(os.path.join(folder, name))), None)
 
 
 def which(name: str) -> Optional[str]:

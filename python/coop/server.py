@@ -1,4 +1,4 @@
-"""Processes that stay, and answer many documents each: page/serve.mjs, which says what goes to and fro.
+"""Processes that stay, and answer many documents each: runtime/serve.mjs, which says what goes to and fro.
 
 A `Server` has as many processes as calls run at a time, up to a number, and begins each when it is first needed. A free
 process that has ended is replaced, so its request goes to a new one. All end with this process. What is forked off

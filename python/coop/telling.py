@@ -74,6 +74,6 @@ def same(line: str, agreed: str) -> Sameness:
 
 def explained(line: bytes, settings: dict[str, Any]) -> list[dict[str, Any]]:
     """The parts of an explanation of a line whose certificate was checked: a title, sentences and items each. The
-    settings say how numbers are spelled, as page/telling.mjs has it."""
+    settings say how numbers are spelled, as runtime/telling.mjs has it."""
     parts: list[dict[str, Any]] = told(["explain", json.dumps(settings)], line)["parts"]
     return parts

@@ -1,4 +1,4 @@
-"""The scripts that tools/try-scripts doesn't try: what they print, how they end, and what they refuse."""
+"""The scripts that tools/gate/try-scripts doesn't try: what they print, how they end, and what they refuse."""
 import csv
 import io
 import json

@@ -49,14 +49,15 @@ class Finding(unittest.TestCase):
             os.symlink(os.path.join(PACKAGE, "coop"), os.path.join(top, "python", "coop"))
             package = os.path.join(top, "python")
             self.assertIn("NotFound: no program found", self.found(package))
-            for folder in ("page", "bin", "kit", "tools"):
+            for folder in ("page", "runtime", "bin", "kit", "tools"):
                 os.mkdir(os.path.join(top, folder))
             builder = executable(os.path.join(top, "bin"), "coop", "exit 0")
             kit, tools = os.path.join(top, "kit"), os.path.join(top, "tools")
             executable(kit, "rt", "exit 0")
             self.assertIn("NotFound", self.found(package))
             self.assertEqual(self.found(package, PATH=kit), str([builder]))
-            page = executable(os.path.join(top, "page"), "serve.mjs", "exit 0")
+            page = executable(os.path.join(top, "runtime"), "serve.mjs", "exit 0")
+            executable(os.path.join(top, "page"), "coop.html", "")
             self.assertIn("NotFound: no program found: put Node 18 or later on the path", self.found(package))
             for name in ("nodejs", "node"):
                 node = executable(tools, name, "exit 0")

@@ -14,11 +14,11 @@ from typing import Optional
 
 import coop
 from coop.errors import Fault
-from coop.program import TOP, page_folder, which
+from coop.program import TOP, folder_of, which
 from coop.server import HEAD, Server
 
 NODE = which("node") or which("nodejs")
-COMMAND = [NODE or "", os.path.join(page_folder() or "", "serve.mjs")]
+COMMAND = [NODE or "", os.path.join(folder_of("runtime", "serve.mjs") or "", "serve.mjs")]
 AIRPORT = b'{"game":{"class":"airport","costs":[2,4,6]}}'
 CORE = b'{"answer":"core point","shares":["1","3/2","7/2"]}\n'
 READY = HEAD.pack(0, 0)
@@ -239,7 +239,7 @@ class Ends(unittest.TestCase):
 
 
 def ended(data: bytes, options: Optional[list[str]] = None) -> tuple[int, bytes]:
-    """How page/serve.mjs ends on some input, and what it says."""
+    """How runtime/serve.mjs ends on some input, and what it says."""
     done = subprocess.run([*COMMAND, *(options or [])], input=data, stdout=subprocess.PIPE, stderr=subprocess.PIPE)
     return done.returncode, done.stdout
 
@@ -277,12 +277,15 @@ class Frames(unittest.TestCase):
         self.assertEqual((done.returncode, done.stdout), (5, READY))
 
     def test_a_file_that_is_missing(self) -> None:
-        page = os.path.dirname(COMMAND[1])
-        for name in ("coop.html", "engine/host.js"):
+        runtime = os.path.dirname(COMMAND[1])
+        page = os.path.join(os.path.dirname(runtime), "page")
+        for name in ("page/coop.html", "runtime/engine/host.js"):
             with tempfile.TemporaryDirectory() as folder:
-                copy = shutil.copytree(page, os.path.join(folder, "page"), ignore=shutil.ignore_patterns("src", "test"))
-                os.unlink(os.path.join(copy, name))
-                words = [COMMAND[0], os.path.join(copy, "serve.mjs")]
+                for part in (runtime, page):
+                    copy = os.path.join(folder, os.path.basename(part))
+                    shutil.copytree(part, copy, ignore=shutil.ignore_patterns("src", "test"))
+                os.unlink(os.path.join(folder, name))
+                words = [COMMAND[0], os.path.join(folder, "runtime", "serve.mjs")]
                 done = subprocess.run(words, input=b"", stdout=subprocess.PIPE, stderr=subprocess.PIPE)
             self.assertEqual((done.returncode, done.stdout), (70, b""))
             self.assertTrue(done.stderr.startswith(b"coop: no answer: "))

@@ -10,7 +10,7 @@ const DEPTH: usize = 228 * 1024;
 /// by a signal. After this call the stack of a run is there. So memory can run out only where the program asks for it,
 /// and then the program ends with a status.
 ///
-/// No clause says so: `tools/refuse-memory` tries it.
+/// No clause says so: `tools/gate/refuse-memory` tries it.
 #[inline(never)]
 pub(crate) fn use_stack(rt: &HostRuntime) {
     // A call of the system that may write to the whole, so that no compiler leaves it out.

@@ -45,7 +45,7 @@ export const runway = {
   empty: () => ({ rows: [{ name: "", cost: "", count: "" }, { name: "", cost: "", count: "" }] }),
 
   read(state, mark) {
-    const reading = new Reading(mark), kept = readLandings(state, reading);
+    const reading = new Reading(mark, state), kept = readLandings(state, reading);
     reading.remark([...new Set(kept.map(({ airline }) => airline))]);
     askOfSum(reading, state, ["cost", "count"]);
     askOfOrder(reading, state);
@@ -53,12 +53,13 @@ export const runway = {
     const all = kept.reduce((sum, { count }) => sum + count, 0);
     if (!kept.length && reading.isRight()) reading.open("rows.0.cost");
     if (all > MOST_LANDINGS) return { reading, rows: labelsOf(kept), tree: null, landings: kept };
-    const { rows, names, costs } = landingsOf(kept);
+    const { rows, names, costs } = landingsOf(kept, reading.opened);
     if (names.some((name) => bytesOf(name) > 64)) {
       reading.fault("rows.0.name", "A name has at most 64 letters, with the number of its landing.");
     }
     reading.close();
-    return { reading, rows, tree: { class: "airport", ...reading.version, names, costs }, landings: kept };
+    const named = reading.named(names, state.rows.flatMap(({ name, type }) => [name, type]));
+    return { reading, rows, tree: { class: "airport", ...reading.version, ...named, costs }, landings: kept };
   },
 
   fromGame: (game) => ({
@@ -88,7 +89,7 @@ function readLandings(state, reading) {
   const kept = [], hasNames = state.rows.some(({ name = "" }) => name.trim());
   state.rows.forEach((row, r) => {
     if (isEmpty(row)) return;
-    const text = (key) => (row[key] ?? "").trim().normalize("NFC");
+    const text = (key) => reading.nameOf(row[key]);
     if (!text("name") && state.isNamed) reading.open(`rows.${r}.name`);
     const cost = reading.number(`rows.${r}.cost`, row.cost, "The cost");
     const count = reading.whole(`rows.${r}.count`, row.count, "The number of landings", 1, 999999999);
@@ -123,7 +124,7 @@ export const estate = {
   empty: () => ({ estate: "", rows: [{ name: "", claim: "" }, { name: "", claim: "" }] }),
 
   read(state, mark) {
-    const { reading, rows, names, values, cells } = readList(state, mark, "claim", "The claim", "Claimant");
+    const { reading, rows, names, named, values, cells } = readList(state, mark, "claim", "The claim", "Claimant");
     if (!askOfSum(reading, state, ["claim"])) reading.notes.push(...sumRow(names, values));
     const whole = reading.number("estate", state.estate, "The estate");
     reading.close();
@@ -139,7 +140,7 @@ export const estate = {
     return {
       reading,
       rows,
-      tree: { class: "bankruptcy", ...reading.version, names, estate: whole?.toDocument(), claims },
+      tree: { class: "bankruptcy", ...reading.version, ...named, estate: whole?.toDocument(), claims },
     };
   },
 
@@ -157,9 +158,9 @@ function sumRow(names, values) {
     + "their sum? If so, remove it: it counts as a claim."];
 }
 
-/** Names and numbers of the rows that aren't empty. */
+/** Names and numbers of the rows that aren't empty; `named` are the names as the document has them. */
 export function readList(state, mark, key, what, word) {
-  const reading = new Reading(mark), values = [], cells = [];
+  const reading = new Reading(mark, state), values = [], cells = [];
   const kept = state.rows.map((row, r) => ({ row, r })).filter(({ row }) => !isEmpty(row));
   const names = reading.names(kept.map(({ row, r }) => ({ typed: row.name, cell: `rows.${r}.name` })), word,
     state.isNamed);
@@ -169,7 +170,8 @@ export function readList(state, mark, key, what, word) {
     cells.push(`rows.${r}.${key}`);
   }
   if (!kept.length) reading.open(`rows.0.${key}`);
-  return { reading, rows: rowsOf(names), names, values, cells };
+  const named = reading.named(names, kept.map(({ row }) => row.name));
+  return { reading, rows: rowsOf(names), names, named, values, cells };
 }
 
 /** A row of the answer for each name. */

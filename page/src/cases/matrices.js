@@ -22,7 +22,7 @@ export const network = {
   empty: () => ({ names: ["", ""], links: {} }),
 
   read(state, mark) {
-    const reading = new Reading(mark), n = state.names.length;
+    const reading = new Reading(mark, state), n = state.names.length;
     const names = reading.names(state.names.map((typed, i) => ({ typed, cell: `names.${i}` })), "Place");
     const matrix = Array.from({ length: n + 1 }, () => Array(n + 1).fill(0n)), costs = new Map();
     for (let i = 0; i <= n; i++) {
@@ -40,7 +40,7 @@ export const network = {
     return {
       reading,
       rows: rowsOf(names),
-      tree: { class: "tree", ...reading.version, names, matrix },
+      tree: { class: "tree", ...reading.version, ...reading.named(names, state.names), matrix },
     };
   },
 
@@ -78,10 +78,10 @@ export const market = {
   empty: () => ({ buyers: ["", ""], sellers: ["", ""], values: [["", ""], ["", ""]] }),
 
   read(state, mark) {
-    const reading = new Reading(mark), { buyers, sellers } = state;
+    const reading = new Reading(mark, state), { buyers, sellers } = state;
     const cells = [
-      ...buyers.map((typed, i) => ({ typed: typed.trim() || `Buyer ${i + 1}`, cell: `buyers.${i}` })),
-      ...sellers.map((typed, j) => ({ typed: typed.trim() || `Seller ${j + 1}`, cell: `sellers.${j}` })),
+      ...buyers.map((typed, i) => ({ typed, fallback: `Buyer ${i + 1}`, cell: `buyers.${i}` })),
+      ...sellers.map((typed, j) => ({ typed, fallback: `Seller ${j + 1}`, cell: `sellers.${j}` })),
     ];
     const names = reading.names(cells, "Trader");
     const matrix = buyers.map((_, i) => sellers.map((_, j) => {
@@ -92,7 +92,7 @@ export const market = {
     return {
       reading,
       rows: rowsOf(names),
-      tree: { class: kind, ...reading.version, names, matrix },
+      tree: { class: kind, ...reading.version, ...reading.named(names, [...buyers, ...sellers]), matrix },
     };
   },
 

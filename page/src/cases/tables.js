@@ -12,12 +12,13 @@ const MOST_BY_NAME = 6; // above, the document lists numbers alone: it would be 
 const MOST_PLAYERS = 16;
 
 /** A table as it goes to a worker and back: one text is copied faster than 65,536. */
-export function packed({ names, numbers }) {
-  return { names, numbers: Array.from(numbers, (text) => text ?? "").join("\n") };
+export function packed({ names, numbers, opened, isUnnamed }) {
+  const ofDocument = { ...(opened && { opened }), ...(isUnnamed && { isUnnamed }) }; // what is said of its names
+  return { names, numbers: Array.from(numbers, (text) => text ?? "").join("\n"), ...ofDocument };
 }
 
-export function unpacked({ names, numbers }) {
-  return { names, numbers: typeof numbers === "string" ? numbers.split("\n") : numbers };
+export function unpacked({ numbers, ...others }) {
+  return { ...others, numbers: typeof numbers === "string" ? numbers.split("\n") : numbers };
 }
 
 function tableCase(settings) {
@@ -32,7 +33,7 @@ function tableCase(settings) {
 
     read(sent, mark) {
       const state = unpacked(sent);
-      const reading = new Reading(mark), n = state.names.length, order = masksBySize(n);
+      const reading = new Reading(mark, state), n = state.names.length, order = masksBySize(n);
       const names = reading.names(state.names.map((typed, i) => ({ typed, cell: `names.${i}` })), "Player");
       const values = Array(2 ** n), settled = { canBeNegative: true };
       for (const mask of order) {
@@ -44,11 +45,12 @@ function tableCase(settings) {
       reading.odds = oddsOf(given, n, { isCost: settings.isCost, nameOf: (mask) => groupLabel(names, mask) })
         .map(({ mask, sentence }) => ({ cell: `numbers.${mask}`, sentence, mask }));
       if (!reading.isRight()) return { reading, rows, tree: {} };
-      const item = (mask) => [membersOf(mask).map((i) => names[i]), values[mask].toDocument()];
+      const named = reading.named(names, state.names), member = (i) => named.names?.[i] ?? BigInt(i + 1);
+      const item = (mask) => [membersOf(mask).map(member), values[mask].toDocument()];
       const numbers = n <= MOST_BY_NAME
         ? { sparse: order.map(item) }
         : { worths: values.slice(1).map((value) => value.toDocument()) };
-      const tree = { class: settings.classes[0], ...reading.version, names, players: BigInt(n), ...numbers };
+      const tree = { class: settings.classes[0], ...reading.version, ...named, players: BigInt(n), ...numbers };
       return { reading, rows, tree };
     },
 

@@ -1,8 +1,9 @@
 // Bars side by side, with marks and ranges, and what each means, in one picture of any width.
-import { svg } from "../page/dom.js";
+import { svg } from "../view/dom.js";
 import { fitted, widthOf } from "./measure.js";
 
 const [BAR, GAP, AIR, LINE, NOTED] = [11, 3, 18, 22, 20];
+const MOST_THICK = 3; // bars of a row
 const NARROW = 520; // below this labels stand above their bars
 
 /** `rows` are {label, note, told, bars, spans, marks}; a bar is {key, value}, a span {low, high, room}, a mark
@@ -40,8 +41,13 @@ function within(text, x, wide) {
 }
 
 function heightOf({ bars = [], spans = [] }) {
-  const count = Math.max(1, bars.length, spans.length);
-  return count * BAR + (count - 1) * GAP;
+  const count = Math.max(1, bars.length, spans.length), [thick, gap] = thicknessOf(bars);
+  return count * thick + (count - 1) * gap;
+}
+
+/** How thick bars are, and the gap between them: less if there are many. */
+function thicknessOf({ length }) {
+  return length > MOST_THICK ? [7, 2] : [BAR, GAP];
 }
 
 /** A note stands below the label, and needs a line of its own. */
@@ -60,7 +66,8 @@ function labelOf({ label, note, ...row }, y, left, isNarrow, wide) {
 }
 
 function bodyOf({ bars = [], spans = [], marks = [], ...row }, x, y) {
-  const high = heightOf({ bars, spans }), box = (k) => ({ y: y + k * (BAR + GAP), height: BAR, rx: 2 });
+  const high = heightOf({ bars, spans }), [thick, gap] = thicknessOf(bars);
+  const box = (k) => ({ y: y + k * (thick + gap), height: thick, rx: 2 });
   const parts = spans.map(({ low, high: end, room }, k) => [
     svg("rect", { class: "room", x: x(0), width: Math.max(1, x(room) - x(0)), ...box(k) }),
     svg("rect", { class: "span", x: x(low), width: Math.max(3, x(end) - x(low)), ...box(k) }),

@@ -1,5 +1,5 @@
 // A picture with what is said below it, and a button to save it as a file of its own.
-import { button, download, el } from "../page/dom.js";
+import { button, download, el } from "../view/dom.js";
 
 const PALETTE = "/* PALETTE */";
 const PICTURE = "/* PICTURE */";

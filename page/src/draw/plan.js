@@ -1,6 +1,6 @@
 // The cheapest network, drawn from its source to the right: each place hangs on the one that it is joined to.
 import { Rational } from "../exact/rational.js";
-import { svg } from "../page/dom.js";
+import { svg } from "../view/dom.js";
 import { figure } from "./figure.js";
 import { fitted, widthOf } from "./measure.js";
 
@@ -65,5 +65,5 @@ function placed(name, x, y, { isSource, isLeaf, price }) {
 
 export function plan(game, links, settings) {
   return figure("plan", "network", planPicture(game, links, settings),
-    "The cheapest network. The number at a place is its link to the place before, which it pays by Bird’s shares.");
+    "The cheapest network. The number at a place is its own link.");
 }

@@ -1,7 +1,7 @@
 // The tetrahedron of the divisions among four, with the core in it. It can be turned, by the mouse or the arrow keys.
 import { Rational, ZERO } from "../exact/rational.js";
 import { shortText } from "../exact/decimals.js";
-import { el, svg } from "../page/dom.js";
+import { el, svg } from "../view/dom.js";
 import { coreOfFour } from "./core-of-four.js";
 import { figure } from "./figure.js";
 import { fitted } from "./measure.js";

@@ -2,7 +2,7 @@
 // that player gets (the less it pays). A payment is a negative share here, and a cost a negative worth.
 import { ZERO } from "../exact/rational.js";
 import { shortText } from "../exact/decimals.js";
-import { svg } from "../page/dom.js";
+import { svg } from "../view/dom.js";
 import { listed } from "../game/words.js";
 import { figure } from "./figure.js";
 import { fitted, widthOf } from "./measure.js";

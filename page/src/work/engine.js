@@ -1,6 +1,6 @@
 // The proved program itself, compiled to WebAssembly. The build puts the module, by gzip and in base64, into the place
 // below.
-import { Engine } from "../../engine/host.js";
+import { Engine } from "../../../runtime/engine/host.js";
 
 const MODULE = "/* MODULE */";
 

@@ -1,0 +1,224 @@
+// The grid of a network: what a link between each two places costs.
+import { readNumber } from "../exact/decimals.js";
+import { cellsOfNetwork, networkOf, takenText, withoutPlace, withSource } from "../cases/links.js";
+import { sourceName } from "../cases/matrices.js";
+import { withEscapes } from "../game/names.js";
+import { cellInput, moveByKeys, pasteCells, removal } from "./cells.js";
+import { button, cellOf, el, refill } from "./dom.js";
+import { noLinkHelp } from "./no-link.js";
+
+const WAIT = 150; // milliseconds between the last key and filling anew
+const DENSE = 6; // places from which the grid is set in smaller letters
+const WIDE = 29; // rem of a grid that fit into the narrower column
+const REFILL = 60000; // the question waits for what is filled anew
+
+/** `asTable(typed, notes)` opens a table of costs that was made of the network; `help(task, what)` asks a worker. */
+export function networkGrid(kind, typed, settings) {
+  return new NetworkGrid(kind, typed, settings).element;
+}
+
+class NetworkGrid {
+  constructor(kind, typed, { mark, onChange, onWide, readCells, help, asTable, remember }) {
+    Object.assign(this, { kind, typed, mark, onChange, onWide, remember });
+    this.said = el("p", { class: "note", role: "status" });
+    this.holder = el("div", { class: "scroll" });
+    this.tools = el("p", { class: "tools" });
+    const setLinks = (links, filled) => this.change(() => Object.assign(typed, { links, filled }));
+    this.help = noLinkHelp(typed, { mark, help, remember, setLinks, asTable });
+    this.element = el("div", {}, this.said, this.holder, this.tools, this.help);
+    this.element.choices = () => this.help.choices();
+    moveByKeys(this.holder, (cell, step) => {
+      const [what, place] = cell.split(".");
+      if (what === "source") return "names.0";
+      if (what === "names") return `names.${Number(place) + step}`;
+      const [i, j] = place.split("-").map(Number);
+      return `links.${i}-${j + step}`;
+    });
+    pasteCells(this.holder, (cell, rows) => this.pasted(cell, rows), readCells);
+    this.show();
+  }
+
+  change(doIt) {
+    doIt();
+    this.show();
+    this.onChange();
+  }
+
+  show() {
+    const { typed } = this, places = typed.names.map((name, i) => withEscapes(name) || `Place ${i + 1}`);
+    const names = [sourceName(typed), ...places];
+    const ends = names.slice(0, -1), none = el("td", { class: "tool" });
+    const isDense = ends.length >= DENSE, lengths = Object.values(typed.links).map(({ length }) => length);
+    const digits = Math.max(4, ...lengths);
+    const titles = ends.map((name, j) => {
+      return el("th", { scope: "col", class: "number" }, !isDense && "to ", j ? name : this.sourceInput());
+    });
+    const rows = typed.names.map((name, k) => el("tr", {},
+      el("th", { scope: "row" }, this.nameInput(name, k)),
+      ends.map((other, j) => {
+        return el("td", {}, j <= k && this.linkInput(j, k + 1, `Link between ${names[k + 1]} and ${other}`));
+      }),
+      el("td", { class: "tool" }, typed.names.length > 1 && this.removal(k, names[k + 1]))));
+    // a wide grid takes more of the desk
+    const source = Math.min(11, Math.max(digits, sourceName(typed).length));
+    this.onWide(isDense && 7 + source * 0.5 + 0.75 + (ends.length - 1) * (digits * 0.49 + 0.75) > WIDE);
+    const style = `--digits: ${digits}; --source: ${source}`;
+    refill(this.holder, el("table", { class: `grid matrix${isDense ? " dense" : ""}`, style },
+      el("thead", {}, el("tr", {}, el("th", { scope: "col" }, "A link from"), titles, none)), el("tbody", {}, rows)));
+    refill(this.tools, typed.names.length < this.kind.most
+      ? button("Add a place", () => this.add(), { class: "quiet" })
+      : el("span", { class: "hint" }, "16 places is the most."),
+    this.sourceChoice(names));
+    this.help.show();
+  }
+
+  /** Which point is the source: the others pay. */
+  sourceChoice(names) {
+    const choose = (event) => {
+      this.remember("Choose the source");
+      const next = withSource(this.typed, Number(event.target.value));
+      delete this.typed.isSourceOpen;
+      this.change(() => Object.assign(this.typed, next));
+      refill(this.said, `${sourceName(this.typed)} is the source now.`);
+    };
+    return el("label", { class: "hint" }, "Source ", el("select", { "data-cell": "which", on: { change: choose } },
+      names.map((name, i) => el("option", { value: String(i), selected: i === 0 }, name))));
+  }
+
+  /** The source is no player: its name is for show, and isn't asked about. */
+  sourceInput() {
+    return cellInput({
+      cell: "source", value: this.typed.source ?? "", label: "Name of the source", placeholder: "Source",
+      onInput: (text) => this.change(() => (this.typed.source = text)),
+    });
+  }
+
+  nameInput(name, k) {
+    return cellInput({
+      cell: `names.${k}`, value: name, label: `Name of place ${k + 1}`, placeholder: `Place ${k + 1}`,
+      onInput: (text) => this.change(() => (this.typed.names[k] = text)),
+    });
+  }
+
+  linkInput(i, j, label) {
+    const key = `${i}-${j}`, how = this.typed.filled?.[key];
+    const input = cellInput({
+      cell: `links.${key}`, value: this.typed.links[key] ?? "", isNumber: true,
+      label: `${label}${how ? ", filled by the page" : ""}`,
+      onInput: (text) => {
+        this.typed.links[key] = text;
+        input.classList.remove("filled");
+        this.typedInto(key);
+      },
+    });
+    input.classList.toggle("filled", Boolean(how));
+    return input;
+  }
+
+  /** Ways that were filled follow the links that are typed. */
+  typedInto(key) {
+    const { [key]: own, ...filled } = this.typed.filled ?? {};
+    if (own) this.typed.filled = filled;
+    this.help.show();
+    if (!Object.values(filled).includes("way")) return this.onChange();
+    this.onChange(REFILL);
+    clearTimeout(this.refilling);
+    this.refilling = setTimeout(() => this.help.again().then(() => this.onChange(0)), WAIT);
+    return undefined;
+  }
+
+  /** A whole network takes the place of all cells; a block of numbers goes where it was pasted. */
+  pasted(cell, rows) {
+    const { typed } = this, isFirst = ["source", "names.0", "links.0-1"].includes(cell);
+    const found = networkOf(rows, { mark: this.mark(), source: typed.source });
+    const isWhole = found && (isFirst || found.fault || found.shape.includes("list") || found.shape.includes("names"));
+    refill(this.said, isWhole && found.fault && `${found.fault} Nothing was taken.`);
+    if (isWhole && found.fault) return;
+    this.remember("Paste");
+    if (isWhole) {
+      const cells = cellsOfNetwork(found), isSourceOpen = !found.isSure && found.points.some(Boolean);
+      cells.source ||= found.points[0] === "" && found.points.some(Boolean) ? typed.source ?? "" : cells.source;
+      this.change(() => Object.assign(typed, cells, { filled: {}, isSourceOpen }));
+      refill(this.said, takenText(found, sourceName(typed)), isSourceOpen && this.sourceQuestion());
+      this.said.classList.toggle("warn", found.left.length > 0);
+    } else this.change(() => pasteLinks(this.kind, typed, cell, rows));
+    this.help.openIfEmpty();
+    if (Object.values(this.typed.filled ?? {}).includes("way")) this.help.again();
+  }
+
+  /** Asked before there is an answer: nothing that was pasted says which point is the source. */
+  sourceQuestion() {
+    const points = [this.typed.source ?? "", ...this.typed.names];
+    const names = points.map((name, i) => withEscapes(name) || `Point ${i + 1}`);
+    const choose = (k) => () => {
+      if (k) Object.assign(this.typed, withSource(this.typed, k));
+      delete this.typed.isSourceOpen;
+      this.change(() => 0);
+      refill(this.said, `${sourceName(this.typed)} is the source.`);
+    };
+    return [el("b", {}, " Which point is the source? "),
+      names.flatMap((name, k) => [button(name, choose(k), { class: "quiet" }), " "])];
+  }
+
+  removal(k, name) {
+    const remove = () => {
+      this.remember(`Remove ${name}`);
+      this.change(() => this.remove(k));
+      if (Object.values(this.typed.filled ?? {}).includes("way")) this.help.again();
+    };
+    const next = `names.${Math.min(k, this.typed.names.length - 2)}`;
+    return removal(this.holder, { label: `Remove ${name}`, remove, next });
+  }
+
+  add() {
+    this.change(() => this.typed.names.push(""));
+    cellOf(this.holder, `names.${this.typed.names.length - 1}`).focus();
+  }
+
+  remove(k) {
+    Object.assign(this.typed, withoutPlace(this.typed, k));
+  }
+}
+
+const NONE = /^[-–—x]?$/i; // of a link that can't be built
+
+/** A block of numbers: a triangle or a square, whose other half is the same links again; with names in front where it
+ * is pasted over one, and with a heading or without. */
+function pasteLinks(kind, typed, cell, block) {
+  const [what, place] = (cell === "source" ? "names.0" : cell).split("."), isNamed = what === "names";
+  let rows = withoutHeading(block);
+  let names = isNamed ? rows.map(([name]) => name) : [];
+  if (isNamed) rows = rows.map((row) => row.slice(1));
+  const isSquare = rows.length > 1 && rows.every((row, k) => {
+    return row.length === rows.length && /^(0?|[-–—x])$/i.test((row[k] ?? "").trim());
+  });
+  if (isSquare) names = names.slice(1); // the first point is the source
+  names.forEach((name, k) => (typed.names[Number(place) + k] = name));
+  typed.names.length = Math.min(typed.names.length, kind.most);
+  const [i0, j0] = isNamed ? [0, Number(place) + 1] : place.split("-").map(Number);
+  const top = isSquare ? 0 : j0, left = isSquare ? 0 : i0;
+  while (typed.names.length < Math.min(kind.most, top + rows.length - 1)) typed.names.push("");
+  const pasted = new Set();
+  rows.forEach((row, r) => row.forEach((text, c) => {
+    const [i, j] = [left + c, top + r].sort((a, b) => a - b), key = `${i}-${j}`;
+    if (i >= j || j > typed.names.length || !text) return;
+    pasted.add(key);
+    typed.links[key] = NONE.test(text.trim()) ? "" : text;
+    if (typed.filled) delete typed.filled[key];
+  }));
+  if (!isNamed) forgetExample(typed, kind.example(), pasted);
+}
+
+/** Names of the worked example don't stay where all its links are pasted over, without names. */
+function forgetExample(typed, { names, links }, pasted) {
+  const isExample = typed.names.join("\n").trimEnd() === names.join("\n");
+  if (isExample && Object.keys(links).every((key) => pasted.has(key))) typed.names = typed.names.map(() => "");
+}
+
+/** The rows behind a line that has names where all other lines have numbers. */
+function withoutHeading(rows) {
+  const isNumber = (text) => !readNumber(text).fault, cells = (row) => row.slice(1).filter((text) => text.trim());
+  const isHeading = rows.length > 1 && cells(rows[0]).length > 0 && !cells(rows[0]).some(isNumber)
+    && rows.slice(1).some((row) => row.some(isNumber));
+  return isHeading && !cells(rows[0]).every((text) => NONE.test(text.trim())) ? rows.slice(1) : rows;
+}

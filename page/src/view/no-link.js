@@ -1,0 +1,102 @@
+// Help for links that don't exist: each needs a number, and it decides much.
+import { button, el, refill } from "./dom.js";
+
+const HINT = "Leave it empty, and say what a group that needs it would do. The answer depends on it.";
+const EACH = "It counts for each such link: a group that lacks two of them pays it twice. These links are marked.";
+const REWARD = "A place that spares others such a link is rewarded for it: the more, the larger the number is.";
+
+/** Ways to fill what stands empty. `setLinks(links, filled)` takes the links, and which were filled, how; `asTable` a
+ * table of costs with its notes. `element.again()` fills anew the ways that were filled before, and `element.show()` is
+ * called as links change: without an empty one nothing is shown. */
+export function noLinkHelp(typed, { mark, help, remember, setLinks, asTable }) {
+  const said = el("div", { "aria-live": "polite" });
+  const tell = (notes, told = []) => refill(said, notes.map((note) => el("p", { class: "note" }, note)),
+    told.length > 0 && el("details", { class: "named" }, el("summary", {}, "Which links"),
+      el("p", {}, told.join("; "))));
+  const ask = (task, use) => async (only = null) => {
+    const { names, links, source } = typed, before = JSON.stringify(links);
+    const found = await help(task, { names: [...names], links: given(typed, task), source, mark: mark(), only });
+    if (JSON.stringify(typed.links) !== before) return; // somebody types on
+    if (found.fault) tell([found.fault]);
+    else use(found);
+  };
+  const fill = ask("fillLinks", ({ links, ways, told, notes }) => {
+    setLinks(links, { ...numbersOf(typed), ...Object.fromEntries(ways.map((key) => [key, "way"])) });
+    tell(notes, told);
+    part.open = hasEmpty(typed);
+  });
+  const fillWays = () => {
+    remember("Fill in the cheapest ways");
+    return fill();
+  };
+  const again = () => fill(Object.keys(typed.filled ?? {}).filter((key) => typed.filled[key] === "way"));
+  const fillWith = (number) => {
+    remember("Fill it in");
+    setLinks(...withNumber(typed, number));
+    tell([REWARD, EACH]);
+  };
+  const asked = ask("costsOfNetwork", ({ typed: table, notes }) => asTable(table, notes)), makeTable = () => asked();
+  const element = waysPart({ fillWays, makeTable, fillWith, said }), part = element.firstChild;
+  const show = () => { part.hidden = !hasEmpty(typed) && !Object.keys(typed.filled ?? {}).length; };
+  show();
+  return Object.assign(element, {
+    again, show, choices: () => choicesOf({ part, fillWays, makeTable }),
+    openIfEmpty: () => { part.open ||= hasEmpty(typed); },
+  });
+}
+
+function hasEmpty({ names, links }) {
+  const all = (names.length * (names.length + 1)) / 2;
+  return Object.values(links).filter((text) => text.trim()).length < all;
+}
+
+/** The same ways in short, for the place of the answer. */
+function choicesOf({ part, fillWays, makeTable }) {
+  const price = () => {
+    part.open = true;
+    part.querySelector("input").focus();
+  };
+  return el("div", {}, el("p", {}, "Can’t some links be built? Say what a group that needs one would do:"),
+    el("p", { class: "tools" }, button("Build through the places of others", fillWays),
+      button("The same, as a table of costs", makeTable), button("Pay a price to do without", price)));
+}
+
+function waysPart({ fillWays, makeTable, fillWith, said }) {
+  const amount = el("input", {
+    type: "text", class: "number", "aria-label": "What it costs to do without a link", "data-cell": "without",
+    inputmode: "decimal", autocomplete: "off", maxlength: 200,
+  });
+  return el("div", { class: "screen" }, el("details", { class: "inline no-link" },
+    el("summary", {}, "A link that can’t be built"), el("p", { class: "hint" }, HINT),
+    el("ul", { class: "ways" },
+      el("li", {}, el("b", {}, "It may build through the places of others. "),
+        button("Fill in the cheapest ways", fillWays),
+        " That is right for one place. If detours of a group share a stretch, ",
+        button("make a table of costs of it", makeTable),
+        ": each group then costs the cheapest network that joins it."),
+      el("li", {}, el("b", {}, "It can’t build at all. "), "Give what it costs to do without: ", amount, " ",
+        button("Fill it in", () => fillWith(amount.value))))), said);
+}
+
+/** The links that were typed: ways are filled anew, and no table is made of any link that was filled. */
+function given({ links, filled = {} }, task) {
+  const isOut = (key) => (task === "fillLinks" ? filled[key] === "way" : key in filled);
+  return Object.fromEntries(Object.entries(links).filter(([key]) => !isOut(key)));
+}
+
+function numbersOf({ filled = {} }) {
+  return Object.fromEntries(Object.entries(filled).filter(([, how]) => how === "number"));
+}
+
+/** The links, those that are empty with a number, and which were filled. */
+function withNumber({ names, links, filled: before }, number) {
+  const all = { ...links }, filled = { ...before };
+  for (let i = 0; i <= names.length; i++) {
+    for (let j = i + 1; j <= names.length; j++) {
+      if ((all[`${i}-${j}`] ?? "").trim()) continue;
+      all[`${i}-${j}`] = number;
+      filled[`${i}-${j}`] = "number";
+    }
+  }
+  return [all, filled];
+}

@@ -1,0 +1,378 @@
+// The one printed page: who, how much, a picture, the reasons, what is agreed on, and how to check it.
+import { sourceName } from "../cases/matrices.js";
+import { countText, fractionText } from "../exact/decimals.js";
+import { barsPicture } from "../draw/bars.js";
+import { planPicture } from "../draw/plan.js";
+import { dealsOf, powerPicture, priceOf, pricesPicture, tradesTable } from "../draw/ranges.js";
+import { trianglePicture } from "../draw/triangle.js";
+import { Rational } from "../exact/rational.js";
+import { fileNames } from "../cases/coarse.js";
+import { coarseText, dividedText } from "../tell/coarse-text.js";
+import { ruleFile, sourceOf } from "../tell/rule-names.js";
+import { Namer } from "../tell/words.js";
+import { listed } from "../game/words.js";
+import { lead, notices, solutionOf } from "./answer.js";
+import { beyondSheet } from "./beyond.js";
+import { beyondPower } from "./beyond-power.js";
+import { el, refill } from "./dom.js";
+import { knownDigest } from "./files.js";
+import { fitOnPaper } from "./fit.js";
+import { filledLines, filledText, givenText } from "./filled.js";
+import { movedText, totalsOf, withSum } from "./format.js";
+import { labelOfCell } from "./cell-names.js";
+import { pinnedOf, pinnedText } from "./pinned.js";
+import { contextOf, ownSum, sameText } from "./shares-table.js";
+import { airlineLines } from "./table-lines.js";
+import { changeText, todayOf, todayTitle } from "./today.js";
+import { linesTable } from "./types-table.js";
+
+const WIDE = 700;
+const PAPER_WIDE = 176; // millimetres of A4 between the margins
+const MOST_PICTURED = 10; // rows whose bars leave room for the rest
+const MOST_ROWS = 18; // of one table; more stand in two, side by side
+const MANY_ROWS = 5; // above, letters are smaller, and a picture is lower
+const LONG = 900; // characters of the reasons above which they are, too
+const MOST_TOLD = 800; // characters of the first reason that are printed in full
+const MOST_LEVELS = 1100; // characters of what the levels behind the first settle
+const MOST_DOCUMENT = 420; // characters of the game's document that are printed
+const MOST_SAVING = 8; // rows of whom each saving is named
+const MOST_ALONE = 900; // the same if there is no picture
+
+const OPEN = "Open coop.html from the project’s repository, at the commit named below (the sender has to give "
+  + "you the address of the repository)";
+const TYPE_IN = " Or simply type the numbers into that page: the answer has to be the same.";
+const AREA = "The dark area, if there is one, contains the divisions by which no group could do better by itself.";
+const OF_FILE = " This is the SHA-256 of the file. The box below contains the same numbers, as this page writes them.";
+const OF_TEXT = " This is the SHA-256 of the text in the box below, with a line end after it.";
+const POWER = "A voter’s power is the part of all orders of joining in which the votes become enough when this voter "
+  + "joins (Shapley and Shubik 1954).";
+const PRICES = "These pairs gain most together. At these prices no other pair does better.";
+
+/** Fills the sheet with the answer of a session, and returns the number of sheets of paper that it takes. Without an
+ * answer the sheet is empty. */
+export function showSheet(session, typed = {}) {
+  const sheet = document.getElementById("sheet");
+  fillSheet(sheet, session, typed);
+  return fitOnPaper(sheet);
+}
+
+function fillSheet(sheet, session, typed) {
+  const { result, reading } = session;
+  const isBeyond = result?.beyond && !result.game;
+  if (!isBeyond && (!result || result.refusal || !result.points.length)) return refill(sheet);
+  const { rows } = reading, format = session.format(), today = todayOf(session, rows);
+  const { heading, unit, withProposal } = typed, { coarse } = session.typed, pinned = pinnedOf(session, rows);
+  const labelOf = (cell) => labelOfCell(cell, session);
+  const view = { ...session, heading, unit, withProposal, result, rows, format, today, coarse, pinned,
+    labelOfCell: labelOf };
+  if (isBeyond) return beyondOn(sheet, view);
+  const reasons = reasonsOf(view), isLong = rows.length > MANY_ROWS || reasons.textContent.length > LONG;
+  const isTight = isLong || Boolean(withProposal || coarse || pinned.pin || result.core?.collection);
+  sheet.className = isTight ? "tight" : "";
+  return refill(sheet, headOf(view), notices(result, format, coarse), answerOf(view), pictureOf(view), reasons,
+    agreedOf(view), checkOf(view));
+}
+
+/** What the page calculates by itself. */
+function beyondOn(sheet, view) {
+  const { result: { beyond } } = view;
+  sheet.className = "tight";
+  refill(sheet, headOf(view), beyond.game ? beyondPower(beyond, { ...view, wide: WIDE, isPaper: true })
+    : beyondSheet(beyond, view));
+}
+
+function headOf({ heading, kind }) {
+  return el("header", {}, el("h1", {}, heading?.trim() || kind.title), el("p", { class: "hint day" }, dayText()));
+}
+
+export function dayText() {
+  return new Date().toLocaleDateString("en-GB", { dateStyle: "long" });
+}
+
+// ---- Who, and how much
+
+function answerOf(view) {
+  const { result, rows, format, unit, today, coarse, pinned } = view, { game } = result;
+  const shapley = result.points.find(({ key }) => key === "shapley");
+  const point = game.ballots ? shapley : solutionOf(result) ?? result.points[0];
+  if (!point) return null;
+  if (result.matching) {
+    return el("section", {}, tradesTable(dealsOf(game, result.matching, solutionOf(result)), format));
+  }
+  const title = game.ballots ? "Power" : point.title, totals = totalsOf(rows, point.shares);
+  const context = contextOf(game, rows, format), texts = format.column(totals, rows);
+  const hasExact = totals.some((total) => !format.isExact(total)), who = game.costs ? "Who pays" : "Who gets";
+  const beside = othersOf(view, point);
+  const steps = format.steps(totals, rows), kept = pinned.pin && !game.ballots ? pinned.kept(point.key, format) : null;
+  const others = [...todaysOf(today, steps, game, format), ...keptsOf(kept, steps, format), ...beside];
+  const heads = [game.ballots ? "Who votes" : who, context?.title, title, hasExact ? "exactly" : undefined,
+    ...others.flatMap(({ title: name, exact }) => (exact ? [name, "exactly"] : [name]))];
+  const line = (r) => el("tr", {},
+    el("th", { scope: "row" }, rows[r].label, rows[r].players.length > 1 && ` (${rows[r].players.length} landings)`),
+    context && el("td", { class: "number" }, context.texts[r]),
+    el("td", { class: "number strong" }, texts[r]),
+    hasExact && el("td", { class: "number" }, format.isExact(totals[r]) ? "" : fractionText(totals[r])),
+    others.map((other) => [el("td", { class: "number" }, other.texts[r]), other.exact?.(r)]));
+  const sum = el("tr", { class: "sum" }, el("th", { scope: "row" }, "together"),
+    context && el("td", { class: "number" }, context.sum),
+    el("td", { class: "number strong" }, texts.at(-1)), hasExact && el("td"),
+    others.map((other) => [el("td", { class: "number" }, other.texts.at(-1)), other.exact && el("td")]));
+  return el("section", {},
+    !game.ballots && !game.isMarket() && (airlinesOf(view, point) ?? lead(result, point, { rows, format })),
+    unit?.trim() && el("p", { class: "hint" }, `All amounts are in ${unit.trim()}.`),
+    halves(rows.length, heads.filter((head) => head !== undefined), line, [goneLines(kept, heads, format), sum]),
+    format.isMoved(totals, rows) && el("p", { class: "hint" }, `${movedText(rows)} The fractions are exact.`),
+    coarse?.times && [{ title, totals }, ...beside].map((one) => {
+      return el("p", { class: "hint" }, dividedText(coarse, one.title, rows, one.totals));
+    }),
+    kept && el("p", { class: "hint" }, pinnedText(pinned, { ...point, totals }, rows, view)),
+    saidOfAll(view, point, beside));
+}
+
+/** Who was there before and isn't any more: so that what was before adds up. */
+function goneLines(kept, heads, format) {
+  const shown = heads.filter((head) => head !== undefined), place = shown.indexOf("Before");
+  return (kept?.gone ?? []).map(({ label, value }) => el("tr", { class: "gone" },
+    el("th", { scope: "row" }, `${label} (gone since)`), shown.slice(1).map((_, k) => {
+      return el("td", { class: "number" }, k + 1 === place && format.show(value));
+    })));
+}
+
+/** What was kept to compare, and how much more the share is now. */
+function keptsOf(kept, steps, format) {
+  if (!kept) return [];
+  const all = [...kept.values, kept.sum];
+  const told = (say) => withSum(steps).map((step, r) => (all[r] ? say(all[r], step) : ""));
+  return [{ title: "Before", texts: told(format.show) },
+    { title: "Change", texts: told((now, step) => changeText(step, now, format)) }];
+}
+
+/** The bill: what each airline pays for all its rows, by the columns that are shown; null if no airline has several. */
+function airlinesOf({ result: { points }, rows, format, withProposal, proposal, today }, shown) {
+  const others = withProposal ? points.filter((point) => point !== shown) : [];
+  const columns = [shown, ...others].map(({ title, shares }) => ({ title, totals: totalsOf(rows, shares) }));
+  const own = withProposal && proposal?.totals ? [{ title: "Your proposal", totals: proposal.totals }] : [];
+  const lines = withTodays(airlineLines(rows, [...columns, ...own], format), { rows, format, today, shown });
+  return lines.length ? linesTable("What each airline pays", lines, "shares dense") : null;
+}
+
+/** Adds what each airline pays today, and the change, if the user typed it for all its rows. */
+function withTodays(lines, { rows, format, today, shown }) {
+  if (!lines.length || !today.texts?.some(Boolean)) return lines;
+  const steps = format.steps(totalsOf(rows, shown.shares), rows), all = rows.map((_, r) => r);
+  const told = ([name], k) => {
+    if (!k) return [todayTitle({ costs: true }), "Change"];
+    const of = k === lines.length - 1 ? all : all.filter((r) => rows[r].sum === name), now = ownSum(of, today);
+    return now ? [format.show(now), changeText(withSum(of.map((r) => steps[r])).at(-1), now, format)] : ["", ""];
+  };
+  return lines.map((line, k) => [...line.slice(0, 3), ...told(line, k), ...line.slice(3)]); // behind the first column
+}
+
+/** What each pays or has today, and how much more the share is, if the user typed it. */
+function todaysOf({ texts, values }, steps, game, format) {
+  if (!texts?.some(Boolean)) return [];
+  const told = (say) => withSum(steps).map((step, r) => (values[r] ? say(values[r], step) : ""));
+  return [{ title: todayTitle(game), texts: told(format.show) },
+    { title: "Change", texts: told((now, step) => changeText(step, now, format)) }];
+}
+
+/** A line for each column that is judged. The first column has one if others are beside it, or if a group does better
+ * by itself. Columns with the same verdict share a line. */
+function saidOfAll({ result, format }, { title, ...point }, others) {
+  const own = { title, said: result.game.ballots ? "" : saidOf(result.game, point, format) };
+  const lines = others.length || point.verdict?.group ? [own, ...others] : [];
+  const titles = (text) => lines.filter(({ said }) => said === text).map((one) => one.title).join(", ");
+  const told = [...new Set(lines.map(({ said }) => said))].filter(Boolean).map((text) => `${titles(text)}: ${text}`);
+  const same = others.length > 0 && sameText(result);
+  return [...told, same].map((text) => text && el("p", { class: "hint" }, text));
+}
+
+/** The other columns, and the user's proposal, if the user wants them: {title, texts, totals, exact, said}. `exact`
+ * returns the cell of a row with its fraction, which is to the right of the number as in the first column. */
+function othersOf({ result, rows, format, withProposal, proposal, judged }, shown) {
+  if (!withProposal || result.game.ballots) return [];
+  const { game, points } = result, own = proposal?.totals && { title: "Your proposal", ...proposal, ...judged };
+  return [...points.filter((point) => point !== shown), own].filter(Boolean).map((point) => {
+    const totals = point.totals ?? totalsOf(rows, point.shares), texts = format.column(totals, rows);
+    const hasExact = totals.some((total) => !format.isExact(total));
+    const exact = (r) => el("td", { class: "number exact" }, format.isExact(totals[r]) ? "" : fractionText(totals[r]));
+    return { title: point.title, texts, totals, exact: hasExact ? exact : null, said: saidOf(game, point, format) };
+  });
+}
+
+/** Says whether a group does better by itself, and how a proposal compares with the solution. */
+function saidOf(game, { verdict, comparison }, { by, apart }) {
+  const parts = [];
+  if (verdict?.isCore) parts.push("no group does better by itself.");
+  if (verdict?.group) {
+    const who = new Namer(game).group(verdict.group).replace(/ (alone|together)$/, "");
+    parts.push(`a group does better by itself: ${who}, by ${by(verdict.excess)}.`);
+  }
+  if (verdict?.sum) {
+    const [sum, total] = apart(verdict.sum, verdict.total);
+    parts.push(`it adds to ${sum} instead of ${total}.`);
+  }
+  if (comparison && comparison.better !== "same") {
+    const k = comparison.differs - comparison.first, [mine, theirs] = comparison.lists.map((list) => list[k]);
+    parts.push(`If what each group could gain by leaving is listed, the greatest first, place ${comparison.differs} is `
+      + `the first that differs: ${mine.excess} (${mine.group}) here, and ${theirs.excess} (${theirs.group}) by the `
+      + "division above.");
+  }
+  return parts.join(" ");
+}
+
+/** One table; if there are many rows two, side by side, with the sum below the second. */
+function halves(count, heads, line, sum) {
+  const isLong = count > MOST_ROWS, middle = isLong ? Math.ceil(count / 2) : count;
+  const head = () => el("thead", {}, el("tr", {}, heads.map((title, k) => {
+    return el("th", { scope: "col", class: k ? "number" : "" }, title);
+  })));
+  const tables = [[0, middle], [middle, count]].filter(([from, to]) => from < to).map(([from, to]) => {
+    const lines = Array.from({ length: to - from }, (_, k) => line(from + k));
+    return el("table", { class: isLong ? "shares dense" : "shares" }, head(), el("tbody", {}, lines),
+      el("tfoot", {}, to === count && sum));
+  });
+  return el("div", { class: "halves" }, tables);
+}
+
+// ---- The picture
+
+function pictureOf({ result, rows, format, ...session }) {
+  const { game, points, bird } = result, solution = solutionOf(result), few = rows.length <= MOST_PICTURED;
+  const settings = { ...format, wide: WIDE, source: sourceName(session.typed) };
+  const holder = (drawn, said) => el("figure", { style: `--high: ${highOf(drawn)}mm` }, drawn,
+    said && el("figcaption", { class: "hint" }, said));
+  if (game.ballots) return few ? holder(powerOf(game, points, format)) : null;
+  if (result.matching) {
+    const deals = dealsOf(game, result.matching, solution);
+    return deals.length > 0 && few ? holder(pricesPicture(deals, priceOf(format), format.show, WIDE)) : null;
+  }
+  if (!solution) return null;
+  if (bird && few) return holder(planPicture(game, bird.tree, settings));
+  if (game.n === 3) return holder(trianglePicture(game, [solution], settings).drawn, AREA);
+  return few ? holder(barsPicture(game, rows, [solution], settings), filledLines(session, rows)) : null;
+}
+
+/** How high a picture is on paper, across the whole page. */
+function highOf(drawn) {
+  const [, , wide, high] = drawn.getAttribute("viewBox").split(" ").map(Number);
+  return Math.round((PAPER_WIDE * high) / wide);
+}
+
+function powerOf(game, points, { show }) {
+  const { shares } = points.find(({ key }) => key === "shapley");
+  const parts = game.ballots.map(({ votes }) => votes.map((own) => own.over(Rational.sum(votes))));
+  const percent = (value) => `${show(value.times(Rational.of(100)))}\u202f%`;
+  return powerPicture(game, shares, parts, percent, WIDE);
+}
+
+// ---- The reasons
+
+/** What each saves, or gets more, against going alone, as the numbers are shown; "" if somebody doesn't, or the class
+ * has no such numbers. */
+function savingsText(game, { shares }, rows, format) {
+  if (!game.own || game.isMarket() || game.kind === "bankruptcy") return "";
+  const isRunway = game.kind === "airport"; // the landings of a row need one runway, not one each
+  const isShared = ({ sum }, r) => sum !== undefined && rows.some((one, k) => k !== r && one.sum === sum);
+  if (isRunway && rows.some(isShared)) return ""; // nor do those of an airline
+  const totals = totalsOf(rows, shares);
+  const alone = isRunway ? rows.map(({ players: [i] }) => game.own[i]) : totalsOf(rows, game.own),
+    unit = new Rational(10n ** BigInt(format.places));
+  const steps = format.steps(totals, rows), shown = alone.map((value, r) => {
+    const more = value.minus(new Rational(steps[r]).over(unit));
+    return game.costs ? more : more.negated();
+  });
+  if (shown.some((value) => value.isNegative())) return "";
+  const does = game.costs ? "saves" : "gains", sum = format.show(Rational.sum(shown));
+  const told = rows.map(({ label }, r) => `${label} ${does} ${format.show(shown[r])}`);
+  const most = rows[shown.findIndex((value) => value.equals(Rational.max(shown)))].label;
+  return `Against going alone, ${rows.length > MOST_SAVING ? `${most} ${does} most, ${format.show(Rational.max(shown))}`
+    : listed(told)}: together ${sum}.`;
+}
+
+function reasonsOf({ result, pair, rows, format }) {
+  const { reasons, answer, rule, game, points } = result;
+  if (game.ballots || !reasons) {
+    return el("section", {}, el("h2", {}, "How it was found"), el("p", {}, game.ballots ? POWER : PRICES));
+  }
+  const [principle, next] = reasons, levels = reasons.filter(({ isLevel }) => isLevel).length;
+  const sentences = [...principle.sentences, ...(next ? toldOf(next) : [])], behind = levelsBehind(reasons, next);
+  if (next?.isLevel && levels > 1 && !behind.length) {
+    sentences.push(`This is the first of ${levels} levels. The certificate contains all of them.`);
+  }
+  const isCore = points.find(({ key }) => key === answer)?.verdict?.isCore;
+  const saved = savingsText(game, points[0], rows, format);
+  return el("section", {}, el("h2", {}, `Why: the ${rule}`), saved && el("p", {}, saved),
+    el("p", {}, sentences.join(" ")),
+    behind.length > 0 && el("ul", { class: "levels" }, behind.map((text) => el("li", {}, text))),
+    el("p", {}, isCore && "By these shares no group does better by itself. ",
+      `No other division meets the principle: there is exactly one ${rule} (${sourceOf(game.perHead)}).`),
+    pair && el("p", {}, pair));
+}
+
+/** What the later levels say: who is worst off and what is settled, or only what is settled, as there is room. */
+function levelsBehind(reasons, next) {
+  if (!next?.isLevel) return [];
+  const others = reasons.slice(2).filter(({ isLevel }) => isLevel);
+  const short = others.map(({ title, brief }) => `${title}: ${brief}`);
+  const long = others.map(({ title, sentences, brief, items }) => {
+    return items.length ? [`${title}:`, ...items.map(({ label }) => label)].join(" ")
+      : `${title}: ${[sentences[0], sentences[1], brief].join(" ")}`;
+  });
+  const isShort = (some) => some.join(" ").length <= MOST_LEVELS;
+  return isShort(long) ? long : isShort(short) ? short : [];
+}
+
+/** The first reason: with its items, or without, or its first sentences and the last one, as there is room. */
+function toldOf({ sentences, items, last = "" }) {
+  const whole = [...sentences, ...items.map(({ label }) => label), last], short = [...sentences, last];
+  const isShort = (some) => some.join(" ").length <= MOST_TOLD;
+  const told = isShort(whole) ? whole : isShort(short) ? short : [...short.slice(0, 2), sentences.at(-1)];
+  return told.filter(Boolean);
+}
+
+// ---- What is agreed on, and how to check it
+
+/** Names the file with the numbers: the file that was opened, as long as they are its own, otherwise the page's. */
+function numbersOf({ file, kind, coarse, result: { text } }) {
+  const isOpened = file?.made === text, digest = isOpened ? file.digest : knownDigest(`${text}\n`);
+  const sum = el("span", { class: "digest" }, digest ?? "(this browser can’t calculate it)");
+  if (isOpened) return [`The numbers of the game are in the file ${file.name}. Its SHA-256 is `, sum, "."];
+  const { game: own } = fileNames(kind.id, coarse);
+  return [`The numbers of the game are in a file that this page writes, ${own}. Its SHA-256 is `, sum, ".",
+    file && ` Numbers were changed since ${file.name} was opened.`];
+}
+
+function agreedOf(view) {
+  const { result: { text }, rows, doubt, fills, coarse } = view, filled = filledText(view), given = givenText(view);
+  const isShort = text.length <= (rows.length > MOST_PICTURED ? MOST_ALONE : MOST_DOCUMENT);
+  const ofBox = isShort && (view.file?.made === text ? OF_FILE : OF_TEXT);
+  const what = el("p", {}, numbersOf(view), ofBox, filled && ` ${filled}`, given && ` ${given}`,
+    fills?.text === text && ` ${fills.told(shownTitles(view))}`,
+    coarse && ` ${coarseText(coarse)}`);
+  return el("section", {}, el("h2", {}, doubt ? "Not agreed on" : "What is agreed on"),
+    doubt && el("p", {}, doubt), what,
+    isShort ? el("p", { class: "document" }, text)
+      : el("p", { class: "hint" }, `The file has ${countText(text.length)} characters, and isn’t printed. `
+        + "Keep it with this page."),
+    !doubt && el("p", { class: "sign" }, "Agreed on by", el("span"), "on", el("span", { class: "short" })));
+}
+
+/** The rules whose shares are on the page. */
+function shownTitles({ result, withProposal }) {
+  const own = solutionOf(result) ?? result.points[0];
+  return (withProposal ? result.points : [own]).map(({ title }) => title);
+}
+
+function checkOf({ result: { rule, answer, line, game }, kind, doubt, coarse }) {
+  const foot = document.querySelector("footer p").textContent;
+  if (doubt) return el("section", {}, el("p", { class: "hint" }, foot));
+  const steps = line && !game.ballots
+    ? `${OPEN}, choose “Check an answer”, and give it the agreed file and the line with the certificate, `
+      + `${fileNames(kind.id, coarse).line}-${ruleFile(answer, game.perHead)}.json. `
+      + `Two independent checkers say whether these shares are the ${rule} of the agreed game. `
+      + "You can check by hand, too: the page lists the form and the eight conditions under “What a yes means”."
+    : `${OPEN}, choose “Open a saved case”, and give it the agreed file. It works out the answer anew.`;
+  return el("section", {}, el("h2", {}, "How to check it"), el("p", {}, steps, TYPE_IN),
+    el("p", { class: "hint" }, foot));
+}

@@ -1,0 +1,364 @@
+// The grid of a table: the players, and a cell for each group, by size. Of many groups a page is shown at a time.
+import { groupLabel, packed, unpacked, withoutPlayer, withPlayer } from "../cases/tables.js";
+import { masksBySize, membersOf } from "../game/groups.js";
+import { countText } from "../exact/decimals.js";
+import { withEscapes } from "../game/names.js";
+import { cellInput, moveByKeys, pasteCells, removal, removeByKey } from "./cells.js";
+import { button, cellOf, copy, el, refill } from "./dom.js";
+import { headingOf, numbersIn } from "../cases/vectors.js";
+import { plural } from "../game/words.js";
+import { pasteBox } from "./paste-box.js";
+
+const MOST_WHOLE = 6; // players whose groups are all shown
+const PAGE = 42; // groups of more players that are shown at a time
+const WAIT = 150; // milliseconds between the last key and filling anew
+const REFILL = 60000; // the question waits for what is filled anew
+const SIZES = ["", "Alone", "Two together", "Three together", "Four together", "Five together", "Six together"];
+
+/** `readList({text, names, order})` reads a pasted list, beside the page; `remember(what)` offers to undo it. */
+export function tableGrid(kind, typed, settings) {
+  return new TableGrid(kind, typed, settings).element;
+}
+
+class TableGrid {
+  constructor(kind, typed, { onChange, readList, readCells, help, mark, remember }) {
+    Object.assign(this, { kind, typed, onChange, readList, help, mark, remember });
+    const [players, pages, list, fills, tools] = ["players", "pages", "groups", "fills", "tools"].map((name) => {
+      return el("div", { class: name });
+    });
+    this.message = el("div", { class: "note", role: "status" });
+    this.legend = el("p", { class: "hint legend screen" });
+    Object.assign(this, { players, pages, tools, list, fills, start: 0, wanted: "" });
+    this.element = el("div", {}, players, this.message, pages, list, this.legend, fills);
+    this.element.more = tools;
+    this.element.setTips = (tips) => this.setTips(tips);
+    this.order = masksBySize(typed.names.length);
+    this.element.addEventListener("show-cell", ({ detail }) => this.showCell(detail));
+    removeByKey(players);
+    moveByKeys(list, (cell, step) => `numbers.${this.order[this.placeOf(cell) + step]}`);
+    pasteCells(list, (cell, rows, text) => this.paste(cell, rows, text), readCells);
+    pasteCells(players, (cell, rows, text) => (rows.some((row) => row.length > 1) ? this.takeList(text)
+      : this.pasteNames(Number(cell.split(".")[1]), rows)), readCells);
+    this.show();
+    this.tellFilled();
+  }
+
+  /** A column of names that is pasted into a name: as many as there are players. */
+  pasteNames(first, rows) {
+    const { names } = this.typed;
+    this.remember("Paste");
+    this.change({ names: names.map((name, i) => rows[i - first]?.[0] ?? name) });
+  }
+
+  placeOf(cell) {
+    return this.order.indexOf(Number(cell.split(".")[1]));
+  }
+
+  change(next) {
+    this.filling = (this.filling ?? 0) + 1; // what is being filled is of the old table
+    Object.assign(this.typed, next);
+    this.order = masksBySize(this.typed.names.length);
+    this.start = 0;
+    this.show();
+    this.onChange();
+  }
+
+  show() {
+    this.showPlayers();
+    this.showGroups();
+    this.showTools();
+  }
+
+  // ---- Players
+
+  showPlayers() {
+    const { names } = this.typed, isFull = names.length >= this.kind.most;
+    const add = isFull ? el("span", { class: "hint" }, "16 players is the most.") : button("Add a player", () => {
+      this.change(withPlayer(this.typed));
+      cellOf(this.players, `names.${this.typed.names.length - 1}`)?.focus();
+    }, { class: "quiet" });
+    refill(this.players, el("span", { class: "field" }, "Players"), names.map((name, i) => this.player(name, i)), add);
+  }
+
+  player(name, i) {
+    const input = cellInput({
+      cell: `names.${i}`, value: name, label: `Name of player ${i + 1}`, placeholder: `Player ${i + 1}`,
+      onInput: (text) => {
+        this.typed.names[i] = text;
+        this.showGroups();
+        this.onChange();
+      },
+    });
+    const { length } = this.typed.names, remove = length > 1 && removal(this.players, {
+      label: `Remove ${withEscapes(name) || `player ${i + 1}`}`, title: "Remove this player, with all its groups",
+      remove: () => this.remove(i), next: `names.${Math.min(i, length - 2)}`,
+    });
+    return el("span", { class: "player" }, input, remove);
+  }
+
+  /** The rest of the table stays. What all who stay cost was filled mostly, so it has to be typed. */
+  remove(i) {
+    this.remember(`Remove ${withEscapes(this.typed.names[i].trim()) || `player ${i + 1}`}`);
+    this.change(withoutPlayer(this.typed, i));
+    this.say();
+    if (this.typed.filled.length) this.fillSplits(true);
+  }
+
+  // ---- Groups
+
+  /** The groups that hold all players whose names are wanted. */
+  found() {
+    const words = this.wanted.toLowerCase().split(/[,+;]/).map((word) => word.trim()).filter(Boolean);
+    if (!words.length) return this.order;
+    const { names } = this.typed;
+    const label = (name, i) => (name.trim() || `Player ${i + 1}`).toLowerCase();
+    const ids = words.map((word) => names.findIndex((name, i) => label(name, i).startsWith(word)));
+    return this.order.filter((mask) => ids.every((i) => i >= 0 && (mask >> i) & 1));
+  }
+
+  showGroups() {
+    this.showFills();
+    const bySize = new Map(), { names } = this.typed;
+    for (const mask of this.found().slice(this.start, this.start + this.page())) {
+      const count = membersOf(mask).length;
+      bySize.set(count, [...(bySize.get(count) ?? []), mask]);
+    }
+    refill(this.list, [...bySize].map(([count, masks]) => [
+      el("h3", {}, count === names.length ? "All together" : SIZES[count] ?? `${count} together`),
+      el("ol", { class: count > 4 ? "long" : "" }, masks.map((mask) => this.groupRow(mask))),
+    ]));
+    this.list.classList.toggle("few", names.length <= 3);
+    this.showTips();
+  }
+
+  /** `tips(mask)` says of a number whether the answer rests on it: {isDeciding, text}; null while nobody knows. */
+  setTips(tips) {
+    this.tips = tips;
+    this.showTips();
+  }
+
+  showTips() {
+    for (const input of this.list.querySelectorAll("input")) {
+      const tip = this.tips?.(Number(input.dataset.cell.split(".")[1])), row = input.parentElement;
+      row.classList.toggle("decides", Boolean(tip?.isDeciding));
+      row.title = tip?.text ?? "";
+      if (tip) input.setAttribute("aria-description", tip.text);
+      else input.removeAttribute("aria-description");
+    }
+    const isKnown = Boolean(this.tips && this.order.length > 1);
+    refill(this.legend, isKnown && [el("span", { class: "dot", "aria-hidden": "true" }), " The answer rests on these ",
+      "numbers. How far off the others may be, “What if” says."]);
+  }
+
+  groupRow(mask) {
+    const label = groupLabel(this.typed.names, mask), isFilled = this.typed.filled?.includes(mask);
+    const input = cellInput({
+      cell: `numbers.${mask}`, value: this.typed.numbers[mask] ?? "", isNumber: true,
+      label: `${this.kind.what} of ${label}${isFilled ? ", filled by the page" : ""}`,
+      onInput: (text) => {
+        this.typed.numbers[mask] = text;
+        input.classList.remove("filled");
+        this.typedInto(mask);
+      },
+    });
+    input.classList.toggle("filled", Boolean(isFilled));
+    return el("li", {}, el("span", { class: "group" }, label), input);
+  }
+
+  /** Numbers that were filled follow those that are typed. */
+  typedInto(mask) {
+    const { filled = [] } = this.typed;
+    this.showFills();
+    this.filling = (this.filling ?? 0) + 1;
+    this.typed.filled = filled.filter((other) => other !== mask);
+    if (!filled.length) return this.onChange();
+    this.onChange(REFILL);
+    clearTimeout(this.refilling);
+    this.refilling = setTimeout(() => this.fillSplits(true), WAIT);
+    return undefined;
+  }
+
+  /** A column of numbers fills the cells below; a list of groups, or a row of numbers, is one of the whole table. */
+  paste(cell, rows, text) {
+    if (rows.every((row) => row.length > 1 && /[^\d.,\s-]/.test(row[0]))) return this.takeList(text);
+    const place = this.placeOf(cell), numbers = numbersIn(text);
+    if (place === 0 && rows.length > 2 && !numbers && headingOf(text) !== null) return this.takeList(text);
+    if (place === 0 && numbers?.length === 1 && numbers[0].length > 2) return this.takeList(text);
+    if (rows.some((row) => row.slice(numbers ? 1 : 2).some(Boolean))) {
+      return this.say("A cell takes one number, and this text has several in a line, so nothing was pasted. Give a "
+        + "column of numbers, or lines of a group and its number.");
+    }
+    this.remember("Paste");
+    if (place === 0 && rows.length >= this.order.length) this.forgetExample();
+    const masks = this.order.slice(place, place + rows.length);
+    masks.forEach((mask, k) => (this.typed.numbers[mask] = rows[k].at(-1)));
+    const { filled = [] } = this.typed;
+    this.typed.filled = filled.filter((mask) => !masks.includes(mask));
+    this.showGroups();
+    return filled.length ? this.fillSplits(true) : this.onChange();
+  }
+
+  /** Names of the worked example, and what was done to the old numbers, don't stay with numbers that are pasted over
+   * all of it. */
+  forgetExample() {
+    delete this.typed.coarse;
+    if (this.ownNames().length) return;
+    this.typed.names = this.typed.names.map(() => "");
+    this.showPlayers();
+  }
+
+  // ---- Tools
+
+  showTools() {
+    refill(this.pages, this.typed.names.length > MOST_WHOLE && this.pager());
+    refill(this.tools,
+      pasteBox((text, order, close) => this.takeList(text, order, close)),
+      button("Copy the list", (event) => copy(this.spreadsheet(), event.target), {
+        class: "quiet", title: "With names, for a spreadsheet",
+      }));
+    this.showFills();
+  }
+
+  /** Ways to fill what is empty, as long as some group is, or was before the page filled it. */
+  showFills() {
+    const { isCost } = this.kind, { numbers, filled = [] } = this.typed;
+    const isEmpty = this.order.some((mask) => !(numbers[mask] ?? "").trim());
+    const asked = isEmpty ? "Nobody knows some of these numbers?" : filled.length ? "Fill them another way?" : "";
+    if (this.fills.dataset.asked === asked) return;
+    this.fills.dataset.asked = asked;
+    refill(this.fills, asked && el("p", { class: "tools" },
+      el("span", { class: "hint" }, asked),
+      button(`Fill the empty ones by the ${isCost ? "cheapest" : "best"} split`, () => this.fillBy("split"), {
+        class: "quiet", title: "Each group without a number takes that of its best split into groups that have one",
+      }),
+      isCost && button("Fill them no dearer than a larger group", () => this.fillBy("larger"), {
+        class: "quiet", title: "The cheapest of the splits of a group, and of the larger groups that hold it",
+      })));
+  }
+
+  fillBy(how) {
+    return this.fillSplits(false, how);
+  }
+
+  /** Fills the empty groups; `again` those that were filled before. */
+  async fillSplits(again = false, how = this.typed.how) {
+    const mine = (this.filling = (this.filling ?? 0) + 1), { filled } = this.typed;
+    const what = { typed: packed(this.typed), mark: this.mark(), costs: Boolean(this.kind.isCost), filled, how, again };
+    const { state, filled: fresh, notes, above = [], fault } = await this.help("fillSplits", what);
+    if (mine !== this.filling) return;
+    if (state && !again) this.remember("Fill the empty ones");
+    if (state) Object.assign(this.typed, unpacked(state), { filled: fresh, how });
+    this.showGroups();
+    this.say(fault ?? notes.join(" "), namedGroups(above));
+    this.onChange(0);
+  }
+
+  /** Of a case that was opened with filled groups it is told how, and which are dearer than larger ones. */
+  async tellFilled() {
+    const { filled, how } = this.typed, costs = Boolean(this.kind.isCost), mark = this.mark();
+    if (!filled?.length) return;
+    const mine = (this.filling = (this.filling ?? 0) + 1);
+    const what = { typed: packed(this.typed), mark, costs, filled, how, again: true };
+    const { notes = [], above = [] } = await this.help("fillSplits", what);
+    if (mine === this.filling) this.say(notes.join(" "), namedGroups(above));
+  }
+
+  /** How many groups are shown at a time. */
+  page() {
+    return this.typed.names.length > MOST_WHOLE ? PAGE : this.order.length;
+  }
+
+  pager() {
+    const masks = this.found(), last = Math.floor(Math.max(0, masks.length - 1) / PAGE) * PAGE;
+    const turn = (by) => () => this.go(Math.max(0, Math.min(this.start + by, last)));
+    const find = el("input", {
+      type: "search", value: this.wanted, placeholder: "names, with commas", "data-cell": "find", maxlength: 200,
+      "aria-label": "Show groups with these players",
+      on: { input: (event) => {
+        this.wanted = event.target.value;
+        this.go(0);
+      } },
+    });
+    const end = Math.min(this.start + PAGE, masks.length), all = countText(masks.length);
+    return el("span", { class: "pager" },
+      el("label", {}, "Groups with ", find),
+      button("‹", turn(-PAGE), { "aria-label": "Groups before", disabled: this.start === 0 }),
+      el("span", {}, masks.length ? `${this.start + 1}–${end} of ${all}` : "none"),
+      button("›", turn(PAGE), { "aria-label": "Groups after", disabled: this.start >= last }),
+      button("First empty one", () => this.firstEmpty(), { class: "quiet" }));
+  }
+
+  go(start) {
+    this.start = start;
+    this.showGroups();
+    this.showTools();
+  }
+
+  firstEmpty() {
+    const place = this.order.findIndex((mask) => !(this.typed.numbers[mask] ?? "").trim());
+    if (place < 0) return this.say("No group is empty.");
+    this.wanted = "";
+    this.go(Math.floor(place / this.page()) * this.page());
+    return cellOf(this.list, `numbers.${this.order[place]}`)?.focus();
+  }
+
+  /** Turns to the page of a group. */
+  showCell(cell) {
+    const place = this.placeOf(cell);
+    if (!cell.startsWith("numbers.") || place < 0) return;
+    this.wanted = "";
+    this.go(Math.floor(place / this.page()) * this.page());
+  }
+
+  spreadsheet() {
+    const { names, numbers } = this.typed;
+    return `${this.order.map((mask) => `${groupLabel(names, mask)}\t${numbers[mask] ?? ""}`).join("\n")}\n`;
+  }
+
+  /** Takes a list, and then `close`s where it was pasted. */
+  async takeList(text, order = "size", close = () => {}) {
+    this.say("Reading the list …");
+    const { state, fault, told, isOdd, remark = "" } = await this.readList({ text, names: this.ownNames(), order });
+    if (!state) return this.say(fault, " Nothing was taken.");
+    close();
+    this.remember("Use this list");
+    this.change({ ...unpacked(state), opened: undefined, isUnnamed: false, filled: undefined, coarse: undefined });
+    const { names, numbers } = this.typed, lacking = this.order.filter((mask) => !numbers[mask]).length;
+    const read = this.order.length - lacking;
+    const empty = lacking === 1 ? "is empty" : "are empty";
+    const rest = lacking ? `; ${plural(lacking, "group has", "groups have")} no line and ${empty}` : "";
+    return this.say(`Read${told ? { size: " by size", mask: " by masks" }[told.order] : ""}: `
+      + `${plural(names.length, "player")}, ${plural(read, "group")}${rest}.${remark}`
+      + (told ? placeOf(told, names) : ""),
+    isOdd && this.otherOrder(text, told.order));
+  }
+
+  /** A hint that the list may stand in the other order. */
+  otherOrder(text, order) {
+    const [other, title] = order === "size" ? ["mask", "by masks"] : ["size", "by size"];
+    return [" So read, some group has a lesser number than a smaller one within it; in the other order none has. ",
+      button(`Read it ${title}`, () => this.takeList(text, other), { class: "quiet" })];
+  }
+
+  /** The names, but for those of the worked example, which are nobody's. */
+  ownNames() {
+    const { names } = this.typed, given = this.kind.example().names;
+    return names.join("\n") === given.join("\n") ? [] : names;
+  }
+
+  say(...parts) {
+    refill(this.message, parts);
+  }
+}
+
+/** Groups that cost more than a larger one, each with it; of very many the first ones. */
+function namedGroups(above) {
+  const named = above.filter(Boolean), rest = above.length - named.length;
+  return named.length > 0 && el("details", { class: "named" }, el("summary", {}, "Which, and the larger groups"),
+    el("ul", {}, named.map((text) => el("li", {}, text)), rest > 0 && el("li", {}, `and ${rest} more`)));
+}
+
+/** Which group a number was read as, where the orders differ. */
+function placeOf({ place, number, mask }, names) {
+  return place ? ` Number ${place}, ${withEscapes(number)}, is that of ${groupLabel(names, mask)}.` : "";
+}
