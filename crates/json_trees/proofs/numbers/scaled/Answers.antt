@@ -4,7 +4,7 @@ use Rattle.std.proofs.lemmas.Int.{ints}
 use mir.Syntax.{w128}
 use Rattle.fractions.specs.Fraction.{IsRatio, HasNoForm}
 use Rattle.json_trees.proofs.LowestTerms.{times_made, times_unmade, chosen_some, chosen_none}
-use Rattle.json_trees.proofs.fractions_scaled.scaled.Goals as goal
+use Rattle.json_trees.proofs.numbers.scaled.Goals as goal
 
 pub returns-in-Ok-clause-value : goal.returns-in-Ok-clause-value
 returns-in-Ok-clause-value c =
