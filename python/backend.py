@@ -30,7 +30,8 @@ FIRST_DAY = (1980, 1, 1, 0, 0, 0)  # the same bytes at each build
 
 DATA = {
     "runtime": (
-        "coop.mjs", "serve.mjs", "telling.mjs", "package.json", "engine/host.js", "engine/inside.js", "engine/ports.js",
+        "coop.mjs", "serve.mjs", "telling.mjs", "usage.txt", "package.json", "engine/host.js", "engine/inside.js",
+        "engine/ports.js",
     ),
     "page": ("coop.html", "package.json"),
     "scripts": ("check-anew",),
@@ -88,7 +89,7 @@ def modules() -> list[str]:
         os.path.join(folder, name) if folder else name
         for folder in ("", "desk")
         for name in sorted(os.listdir(os.path.join(top, folder)))
-        if name.endswith((".py", ".typed"))
+        if name.endswith((".py", ".typed", ".json"))
     ]
 
 

@@ -8,13 +8,13 @@ from . import calls
 from .answers import Nucleolus, Shares
 from .errors import BadInput
 from .game import Game
-from .groups import Namer, enumerated
+from .desk.groups import Namer, enumerated
 from .masks import mask_of
 from .names import safe
-from .prose import filled
+from .desk.prose import filled
 from .sensitivity import Margin, Margins, Range, margins, ranges
 from .styles import EXACT, Style, decimal, steps_of
-from .tables import aligned
+from .desk.tables import aligned
 
 MOST_TO_MOVE = {"tree": 10, "assignment": 10}  # players of a game of which each number is moved
 MOST_LISTS = 24  # the same of an airport or an estate

@@ -25,12 +25,13 @@ from fractions import Fraction
 from math import lcm
 from typing import Any, Iterable, Iterator, Optional, Sequence, Union, overload
 
-from . import calls, checking
+from . import calls
 from .amounts import Amount, fraction_of
 from .answers import Names, Nucleolus, Shares
 from .errors import BadInput
 from .game import MOST_IN_A_TABLE, Game
-from .levels import Level, level_of
+from .desk import checking
+from .desk.levels import Level, level_of
 from .linear import Span, simplest, solution, sums
 from .masks import is_alone, members
 from .moving import Moving, TooFine, What, what_moves

@@ -129,6 +129,9 @@ class Server:
     def __reduce__(self) -> tuple[Any, ...]:
         return Server, (self.command, self.processes, self.seconds)
 
+    def __repr__(self) -> str:
+        return f"Server({self.command!r})"
+
     def run(self, words: Sequence[str], document: bytes) -> tuple[int, bytes]:
         """The status and the line of one request, by a process that is free. Safe in threads."""
         if os.getpid() != self.owner:
@@ -162,8 +165,8 @@ class Server:
             raise Fault(f"the module stopped: {line.decode('utf-8', 'replace')}", status)
         return status, line
 
-    def begun(self) -> Worker:
-        """A new process, which has said that it is there."""
+    def begun(self, tries: int = 3) -> Worker:
+        """A new process, which has said that it is there. One that is killed meanwhile is begun again."""
         try:
             worker = Worker(self.command)
         except OSError as fault:
@@ -174,6 +177,8 @@ class Server:
             code = worker.stop()
             if worker.is_late:
                 raise Fault(f"{' '.join(self.command)} didn't begin in {self.seconds} s", TOO_LATE) from None
+            if code < 0 and tries > 1:
+                return self.begun(tries - 1)
             raise Fault(f"{' '.join(self.command)} ended with {code} when it began", code) from None
         except BaseException:
             worker.kill()

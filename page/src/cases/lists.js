@@ -1,6 +1,7 @@
 // Cases that are a list: a runway and an estate. Each row has a name and a number.
 import { Rational } from "../exact/rational.js";
 import { shortText, typedText } from "../exact/decimals.js";
+import { LIMITS, mostOf } from "../game/classes.js";
 import { shownName } from "../game/names.js";
 import { labelsOf, landingsOf, rowsOfLandings } from "./landings.js";
 import { Reading } from "./reading.js";
@@ -12,7 +13,7 @@ const COST = /cost|need|price|fee|charge|amount|kosten|preis|betrag|gebühr|beda
 const heads = (words) => new RegExp(`^(?!.*(${COST.source})).*(${words})`, "iu"); // and no word of a cost
 const CREDITOR = /creditor|claimant|lender|party|name|gläubiger|créancier/iu;
 const CLAIM = /claim(?!ant)|amount|owed|debt|due\b|forderung|betrag|schuld|créance|montant|\p{Sc}/iu;
-const MOST_LANDINGS = 64;
+const MOST_LANDINGS = mostOf("airport"), MOST_CLAIMS = mostOf("bankruptcy"), MOST_NAME = LIMITS["bytes of a name"];
 
 export const runway = {
   id: "runway",
@@ -54,8 +55,8 @@ export const runway = {
     if (!kept.length && reading.isRight()) reading.open("rows.0.cost");
     if (all > MOST_LANDINGS) return { reading, rows: labelsOf(kept), tree: null, landings: kept };
     const { rows, names, costs } = landingsOf(kept, reading.opened);
-    if (names.some((name) => bytesOf(name) > 64)) {
-      reading.fault("rows.0.name", "A name has at most 64 letters, with the number of its landing.");
+    if (names.some((name) => bytesOf(name) > MOST_NAME)) {
+      reading.fault("rows.0.name", `A name has at most ${MOST_NAME} letters, with the number of its landing.`);
     }
     reading.close();
     const named = reading.named(names, state.rows.flatMap(({ name, type }) => [name, type]));
@@ -112,7 +113,7 @@ export const estate = {
     { key: "claim", title: "Claim", number: true, heads: CLAIM },
   ],
   help: "One row for each claim. If some claims go first, take them off the estate and leave them out.",
-  most: 64,
+  most: MOST_CLAIMS,
   example: () => ({
     estate: "2000",
     rows: [
@@ -133,8 +134,8 @@ export const estate = {
       reading.pause(`So far the claims add to less than the estate. If no others come, each gets its claim, ${rest} is `
         + "left, and no rule is needed.");
     }
-    if (values.length > 64) {
-      reading.fault(cells.at(-1), `These are ${values.length} claims, and the program takes 64.`);
+    if (values.length > MOST_CLAIMS) {
+      reading.fault(cells.at(-1), `These are ${values.length} claims, and the program takes ${MOST_CLAIMS}.`);
     }
     const claims = values.map((value) => value.toDocument());
     return {

@@ -1,5 +1,6 @@
 // Cases that are a matrix: a network of links, and buyers with sellers.
 import { typedText } from "../exact/decimals.js";
+import { CLASSES, mostOf } from "../game/classes.js";
 import { withEscapes } from "../game/names.js";
 import { rowsOf } from "./lists.js";
 import { detoursOf } from "./detours.js";
@@ -12,7 +13,7 @@ export const network = {
   teaser: "Pipes, cables or roads join everybody to one source.",
   unit: "place",
   isNetwork: true,
-  most: 16,
+  most: mostOf("tree"),
   help: "What would each link cost? A group by itself uses only links between its own places and the source. If a link "
     + "can’t be built, leave it empty. Paste a matrix, or a list of from, to and cost.",
   example: () => ({
@@ -67,7 +68,7 @@ export const market = {
   teaser: "Each buys one thing or sells one. Who trades with whom, and at which price?",
   unit: "trader",
   isMarket: true,
-  most: 32,
+  most: CLASSES.market.side,
   help: "What do each buyer and seller gain together if they trade? It is the worth to the buyer less the worth to the "
     + "seller, or 0 if that is negative.",
   example: () => ({
@@ -88,7 +89,7 @@ export const market = {
       return reading.number(`values.${i}.${j}`, state.values[i][j], "What they gain together")?.toDocument() ?? 0n;
     }));
     reading.close();
-    const kind = buyers.length + sellers.length <= 16 ? "assignment" : "market";
+    const kind = buyers.length + sellers.length <= mostOf("assignment") ? "assignment" : "market";
     return {
       reading,
       rows: rowsOf(names),

@@ -1,5 +1,6 @@
 // Cases that are a table: a cost or a gain of each group of at most 16 players.
 import { readNumber, typedText } from "../exact/decimals.js";
+import { mostOf } from "../game/classes.js";
 import { maskOf, masksBySize, membersOf } from "../game/groups.js";
 import { withEscapes } from "../game/names.js";
 import { rowsOf } from "./lists.js";
@@ -9,7 +10,7 @@ import { Reading } from "./reading.js";
 import { headingOf, manyBelow, numbersIn, vectorOf } from "./vectors.js";
 
 const MOST_BY_NAME = 6; // above, the document lists numbers alone: it would be too long by names
-const MOST_PLAYERS = 16;
+const MOST_PLAYERS = mostOf("table");
 
 /** A table as it goes to a worker and back: one text is copied faster than 65,536. */
 export function packed({ names, numbers, opened, isUnnamed }) {
@@ -186,8 +187,8 @@ function listOf(all, lineOf) {
   const names = [...new Set(read.filter(({ members }) => members.length === 1).map(({ members }) => members[0]))];
   if (!names.length) return { fault: "There is no line of a player alone. A group is its members with + between." };
   if (names.length > MOST_PLAYERS) {
-    return { fault: `These are ${names.length} players, and a table has at most 16. A group of several is its members `
-      + "with + between, as Sales+Ops." };
+    return { fault: `These are ${names.length} players, and a table has at most ${MOST_PLAYERS}. A group of several is `
+      + "its members with + between, as Sales+Ops." };
   }
   return { ...placedList(read, names), remark: heading === null ? "" : headingText(heading) };
 }

@@ -1,10 +1,11 @@
 // Numbers that are too fine for a document: all rounded to four decimals, or all times a power of ten.
 import { Rational, ZERO } from "../exact/rational.js";
 import { cellNumber, decimalOf, placesOf, stepsOf, typedText } from "../exact/decimals.js";
+import { LIMITS } from "../game/classes.js";
 import { caseNamed } from "../cases/cases.js";
 
 const PLACES = 4;
-const MOST = 2n ** 40n;
+const MOST = 2n ** BigInt(LIMITS.bits);
 const MOST_POWER = 12;
 
 /** The cells of a case with coarser numbers, and what was done to them: {typed, coarse}, or {fault}. `how` is "round"
