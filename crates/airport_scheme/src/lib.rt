@@ -19,7 +19,7 @@ use crate::payments::{by_place, by_player};
 use airport::AirportGame;
 pub use fractions::OutOfMemory;
 pub use kohlberg::Certificate;
-use kohlberg::Mode;
+use definitions::Mode;
 use std::alloc::Global;
 use worth_core::Shares;
 

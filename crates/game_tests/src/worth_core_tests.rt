@@ -6,11 +6,12 @@ use crate::fracs::fracs_of;
 use crate::shares::shares_of;
 use crate::tables::table_of;
 use coalitions::Coalition;
+use definitions::Measure;
 use fractions::Frac;
 use std::alloc::Global;
 use std::process::Abort;
 use std::test::Fail;
-use worth_core::{Divisor, Measure, Shares, SharesFault, SplitSums, Worth, measured_bound};
+use worth_core::{Divisor, Shares, SharesFault, SplitSums, Worth, measured_bound};
 use worth_tables::TableGame;
 
 const PAIR: Coalition = Coalition(3);

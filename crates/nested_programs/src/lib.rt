@@ -18,11 +18,11 @@ ghost use Rattle.std.specs.Prelude.{◌≡◌, ◌↔◌, ◌<◌, ◌≤◌, If
 ghost use Rattle.definitions.specs.declared.Measure.{Measure};
 ghost use Rattle.nested_programs.specs.Answer.{IsFound, IsFault};
 
+use definitions::{Family, Measure};
 pub use found::{Found, NestedFault};
-use kohlberg::Family;
 pub use point::solve_few;
 use std::alloc::Global;
-use worth_core::{Measure, Worth};
+use worth_core::Worth;
 
 /// Returns the nucleolus of a game of at most 16 players for the imputations, or its prenucleolus for the
 /// preimputations, with a certificate in mode span (Schmeidler 1969, Kohlberg 1971). Excesses are as they are or per

@@ -4,10 +4,10 @@ use crate::levels::{Row, are_levels};
 use airport::AirportGame;
 use airport_scheme::solve;
 use fractions::Frac;
-use kohlberg::{Certificate, ratio};
+use kohlberg::Certificate;
 use std::alloc::Global;
 use std::test::Fail;
-use worth_core::Shares;
+use worth_core::{Shares, ratio};
 
 /// The shares and the certificate of the game of these costs.
 fn solved(alloc: Global, costs: &[i64]) -> Result<(Shares, Certificate), Fail> {

@@ -4,12 +4,12 @@ use crate::levels::{Row, certificate_of};
 use crate::tables::{ASSIGNMENT, table};
 use checker::{Reason, Verdict, check};
 use coalitions::Coalition;
+use definitions::{Family, Measure, Mode};
 use fractions::Frac;
-use kohlberg::{Family, Mode};
 use std::alloc::Global;
 use std::process::Abort;
 use std::test::Fail;
-use worth_core::{Measure, Shares, Worth};
+use worth_core::{Shares, Worth};
 use worth_tables::TableGame;
 
 /// The mask of these players, who count from 1.

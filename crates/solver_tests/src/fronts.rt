@@ -6,11 +6,13 @@ ghost use Rattle.definitions.specs.declared.Measure.{Measure};
 ghost use Rattle.definitions.specs.declared.Mode.{Mode};
 ghost use Rattle.separation.specs.Same.{IsSpanOf};
 
-use kohlberg::{Certificate, Family, Level, Mode, Span, add_levels};
+use definitions::{Family, Measure, Mode};
+use kohlberg::{Certificate, Level, add_levels};
 use nested_programs::{Found, solve};
+use spans::Span;
 use std::alloc::Global;
 use std::test::Fail;
-use worth_core::{Measure, Worth};
+use worth_core::Worth;
 
 /// The certificate of the nucleolus, or of the prenucleolus, of a game; none if it has no imputation.
 pub(crate) fn certificate_of<W: Worth>(

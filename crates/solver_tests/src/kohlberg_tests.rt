@@ -1,7 +1,7 @@
 //! The form of certificates, case by case.
 
 use crate::levels::{Row, certificate_of};
-use kohlberg::Mode;
+use definitions::Mode;
 use std::alloc::Global;
 use std::test::Fail;
 

@@ -1,8 +1,9 @@
 //! Certificates and their levels in numbers.
 
 use coalitions::Coalition;
+use definitions::Mode;
 use fractions::Frac;
-use kohlberg::{Certificate, Level, Mode};
+use kohlberg::{Certificate, Level};
 use std::alloc::{AllocError, Global};
 use std::test::Fail;
 

@@ -6,12 +6,13 @@ use crate::shares::are;
 use airport::AirportGame;
 use checker::{Verdict, check};
 use coalitions::Coalition;
+use definitions::{Family, Measure};
 use fractions::Frac;
-use kohlberg::{Certificate, Family, Level};
+use kohlberg::{Certificate, Level};
 use nested_programs::{Found, NestedFault, solve};
 use std::alloc::Global;
 use std::test::Fail;
-use worth_core::{Measure, Shares, Worth};
+use worth_core::{Shares, Worth};
 use worth_tables::TableGame;
 
 /// A game, and what is found for one of the families.

@@ -8,12 +8,13 @@ ghost use Rattle.definitions.specs.declared.Mode.{Mode};
 use crate::fronts::{certificate_of, first_levels, span_of};
 use crate::slow_games::{Slow, game_of};
 use arrayvec::ArrayVec;
-use kohlberg::{Certificate, Family};
+use definitions::{Family, Measure};
+use kohlberg::Certificate;
 use separation::{Lazy, Listed, coalition_count};
 use simplex::{Columns, Multipliers, Optimal, Workspace, solve};
 use std::alloc::Global;
 use std::test::Fail;
-use worth_core::{Measure, Worth};
+use worth_core::Worth;
 use worth_tables::TableGame;
 
 /// The next state of a linear congruence modulo 2^31.
@@ -154,7 +155,7 @@ struct Shape {
     is_plain: bool,
 }
 
-/// Whether a column rises, and of the 256 coalitions among which it stands none is further above its value.
+/// Whether a column improves, and of the 256 coalitions among which it stands none is further above its value.
 fn is_best<A: Columns>(a: &A, shape: Shape, id: u64, m: &Multipliers, with_costs: bool) -> bool {
     let gap = gap_of(a, id, m, with_costs);
     if gap > 0 && shape.is_plain && id >= shape.first {
@@ -168,22 +169,22 @@ fn is_best<A: Columns>(a: &A, shape: Shape, id: u64, m: &Multipliers, with_costs
     gap > 0
 }
 
-/// A column that rises, or the one that enters, if there is a multiplier for each row.
+/// A column that improves, or the one that enters, if there is a multiplier for each row.
 fn asked<A: Columns>(a: &mut A, m: &Multipliers, with_costs: bool, first: bool) -> Option<u64> {
     if m.num.len() == a.rows() as usize {
         if first {
             a.entering(m, with_costs)
         } else {
-            a.rising(m, with_costs)
+            a.improving(m, with_costs)
         }
     } else {
         None
     }
 }
 
-/// Whether a column rises exactly when one enters, and well, and the same one if the multipliers are so large that
+/// Whether a column improves exactly when one enters, and well, and the same one if the multipliers are so large that
 /// the search is in 128 bits.
-fn rises_well<A: Columns, B: Columns>(
+fn improves_well<A: Columns, B: Columns>(
     a: &mut A,
     b: &mut B,
     shape: Shape,
@@ -205,7 +206,7 @@ fn rises_well<A: Columns, B: Columns>(
     }
 }
 
-/// Whether the same column enters, and some rises, with the costs and without them.
+/// Whether the same column enters, and some improves, with the costs and without them.
 fn enter_alike<A: Columns, B: Columns>(
     a: &mut A,
     b: &mut B,
@@ -214,8 +215,8 @@ fn enter_alike<A: Columns, B: Columns>(
 ) -> bool {
     same_entering(a, b, m, true)
         && same_entering(a, b, m, false)
-        && rises_well(a, b, shape, m, true)
-        && rises_well(a, b, shape, m, false)
+        && improves_well(a, b, shape, m, true)
+        && improves_well(a, b, shape, m, false)
 }
 
 /// Compares two programs.

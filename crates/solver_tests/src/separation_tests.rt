@@ -3,7 +3,7 @@
 use crate::shares::are;
 use crate::slow_games::{Slow, game_of};
 use crate::tables::table;
-use separation::{Listed, peaks_of, shares_of};
+use separation::{Listed, block_bounds_of, shares_of};
 use simplex::{Optimal, Workspace, solve};
 use std::test::Fail;
 use worth_core::Worth;
@@ -62,18 +62,18 @@ fn sixteen_who_win_together_share_16(rt: HostRuntime) -> Result<(), Fail> {
 
 // Squares of masks are greatest at the last of each 256 coalitions, and costs are never above 0.
 #[test]
-fn peaks_are_the_greatest_worths_of_256_coalitions(rt: HostRuntime) -> Result<(), Fail> {
+fn block_bounds_are_the_greatest_worths_of_256_coalitions(rt: HostRuntime) -> Result<(), Fail> {
     for &(family, base) in &[(Slow::Square, 255), (Slow::Line, 0)] {
         let game = game_of(rt.alloc(), family, 10)?;
         assert!(&rt; game.players() == 10);
-        let peaks = peaks_of(&game);
+        let block_bounds = block_bounds_of(&game);
         for k in 0..256usize {
             let last = if base > 0 && k < 4 {
                 256 * k as i64 + base
             } else {
                 0
             };
-            assert_eq!(&rt; peaks[k], last.wrapping_mul(last), "{family:?} at {k}");
+            assert_eq!(&rt; block_bounds[k], last.wrapping_mul(last), "{family:?} at {k}");
         }
     }
     Ok(())

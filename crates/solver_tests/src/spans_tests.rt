@@ -7,11 +7,12 @@ ghost use Rattle.spans.specs.Sums.{number_at};
 use crate::fronts::{certificate_of, first_levels, span_of};
 use crate::slow_games::{Slow, game_of};
 use coalitions::Coalition;
-use kohlberg::{Certificate, Family, first_unspanned};
+use definitions::{Family, Measure};
+use kohlberg::{Certificate, first_unspanned};
 use spans::{Outside, PlayerSums, Span, fill_sums};
 use std::process::Abort;
 use std::test::Fail;
-use worth_core::{Measure, Worth};
+use worth_core::Worth;
 
 /// The first coalition of 16 players of which the marks and the span say different things.
 fn first_unlike(outside: &Outside, span: &Span) -> Option<Coalition>

@@ -22,7 +22,7 @@ use crate::levels::all_levels;
 use bankruptcy::BankruptcyGame;
 pub use fractions::OutOfMemory;
 pub use kohlberg::Certificate;
-use kohlberg::Mode;
+use definitions::Mode;
 use std::alloc::Global;
 use worth_core::{Shares, Worth};
 

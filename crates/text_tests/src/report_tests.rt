@@ -1,11 +1,12 @@
 //! The line of a nucleolus that no small document has.
 use coalitions::Coalition;
+use definitions::{Family, Mode};
 use fractions::Frac;
-use kohlberg::{Certificate, Level, Mode};
+use kohlberg::{Certificate, Level};
 use report::{Answer, write_report};
 use serde_json::Value;
 use std::test::Fail;
-use worth_core::{Family, Shares};
+use worth_core::Shares;
 
 #[test]
 fn bounds_and_the_greatest_weights(rt: HostRuntime) -> Result<(), Fail> {
