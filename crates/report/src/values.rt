@@ -9,11 +9,10 @@ ghost use Rattle.definitions.specs.Coalitions.{members};
 
 use coalitions::Coalition;
 use fractions::{Frac, OutOfMemory};
-use kohlberg::ratio;
 use serde_json::Value;
 use std::alloc::Global;
 use std::marker::Model;
-use worth_core::Shares;
+use worth_core::{Shares, ratio};
 
 /// A scale, from 1 to 65,536.
 #[derive(Clone, Copy)]
