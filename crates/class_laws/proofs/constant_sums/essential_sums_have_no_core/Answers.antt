@@ -1,5 +1,0 @@
-use Rattle.class_laws.proofs.ConstantSumGames.{essential_sums_have_no_core}
-use Rattle.class_laws.proofs.constant_sums.essential_sums_have_no_core.Goals as goal
-
-pub returns : goal.returns
-returns c = essential_sums_have_no_core

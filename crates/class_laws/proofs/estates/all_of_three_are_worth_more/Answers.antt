@@ -1,5 +1,0 @@
-use Rattle.class_laws.proofs.AllOfThree.{all_of_three_are_worth_more}
-use Rattle.class_laws.proofs.estates.all_of_three_are_worth_more.Goals as goal
-
-pub returns : goal.returns
-returns c = all_of_three_are_worth_more

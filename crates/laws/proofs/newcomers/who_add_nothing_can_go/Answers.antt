@@ -1,5 +1,0 @@
-use Rattle.laws.proofs.OneMorePlayer.{who_add_nothing_can_go}
-use Rattle.laws.proofs.newcomers.who_add_nothing_can_go.Goals as goal
-
-pub returns : goal.returns
-returns c = who_add_nothing_can_go

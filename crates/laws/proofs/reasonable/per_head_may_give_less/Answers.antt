@@ -1,5 +1,0 @@
-use Rattle.laws.proofs.PerHeadMayGiveLess.{per_head_may_give_less}
-use Rattle.laws.proofs.reasonable.per_head_may_give_less.Goals as goal
-
-pub returns : goal.returns
-returns c = per_head_may_give_less

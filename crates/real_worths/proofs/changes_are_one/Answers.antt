@@ -1,5 +1,0 @@
-use Rattle.real_worths.proofs.OneChange.{changes_are_one}
-use Rattle.real_worths.proofs.changes_are_one.Goals as goal
-
-pub returns : goal.returns
-returns c = changes_are_one
