@@ -17,7 +17,7 @@ import { squeeze } from "./squeeze.mjs";
 
 const TOP = dirname(fileURLToPath(import.meta.url));
 const SRC = join(TOP, "src");
-const MOST = 800_000; // bytes of the page
+const MOST = 850_000; // bytes of the page
 const SEVERAL = /^export const \w+ = [^;([{\n]*, \w+ = /m; // of which only the first would be exported
 
 /** What stands in the place of "/* NAME *\/" in a module, as the text of a string or as code. */
@@ -68,7 +68,12 @@ function moduleOf(path, places, importing) {
   const exported = [];
   let code = readFileSync(path, "utf8");
   code = code.replace(/^import \{([^}]*)\} from "([^"]+)";$/gm, (_, names, from) => {
-    return `const {${names.replace(/ as /g, ": ")}} = ${importing(resolve(dirname(path), from))};`;
+    const other = resolve(dirname(path), from), text = readFileSync(other, "utf8");
+    for (const name of names.split(",").map((one) => one.trim().split(" as ")[0]).filter(Boolean)) {
+      const isThere = new RegExp(`^export ((async )?function\\*?|class|const) ${name}\\b`, "m").test(text);
+      if (!isThere) throw new Error(`${path} imports ${name}, which ${other} doesn't export`);
+    }
+    return `const {${names.replace(/ as /g, ": ")}} = ${importing(other)};`;
   });
   code = code.replace(/^export ((?:async )?function\*?|class|const) (\w+)/gm, (_, what, name) => {
     exported.push(name);

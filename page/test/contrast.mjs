@@ -10,8 +10,8 @@ const TEXTS = [
   ...["--ink", "--soft", "--good", "--bad"].map((front) => [front, "--own"]), ["--ink", "--accent-faint"],
   ["--soft", "--accent-faint"], ["--soft", "--bad-faint"],
 ];
-const EDGES = ["edge", "nucleolus", "shapley", "core", "bird", "buyers", "sellers", "proposal"]
-  .map((name) => [`--${name}`, "--card"]);
+const EDGES = ["edge", "nucleolus", "shapley", "core", "bird", "buyers", "sellers", "proposal", "agencies",
+  "proportion"].map((name) => [`--${name}`, "--card"]);
 
 /** The palettes of a style sheet: the light one, and the dark one over it. */
 export function palettesIn(css) {

@@ -1,32 +1,8 @@
 // The page's worker, as it is in page/coop.html, asked about cases by their numbers: a worker that read the cells and
 // one that was sent the document say the same, and a case that comes between changes nothing.
-import { readFileSync } from "node:fs";
-import vm from "node:vm";
 import { CASES } from "../src/cases/cases.js";
 import { writeJson } from "../src/exact/json.js";
-
-const PAGE = readFileSync(new URL("../coop.html", import.meta.url), "utf8");
-const spoken = { mark: ".", thousands: "\u202f" };
-
-/** A part of the page's code, as a browser reads it. */
-function codeOf(id) {
-  const [, code] = new RegExp(`<script[^>]*id="${id}"[^>]*>([^]*?)</script>`).exec(PAGE);
-  return code.replace(/<\\\/script/gi, "</script").replace(/<\\!--/g, "<!--");
-}
-
-/** A worker: `ask(task, what, about)` as view/helper.js asks, but `about` is sent as it is. */
-function started() {
-  const waiting = new Map(), self = {
-    postMessage: ({ id, result, fault }) => waiting.get(id)(fault === undefined ? result : new Error(fault)),
-  };
-  const given = { self, WebAssembly, Response, Blob, DecompressionStream, atob, TextEncoder, TextDecoder };
-  vm.runInContext(["shared-code", "worker-code"].map(codeOf).join("\n"), vm.createContext(given));
-  return (task, what = {}, about = {}) => new Promise((resolve) => {
-    const id = waiting.size;
-    waiting.set(id, resolve);
-    self.onmessage({ data: structuredClone({ id, task, what, spoken, ...about }) });
-  });
-}
+import { started } from "./page-worker.mjs";
 
 let tried = 0, faults = 0;
 const shown = (one) => (one instanceof Error ? `a fault: ${one.message}` : writeJson(structured(one)));

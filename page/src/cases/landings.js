@@ -22,14 +22,16 @@ function isAlone(texts, text) {
 }
 
 /** The landings of rows {airline, type, cost, count}: what each row shows, and the names and costs of all. A name that
- * another airline’s landing could have gets the number of its own landing, as "Terminal 1 1". */
-export function landingsOf(kept) {
+ * another airline’s landing could have gets the number of its own landing, as "Terminal 1 1"; but names that were
+ * `opened` with a document, a landing each, stay as they are. */
+export function landingsOf(kept, opened = new Set()) {
   const costs = [], players = kept.map(({ cost, count }) => {
     return Array.from({ length: count }, () => costs.push(cost.toDocument()) - 1);
   });
+  const isOpened = kept.every(({ airline, type, count }) => count === 1 && !type && opened.has(airline));
   const plain = namesOf(kept, new Set()), found = airlinesOf({ names: plain, amounts: costs });
   const taken = kept.filter(({ count }, k) => count === 1 && found[players[k][0]] !== undefined).map(baseOf);
-  const names = namesOf(kept, new Set(taken));
+  const names = isOpened ? kept.map(baseOf) : namesOf(kept, new Set(taken));
   distinct(names);
   return { rows: labelsOf(kept).map((row, k) => ({ ...row, players: players[k] })), names, costs };
 }

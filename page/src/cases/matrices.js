@@ -1,6 +1,8 @@
 // Cases that are a matrix: a network of links, and buyers with sellers.
 import { typedText } from "../exact/decimals.js";
+import { CLASSES, mostOf } from "../game/classes.js";
 import { withEscapes } from "../game/names.js";
+import { filledLinks } from "./filled-cells.js";
 import { rowsOf } from "./lists.js";
 import { detoursOf } from "./detours.js";
 import { Reading } from "./reading.js";
@@ -12,7 +14,9 @@ export const network = {
   teaser: "Pipes, cables or roads join everybody to one source.",
   unit: "place",
   isNetwork: true,
-  most: 16,
+  grid: "network",
+  filled: filledLinks,
+  most: mostOf("tree"),
   help: "What would each link cost? A group by itself uses only links between its own places and the source. If a link "
     + "can’t be built, leave it empty. Paste a matrix, or a list of from, to and cost.",
   example: () => ({
@@ -21,8 +25,13 @@ export const network = {
   }),
   empty: () => ({ names: ["", ""], links: {} }),
 
+  mapNumbers(typed, change) {
+    const links = Object.entries(typed.links).map(([key, text]) => [key, change(text)]);
+    return { ...typed, links: Object.fromEntries(links) };
+  },
+
   read(state, mark) {
-    const reading = new Reading(mark), n = state.names.length;
+    const reading = new Reading(mark, state), n = state.names.length;
     const names = reading.names(state.names.map((typed, i) => ({ typed, cell: `names.${i}` })), "Place");
     const matrix = Array.from({ length: n + 1 }, () => Array(n + 1).fill(0n)), costs = new Map();
     for (let i = 0; i <= n; i++) {
@@ -40,7 +49,7 @@ export const network = {
     return {
       reading,
       rows: rowsOf(names),
-      tree: { class: "tree", ...reading.version, names, matrix },
+      tree: { class: "tree", ...reading.version, ...reading.named(names, state.names), matrix },
     };
   },
 
@@ -66,8 +75,8 @@ export const market = {
   title: "Buyers and sellers",
   teaser: "Each buys one thing or sells one. Who trades with whom, and at which price?",
   unit: "trader",
-  isMarket: true,
-  most: 32,
+  grid: "market",
+  most: CLASSES.market.side,
   help: "What do each buyer and seller gain together if they trade? It is the worth to the buyer less the worth to the "
     + "seller, or 0 if that is negative.",
   example: () => ({
@@ -76,23 +85,24 @@ export const market = {
     values: [["5", "8"], ["7", "6"], ["6", "6"]],
   }),
   empty: () => ({ buyers: ["", ""], sellers: ["", ""], values: [["", ""], ["", ""]] }),
+  mapNumbers: (typed, change) => ({ ...typed, values: typed.values.map((row) => row.map(change)) }),
 
   read(state, mark) {
-    const reading = new Reading(mark), { buyers, sellers } = state;
+    const reading = new Reading(mark, state), { buyers, sellers } = state;
     const cells = [
-      ...buyers.map((typed, i) => ({ typed: typed.trim() || `Buyer ${i + 1}`, cell: `buyers.${i}` })),
-      ...sellers.map((typed, j) => ({ typed: typed.trim() || `Seller ${j + 1}`, cell: `sellers.${j}` })),
+      ...buyers.map((typed, i) => ({ typed, fallback: `Buyer ${i + 1}`, cell: `buyers.${i}` })),
+      ...sellers.map((typed, j) => ({ typed, fallback: `Seller ${j + 1}`, cell: `sellers.${j}` })),
     ];
     const names = reading.names(cells, "Trader");
     const matrix = buyers.map((_, i) => sellers.map((_, j) => {
       return reading.number(`values.${i}.${j}`, state.values[i][j], "What they gain together")?.toDocument() ?? 0n;
     }));
     reading.close();
-    const kind = buyers.length + sellers.length <= 16 ? "assignment" : "market";
+    const kind = buyers.length + sellers.length <= mostOf("assignment") ? "assignment" : "market";
     return {
       reading,
       rows: rowsOf(names),
-      tree: { class: kind, ...reading.version, names, matrix },
+      tree: { class: kind, ...reading.version, ...reading.named(names, [...buyers, ...sellers]), matrix },
     };
   },
 

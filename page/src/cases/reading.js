@@ -3,15 +3,17 @@ import { bytesOf } from "../game/words.js";
 import { lcm } from "../exact/rational.js";
 import { cellNumber, countText, readNumber, shortText, thousandsIn } from "../exact/decimals.js";
 import { isMark, MARKS, onlyMark, otherMark } from "../exact/marks.js";
+import { LIMITS } from "../game/classes.js";
 import { remarksOf, withEscapes } from "../game/names.js";
 
-const MOST_SCALE = 65536n;
-const MOST = 2n ** 40n;
+const MOST_SCALE = BigInt(LIMITS.denominator);
+const MOST = 2n ** BigInt(LIMITS.bits), MOST_NAME = LIMITS["bytes of a name"];
 const MOST_KEPT = 200; // faults that are kept with their cells; of the others only the number
 
 export class Reading {
-  constructor(mark) {
-    this.mark = mark;
+  /** `opened` are the names of a document in whose cells nothing was typed yet, and `isUnnamed` says that it has none. */
+  constructor(mark, { opened = [], isUnnamed = false } = {}) {
+    Object.assign(this, { mark, opened: new Set(opened), isUnnamed });
     this.faults = []; // {cell, sentence}
     this.count = 0; // of faults
     this.empty = { count: 0, first: null }; // cells that are empty and may not be
@@ -116,13 +118,25 @@ export class Reading {
     if (isMarked || this.settles() !== null || !isMark(this.mark)) this.either = null;
   }
 
+  /** A name as it counts: that of a document to the letter, else without blanks around it, of composed letters. */
+  nameOf(typed = "") {
+    return this.opened.has(typed) ? typed : typed.trim().normalize("NFC");
+  }
+
+  /** The names for the document; none for one that was opened without, as long as nobody typed one. */
+  named(names, typed) {
+    return this.isUnnamed && !typed.some((text) => text?.trim()) ? {} : { names };
+  }
+
   /** Names, each with its cell; an empty one is the word with its number, or, in a list with names, still open. */
   names(cells, word, isNamed = false) {
-    const names = cells.map(({ typed }, i) => typed.trim().normalize("NFC") || `${word} ${i + 1}`);
+    const names = cells.map(({ typed, fallback }, i) => this.nameOf(typed) || (fallback ?? `${word} ${i + 1}`));
     const first = new Map();
     for (const { typed, cell } of isNamed ? cells : []) if (!typed.trim()) this.open(cell);
     names.forEach((name, i) => {
-      if (bytesOf(name) > 64) this.fault(cells[i].cell, "A name has at most 64 letters (32 with accents).");
+      if (bytesOf(name) > MOST_NAME) {
+        this.fault(cells[i].cell, `A name has at most ${MOST_NAME} letters (${MOST_NAME / 2} with accents).`);
+      }
       if (first.has(name)) this.fault(cells[i].cell, `The name “${withEscapes(name)}” occurs twice.`);
       else first.set(name, i);
     });

@@ -1,13 +1,14 @@
 // Votes: by one quota, which is a game of its own class, or by two at once, which is a table of who wins.
 import { gcd, lcm, Rational } from "../exact/rational.js";
 import { readNumber, shortText, typedText } from "../exact/decimals.js";
+import { LIMITS, mostOf } from "../game/classes.js";
 import { membersOf } from "../game/groups.js";
 import { withEscapes } from "../game/names.js";
-import { readList } from "./lists.js";
+import { numbersMapped, readList } from "./lists.js";
 import { askOfSum } from "./sum-row.js";
 
-const MOST = 32, MOST_IN_TABLE = 16;
-const MOST_VOTES = 1000n;
+const MOST = mostOf("voting"), MOST_IN_TABLE = mostOf("table");
+const MOST_VOTES = BigInt(LIMITS.votes);
 const VOTER = /voter|state|party|member|country|holder|owner|name|staat|land|partei|mitglied|aktion|état|pays|parti/iu;
 const VOTES = /vote|seat|share|weight|stimme|sitz|anteil|voix|siège|part\b|population|bevölkerung/iu;
 
@@ -17,6 +18,8 @@ export const votes = {
   title: "Votes",
   teaser: "How much power does each voter have, with one quota or two?",
   unit: "voter",
+  grid: "list",
+  mapNumbers: numbersMapped,
   isVote: true,
   places: 3,
   single: {
@@ -32,7 +35,7 @@ export const votes = {
     column: { key: "second", title: "Second votes", number: true, grey: "1" },
   },
   help: "One row for each voter, party or shareholder.",
-  most: 32,
+  most: MOST,
   example: () => ({
     quota: "12",
     rows: [["France", 4], ["Germany", 4], ["Italy", 4], ["Belgium", 2], ["Netherlands", 2], ["Luxembourg", 1]]
@@ -43,7 +46,8 @@ export const votes = {
   read(state, mark) {
     const isDouble = state.secondQuota !== undefined;
     const rows = state.rows.map(({ name, votes }) => ({ name, votes }));
-    const list = readList({ rows }, mark, "votes", "The number of votes", "Voter"), { reading, names } = list;
+    const { opened, isUnnamed } = state, own = { rows, opened, isUnnamed };
+    const list = readList(own, mark, "votes", "The number of votes", "Voter"), { reading, names } = list;
     askOfSum(reading, state, ["votes"]);
     const ballots = [readBallot(reading, state.quota, "quota", "The quota", list)];
     if (isDouble) ballots.push(readSecond(reading, state, mark, names));
@@ -53,7 +57,7 @@ export const votes = {
     }
     if (!reading.isRight()) return { ...list, tree: {} };
     if (isDouble && names.length > MOST_IN_TABLE) return { ...list, tree: null, ballots, isBeyond: true };
-    const tree = isDouble ? tableOfWins(names, ballots) : votingGame(reading, list, ballots[0]);
+    const tree = isDouble ? tableOfWins(list, ballots) : votingGame(reading, list, ballots[0]);
     return { ...list, tree, ballots };
   },
 
@@ -124,7 +128,7 @@ function readSecond(reading, state, mark, names) {
   return readBallot(reading, state.secondQuota, "secondQuota", "The second quota", { values, cells });
 }
 
-function votingGame(reading, { names, cells }, ballot) {
+function votingGame(reading, { named, cells }, ballot) {
   const { votes, quota } = inWhole(ballot), all = votes.reduce((sum, one) => sum + one, 0n);
   const common = votes.reduce(gcd, quota) || 1n;
   // votes alone decide which sums are reached, so the quota is rounded up where only the votes have a common divisor
@@ -140,15 +144,15 @@ function votingGame(reading, { names, cells }, ballot) {
     reading.notes.push(`All votes are divided by ${by}, and the quota with them${rounded}: `
       + "which groups win stays the same.");
   }
-  return { class: "voting", names, quota: (quota + by - 1n) / by, weights: votes.map((one) => one / by) };
+  return { class: "voting", ...named, quota: (quota + by - 1n) / by, weights: votes.map((one) => one / by) };
 }
 
 /** A table with 1 for each group that reaches all quotas, and else 0. */
-function tableOfWins(names, ballots) {
+function tableOfWins({ names, named }, ballots) {
   const counted = ballots.map(inWhole);
   const wins = (mask) => counted.every(({ votes, quota }) => {
     return membersOf(mask).reduce((sum, i) => sum + votes[i], 0n) >= quota;
   });
   const worths = Array.from({ length: 2 ** names.length - 1 }, (_, k) => (wins(k + 1) ? 1n : 0n));
-  return { class: "table", names, players: BigInt(names.length), worths };
+  return { class: "table", ...named, players: BigInt(names.length), worths };
 }

@@ -1,6 +1,8 @@
 // The names of the rules as sentences have them. Per head is another rule than as a whole, so it is always named.
 
-const NAMES = { shapley: "Shapley shares", bird: "Bird’s shares", shares: "shares" };
+const NAMES = {
+  shapley: "Shapley shares", bird: "Bird’s shares", shares: "shares", agencies: "separable costs, remaining benefits",
+};
 
 /** "nucleolus per head": what a line or a document calls `answer`, by the measure of its game. */
 export function ruleName(answer, isPerHead = false) {
@@ -20,13 +22,18 @@ export function sourceOf(isPerHead) {
 
 const PLAIN = {
   nucleolus: "Fairest to those who gain least", shapley: "By what each adds", bird: "Each its own link",
+  agencies: "The agencies’ rule",
 };
 const OF_CLASS = { bankruptcy: "the Talmud’s rule", airport: "Littlechild’s rule" };
 
-/** A rule as somebody says it who doesn't know the field, with its name there: {plain, name}; the prenucleolus is said
- * by what it differs in, where the nucleolus is beside it. */
-export function plainNames(key, title, { perHead, kind }, isAlone = true) {
+/** A rule as somebody says it who doesn't know the field, with its name there, and what is said more: {plain, name,
+ * note}. The prenucleolus is said by what it differs in, where the nucleolus is beside it. */
+export function plainNames(key, title, { perHead, kind, costs }, isAlone = true) {
   const name = ruleName(key, perHead), other = key === "nucleolus" && !perHead ? OF_CLASS[kind] : "";
+  if (key === "proportion") {
+    const what = kind === "bankruptcy" ? "the claims" : costs ? "costs alone" : "worth alone";
+    return { plain: title, name: "", note: `to ${what}` };
+  }
   if (key === "prenucleolus") {
     return { plain: isAlone ? PLAIN.nucleolus : "The same, but some may do worse than alone", name };
   }

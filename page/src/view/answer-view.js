@@ -5,7 +5,7 @@ import { answerParts, solutionOf } from "./answer.js";
 import { beyondParts } from "./beyond.js";
 import { beyondPower } from "./beyond-power.js";
 import { labelOfCell } from "./cell-names.js";
-import { pictureButtons } from "../draw/figure.js";
+import { pictureButtons } from "./save-picture.js";
 import { button, cellOf, copy, el, refill } from "./dom.js";
 import { evidenceParts } from "./evidence.js";
 import { filledLines, filledText, isFilled } from "./filled.js";
@@ -32,9 +32,10 @@ const BODIES = ["answer-measure", "answer-settings", "answer-body", "own-body", 
   "evidence-body", "paper-body", "files-body"];
 /** Which parts of an answer are drawn anew as something comes: all at first, or if it isn't named here. */
 const DRAWN = {
-  reasons: ["body", "why"], divisions: ["body", "why", "own", "evidence", "files"], verdicts: ["body", "why"],
+  reasons: ["body", "why"], divisions: ["settings", "body", "why", "own", "evidence", "files"],
+  verdicts: ["body", "why"],
   checks: ["seals", "evidence"], margins: ["margins"], proposal: ["body", "why", "own"], todays: ["body", "own"],
-  pinned: ["body"],
+  pinned: ["body", "own"],
 };
 const LINKS = { "what-if": "What if", evidence: "Evidence", paper: "On paper", files: "Files" };
 
@@ -95,7 +96,7 @@ export class AnswerView {
     // a question that few ask, and of votes and markets hardly anybody; where it was asked it stands beside the answer
     const isAside = result.game.ballots || result.game.isMarket() || !this.session.wasPerHead;
     const hadFocus = document.activeElement?.dataset.cell === "measure";
-    refill(at("answer-settings"), result.refusal ? [] : [this.settings(), isAside && measures]);
+    refill(at("answer-settings"), result.refusal ? [] : [this.settings(result), isAside && measures]);
     refill(at("answer-measure"), !isAside && measures);
     if (hadFocus) cellOf(at("answer"), "measure")?.focus({ preventScroll: true }); // it may stand elsewhere now
   }
@@ -245,18 +246,23 @@ export class AnswerView {
     refill(at("answer-more"), fillsPart(session, settings), otherAmounts(result, settings));
   }
 
-  settings() {
-    return [this.formats(), this.fractions(), this.hiding()];
+  settings(result) {
+    return [this.formats(), this.fractions(), this.corePoint(result), this.hiding()];
   }
 
-  /** Whether exact fractions stand below the decimals. */
+  /** Whether exact fractions stand below the decimals, and below the rules what the field calls them. */
   fractions() {
-    return el("label", {}, el("input", {
-      type: "checkbox", checked: this.isExact, "data-cell": "exact", on: { change: (event) => {
-        this.isExact = event.target.checked;
-        at("answer").classList.toggle("exact-on", this.isExact);
-      } },
-    }), " Exact fractions");
+    return checkbox("exact", "Exact fractions, and the field’s names", this.isExact, (isOn) => {
+      this.isExact = isOn;
+      at("answer").classList.toggle("exact-on", isOn);
+    });
+  }
+
+  /** A core point is one of many, and looks like a rule: so it is shown on request alone. */
+  corePoint({ core }) {
+    return core?.shares && checkbox("core", "One core point", this.session.wantsCore, (isOn) => {
+      this.session.setCore(isOn);
+    });
   }
 
   formats() {
@@ -301,6 +307,13 @@ export class AnswerView {
     refill(at("answer-body"), el("div", { class: "notice bad", role: "alert" }, el("p", {}, sentence),
       button("Try again", () => this.session.changed(0))));
   }
+}
+
+/** A setting that is on or off. */
+function checkbox(cell, title, isOn, onChange) {
+  return el("label", {}, el("input", {
+    type: "checkbox", checked: isOn, "data-cell": cell, on: { change: ({ target }) => onChange(target.checked) },
+  }), ` ${title}`);
 }
 
 /** A network with ways that the page filled, as it has to be filled anew without a place; undefined for another. */

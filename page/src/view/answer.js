@@ -4,10 +4,11 @@ import { Rational } from "../exact/rational.js";
 import { bars } from "../draw/bars.js";
 import { plan } from "../draw/plan.js";
 import { power, trades } from "../draw/ranges.js";
-import { START, tetrahedron } from "../draw/tetrahedron.js";
+import { START } from "../draw/tetrahedron.js";
 import { triangle } from "../draw/triangle.js";
 import { mayBeOfRounding } from "../cases/coarse.js";
 import { coarseText, dividedText } from "../tell/coarse-text.js";
+import { plainNames } from "../tell/rule-names.js";
 import { Namer } from "../tell/words.js";
 import { enumerated, listed, times } from "../game/words.js";
 import { beyondParts } from "./beyond.js";
@@ -18,6 +19,7 @@ import { pinnedNote, pinTools } from "./pinned.js";
 import { missingText } from "./questions.js";
 import { sealsOf } from "./seals.js";
 import { sharesTable } from "./shares-table.js";
+import { turningTetrahedron } from "./turning.js";
 import { typesTable } from "./types-table.js";
 
 /** All parts of an answer. `settings` are {rows, format, proposal, wide, source, coarse, typed, ask}, and of what the
@@ -72,7 +74,7 @@ const HUNDRED = Rational.of(100);
 const SPLIT = "One player alone and all the others together gain least by joining. What one gains the other loses, so "
   + "no division is better for both.";
 const RUNWAY = "No group pays more than a runway of its own would cost, and those that gain least are treated as well "
-  + "as can be (Littlechild’s rule).";
+  + "as can be.";
 
 /** One sentence of the reasons: what the rule of the class says, or how those are treated that gain least. */
 function becauseOf({ game, reasons }) {
@@ -112,10 +114,11 @@ function refused({ sentence, place }) {
 /** All pictures of an answer, the one that tells most first. */
 function pictures({ game, bird }, points, { rows, format, wide, remark, source, typed }) {
   const turn = (typed.turn ??= { ...START });
-  const narrow = points.filter(({ key }) => !["core", "buyers", "sellers"].includes(key));
+  const seen = points.map((point, k) => ({ ...point, title: plainNames(point.key, point.title, game, !k).plain }));
+  const narrow = seen.filter(({ key }) => !["core", "buyers", "sellers"].includes(key));
   const drawn = [bars(game, rows, narrow, { ...format, wide, remark }),
-    game.n === 3 && triangle(game, points, { wide }),
-    game.n === 4 && game.groups && tetrahedron(game, points, { wide, view: turn })];
+    game.n === 3 && triangle(game, seen, { wide }),
+    game.n === 4 && game.groups && turningTetrahedron(game, seen, { wide, view: turn })];
   return [bird && plan(game, bird.tree, { ...format, wide, source }), ...drawn].filter(Boolean);
 }
 
@@ -140,7 +143,7 @@ export function powerTable(game, shares, { rows, format, wide, pinned, labelOfCe
   const column = { key: "shapley", title: "Power", totals: shares };
   return [kept && pinnedNote(pinned, column, rows, { format: percents, labelOfCell }),
     power(game, shares, { ...format, wide, kept }),
-    pinned && !isPaper && el("p", { class: "tools" }, pinTools(pinned))];
+    pinned?.pin && !isPaper && el("p", { class: "tools" }, pinTools(pinned))];
 }
 
 /** How power is shown: in per cent, with one decimal. */

@@ -1,6 +1,7 @@
 // Power by two quotas of more voters than the program takes: what the page calculates by itself, and that it says so.
 import { el } from "./dom.js";
 import { powerLead, powerTable } from "./answer.js";
+import { keepButton } from "./pinned.js";
 
 const OURS = "The program takes 16 voters with two quotas, so the page itself counted the orders of joining, in whole "
   + "numbers. This power does NOT come from the proved program, and has no certificate. Up to 16 voters, tests compare "
@@ -10,5 +11,6 @@ const OURS = "The program takes 16 voters with two quotas, so the page itself co
 export function beyondPower({ shares, game }, { wide, ...settings }) {
   return el("div", { class: "beyond" }, powerLead(game, shares, settings.format),
     el("div", { class: "notice" }, el("p", {}, OURS)),
-    powerTable(game, shares, { ...settings, wide: Math.min(wide, 900) }));
+    powerTable(game, shares, { ...settings, wide: Math.min(wide, 900) }),
+    settings.pinned && !settings.isPaper && el("p", { class: "tools" }, keepButton(settings.pinned)));
 }

@@ -4,7 +4,7 @@ import { Rational } from "../exact/rational.js";
 import { extremes } from "./extremes.js";
 import { el } from "./dom.js";
 import { movedText, withSum } from "./format.js";
-import { pinnedNote, pinnedText, pinTools, sinceKept } from "./pinned.js";
+import { keepButton, pinnedNote, pinnedText, pinTools, sinceKept } from "./pinned.js";
 import { linesOf, ownSum, shareCell } from "./shares-table.js";
 import { ownInput } from "./proposal-cells.js";
 import { airlineLines, csvButton, roundingLines, shareLines } from "./table-lines.js";
@@ -51,7 +51,7 @@ export function beyondParts(beyond, { format, today, pinned, labelOfCell }) {
       return ownInput(row, r, today, "today", todayTitle(COSTS));
     } })),
     points.some(({ totals }) => format.isMoved(totals, rows)) && el("p", { class: "hint moved" }, movedText(rows)),
-    isAll && el("p", { class: "tools" }, pinTools(pinned)),
+    isAll && el("p", { class: "tools" }, keepButton(pinned), pinTools(pinned)),
     isAll && todayTools(COSTS, today),
     isAll && typesTable(rows, points, format),
     isAll && alikeTexts(beyond, format).map((text) => el("p", { class: "alike" }, text)),

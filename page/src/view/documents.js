@@ -13,10 +13,10 @@ const UNKNOWN = "This file doesn’t say which numbers were assumed; a case that
 
 /** What is said above what was opened: of a line where it is checked, and whether it has other shares than the page
  * finds; of a table that nothing is known of cells that were filled. */
-function notesOf({ other, notes, renamed }, isLine, isTable) {
+function notesOf({ other, notes }, isLine, isTable) {
   const told = other && `The line says of its game: ${other} The page finds other shares, which it shows here. `
     + "Somebody has changed the line, or it is of another game.";
-  return [isLine && OF_A_LINE, told, renamed, ...(notes ?? (isTable ? [UNKNOWN] : []))].filter(Boolean);
+  return [isLine && OF_A_LINE, told, ...(notes ?? (isTable ? [UNKNOWN] : []))].filter(Boolean);
 }
 
 export class Documents {

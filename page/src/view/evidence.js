@@ -1,10 +1,12 @@
 // The evidence: what was checked, by whom, what a yes means, and the files to hand on.
 import { fileNames } from "../cases/coarse.js";
+import { listed } from "../game/words.js";
 import { coarseNumbers, coarseText } from "../tell/coarse-text.js";
 import { failureText } from "../tell/failures.js";
 import { ruleFile } from "../tell/rule-names.js";
 import { button, el } from "./dom.js";
 import { fileButtons, fingerprint, shown } from "./files.js";
+import { CALCULATED } from "./questions.js";
 import { meaning } from "./trust.js";
 
 /** One checker's word: {title, isYes, sentence}; without `isYes` while it is asked. */
@@ -40,6 +42,14 @@ export function wordLine({ title, isYes, sentence, items = [] }) {
     items.length > 0 && el("ul", { class: "differences" }, items.map((item) => el("li", {}, item))));
 }
 
+/** Where the other columns come from. */
+function besideText({ points }) {
+  const isOwn = ({ key }) => CALCULATED.includes(key), own = points.filter(isOwn).map(({ title }) => `“${title}”`);
+  const others = points.slice(1).some((point) => !isOwn(point));
+  return [others && "Other columns come from the same program, but without evidence. ",
+    own.length > 0 && `The page itself calculates ${listed(own)}.`];
+}
+
 /** Files are named by the case and what was done to its numbers; `filled` says what the page filled in; `opened` is a
  * file, if any. */
 export function evidenceParts(result, { kind, typed: { coarse }, file: opened }, filled) {
@@ -49,9 +59,7 @@ export function evidenceParts(result, { kind, typed: { coarse }, file: opened },
   const file = `${names.line}-${ruleFile(answer, game.perHead)}.json`;
   return [
     el("ul", { class: "words", role: "status" }, wordLine(programWord(program, game)), wordLine(anewWord(anew, game))),
-    result.points.length > 1 && el("p", { class: "after" }, `Only the ${rule} has a certificate. The other `,
-      "columns come from the same program, but without evidence.",
-      result.points.some(({ key }) => key === "proportion") && " The page itself calculates “In proportion”."),
+    result.points.length > 1 && el("p", { class: "after" }, `Only the ${rule} has a certificate. `, besideText(result)),
     el("h3", {}, "Send it to others"),
     el("ol", { class: "steps" },
       el("li", {}, "Agree on the file of the game first, before anyone knows an answer. ",

@@ -17,6 +17,7 @@ class ListGrid {
     const table = el("table", { class: "grid list" }, this.head, this.body);
     this.said = el("div", { class: "hint pasted", role: "status" });
     this.element = el("div", {}, this.tools, el("div", { class: "scroll" }, table), this.said);
+    this.element.more = el("p", { class: "tools" });
     moveByKeys(table, (cell, step) => {
       const [, r, key] = cell.split(".");
       return `rows.${Number(r) + step}.${key}`;
@@ -193,8 +194,9 @@ class ListGrid {
       this.show();
       this.onChange();
     }, { class: "quiet" });
-    refill(this.tools, kind.single && this.single(kind.single), isDouble && this.single(kind.second.single),
-      kind.second && turn, kind.columns.filter((column) => column.optional).map((column) => this.moreOf(column)));
+    refill(this.tools, kind.single && this.single(kind.single), isDouble && this.single(kind.second.single));
+    refill(this.element.more, kind.second && turn,
+      kind.columns.filter((column) => column.optional).map((column) => this.moreOf(column)));
   }
 
   /** The way to an optional column, as long as it isn't there. */

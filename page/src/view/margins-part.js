@@ -2,7 +2,7 @@
 import { groupLabel } from "../cases/tables.js";
 import { Rational } from "../exact/rational.js";
 import { masksBySize } from "../game/groups.js";
-import { listed, plural } from "../tell/words.js";
+import { listed, plural } from "../game/words.js";
 import { button, copy, el } from "./dom.js";
 import { tabbed } from "./table-lines.js";
 

@@ -19,8 +19,9 @@ class MarketGrid {
     Object.assign(this, { kind, typed, onChange, remember });
     this.holder = el("div", { class: "scroll" });
     this.tools = el("p", { class: "tools" });
+    const more = el("details", { class: "inline" }, el("summary", {}, "Add or remove traders"), this.tools);
     this.none = el("p", { class: "tools" });
-    this.element = el("div", {}, this.holder, this.tools, this.none);
+    this.element = el("div", {}, this.holder, more, this.none);
     moveByKeys(this.holder, (cell, step) => {
       const [what, a, b] = cell.split(".");
       return what === "values" ? `values.${Number(a) + step}.${b}` : `${what}.${Number(a) + step}`;

@@ -7,7 +7,8 @@ const SUBTITLES = {
   shapley: "average over all orders of joining",
   core: "one of many; proposes nothing",
   bird: "each pays its own link",
-  proportion: "the same part of each claim",
+  proportion: "the same part of what each costs, claims or is worth alone",
+  agencies: "each pays what it adds, and of the rest by what it would save",
   buyers: "the lowest prices",
   sellers: "the highest prices",
   proposal: "to be judged",
@@ -33,10 +34,18 @@ const MEANINGS = {
   core: "A core point is a division by which no group does better by itself. This is one of many, so it says "
     + "nothing about who deserves what.",
   bird: "Bird’s shares let each place pay the link by which the cheapest network reaches it (Bird 1976).",
-  proportion: "In proportion: each gets the same part of its claim, as insolvency law commonly has it. The page itself "
-    + "calculates this column.",
+  agencies: "The agencies’ rule, separable costs and remaining benefits, comes from the Tennessee Valley: each pays "
+    + "what it adds to the cost of all others, and of the rest by what it would still save against going alone. The page "
+    + "itself calculates this column. Whether a group could leave is the program’s word.",
   buyers: "The two ends of the market: the lowest and the highest prices by which no buyer and seller do better "
     + "together (Shapley and Shubik 1971).",
+};
+
+const PROPORTION = {
+  bankruptcy: "In proportion: each gets the same part of its claim, as insolvency law commonly has it. The page itself "
+    + "calculates this column.",
+  other: "In proportion to what each costs or is worth alone, as contracts commonly have it. It doesn’t look at what "
+    + "groups could do. The page itself calculates this column. Whether a group could leave is the program’s word.",
 };
 
 const PER_HEAD = {
@@ -93,8 +102,10 @@ function folded(title, texts) {
   return el("details", { class: "meanings screen" }, el("summary", {}, title), texts.map((text) => el("p", {}, text)));
 }
 
-export function meanings(points, hasHolds, { perHead }) {
-  const texts = points.map(({ key }) => (perHead && PER_HEAD[key]) || MEANINGS[key]).filter(Boolean);
+export function meanings(points, hasHolds, { perHead, kind }) {
+  const meaningOf = (key) => (key === "proportion" ? PROPORTION[kind] ?? PROPORTION.other
+    : (perHead && PER_HEAD[key]) || MEANINGS[key]);
+  const texts = points.map(({ key }) => meaningOf(key)).filter(Boolean);
   const holds = HOLDS + (perHead ? PER_HEAD_ISNT : PLAIN_IS_EVEN);
   return folded("What the columns and the questions mean", [...texts, GROUPS, ...(hasHolds ? [holds] : [])]);
 }

@@ -69,6 +69,7 @@ class NetworkGrid {
       ? button("Add a place", () => this.add(), { class: "quiet" })
       : el("span", { class: "hint" }, "16 places is the most."),
     this.sourceChoice(names));
+    this.help.show();
   }
 
   /** Which point is the source: the others pay. */
@@ -118,6 +119,7 @@ class NetworkGrid {
   typedInto(key) {
     const { [key]: own, ...filled } = this.typed.filled ?? {};
     if (own) this.typed.filled = filled;
+    this.help.show();
     if (!Object.values(filled).includes("way")) return this.onChange();
     this.onChange(REFILL);
     clearTimeout(this.refilling);

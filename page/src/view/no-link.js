@@ -6,7 +6,8 @@ const EACH = "It counts for each such link: a group that lacks two of them pays 
 const REWARD = "A place that spares others such a link is rewarded for it: the more, the larger the number is.";
 
 /** Ways to fill what stands empty. `setLinks(links, filled)` takes the links, and which were filled, how; `asTable` a
- * table of costs with its notes. `element.again()` fills anew the ways that were filled before. */
+ * table of costs with its notes. `element.again()` fills anew the ways that were filled before, and `element.show()` is
+ * called as links change: without an empty one nothing is shown. */
 export function noLinkHelp(typed, { mark, help, remember, setLinks, asTable }) {
   const said = el("div", { "aria-live": "polite" });
   const tell = (notes, told = []) => refill(said, notes.map((note) => el("p", { class: "note" }, note)),
@@ -36,8 +37,10 @@ export function noLinkHelp(typed, { mark, help, remember, setLinks, asTable }) {
   };
   const asked = ask("costsOfNetwork", ({ typed: table, notes }) => asTable(table, notes)), makeTable = () => asked();
   const element = waysPart({ fillWays, makeTable, fillWith, said }), part = element.firstChild;
+  const show = () => { part.hidden = !hasEmpty(typed) && !Object.keys(typed.filled ?? {}).length; };
+  show();
   return Object.assign(element, {
-    again, choices: () => choicesOf({ part, fillWays, makeTable }),
+    again, show, choices: () => choicesOf({ part, fillWays, makeTable }),
     openIfEmpty: () => { part.open ||= hasEmpty(typed); },
   });
 }

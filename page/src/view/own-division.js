@@ -1,13 +1,15 @@
 // Another division beside the answer: the user's own, and what each pays or has today.
 import { comparisonPart } from "./comparison.js";
 import { button, el } from "./dom.js";
+import { keepButton } from "./pinned.js";
 import { proposalTools } from "./proposal-cells.js";
 import { todayTools } from "./today.js";
 
+const KEEP = "Keep this answer, then change cells: the table shows what each pays or gets more, or less.";
 const HINT = "Put it beside the answer, and see which group could do better by itself.";
 
 /** `onBegin()` shows the column of the user's own division. */
-export function ownDivision(result, { rows, format, proposal, today, typed, onBegin }) {
+export function ownDivision(result, { rows, format, proposal, today, pinned, typed, onBegin }) {
   const { game, points } = result, isOpen = typed.isProposing || proposal.texts?.some(Boolean);
   const begin = () => {
     typed.isProposing = true;
@@ -24,5 +26,7 @@ export function ownDivision(result, { rows, format, proposal, today, typed, onBe
     ],
     (proposal.canBe || today.canBe) && points.length > 0 && comparisonPart(proposal, points[0], game, { rows, typed }),
     todayTools(game, today),
+    pinned.canBe && !pinned.pin && [el("h3", {}, "Other numbers"), el("p", { class: "hint" }, KEEP),
+      el("p", { class: "tools" }, keepButton(pinned))],
   ];
 }

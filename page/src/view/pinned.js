@@ -141,14 +141,13 @@ export function pinnedNote(pinned, column, rows, settings) {
   return pinned.pin && el("p", { class: "note pinned", role: "status" }, pinnedText(pinned, column, rows, settings));
 }
 
-/** The buttons below the table. */
-export function pinTools({ canBe, pin, keep, drop }) {
-  if (!canBe) return null;
-  if (!pin) {
-    return button("Keep this answer to compare", keep, {
-      class: "quiet", title: "Then change some cells: the table shows what each pays or gets more, or less",
-    });
-  }
-  return [button("Keep the new answer instead", keep, { class: "quiet" }),
+/** Keeps the answer; nothing where there is none, or one is kept. */
+export function keepButton({ canBe, pin, keep }) {
+  return canBe && !pin && button("Keep this answer to compare", keep, { class: "quiet" });
+}
+
+/** The buttons below the table where an answer is kept. */
+export function pinTools({ pin, keep, drop }) {
+  return pin && [button("Keep the new answer instead", keep, { class: "quiet" }),
     button("Stop comparing", drop, { class: "quiet" })];
 }

@@ -1,23 +1,19 @@
 // What the page asks the program about a game, and the answers in the order in which they come.
 import { Rational } from "../exact/rational.js";
+import { COMMANDS, mostFor } from "../game/classes.js";
 import { Facts } from "../game/facts.js";
+import { inProportion, remainingBenefits } from "../game/practice.js";
 import { ruleName } from "../tell/rule-names.js";
 import { nameByRows } from "../tell/words.js";
 import { capital } from "../game/words.js";
 import { calculated } from "./calculated.js";
 
-/** The greatest numbers of players that the commands take, by class; README.md of the program has them all. */
-const LIMITS = {
-  nucleolus: { airport: 64, bankruptcy: 64, market: 0 },
-  shapley: { airport: 32, voting: 32, market: 0 },
-  propose: { airport: 64, bankruptcy: 64, voting: 32, market: 0 },
-  convex: { market: 0 },
-  kernel: { market: 0 },
-};
-const MOST_PER_HEAD = 8, MOST_HELD = 12;
+const MOST_PER_HEAD = COMMANDS.nucleolus["per head"], MOST_HELD = 12;
+/** The columns that the page itself calculates. */
+export const CALCULATED = ["proportion", "agencies"];
 
 export function takes(question, game) {
-  return game.n <= (LIMITS[question][game.kind] ?? 16);
+  return game.n <= mostFor(question, game.kind);
 }
 
 /** What isn't there of a runway of many landings, and up to how many it is. */
@@ -33,8 +29,9 @@ export function takesPerHead(game) {
 }
 
 /** Asks all that is asked of a game. `read` is what a worker read of the case `about`, as helpers are told of it;
- * `onPart(result, came)` is called as answers come, with the word for what came: at first that is all. */
-export async function askAll(read, about, { engine, checker, onPart }) {
+ * `onPart(result, came)` is called as answers come, with the word for what came: at first that is all. A core point is
+ * no rule, and is shown only if somebody `wantsCore`. */
+export async function askAll(read, about, { engine, checker, onPart, wantsCore = false }) {
   const { rows, text, beyond, odds } = read, game = nameByRows(new Facts(read.facts), rows);
   const result = { about: Object.assign(about, { text, rows }), game, text, points: [], checks: {}, odds };
   result.beyond = calculated(beyond);
@@ -44,9 +41,11 @@ export async function askAll(read, about, { engine, checker, onPart }) {
   if (result.line) onPart(result);
   const beside = result.line ? askBeside(result, checker, onPart) : null;
   beside?.catch(() => 0); // it is told where it is waited for
-  await askOthers(result, ask);
+  await askOthers(result, ask, wantsCore);
   onPart(result, "divisions");
-  for (const point of result.points) Object.assign(point, await judge(result, point.shares, engine));
+  for (const point of result.points) {
+    Object.assign(point, await judge(result, point.shares, engine, !CALCULATED.includes(point.key)));
+  }
   if (takes("convex", result.game) && !result.game.ballots && result.game.n > 1) {
     result.convexity = await engine("convexity");
   }
@@ -103,20 +102,20 @@ async function askSolution(result, ask) {
   addPoint(result, result.answer, capital(result.rule), answer.tree.shares);
 }
 
-async function askOthers(result, ask) {
+async function askOthers(result, ask, wantsCore) {
   const { game } = result;
   if (takes("shapley", game)) addPoint(result, "shapley", "Shapley shares", (await ask("shapley")).tree.shares);
   if (game.isTable() && !game.ballots) {
     result.core = (await ask("core")).tree;
     if (result.core.collection && !result.noImputation) await askPrenucleolus(result, ask);
     result.hasOneNucleolus = result.answer === "nucleolus" && result.points.every(({ key }) => key !== "prenucleolus");
-    if (result.core.shares) addPoint(result, "core", "A core point", result.core.shares);
+    if (wantsCore && result.core.shares) addPoint(result, "core", "A core point", result.core.shares);
   }
   if (game.kind === "tree") {
     result.bird = (await ask("bird")).tree;
     addPoint(result, "bird", "Bird’s shares", result.bird.shares);
   }
-  if (game.kind === "bankruptcy") addProportion(result);
+  addPractice(result);
   if (game.isMarket()) {
     result.matching = (await ask("matching")).tree;
     addPoint(result, "buyers", "Best for buyers", result.matching["buyers best"]);
@@ -131,10 +130,13 @@ async function askPrenucleolus(result, ask) {
   addPoint(result, "prenucleolus", capital(ruleName("prenucleolus", result.game.perHead)), tree.shares);
 }
 
-/** The division in proportion to the claims, for which a court mostly asks: the page's own calculation. */
-function addProportion(result) {
-  const { amounts, single } = result.game, part = single.over(Rational.sum(amounts));
-  addPoint(result, "proportion", "In proportion", amounts.map((claim) => String(claim.times(part))));
+/** What courts, contracts and agencies mostly use: the page's own calculations. */
+function addPractice(result) {
+  const { game } = result;
+  if (game.n < 2 || game.ballots || game.isMarket()) return;
+  const found = [["proportion", "In proportion", inProportion(game)],
+    ["agencies", "Separable costs, remaining benefits", game.kind !== "bankruptcy" && remainingBenefits(game)]];
+  for (const [key, title, shares] of found) if (shares) addPoint(result, key, title, shares);
 }
 
 function addPoint(result, key, title, shares) {
@@ -142,12 +144,12 @@ function addPoint(result, key, title, shares) {
 }
 
 /** What the program says of shares: whether a group could do better by itself (`verdict`), and whether one of two has
- * the stronger hold on the other (`hold`); null for what it doesn't say. */
-export async function judge({ game }, values, engine) {
+ * the stronger hold on the other (`hold`), which is asked of rules (`isRule`); null for what it doesn't say. */
+export async function judge({ game }, values, engine, isRule = true) {
   const shares = values.map(String), ask = async (word) => checked(await engine("ask", { word, shares }));
   const found = { verdict: null, hold: null };
   if (takes("propose", game)) found.verdict = verdictOf(await ask("propose"));
-  const isHeld = takes("kernel", game) && !game.ballots && game.n > 1 && game.n <= MOST_HELD;
+  const isHeld = isRule && takes("kernel", game) && !game.ballots && game.n > 1 && game.n <= MOST_HELD;
   if (isHeld) found.hold = holdOf((await ask("kernel")).tree);
   return found;
 }

@@ -21,6 +21,7 @@ export class Session {
     this.isStale = false; // whether something was typed that the answer doesn't know yet
     this.marks = new Marks(new Intl.NumberFormat().format(0.5).includes(",") ? "," : ".");
     this.isTyped = false; // whether the cells aren't those of a worked example
+    this.wantsCore = false; // whether a core point is shown
   }
 
   /** Starts the workers, so that the first question needn't wait for them. */
@@ -76,6 +77,11 @@ export class Session {
     this.changed(0);
   }
 
+  setCore(wantsCore) {
+    this.wantsCore = wantsCore;
+    this.changed(0);
+  }
+
   /** The helpers as functions that ask about a case; a question that nobody needs any more isn't asked. */
   asking(turn, about) {
     const one = (helper) => (task, what) => {
@@ -117,7 +123,7 @@ export class Session {
   async ask(about, helpers, isMine) {
     this.readProposal();
     const onPart = (result, came) => isMine() && this.answered(result, came);
-    await askAll(this.reading, about, { ...helpers, onPart });
+    await askAll(this.reading, about, { ...helpers, onPart, wantsCore: this.wantsCore });
     if (isMine()) await this.judge();
   }
 

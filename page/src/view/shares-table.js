@@ -11,6 +11,7 @@ import { labelOf, movedText, totalsOf, withSum } from "./format.js";
 import { subtitleOf } from "./meanings.js";
 import { pinnedNote, pinTools, sinceKept } from "./pinned.js";
 import { ownInput, proposalSum } from "./proposal-cells.js";
+import { CALCULATED } from "./questions.js";
 import { airlineLines, roundingLines, shareLines } from "./table-lines.js";
 import { changeBelow, todayTitle } from "./today.js";
 
@@ -18,6 +19,7 @@ const BRIEF = 8; // rows that are kept on one printed page
 const NARROW = 520;
 const FEW = 3; // landings that are named one by one
 const MOST_DIGITS = 12; // of a fraction that is shown unfolded
+const BY_PAGE = "calculated by the page";
 
 export function sharesTable(result, settings) {
   const { game, points } = result, { rows, format, proposal } = settings;
@@ -41,9 +43,19 @@ export function sharesTable(result, settings) {
       headOf(view), el("tbody", {}, linesOf(rows).map((line) => (line.of ? sumRow(line, view) : shareRow(line, view))),
         (kept.get(columns[0].key)?.gone ?? []).map((one, k) => goneRow(one, k, view))),
       footOf(view))),
+    leavingLines(view),
     proposal.shares && sameAs(points, proposal.shares),
-    el("div", { class: "tools" }, pinned && pinTools(pinned),
-      isMoved(points, rows, format) && el("span", { class: "hint" }, "Rounded so that the shares add up.")));
+    isMoved(points, rows, format) && el("p", { class: "hint exact" }, "Rounded so that the shares add up."),
+    pinned?.pin && el("div", { class: "tools" }, pinTools(pinned)));
+}
+
+/** By which columns a group could do better alone, a line each. */
+function leavingLines({ game, columns, format }) {
+  const blocked = columns.filter(({ verdict }) => verdict?.group);
+  return blocked.length > 0 && el("ul", { class: "leaving screen" }, blocked.map(({ key, title, verdict }) => {
+    const { plain, note } = plainNames(key, title, game, key === columns[0].key);
+    return el("li", {}, el("b", {}, [plain, note].filter(Boolean).join(" ")), ": ", leavingText(game, verdict, format));
+  }));
 }
 
 function isMoved(points, rows, format) {
@@ -80,9 +92,11 @@ function named({ isNarrow, span }, kind, name, cells) {
 
 function headOf({ game, context, columns, proposal, today, pinned, against, isNarrow }) {
   const column = ({ key, title }, k) => {
-    const { plain, name } = plainNames(key, title, game, k === 0);
-    return el("th", { scope: "col", class: kindOf(key, k), "data-point": key, title: subtitleOf(key, game) },
-      plain, el("small", {}, name || subtitleOf(key, game)));
+    const { plain, name, note } = plainNames(key, title, game, k === 0), isOwn = CALCULATED.includes(key);
+    const below = [note, isOwn ? BY_PAGE : !name && subtitleOf(key, game)].filter(Boolean);
+    return el("th", { scope: "col", class: kindOf(k), "data-point": key, title: subtitleOf(key, game) },
+      plain, name && el("small", { class: "field-name" }, name),
+      below.length > 0 && el("small", {}, below.join(", ")));
   };
   return el("thead", {}, el("tr", {},
     !isNarrow && el("th", { scope: "col" }, game.costs ? "Who pays" : "Who gets"),
@@ -95,9 +109,9 @@ function headOf({ game, context, columns, proposal, today, pinned, against, isNa
     against && el("th", { scope: "col", class: "number against" }, against.title)));
 }
 
-/** The first column is the answer; a core point is shown with a proposal only, since it proposes nothing. */
-function kindOf(key, k) {
-  return `number${k ? "" : " main"}${key === "core" ? " core-point" : ""}`;
+/** The first column is the answer. */
+function kindOf(k) {
+  return `number${k ? "" : " main"}`;
 }
 
 function shareRow({ row, r }, view) {
@@ -110,7 +124,8 @@ function shareRow({ row, r }, view) {
     columns.map(({ key, texts, steps, shares, totals }, k) => {
       const since = sinceKept(steps[r], totals[r], view.kept.get(key), r, format, k === 0);
       const changes = [changeOf(steps[r], r, today, format), since];
-      return shareCell(texts[r], shares[row.players[0]], count, format, changes, kindOf(key, k));
+      const each = !k && count > 1 && el("small", { class: "each" }, `${format.show(shares[row.players[0]])} each`);
+      return shareCell(texts[r], shares[row.players[0]], count, format, [each, ...changes], kindOf(k));
     }),
     proposal.canBe && el("td", { class: "number proposed" },
       ownInput(row, r, proposal, "proposal", "Your proposal")),
@@ -125,7 +140,7 @@ function goneRow({ label }, g, view) {
   return named(view, "gone", [label, el("small", {}, "gone since")], [
     context && el("td", { class: "number context" }), today.texts && el("td"),
     el("td", { class: "number kept" }, format.show(first)), el("td", { class: "number main" }, "–"),
-    others.map((value, k) => el("td", { class: kindOf(columns[k + 1].key, k + 1) }, "–",
+    others.map((value, k) => el("td", { class: kindOf(k + 1) }, "–",
       value && el("small", { class: "was" }, `was ${format.show(value)}`))),
     proposal.canBe && el("td", { class: "number proposed" }), against && el("td"),
   ]);
@@ -158,10 +173,10 @@ export function linesOf(rows) {
 function sumRow({ sum, of }, view) {
   const { rows, context, columns, format, proposal, today, pinned, against } = view;
   const now = today.texts && ownSum(of, today), proposed = proposal.canBe && ownSum(of, proposal);
-  const cells = columns.map(({ key, shares, steps }, k) => {
+  const cells = columns.map(({ shares, steps }, k) => {
     const exact = Rational.sum(totalsOf(of.map((r) => rows[r]), shares)), shown = withSum(of.map((r) => steps[r]));
     const change = now && changeBelow(shown.at(-1), now, format);
-    return shareCell(format.text(shown.at(-1)), exact, 1, format, change, kindOf(key, k));
+    return shareCell(format.text(shown.at(-1)), exact, 1, format, change, kindOf(k));
   });
   return named(view, "subtotal", `${sum}, together`, [
     context && el("td", { class: "context" }), today.texts && el("td", { class: "number" }, now && format.show(now)),
@@ -184,22 +199,21 @@ function footOf(view) {
     context && el("td", { class: "number context" }, context.sum),
     today.texts && el("td", { class: "number today" }, today.values[last] ? format.show(today.values[last]) : "–"),
     pinned?.pin && el("td", { class: "number kept" }, kept && format.show(kept.sum)),
-    columns.map(({ key, texts, steps }, k) => {
-      return el("td", { class: kindOf(key, k) }, texts.at(-1), changeOf(withSum(steps).at(-1), last, today, format));
+    columns.map(({ texts, steps }, k) => {
+      return el("td", { class: kindOf(k) }, texts.at(-1), changeOf(withSum(steps).at(-1), last, today, format));
     }),
     proposal.canBe && el("td", { class: "number proposed" }, proposalSum(game, proposal, format)),
     against && el("td", { class: "number against" }, against.texts.at(-1)),
   ]);
   const isJudged = columns.some(({ verdict }) => verdict !== null);
-  const isTold = columns.some(({ verdict }) => verdict && !verdict.isCore); // a no of all is said by the seal alone
-  const asked = (title, told, own) => named(view, `verdict${isTold ? " told" : ""}`, title, [
+  const asked = (title, told, own) => named(view, "verdict", title, [
     context && el("td", { class: "context" }), today.texts && el("td"), pinned?.pin && el("td", { class: "kept" }),
-    columns.map((point, k) => el("td", { class: kindOf(point.key, k) }, told(point))),
+    columns.map((point, k) => el("td", { class: kindOf(k) }, told(point))),
     proposal.canBe && el("td", { class: "number proposed", colspan: against ? "2" : false, role: "status" },
       proposal.shares ? told(own) : "–"),
   ]);
   return el("tfoot", {}, sum,
-    isJudged && asked("Could a group do better by itself?", (one) => verdictText(game, one.verdict, format), proposal));
+    isJudged && asked("Could a group do better alone?", (one) => verdictText(game, one.verdict, format), proposal));
 }
 
 /** Whether one player has a stronger hold on another, a line for each division; null if nothing is known of it. */
@@ -226,7 +240,7 @@ export function contextOf(game, rows, { show, column }) {
     const texts = column(rows.map(({ players: [i] }) => game.amounts[i]));
     return { title: "Claim", texts, sum: texts.at(-1) };
   }
-  if (game.kind === "airport") return of(game.amounts, "A landing needs");
+  if (game.kind === "airport") return of(game.amounts, "Each landing needs");
   return of(game.own, game.costs ? "Costs alone" : "Worth alone");
 }
 
@@ -236,9 +250,13 @@ function verdictText(game, verdict, { show, by }) {
   if (verdict.refusal) return verdict.refusal.sentence;
   if (verdict.isCore) return el("span", { class: "good" }, "No");
   if (verdict.sum) return el("span", { class: "bad" }, "doesn’t add up");
-  const who = needingAtMost(game, verdict.group, show)
-    ?? new Namer(game).group(verdict.group).replace(/ (alone|together)$/, "");
-  return el("span", { class: "bad" }, `Yes: ${who}, by ${by(verdict.excess)}`);
+  return leavingText(game, verdict, { show, by });
+}
+
+/** Who could do better alone, and by how much. */
+function leavingText(game, { group, excess }, { show, by }) {
+  const who = needingAtMost(game, group, show) ?? new Namer(game).group(group).replace(/ (alone|together)$/, "");
+  return el("span", { class: "bad" }, `${who} could leave, by ${by(excess)}`);
 }
 
 /** Of a runway the groups of all landings up to an amount, as a sentence names them; null for other groups. */

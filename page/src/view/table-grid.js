@@ -146,10 +146,8 @@ class TableGrid {
       else input.removeAttribute("aria-description");
     }
     const isKnown = Boolean(this.tips && this.order.length > 1);
-    refill(this.legend, isKnown && [el("span", { class: "dot", "aria-hidden": "true" }), " The shares rest on these ",
-      "numbers, and the others may be off: ", button("which numbers matter?", () => 0, {
-        class: "link", "data-part": "what-if",
-      })]);
+    refill(this.legend, isKnown && [el("span", { class: "dot", "aria-hidden": "true" }), " The answer rests on these ",
+      "numbers. How far off the others may be, “What if” says."]);
   }
 
   groupRow(mask) {
@@ -324,7 +322,7 @@ class TableGrid {
     if (!state) return this.say(fault, " Nothing was taken.");
     close();
     this.remember("Use this list");
-    this.change({ ...unpacked(state), filled: undefined, coarse: undefined });
+    this.change({ ...unpacked(state), opened: undefined, isUnnamed: false, filled: undefined, coarse: undefined });
     const { names, numbers } = this.typed, lacking = this.order.filter((mask) => !numbers[mask]).length;
     const read = this.order.length - lacking;
     const empty = lacking === 1 ? "is empty" : "are empty";

@@ -93,29 +93,18 @@ export function openDocument({ text, mark }) {
   const game = new Game(tree.game), kind = caseOfClass(game.kind), typed = kind.fromGame(game);
   const isProposal = Array.isArray(tree.shares) && !("answer" in tree) && tree.shares.length === game.n;
   typed.notSums = true; // a document's players are players, whatever their names
-  const { rows, tree: made } = kind.read(typed, ".");
+  if (game.named) typed.opened = namesIn(typed);
+  else typed.isUnnamed = true;
+  const { rows } = kind.read(typed, ".");
   return {
-    renamed: renamed(game, made?.names),
     id: kind.id, typed: kind.pack?.(typed) ?? typed, measure: game.perHead ? "per-head" : "plain",
     texts: isProposal ? textsOf(rows, tree.shares, mark) : [], other: otherShares(tree, game),
   };
 }
 
-/** In a sentence, that what the page makes of a document has other names; null where it has the same. */
-function renamed({ named, names }, made) {
-  if (!made) return null;
-  const k = named ? made.findIndex((name, i) => name !== names[i]) : -1;
-  const quoted = (name) => `“${[...name].map(codeOf).join("")}”`;
-  if (named && k < 0) return null;
-  return `${named ? `A name stands here as ${quoted(made[k])}, and in the document as ${quoted(names[k])}.`
-    : "The document has no names, and the page gives some."} What is saved here has the names of this page, so `
-    + "compared with the document it counts as another game.";
-}
-
-/** A letter as it is seen; one that isn't seen, or is a mark upon the letter before, by its number. */
-function codeOf(letter) {
-  const isSeen = /^[^\p{M}\p{C}\p{Z}]$/u.test(letter) || letter === " ";
-  return isSeen ? letter : `\\u${letter.codePointAt(0).toString(16).padStart(4, "0")}`;
+/** The names in the cells of a case, in which they stand to the letter as long as nobody edits them. */
+function namesIn({ names = [], buyers = [], sellers = [], rows = [] }) {
+  return [...names, ...buyers, ...sellers, ...rows.flatMap(({ name, type = "" }) => [name, type])].filter(Boolean);
 }
 
 /** The shares of a line, in a sentence, where the program finds others for its game; null where it finds the same. */
