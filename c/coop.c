@@ -1,4 +1,4 @@
-/* Hands a call on to the proved one, which takes no pointer that is null, be there no bytes. */
+/* Hands a call on to the proved one, which takes no pointer that is null, even if there are no bytes; and the version. */
 #include "coop.h"
 
 /* The proved coop_run, under the name that c/build gives it. */
@@ -15,3 +15,5 @@ uint32_t coop_run(const uint8_t *words, size_t words_length, const uint8_t *docu
                            document ? document : &nothing, document ? document_length : 0,
                            line ? line : &no_room, line ? room : 0, count ? count : &uncounted);
 }
+
+const char *coop_version(void) { return COOP_VERSION; }

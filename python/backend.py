@@ -3,9 +3,8 @@
 Beside the modules stand the page, with what runs the module in it under Node, and the second checker. They are the
 files of the repository; an archive of sources has copies.
 
-Where there is a C compiler, the wheel has the C library too, so that the package answers without Node. It is the
-module in the page, as C by portable.py. `--config-settings library=` chooses: `no` leaves it out, `yes` makes it a fault
-if it can't be built, and a path takes a library that is built, such as c/libcoop.so.
+With `--config-settings library=PATH` the wheel has that C library inside, for one platform, and needs no Node: such as
+the one that c/build or tools/make/make-portable makes. tools/make/make-wheel does it.
 """
 from __future__ import annotations
 
@@ -15,32 +14,24 @@ import io
 import os
 import posixpath
 import re
-import shlex
-import shutil
-import subprocess
 import sys
 import sysconfig
 import tarfile
-import tempfile
 import zipfile
-from concurrent.futures import ThreadPoolExecutor
 from platform import machine
 from typing import Any, Optional
-
-from portable import files_of
 
 HERE = os.path.dirname(os.path.abspath(__file__))
 PACKAGE = "coop"
 WHEEL = "Wheel-Version: 1.0\nGenerator: coop\nRoot-Is-Purelib: {}\nTag: py3-none-{}\n"
 OLDEST = (2, 17)  # glibc of manylinux2014, the oldest for which wheels are still made
-PARTS = 4  # that are compiled at the same time, where there are so many processors
-COMPILED = ("-O1", "-fPIC", "-fvisibility=hidden")
 FIRST_DAY = (1980, 1, 1, 0, 0, 0)  # the same bytes at each build
 
 
 DATA = {
     "runtime": (
-        "coop.mjs", "serve.mjs", "telling.mjs", "package.json", "engine/host.js", "engine/inside.js", "engine/ports.js",
+        "coop.mjs", "serve.mjs", "telling.mjs", "usage.txt", "package.json", "engine/host.js", "engine/inside.js",
+        "engine/ports.js",
     ),
     "page": ("coop.html", "package.json"),
     "scripts": ("check-anew",),
@@ -48,9 +39,6 @@ DATA = {
 """What a package has beside its modules, by the folders of the repository; and what TELLING imports."""
 TELLING = "runtime/telling.mjs"
 IMPORT = re.compile(r'^(?:import|\}) .*from "(\.[^"]+)";$', re.MULTILINE)
-
-SOURCES = {"c": ("coop.h", "portable/host.c", "portable/portable.h", "portable/wasm.h")}
-"""What the library is built from, beside the page."""
 
 
 def field(key: str, file: str = "pyproject.toml") -> str:
@@ -74,6 +62,7 @@ def stem() -> str:
 def metadata() -> str:
     """What pip keeps of the package, and an index shows."""
     lines = [f"Name: {field('name')}", f"Version: {version()}", f"Summary: {field('description')}"]
+    lines += [f"Author: {quoted('authors', 'name')}", f"License: {quoted('license', 'text')}"]
     lines += [f"Keywords: {','.join(keywords())}", f"Requires-Python: {field('requires-python')}"]
     with open(os.path.join(HERE, field("readme")), encoding="utf-8") as file:
         readme = file.read()
@@ -82,10 +71,22 @@ def metadata() -> str:
 
 def keywords() -> list[str]:
     """The keywords of pyproject.toml."""
+    return re.findall('"([^"]+)"', line_of("keywords"))
+
+
+def quoted(key: str, part: str) -> str:
+    """A text of pyproject.toml in braces, such as the name of the authors."""
+    found = re.search(f'{part} = "([^"]+)"', line_of(key))
+    assert found is not None, key
+    return found[1]
+
+
+def line_of(key: str) -> str:
+    """What pyproject.toml has at a key, in its line."""
     with open(os.path.join(HERE, "pyproject.toml"), encoding="utf-8") as file:
-        found = re.search(r"^keywords = \[(.*)\]$", file.read(), re.MULTILINE)
-    assert found is not None
-    return re.findall('"([^"]+)"', found[1])
+        found = re.search(rf"^{key} = (.*)$", file.read(), re.MULTILINE)
+    assert found is not None, key
+    return found[1]
 
 
 def folder_of(part: str) -> str:
@@ -101,7 +102,7 @@ def modules() -> list[str]:
         os.path.join(folder, name) if folder else name
         for folder in ("", "desk")
         for name in sorted(os.listdir(os.path.join(top, folder)))
-        if name.endswith((".py", ".typed"))
+        if name.endswith((".py", ".typed", ".json"))
     ]
 
 
@@ -156,8 +157,12 @@ def sum_of(data: bytes) -> str:
 # ---- The C library
 
 
-class NotBuilt(Exception):
-    """The library can't be built."""
+class NoLibrary(Exception):
+    """The file that is named is no library of this system."""
+
+
+MAGIC = {"darwin": b"\xcf\xfa\xed\xfe", "win32": b"MZ"}
+"""How a library begins; elsewhere by the letters ELF."""
 
 
 def library_name() -> str:
@@ -165,62 +170,16 @@ def library_name() -> str:
     return {"darwin": "libcoop.dylib", "win32": "coop.dll"}.get(sys.platform, "libcoop.so")
 
 
-def compiler() -> Optional[list[str]]:
-    """The C compiler: what CC names, or the first of the common ones."""
-    if os.environ.get("CC"):
-        return shlex.split(os.environ["CC"])
-    return next(([name] for name in ("cc", "gcc", "clang") if shutil.which(name)), None)
-
-
-def run(words: list[str], folder: str) -> None:
-    """Runs a compiler."""
-    try:
-        subprocess.run(words, cwd=folder, check=True)
-    except (OSError, subprocess.CalledProcessError) as fault:
-        raise NotBuilt(f"the C library isn't built: {fault}") from None
-
-
-def write_sources(folder: str, parts: int = PARTS) -> list[str]:
-    """Writes what the library is built from, and gives the names of what is compiled."""
-    for name in SOURCES["c"]:
-        shutil.copy(os.path.join(folder_of("c"), name), folder)
-    with open(os.path.join(folder_of("page"), "coop.html"), "rb") as file:
-        texts = files_of(file.read(), parts)
-    for name, text in texts.items():
-        with open(os.path.join(folder, name), "w", encoding="ascii") as target:
-            target.write(text)
-    return [*(name for name in texts if name.endswith(".c")), "host.c"]
-
-
-def built_library() -> bytes:
-    """The library, as the C compiler makes it in a minute of one processor. Its bytes don't depend on the folder."""
-    command = compiler()
-    if command is None:
-        raise NotBuilt("the C library isn't built: there is no C compiler")
-    with tempfile.TemporaryDirectory() as folder, ThreadPoolExecutor(min(PARTS, os.cpu_count() or 1)) as pool:
-        names, words = write_sources(folder), [*command, *COMPILED, "-c"]
-        list(pool.map(lambda name: run([*words, name], folder), names))
-        objects, kind = [f"{name[:-2]}.o" for name in names], "-dynamiclib" if sys.platform == "darwin" else "-shared"
-        run([*command, kind, "-o", library_name(), *objects], folder)
-        with open(os.path.join(folder, library_name()), "rb") as file:
-            return file.read()
-
-
 def library_of(settings: Optional[dict[str, Any]]) -> Optional[bytes]:
-    """The library that the settings ask for, if any."""
-    wanted = (settings or {}).get("library", "")
-    if wanted == "no":
+    """The library that the settings name, if any."""
+    path = (settings or {}).get("library")
+    if path is None:
         return None
-    if wanted not in ("", "yes"):
-        with open(os.path.join(HERE, wanted), "rb") as file:
-            return file.read()
-    try:
-        return built_library()
-    except NotBuilt as fault:
-        if wanted:
-            raise
-        print(f"{fault}; the package will need Node", file=sys.stderr)
-        return None
+    with open(os.path.join(HERE, path), "rb") as file:
+        data = file.read()
+    if not data.startswith(MAGIC.get(sys.platform, b"\x7fELF")) or b"coop_run" not in data:
+        raise NoLibrary(f"{path} isn't a library of coop for this system")
+    return data
 
 
 def platform_of(library: bytes) -> str:
@@ -249,11 +208,11 @@ def build_editable(directory: str, settings: Any = None, prepared: Optional[str]
 
 
 def build_sdist(directory: str, settings: Any = None) -> str:
-    """The sources as an archive, with the folders of DATA and SOURCES inside."""
-    own = ("pyproject.toml", "backend.py", "portable.py", field("readme"))
+    """The sources as an archive, with the folders of DATA inside."""
+    own = ("pyproject.toml", "backend.py", field("readme"))
     files = {name: os.path.join(HERE, name) for name in own}
     files.update((f"{PACKAGE}/{name}", os.path.join(HERE, PACKAGE, name)) for name in modules())
-    for part, names in {**data(), **SOURCES}.items():
+    for part, names in data().items():
         files.update((f"{part}/{name}", os.path.join(folder_of(part), name)) for name in names)
     name = f"{stem()}.tar.gz"
     with tarfile.open(os.path.join(directory, name), "w:gz") as archive:

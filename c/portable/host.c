@@ -1,35 +1,65 @@
-/* coop_run of c/coop.h, by the module of WebAssembly as C: the heap that the module asks for, and one call in a module of
-   its own. What runtime/engine/host.js is to the page, this is to C. No proof covers it.
+/* coop_run of c/coop.h, by the module of WebAssembly as C: the heap that the module asks for, and one call in an
+   instance of its own. What runtime/engine/host.js is to the page, this is to C. No proof covers it.
 
-   Beside the statuses of c/coop.h there are 70, where the module trapped, so there is no answer, and 124 of
-   coop_run_until (portable.h). */
+   Beside the statuses of c/coop.h there are 70, when the module trapped, so there is no answer, and 124 of
+   coop_run_until (portable.h). Nothing static is written but where each thread's call is, so there is no race. */
 #if defined(__linux__) && !defined(COOP_PLAIN_MEMORY)
 #define _GNU_SOURCE /* mremap */
-#endif
-#include <stdlib.h>
-#include "portable.h"
-#include "module.h"
-#if defined(__linux__) && !defined(COOP_PLAIN_MEMORY)
 #include <sys/mman.h>
 #endif
+#include "portable.h"
+#include "module.h"
 
+#define PAGE 65536u
+#define SPARE 4u /* pages for a short document and its line, so that most calls need no more */
 #define NOWHERE 16u
 #define OUT_OF_MEMORY 7u
 #define NO_ANSWER 70u
 #define ENDED 124u
-#define FIRST_TURNS (1u << 20) /* of loops, some milliseconds */
+#define FIRST_TURNS (1u << 20) /* of loops: some milliseconds */
 #define TURNS (1u << 16)
-#define SPARE 4u /* pages for a short document and its line */
+#define CLASSES 64
 #ifndef COOP_MOST
 #define COOP_MOST (1024u * 1024u * 1024u)
 #endif
+#if defined(_MSC_VER)
+#define THREAD __declspec(thread)
+#else
+#define THREAD __thread
+#endif
 
-static uint8_t *zeros(size_t size)
+struct Z_heap_instance_t {
+    wasm_rt_memory_t *memory;
+    uint8_t *kinds;              /* the class of each block, a byte for 16 of the memory's */
+    uint64_t base, next;         /* where the heap begins, and where no byte is in use */
+    uint32_t waiting[CLASSES];   /* blocks that were given back: each has the place of the next one in it */
+    const volatile int *ends;    /* what the caller sets to end the call; or null */
+    jmp_buf stop;                /* is left with the status */
+};
+
+/* The call of this thread. */
+static THREAD struct Z_heap_instance_t *current;
+
+bool wasm_rt_is_initialized(void) { return true; }
+
+void wasm_rt_trap(wasm_rt_trap_t code)
 {
-    uint8_t *data = malloc(size);
-    if (data)
-        memset(data, 0, size);
-    return data;
+    (void)code;
+    longjmp(current->stop, NO_ANSWER);
+}
+
+void coop_look(wasm_rt_memory_t *memory)
+{
+    memory->turns = TURNS;
+    if (current->ends && *current->ends)
+        longjmp(current->stop, ENDED);
+}
+
+/* The module has no table of functions, so nobody compares types. */
+uint32_t wasm_rt_register_func_type(uint32_t params, uint32_t results, ...)
+{
+    (void)params; (void)results;
+    return 1;
 }
 
 /* The memory. Where the system can, its pages cost nothing before they are used, and need no copy when it grows. */
@@ -52,7 +82,7 @@ static void forget(uint8_t *data, size_t size)
         munmap(data, size);
 }
 #else
-static uint8_t *memory_of(size_t size) { return zeros(size); }
+static uint8_t *memory_of(size_t size) { return calloc(size, 1); }
 
 static uint8_t *grown(uint8_t *data, size_t before, size_t after)
 {
@@ -69,17 +99,21 @@ static void forget(uint8_t *data, size_t size)
 }
 #endif
 
-void trap(module *m) { longjmp(m->stop, 1); }
-
-void look(module *m)
+void wasm_rt_allocate_memory(wasm_rt_memory_t *memory, uint32_t initial, uint32_t most)
 {
-    if (m->ends && *m->ends)
-        longjmp(m->stop, 2);
-    m->turns = TURNS;
+    memory->data = memory_of((size_t)(initial + SPARE) * PAGE);
+    if (!memory->data)
+        longjmp(current->stop, OUT_OF_MEMORY);
+    memory->pages = initial + SPARE;
+    memory->max_pages = most;
+    memory->size = memory->pages * PAGE;
+    memory->turns = FIRST_TURNS;
 }
 
+void wasm_rt_free_memory(wasm_rt_memory_t *memory) { forget(memory->data, memory->size); }
+
 /* Blocks of 16, 32, 48, 64, 96, 128, .. bytes. */
-static unsigned class_of(u64 size)
+static unsigned class_of(uint64_t size)
 {
     unsigned power = 4;
     if (size <= 16)
@@ -89,11 +123,12 @@ static unsigned class_of(u64 size)
     return 2 * (power - 4) + (power > 4 && size <= 3ull << (power - 1) ? 1 : 2);
 }
 
-static u64 room_of(unsigned kind) { return (u64)(kind % 2 ? 24 : 16) << (kind / 2); }
+static uint64_t room_of(unsigned kind) { return (uint64_t)(kind % 2 ? 24 : 16) << (kind / 2); }
 
-static int grow(module *m, u64 end)
+static int grow(struct Z_heap_instance_t *heap, uint64_t end)
 {
-    u64 wanted = m->size + m->size / 4;
+    wasm_rt_memory_t *memory = heap->memory;
+    uint64_t wanted = memory->size + memory->size / 4;
     uint8_t *data, *kinds;
     if (end > COOP_MOST)
         return 0;
@@ -102,122 +137,121 @@ static int grow(module *m, u64 end)
     if (wanted > COOP_MOST)
         wanted = COOP_MOST;
     wanted = (wanted + PAGE - 1) / PAGE * PAGE;
-    kinds = realloc(m->kinds, wanted / 16);
+    kinds = realloc(heap->kinds, wanted / 16);
     if (!kinds)
         return 0;
-    m->kinds = kinds;
-    data = grown(m->data, m->size, wanted);
+    heap->kinds = kinds;
+    data = grown(memory->data, memory->size, wanted);
     if (!data)
         return 0;
-    m->data = data;
-    m->size = wanted;
+    memory->data = data;
+    memory->pages = (uint32_t)(wanted / PAGE);
+    memory->size = (uint32_t)wanted;
     return 1;
 }
 
-/* The place of a block, or 0 where there is none. */
-static u64 take(module *m, u64 size)
+/* The place of a block, or 0 if there is none. */
+static uint64_t take(struct Z_heap_instance_t *heap, uint64_t size)
 {
     unsigned kind;
-    u64 at, end;
+    uint64_t at, end;
     if (size > COOP_MOST)
         return 0;
     kind = class_of(size);
-    if (m->waiting[kind]) {
-        at = m->waiting[kind];
-        if (at > m->size - 4)
-            trap(m);
-        memcpy(&m->waiting[kind], m->data + at, 4);
+    if (heap->waiting[kind]) {
+        at = heap->waiting[kind];
+        if (at > heap->memory->size - 4)
+            wasm_rt_trap(WASM_RT_TRAP_OOB);
+        memcpy(&heap->waiting[kind], heap->memory->data + at, 4);
         return at;
     }
-    at = m->next;
+    at = heap->next;
     end = at + room_of(kind);
-    if (end > m->size && !grow(m, end))
+    if (end > heap->memory->size && !grow(heap, end))
         return 0;
-    m->next = end;
-    m->kinds[at / 16] = (uint8_t)kind;
+    heap->next = end;
+    heap->kinds[at / 16] = (uint8_t)kind;
     return at;
 }
 
-/* Whether a block of the heap may begin here. */
-static void need_block(module *m, u64 at)
+/* The class of the block that begins at a place. */
+static unsigned kind_at(struct Z_heap_instance_t *heap, uint64_t at)
 {
-    if (at % 16 || at < module_heap_base || at >= m->next)
-        trap(m);
+    if (at % 16 || at < heap->base || at >= heap->next)
+        wasm_rt_trap(WASM_RT_TRAP_OOB);
+    return heap->kinds[at / 16] % CLASSES;
 }
 
-static void give(module *m, u64 at)
+static void give(struct Z_heap_instance_t *heap, uint64_t at)
 {
-    unsigned kind;
-    need_block(m, at);
-    kind = m->kinds[at / 16] % CLASSES;
-    memcpy(m->data + at, &m->waiting[kind], 4);
-    m->waiting[kind] = (u32)at;
+    unsigned kind = kind_at(heap, at);
+    memcpy(heap->memory->data + at, &heap->waiting[kind], 4);
+    heap->waiting[kind] = (uint32_t)at;
 }
 
-static void tell(module *m, u64 to, u64 at)
+static void tell(struct Z_heap_instance_t *heap, uint64_t to, uint64_t at)
 {
-    u64 answer[2];
-    if (to > m->size - 16)
-        trap(m);
+    uint64_t answer[2];
+    if (to > heap->memory->size - 16)
+        wasm_rt_trap(WASM_RT_TRAP_OOB);
     answer[0] = at != 0;
     answer[1] = at ? at : NOWHERE;
-    memcpy(m->data + to, answer, 16);
+    memcpy(heap->memory->data + to, answer, 16);
 }
 
-void heap_rattle_alloc(module *m, u64 to, u64 size, u64 align)
+void Z_heapZ_rattle_alloc(struct Z_heap_instance_t *heap, u64 to, u64 size, u64 align)
 {
     (void)align;
-    tell(m, to, take(m, size));
+    tell(heap, to, take(heap, size));
 }
 
-void heap_rattle_realloc(module *m, u64 to, u64 at, u64 kept, u64 size, u64 align)
+void Z_heapZ_rattle_realloc(struct Z_heap_instance_t *heap, u64 to, u64 at, u64 kept, u64 size, u64 align)
 {
-    u64 place = at;
+    uint64_t place = at;
     (void)align;
-    need_block(m, at);
-    if (size > room_of(m->kinds[at / 16])) {
-        place = take(m, size);
+    if (size > room_of(kind_at(heap, at))) {
+        place = take(heap, size);
         if (place) {
-            if (kept > m->size - at || kept > size)
-                trap(m);
-            memmove(m->data + place, m->data + at, kept);
-            give(m, at);
+            if (kept > heap->memory->size - at || kept > size)
+                wasm_rt_trap(WASM_RT_TRAP_OOB);
+            memmove(heap->memory->data + place, heap->memory->data + at, kept);
+            give(heap, at);
         }
     }
-    tell(m, to, place);
+    tell(heap, to, place);
 }
 
-void heap_rattle_dealloc(module *m, u64 at) { give(m, at); }
+void Z_heapZ_rattle_dealloc(struct Z_heap_instance_t *heap, u64 at) { give(heap, at); }
 
-/* One call in a new module. A trap comes back here: what is in a module then isn't lost, since it isn't of this function. */
-static uint32_t call(module *m, const uint8_t *words, size_t words_length, const uint8_t *document, size_t document_length,
-                     uint8_t *line, size_t room, size_t *count)
+/* One call in a new instance. A trap comes back here; the instance is its caller's, so nothing of it is lost. */
+static uint32_t call(Z_coop_instance_t *module, struct Z_heap_instance_t *heap, const uint8_t *words, size_t words_length,
+                     const uint8_t *document, size_t document_length, uint8_t *line, size_t room, size_t *count)
 {
-    u64 places[4], sizes[4], written;
+    uint64_t places[4], sizes[4], written;
     uint32_t status;
-    int k, jumped = setjmp(m->stop);
-    if (jumped)
-        return jumped == 2 ? ENDED : NO_ANSWER;
-    m->turns = FIRST_TURNS;
-    m->size = (u64)(MODULE_PAGES + SPARE) * PAGE;
-    if (!(m->data = memory_of(m->size)) || !(m->kinds = zeros(m->size / 16)))
+    int k, stopped = setjmp(heap->stop);
+    if (stopped)
+        return (uint32_t)stopped;
+    Z_coop_instantiate(module, heap);
+    heap->memory = Z_coopZ_memory(module);
+    heap->base = heap->next = (*Z_coopZ___heap_base(module) + 15) / 16 * 16;
+    heap->kinds = calloc(heap->memory->size / 16, 1);
+    if (!heap->kinds)
         return OUT_OF_MEMORY;
-    module_begin(m);
-    m->next = (module_heap_base + 15) / 16 * 16;
     sizes[0] = words_length; sizes[1] = document_length; sizes[2] = room; sizes[3] = 8;
     for (k = 0; k < 4; k++)
-        if (!(places[k] = take(m, sizes[k])))
+        if (!(places[k] = take(heap, sizes[k])))
             return OUT_OF_MEMORY;
     if (words_length)
-        memcpy(m->data + places[0], words, words_length);
+        memcpy(heap->memory->data + places[0], words, words_length);
     if (document_length)
-        memcpy(m->data + places[1], document, document_length);
-    status = module_coop_run(m, places[0], words_length, places[1], document_length, places[2], room, places[3]);
-    memcpy(&written, m->data + places[3], 8);
+        memcpy(heap->memory->data + places[1], document, document_length);
+    status = Z_coopZ_coop_run(module, places[0], words_length, places[1], document_length, places[2], room, places[3]);
+    memcpy(&written, heap->memory->data + places[3], 8);
     if (written > room || status > 7 || status == 4 || status == 5)
         return NO_ANSWER;
     if (written)
-        memcpy(line, m->data + places[2], written);
+        memcpy(line, heap->memory->data + places[2], written);
     *count = written;
     return status;
 }
@@ -226,20 +260,25 @@ uint32_t coop_run_until(const uint8_t *words, size_t words_length, const uint8_t
                         uint8_t *line, size_t room, size_t *count, const volatile int *ends)
 {
     size_t uncounted, *const counted = count ? count : &uncounted;
+    Z_coop_instance_t module;
+    struct Z_heap_instance_t heap;
     uint32_t status;
-    module m;
-    memset(&m, 0, sizeof m);
-    m.ends = ends;
+    memset(&module, 0, sizeof module);
+    memset(&heap, 0, sizeof heap);
+    heap.ends = ends;
+    current = &heap;
     *counted = 0;
-    status = call(&m, words, words ? words_length : 0, document, document ? document_length : 0, line, line ? room : 0,
-                  counted);
-    free(m.kinds);
-    forget(m.data, m.size);
+    status = call(&module, &heap, words, words ? words_length : 0, document, document ? document_length : 0, line,
+                  line ? room : 0, counted);
+    free(heap.kinds);
+    Z_coop_free(&module);
     return status;
 }
 
 uint32_t coop_run(const uint8_t *words, size_t words_length, const uint8_t *document, size_t document_length,
                   uint8_t *line, size_t room, size_t *count)
 {
-    return coop_run_until(words, words_length, document, document_length, line, room, count, 0);
+    return coop_run_until(words, words_length, document, document_length, line, room, count, NULL);
 }
+
+const char *coop_version(void) { return COOP_VERSION; }

@@ -5,21 +5,18 @@ import sys
 import tarfile
 import tempfile
 import unittest
-import unittest.mock
 import zipfile
 
 import backend
-import portable
 from coop.program import TOP, which
 from coop.version import VERSION
 
 FOLDER = os.path.join(TOP, "python", "coop")
 NODE = which("node") or which("nodejs")
-PURE = {"library": "no"}
 ASKS = """
-import coop, coop.desk.checking
+import coop
 print(coop.airport([1, 2]).worth(3), coop.__file__)
-print(coop.desk.checking.verdict(coop.nucleolus(coop.airport([2, 4, 6])).line.encode()))
+print(coop.checking.verdict(coop.nucleolus(coop.airport([2, 4, 6])).line.encode()))
 print(coop.telling.same(*(coop.airport([cost]).document().decode() for cost in (1, 2))).outcome)
 """
 
@@ -40,7 +37,7 @@ class Built(unittest.TestCase):
         names, info = [], f"coop-{VERSION}.dist-info"
         for part in ("one", "two"):
             os.mkdir(os.path.join(self.folder, part))
-            names.append(os.path.join(self.folder, part, backend.build_wheel(os.path.join(self.folder, part), PURE)))
+            names.append(os.path.join(self.folder, part, backend.build_wheel(os.path.join(self.folder, part))))
         self.assertEqual([os.path.basename(name) for name in names], [f"coop-{VERSION}-py3-none-any.whl"] * 2)
         self.assertEqual(bytes_of(names[0]), bytes_of(names[1]))
         self.assertLess(os.path.getsize(names[0]), 600_000)  # packed
@@ -61,6 +58,8 @@ class Built(unittest.TestCase):
             self.assertEqual(found[name], bytes_of(path), name)
         self.assertIn("coop/py.typed", found)
         self.assertIn(b"\n\n# coop\n", found[f"{info}/METADATA"])
+        self.assertIn(b"\nLicense: none yet: the owner of the project has not chosen one\n", found[f"{info}/METADATA"])
+        self.assertRegex(found[f"{info}/METADATA"], rb"\nAuthor: \w.*\nLicense")
 
     def test_the_archive(self) -> None:
         with tarfile.open(os.path.join(self.folder, backend.build_sdist(self.folder))) as archive:
@@ -68,40 +67,27 @@ class Built(unittest.TestCase):
             archive.extractall(self.folder)
         inside = os.path.join(self.folder, f"coop-{VERSION}")
         self.assertEqual({name.split("/")[0] for name in names}, {f"coop-{VERSION}"})
-        code = "import sys, backend; print(backend.build_wheel(sys.argv[1], {'library': 'no'}))"
+        code = "import sys, backend; print(backend.build_wheel(sys.argv[1]))"
         done = subprocess.run([sys.executable, "-B", "-c", code, self.folder], cwd=inside, stdout=subprocess.PIPE)
         again = bytes_of(os.path.join(self.folder, done.stdout.decode().strip()))
         os.mkdir(os.path.join(self.folder, "own"))
-        own = backend.build_wheel(os.path.join(self.folder, "own"), PURE)
+        own = backend.build_wheel(os.path.join(self.folder, "own"))
         self.assertEqual(again, bytes_of(os.path.join(self.folder, "own", own)))
 
     def test_a_wheel_with_a_library(self) -> None:
-        """Its platform is that of the library; one that can't be built is left out, unless it is wanted."""
-        path = os.path.join(self.folder, "libcoop.so")
+        """Its platform is that of the library; what is none is refused. Without one no compiler is asked."""
+        path = os.path.join(self.folder, "some-library")
         with open(path, "wb") as file:
-            file.write(b"\0libc.so.6\0GLIBC_2.2.5\0GLIBC_2.34\0")
-        name = backend.build_wheel(self.folder, {"library": path})
+            file.write(b"\x7fELF\0coop_run\0libc.so.6\0GLIBC_2.2.5\0GLIBC_2.34\0")
         if sys.platform == "linux":
+            name = backend.build_wheel(self.folder, {"library": path})
             self.assertRegex(name, rf"^coop-{VERSION}-py3-none-manylinux_2_34_\w+\.whl$")
-        with zipfile.ZipFile(os.path.join(self.folder, name)) as archive:
-            self.assertEqual(archive.read(f"coop/{backend.library_name()}"), bytes_of(path))
-            self.assertIn(b"Root-Is-Purelib: false", archive.read(f"coop-{VERSION}.dist-info/WHEEL"))
-        with unittest.mock.patch.dict(os.environ, CC="/nowhere/cc"):
-            self.assertEqual(backend.build_wheel(self.folder), f"coop-{VERSION}-py3-none-any.whl")
-            with self.assertRaisesRegex(backend.NotBuilt, "/nowhere/cc"):
-                backend.build_wheel(self.folder, {"library": "yes"})
-
-    def test_the_sources_of_the_library(self) -> None:
-        """The same at each writing, and in parts of about the same length; another page is refused."""
-        page = bytes_of(os.path.join(TOP, "page", "coop.html"))
-        files = portable.files_of(page, 4)
-        self.assertEqual(files, portable.files_of(page, 4))
-        self.assertEqual(list(files), ["module.h", *(f"module{part}.c" for part in range(4))])
-        lengths = [len(text) for name, text in files.items() if name.endswith(".c")]
-        self.assertLess(max(lengths) - min(lengths), 10_000)
-        for wrong in (b"", page + page):
-            with self.assertRaises(portable.NotKnown):
-                portable.files_of(wrong, 4)
+            with zipfile.ZipFile(os.path.join(self.folder, name)) as archive:
+                self.assertEqual(archive.read(f"coop/{backend.library_name()}"), bytes_of(path))
+                self.assertIn(b"Root-Is-Purelib: false", archive.read(f"coop-{VERSION}.dist-info/WHEEL"))
+        for wrong in (os.path.join(FOLDER, "version.py"), sys.executable):
+            with self.assertRaises(backend.NoLibrary):
+                backend.build_wheel(self.folder, {"library": wrong})
 
     @unittest.skipUnless(NODE, "there is no Node")
     def test_what_is_installed(self) -> None:
@@ -111,7 +97,7 @@ class Built(unittest.TestCase):
         python = os.path.join(self.folder, "venv", "bin", "python")
         words = [python, "-c", "import sysconfig; print(sysconfig.get_path('purelib'))"]
         site = subprocess.run(words, stdout=subprocess.PIPE, check=True).stdout.decode().strip()
-        with zipfile.ZipFile(os.path.join(self.folder, backend.build_wheel(self.folder, PURE))) as archive:
+        with zipfile.ZipFile(os.path.join(self.folder, backend.build_wheel(self.folder))) as archive:
             archive.extractall(site)
         tools = os.path.join(self.folder, "tools")
         os.mkdir(tools)

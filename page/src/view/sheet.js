@@ -255,7 +255,7 @@ function pictureOf({ result, rows, format, ...session }) {
 
 /** How high a picture is on paper, across the whole page. */
 function highOf(drawn) {
-  const [, , wide, high] = drawn.getAttribute("viewBox").split(" ").map(Number);
+  const [, , wide, high] = drawn.attributes.viewBox.split(" ").map(Number);
   return Math.round((PAPER_WIDE * high) / wide);
 }
 
@@ -371,7 +371,7 @@ function checkOf({ result: { rule, answer, line, game }, kind, doubt, coarse }) 
     ? `${OPEN}, choose “Check an answer”, and give it the agreed file and the line with the certificate, `
       + `${fileNames(kind.id, coarse).line}-${ruleFile(answer, game.perHead)}.json. `
       + `Two independent checkers say whether these shares are the ${rule} of the agreed game. `
-      + "You can check by hand, too: the page lists the eight conditions under “What a yes means”."
+      + "You can check by hand, too: the page lists the form and the eight conditions under “What a yes means”."
     : `${OPEN}, choose “Open a saved case”, and give it the agreed file. It works out the answer anew.`;
   return el("section", {}, el("h2", {}, "How to check it"), el("p", {}, steps, TYPE_IN),
     el("p", { class: "hint" }, foot));

@@ -16,6 +16,9 @@ const PER_HEAD = "Per head is a rule of its own: what a group gains or lacks is 
   + "members. Its "
   + "shares mostly differ from those of the plain rule.";
 
+const FORM = "First the form. Each group that a level lists has a member and lacks one. What a level takes from earlier "
+  + "levels is listed in one of these. There are fewer levels than players.";
+
 /** The eight conditions, in the words of docs/certificates.md. */
 const CONDITIONS = [
   "The shares add to the worth of all players together.",
@@ -39,14 +42,13 @@ export function meaning(answer = "nucleolus", isPerHead = false) {
   return el("details", { class: "meanings" },
     el("summary", {}, "What a yes means, and what is trusted"),
     el("h3", {}, "What a yes means"),
-    el("p", {}, "The line has a certificate: levels of groups, with excesses and weights. If these meet eight "
-      + "conditions, ",
+    el("p", {}, "The line has a certificate: levels of groups, with excesses and weights. If these have "
+      + "their form and meet eight conditions, ",
       `the shares are the ${name} of the game in the line, and no other division is. That is a theorem (Kohlberg `
         + `1971), `,
       "proved anew for this program. ", RULES[known], isPerHead && ` ${PER_HEAD}`),
-    el("p", {}, "You can check the conditions by hand, too. Go level by level for 3 to 7. For costs, read “pays at "
-      + "most ",
-      "what it costs alone”."),
+    el("p", {}, "You can check all that by hand, too. ", FORM, " Then the conditions. Go level by level for 3 to 7. For "
+      + "costs, read “pays at most what it costs alone”."),
     el("ol", { class: "conditions" }, CONDITIONS.map((text) => el("li", {}, text))),
     trusted());
 }

@@ -42,6 +42,10 @@ check {"answer":"nucleolus","certificate":{"levels":[{"bounds":[],"coalitions":[
   "total":1}],"mode":"span"},"game":{"class":"airport","costs":[1,1,1,1,1,1,1,1,1,1,1,1,1,1,1,1,1]},"shares":["1","0",
   "0","0","0","0","0","0","0","0","0","0","0","0","0","0","0"]}
   => Refused {"number":12,"refused":"Certificate"}
+# It meets all eight conditions, but `earlier` names {1}, which no earlier level lists; the nucleolus is 1 and 1.
+check {"answer":"nucleolus","certificate":{"levels":[{"bounds":[],"coalitions":[[[2],1]],"earlier":[[[1],1]],
+  "excess":"0","total":1}],"mode":"players"},"game":{"class":"table","players":2,"worths":[0,0,2]},"shares":["2","0"]}
+  => Refused {"number":12,"refused":"Certificate"}
 # A document to check needs an answer and a certificate.
 check {"game":{"class":"airport","costs":[2,4,6]},"shares":["1","3/2","7/2"]}
   => Refused {"number":3,"refused":"Shape"}

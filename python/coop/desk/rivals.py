@@ -4,14 +4,14 @@ from __future__ import annotations
 from typing import Sequence
 
 from .cells import PLAIN, Cells, csv_text
-from .game import Game
+from ..game import Game
 from .groups import Namer, enumerated
-from .masks import mask_of
-from .names import safe
+from ..masks import mask_of
+from ..names import safe
 from .prose import filled
-from .styles import Style, column
+from ..styles import Style, column
 from .tables import aligned, lines_of
-from .versus import Row
+from ..versus import Row
 
 MOST_COLUMNS = 4  # of a table on paper
 

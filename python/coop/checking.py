@@ -5,10 +5,10 @@ import json
 import os
 from typing import Any
 
-from ..errors import BadInput
-from ..program import TOP
+from .errors import BadInput
+from .program import TOP
 
-PACKAGE = os.path.dirname(os.path.dirname(os.path.abspath(__file__)))
+PACKAGE = os.path.dirname(os.path.abspath(__file__))
 INSIDE = os.path.join(PACKAGE, "scripts", "check-anew")
 CHECK_ANEW = INSIDE if os.path.exists(INSIDE) else os.path.join(TOP, "scripts", "check-anew")
 

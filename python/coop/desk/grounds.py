@@ -4,16 +4,16 @@ from __future__ import annotations
 from fractions import Fraction
 from typing import Optional, Sequence
 
-from . import calls
-from .answers import Nucleolus, Shares
-from .errors import BadInput
-from .game import Game
+from .. import calls
+from ..answers import Nucleolus, Shares
+from ..errors import BadInput
+from ..game import Game
 from .groups import Namer, enumerated
-from .masks import mask_of
-from .names import safe
+from ..masks import mask_of
+from ..names import safe
 from .prose import filled
-from .sensitivity import Margin, Margins, Range, margins, ranges
-from .styles import EXACT, Style, decimal, steps_of
+from ..sensitivity import Margin, Margins, Range, margins, ranges
+from ..styles import EXACT, Style, decimal, steps_of
 from .tables import aligned
 
 MOST_TO_MOVE = {"tree": 10, "assignment": 10}  # players of a game of which each number is moved
