@@ -20,6 +20,7 @@
 // if an answer can't be written, and 70 if a file of the page is missing or the module can't be compiled. SIGINT doesn't
 // end it, unless --lines is there.
 const MOST_WORDS = 64 * 1024;
+const MOST_TOLD = 32 * 1024 * 1024; // bytes of a request, which may be several documents
 const CHUNK = 64 * 1024;
 const HEAD = 8; // bytes of the two numbers
 const NEWLINE = 10;
@@ -97,13 +98,13 @@ function requestOf(input, { MOST, READ_FAULT, PortFault }) {
   const head = input.take(HEAD);
   if (head === null && input.left === 0) return null;
   const [words, document] = head ? [head.readUInt32LE(0), head.readUInt32LE(4)] : [0, 0];
-  if (words > MOST_WORDS || document > MOST) {
+  if (words > MOST_WORDS || document > MOST_TOLD) {
     throw new PortFault(READ_FAULT, `a request of ${words} and ${document} bytes`);
   }
   const all = head && input.take(words + document);
   if (!all) throw new PortFault(READ_FAULT, "the input ends within a request");
-  const typed = all.subarray(0, words).toString("utf8");
-  return { words: words ? typed.split("\0") : [], document: all.subarray(words) };
+  const typed = all.subarray(0, words).toString("utf8").split("\0"), rest = all.subarray(words);
+  return { words: words ? typed : [], document: typed[0] === "tell" ? rest : rest.subarray(0, MOST) };
 }
 
 /** An answer as a frame. */

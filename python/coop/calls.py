@@ -9,7 +9,7 @@ from typing import Any, Mapping, Optional, Sequence, Union, cast
 from . import answers, classes
 from .amounts import Amount, fractions_of, named_items, written
 from .answers import Answer
-from .errors import BadInput, Fault, NoAnswer, NoMemory, Refused, Slip, Usage
+from .errors import BadInput, Failure, Fault, NoAnswer, NoMemory, Refused, Slip, Usage
 from .game import Game, encoded
 from .program import Program, find
 from .telling import slips
@@ -18,6 +18,9 @@ COMMANDS = tuple(classes.COMMANDS)
 """The words of the commands on a document."""
 ON_A_GAME = tuple(word for word, row in classes.COMMANDS.items() if row["needs"] == ["game"])
 """The words of the commands that a game alone is enough for."""
+
+Outcome = Union[Answer, Failure]
+"""An answer; or, if there is none, what has the exception that the call would raise."""
 
 Chosen = Union[None, str, Program]
 """A program by its name or itself; None for the one that is found."""

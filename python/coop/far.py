@@ -11,10 +11,9 @@ from collections import deque
 from itertools import islice
 from typing import Any, Iterable, Iterator, Optional, Protocol, Sequence, Union
 
-from .calls import Chosen, answer_from
+from .calls import Chosen, Outcome, answer_from
 from .errors import CoopError, Failure, Lost, NoAnswer
 from .game import Game
-from .many import Outcome
 from .program import Program, find
 
 Line = tuple[int, bytes]

@@ -5,20 +5,14 @@ import sys
 import threading
 import time
 from collections import deque
-from typing import TYPE_CHECKING, Any, Callable, Iterable, Iterator, Optional, Sequence, TypeVar, Union
+from typing import Any, Callable, Iterable, Iterator, Optional, Sequence, TypeVar, Union
 
-from .answers import Answer
-from .calls import COMMANDS, ON_A_GAME, Chosen, ask
+from .calls import COMMANDS, ON_A_GAME, Chosen, Outcome, ask
 from .errors import BadInput, Failure, NoAnswer
+from .far import Executor, many_by
 from .game import Game
 from .program import Program, end_calls, find
 from .server import processors as usable
-
-if TYPE_CHECKING:
-    from .far import Executor
-
-Outcome = Union[Answer, Failure]
-"""An answer; or, if there is none, what has the exception that the call would raise."""
 
 Item = TypeVar("Item")
 Result = TypeVar("Result")
@@ -51,8 +45,6 @@ def many(
     if faults not in ("keep", "raise"):
         raise BadInput(f"{faults!r} isn't a way to treat faults: use keep or raise")
     if executor is not None:
-        from .far import many_by
-
         rows = shown(many_by(executor, words, games, program, batch, seconds), games, progress)
     else:
         found = find(program)

@@ -12,10 +12,13 @@ from __future__ import annotations
 import _thread
 import os
 import threading
-from typing import Any, Container, Optional, Protocol, Sequence, Union
+from typing import TYPE_CHECKING, Any, Container, Optional, Protocol, Sequence, Union
 
 from .errors import BadInput, Fault, NotFound
 from .version import VERSION
+
+if TYPE_CHECKING:
+    from .server import Server
 
 TOP = os.path.dirname(os.path.dirname(os.path.dirname(os.path.abspath(__file__))))
 BUILT = os.path.join(TOP, "crates", "coop_program", "out", "coop_program")
@@ -199,7 +202,7 @@ def end_calls(threads: Container[int]) -> None:
 # ---- Finding it
 
 _found: Optional[Program] = None
-_page: Optional[Program] = None
+_page: Optional[Server] = None
 
 
 def find(program: Union[None, str, Program] = None) -> Program:
@@ -279,7 +282,7 @@ def said(program: Program) -> str:
     return " ".join(command) if command else repr(program)
 
 
-def page_server() -> Optional[Program]:
+def page_server() -> Optional[Server]:
     """The processes of Node that answer by the module in the page, and tell what the page does; begun when they are
     first asked, and kept. None where there is no Node or no page."""
     global _page

@@ -25,13 +25,12 @@ from fractions import Fraction
 from math import lcm
 from typing import Any, Iterable, Iterator, Optional, Sequence, Union, overload
 
-from . import calls
+from . import calls, checking
 from .amounts import Amount, fraction_of
 from .answers import Names, Nucleolus, Shares
 from .errors import BadInput
 from .game import MOST_IN_A_TABLE, Game
-from .desk import checking
-from .desk.levels import Level, level_of
+from .levels import Level, level_of
 from .linear import Span, simplest, solution, sums
 from .masks import is_alone, members
 from .moving import Moving, TooFine, What, what_moves

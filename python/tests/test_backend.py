@@ -14,9 +14,9 @@ from coop.version import VERSION
 FOLDER = os.path.join(TOP, "python", "coop")
 NODE = which("node") or which("nodejs")
 ASKS = """
-import coop, coop.desk.checking
+import coop
 print(coop.airport([1, 2]).worth(3), coop.__file__)
-print(coop.desk.checking.verdict(coop.nucleolus(coop.airport([2, 4, 6])).line.encode()))
+print(coop.checking.verdict(coop.nucleolus(coop.airport([2, 4, 6])).line.encode()))
 print(coop.telling.same(*(coop.airport([cost]).document().decode() for cost in (1, 2))).outcome)
 """
 

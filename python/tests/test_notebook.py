@@ -58,8 +58,8 @@ class Answers(unittest.TestCase):
     def test_shares(self) -> None:
         found = self.shown(coop.nucleolus(THREE))
         self.assertLessEqual({"table", "svg"}, found.seen)
-        white = '<rect width="100%" height="100%" fill="#fff"/>'  # for notebooks that are dark
-        self.assertIn(white, coop.nucleolus(THREE)._repr_html_())
+        white = r'<rect width="\d+" height="\d+" fill="#ffffff">'  # for notebooks that are dark
+        self.assertRegex(coop.nucleolus(THREE)._repr_html_(), white)
         for word in ("nucleolus", "pays", "light", "3/2", "7/2", "3.50", "together"):
             self.assertIn(word, found.text)
         thirds = self.shown(coop.shapley(coop.airport([1, 1, 1]))).text
@@ -76,9 +76,9 @@ class Answers(unittest.TestCase):
     def test_sentences(self) -> None:
         answers: list[tuple[Any, str]] = [
             (coop.propose(THREE, [3, 1, 2]), "light alone could do better without the others, by 1"),
-            (coop.propose(THREE, [1, 1, 1]), "aren't a division"),
+            (coop.propose(THREE, [1, 1, 1]), "aren’t a division"),
             (coop.core(MAJORITY), "Ann and Bob together"),
-            (coop.convex(MAJORITY), "isn't convex"),
+            (coop.convex(MAJORITY), "isn’t convex"),
             (coop.nucleolus(coop.table([1, 1, 1])), "There is no nucleolus"),
             (coop.propose(FINE, ["1/100000", 1, "1.99999"]), "could do better"),
             (coop.check(coop.prenucleolus(THREE)), "meets all conditions"),
@@ -93,6 +93,14 @@ class Answers(unittest.TestCase):
         self.assertIn("1/100000", self.shown(FINE).text)
         self.assertNotIn("table", self.shown(coop.table({1: 1, 6: 1}, default=0)).seen)
         self.assertIn("A network", self.shown(coop.tree([[0, 1], [1, 0]])).text)
+
+    def test_without_node(self) -> None:
+        """A table stays a table, without its picture; what would be told is the line."""
+        shares, core = coop.nucleolus(THREE), coop.propose(THREE, [1, 1, 1])
+        with patch("coop.telling.page_server", lambda: None):
+            found = self.shown(shares)
+            self.assertEqual(("table" in found.seen, "svg" in found.seen), (True, False))
+            self.assertIn('"answer":"not efficient"', self.shown(core).text)
 
     def test_hostile_names(self) -> None:
         game = coop.airport({"<b>": 2, "x&y</td>": 4, "\u202ec": 6})
