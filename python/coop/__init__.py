@@ -16,14 +16,18 @@ from . import shown
 from .answers import Answer, Bird, Blocked, Convex, CorePoint, EmptyCore, InCore, InPrekernel, Matching, No
 from .answers import NoImputation, NotConvex, NotEfficient, NotInPrekernel, Nucleolus, Shapley, Yes
 from .calls import bird, check, convex, core, kernel, least_core, matching, nucleolus, prenucleolus, propose, shapley
-from .errors import BadInput, CoopError, Fault, Lost, NoAnswer, NoMemory, NotFound, Refused, Usage
+from .errors import BadInput, CoopError, Failure, Fault, Lost, NoAnswer, NoMemory, NotFound, Refused, Usage
 from .game import Game
 from .games import airport, assignment, bankruptcy, cost_table, landings, market, table, table_of, tree, voting
 from .many import many
 from .program import find
 from .version import VERSION as __version__
 
-MODULES = ("airlines", "desk", "far", "filling", "networks", "readers", "runways", "telling", "variants", "vectors")
+MODULES = (  # fmt: skip
+    "airlines", "answers", "checking", "desk", "errors", "families", "far", "filling", "games", "names", "networks",
+    "program", "readers", "runways", "sensitivity", "server", "sheets", "styles", "telling", "variants", "vectors",
+    "versus", "votes",
+)
 """What is imported when it is first named."""
 
 
@@ -51,6 +55,7 @@ __all__ = [  # fmt: skip
     "CoopError",
     "CorePoint",
     "EmptyCore",
+    "Failure",
     "Fault",
     "Game",
     "InCore",

@@ -7,12 +7,13 @@ from fractions import Fraction
 from typing import Any
 
 from . import shown
+from .classes import CLASSES, keys_of
 from .errors import BadInput
 from .masks import mask_of, members
 from .matching import best_matching
 
-COSTS = ("cost-table", "airport", "tree")
-TABLES = ("table", "cost-table")
+COSTS = tuple(kind for kind, row in CLASSES.items() if row["costs"])
+TABLES = tuple(kind for kind, row in CLASSES.items() if "players" in row["keys"])
 KINDS = {
     "table": "a table of worths",
     "cost-table": "a table of costs",
@@ -23,9 +24,8 @@ KINDS = {
     "market": "a market",
     "voting": "a vote",
 }
-LISTS = {"airport": "costs", "bankruptcy": "claims", "voting": "weights"}
-SINGLE = {"bankruptcy": "estate", "voting": "quota"}
-MOST_IN_A_TABLE = 16
+LISTS, SINGLE = keys_of("list"), keys_of("single")
+MOST_IN_A_TABLE: int = CLASSES["table"]["players"][1]
 FRACTION = re.compile("-?[0-9]{1,39}(/[1-9][0-9]{0,38})?")
 WRITER = json.JSONEncoder(ensure_ascii=False, separators=(",", ":"))
 
@@ -88,6 +88,13 @@ class Game:
 
     def __repr__(self) -> str:
         return f"Game({self.tree!r})" if self.factor == 1 else f"Game({self.tree!r}, {self.factor})"
+
+    def __eq__(self, other: object) -> bool:
+        """Whether both have the same document, over the same factor."""
+        return isinstance(other, Game) and (self.tree, self.factor) == (other.tree, other.factor)
+
+    def __hash__(self) -> int:
+        return hash((self.kind, self.n, *self.names))
 
     def _repr_html_(self) -> str:
         """What a notebook shows."""

@@ -15,7 +15,7 @@ from .errors import BadInput
 from .game import LISTS, SINGLE, WRITER, Game, encoded
 from .games import members_of, player_of
 from .masks import mask_of, members
-from .tables import row_of
+from .names import row_of
 from .worths import worths_of
 
 Place = tuple[int, int]

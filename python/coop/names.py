@@ -118,3 +118,16 @@ def shown(name: str) -> str:
 def visible(text: str) -> str:
     """A sentence with an escape for each character that isn't seen."""
     return "".join(escape(letter) if is_unseen(letter) else letter for letter in text)
+
+
+# ---- Landings of a runway with types
+
+
+def row_of(name: str) -> str:
+    """What stands in front of the number of a landing: "Aer, A320" of "Aer, A320 1"."""
+    return re.sub(" [0-9]+$", "", name)
+
+
+def airline_of(row: str) -> str:
+    """What stands in front of the last comma: "Aer" of "Aer, A320"."""
+    return row.rpartition(", ")[0] or row

@@ -10,6 +10,7 @@ from typing import Any, Iterator, NamedTuple, Optional, Sequence
 
 from . import filling, games
 from .airlines import landings_in
+from .classes import CLASSES
 from .errors import BadInput
 from .game import MOST_IN_A_TABLE, Game
 from .masks import mask_of, members
@@ -17,7 +18,7 @@ from .names import looks, shown
 from .sheets import AS_SEEN, LEFT_OUT, Cell, Layout, Row, amount_of, by_mark, fixed_rows, hint_at, rows_of_numbers
 from .vectors import in_mask_order
 
-MOST_CLAIMS = 64
+MOST_CLAIMS = CLASSES["bankruptcy"]["players"][1]
 ANOTHER_SIGN = re.compile(r"[&/|,;]| and | und | et ")
 SKIP = "; if the first column has names, use --skip 1"
 

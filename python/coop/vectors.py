@@ -9,13 +9,14 @@ from __future__ import annotations
 from fractions import Fraction
 from typing import Callable, Optional, Sequence
 
+from .classes import CLASSES
 from .errors import BadInput
 from .masks import by_mask, by_size
 
 ORDERS: dict[str, Callable[[int], list[int]]] = {"mask": by_mask, "size": by_size}
 """The groups in each order, for a number of players."""
 
-MOST_PLAYERS = 16
+MOST_PLAYERS: int = CLASSES["table"]["players"][1]
 
 
 def players_of(length: int) -> int:

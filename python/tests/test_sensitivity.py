@@ -10,7 +10,7 @@ from coop.amounts import Amount
 from coop.calls import check
 from coop.errors import BadInput
 from coop.games import made
-from coop.grounds import told
+from coop.desk.grounds import told
 from coop.moving import Moving, what_moves
 from coop.sensitivity import along, margins, ranges
 from coop.worths import worths_of

@@ -17,11 +17,12 @@
 // name already; otherwise the only one with a name such as reservoir or Wasserwerk; otherwise the first of a half. If
 // there is none, the page asks.
 import { readNumber } from "../exact/decimals.js";
+import { mostOf } from "../game/classes.js";
 import { isSumWord, withEscapes } from "../game/names.js";
 import { plural } from "../game/words.js";
 import { SPOILT } from "./pasting.js";
 
-const MOST_POINTS = 17; // the source and 16 places
+const MOST_POINTS = mostOf("tree") + 1; // with the source
 const NONE = /^([-–—.x×∞]|n\/?a|#n\/?a|#?nv|none|null|inf|infinity|kein(e|er)?|aucun(e)?)?$/i; // no such link
 const SOURCE = new RegExp("\\b(source|reservoir|plant|water ?works?|works|supply|supplier|hub|root|depot|origin|"
   + "(sub|power|pump(ing)?) ?station|station|well|spring|tank|tower|server|exchange|head ?end|quelle|[a-zäöü]*werk|"
@@ -63,7 +64,8 @@ export function networkOf(pasted, { mark = ".", source = "" } = {}) {
   const { points, shape, left = [] } = found, twice = points.find((name, i) => name && points.indexOf(name) < i);
   if (twice) return { fault: `“${withEscapes(twice)}” is there twice.` };
   if (points.length > MOST_POINTS) {
-    return { fault: `These are ${points.length} points. A network has at most 16 places and the source.` };
+    const most = `A network has at most ${MOST_POINTS - 1} places and the source.`;
+    return { fault: `These are ${points.length} points. ${most}` };
   }
   const { links, fault } = joined(found, judge);
   if (fault) return { fault };

@@ -1,6 +1,7 @@
 // Cases that are a list: a runway and an estate. Each row has a name and a number.
 import { Rational } from "../exact/rational.js";
 import { shortText, typedText } from "../exact/decimals.js";
+import { LIMITS, mostOf } from "../game/classes.js";
 import { shownName } from "../game/names.js";
 import { labelsOf, landingsOf, rowsOfLandings } from "./landings.js";
 import { Reading } from "./reading.js";
@@ -12,7 +13,7 @@ const COST = /cost|need|price|fee|charge|amount|kosten|preis|betrag|gebühr|beda
 const heads = (words) => new RegExp(`^(?!.*(${COST.source})).*(${words})`, "iu"); // and no word of a cost
 const CREDITOR = /creditor|claimant|lender|party|name|gläubiger|créancier/iu;
 const CLAIM = /claim(?!ant)|amount|owed|debt|due\b|forderung|betrag|schuld|créance|montant|\p{Sc}/iu;
-const MOST_LANDINGS = 64;
+const MOST_LANDINGS = mostOf("airport"), MOST_CLAIMS = mostOf("bankruptcy"), MOST_NAME = LIMITS["bytes of a name"];
 
 export const runway = {
   id: "runway",
@@ -20,6 +21,8 @@ export const runway = {
   title: "A runway",
   teaser: "Each user needs a part of it. It costs what the most demanding user needs.",
   unit: "landing",
+  grid: "list",
+  mapNumbers: numbersMapped,
   columns: [
     {
       key: "name", title: "Airline", wide: true, placeholder: "Airline",
@@ -54,8 +57,8 @@ export const runway = {
     if (!kept.length && reading.isRight()) reading.open("rows.0.cost");
     if (all > MOST_LANDINGS) return { reading, rows: labelsOf(kept), tree: null, landings: kept };
     const { rows, names, costs } = landingsOf(kept, reading.opened);
-    if (names.some((name) => bytesOf(name) > 64)) {
-      reading.fault("rows.0.name", "A name has at most 64 letters, with the number of its landing.");
+    if (names.some((name) => bytesOf(name) > MOST_NAME)) {
+      reading.fault("rows.0.name", `A name has at most ${MOST_NAME} letters, with the number of its landing.`);
     }
     reading.close();
     const named = reading.named(names, state.rows.flatMap(({ name, type }) => [name, type]));
@@ -106,13 +109,15 @@ export const estate = {
   title: "An estate or a bankruptcy",
   teaser: "The claims add up to more than there is.",
   unit: "claim",
+  grid: "list",
+  mapNumbers: numbersMapped,
   single: { key: "estate", title: "The estate", help: "what there is to divide" },
   columns: [
     { key: "name", title: "Who claims", wide: true, placeholder: "Claimant", heads: CREDITOR },
     { key: "claim", title: "Claim", number: true, heads: CLAIM },
   ],
   help: "One row for each claim. If some claims go first, take them off the estate and leave them out.",
-  most: 64,
+  most: MOST_CLAIMS,
   example: () => ({
     estate: "2000",
     rows: [
@@ -133,8 +138,8 @@ export const estate = {
       reading.pause(`So far the claims add to less than the estate. If no others come, each gets its claim, ${rest} is `
         + "left, and no rule is needed.");
     }
-    if (values.length > 64) {
-      reading.fault(cells.at(-1), `These are ${values.length} claims, and the program takes 64.`);
+    if (values.length > MOST_CLAIMS) {
+      reading.fault(cells.at(-1), `These are ${values.length} claims, and the program takes ${MOST_CLAIMS}.`);
     }
     const claims = values.map((value) => value.toDocument());
     return {
@@ -177,4 +182,11 @@ export function readList(state, mark, key, what, word) {
 /** A row of the answer for each name. */
 export function rowsOf(names) {
   return names.map((name, i) => ({ label: shownName(name), players: [i] }));
+}
+
+/** What was typed in a list with each number changed; the method of a kind that has one. */
+export function numbersMapped(typed, change) {
+  const keys = this.columns.filter(({ number, fallback }) => number && !fallback).map(({ key }) => key);
+  const rows = typed.rows.map((row) => ({ ...row, ...Object.fromEntries(keys.map((key) => [key, change(row[key])])) }));
+  return { ...typed, rows, ...(this.single ? { [this.single.key]: change(typed[this.single.key]) } : {}) };
 }

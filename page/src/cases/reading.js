@@ -3,10 +3,11 @@ import { bytesOf } from "../game/words.js";
 import { lcm } from "../exact/rational.js";
 import { cellNumber, countText, readNumber, shortText, thousandsIn } from "../exact/decimals.js";
 import { isMark, MARKS, onlyMark, otherMark } from "../exact/marks.js";
+import { LIMITS } from "../game/classes.js";
 import { remarksOf, withEscapes } from "../game/names.js";
 
-const MOST_SCALE = 65536n;
-const MOST = 2n ** 40n;
+const MOST_SCALE = BigInt(LIMITS.denominator);
+const MOST = 2n ** BigInt(LIMITS.bits), MOST_NAME = LIMITS["bytes of a name"];
 const MOST_KEPT = 200; // faults that are kept with their cells; of the others only the number
 
 export class Reading {
@@ -133,7 +134,9 @@ export class Reading {
     const first = new Map();
     for (const { typed, cell } of isNamed ? cells : []) if (!typed.trim()) this.open(cell);
     names.forEach((name, i) => {
-      if (bytesOf(name) > 64) this.fault(cells[i].cell, "A name has at most 64 letters (32 with accents).");
+      if (bytesOf(name) > MOST_NAME) {
+        this.fault(cells[i].cell, `A name has at most ${MOST_NAME} letters (${MOST_NAME / 2} with accents).`);
+      }
       if (first.has(name)) this.fault(cells[i].cell, `The name “${withEscapes(name)}” occurs twice.`);
       else first.set(name, i);
     });

@@ -1,7 +1,9 @@
 // Cases that are a table: a cost or a gain of each group of at most 16 players.
 import { readNumber, typedText } from "../exact/decimals.js";
+import { mostOf } from "../game/classes.js";
 import { maskOf, masksBySize, membersOf } from "../game/groups.js";
 import { withEscapes } from "../game/names.js";
+import { filledGroups } from "./filled-cells.js";
 import { rowsOf } from "./lists.js";
 import { oddsOf } from "./odds.js";
 import { cellsOf, ROW_NUMBERS, withoutRowNumbers } from "./pasting.js";
@@ -9,7 +11,7 @@ import { Reading } from "./reading.js";
 import { headingOf, manyBelow, numbersIn, vectorOf } from "./vectors.js";
 
 const MOST_BY_NAME = 6; // above, the document lists numbers alone: it would be too long by names
-const MOST_PLAYERS = 16;
+const MOST_PLAYERS = mostOf("table");
 
 /** A table as it goes to a worker and back: one text is copied faster than 65,536. */
 export function packed({ names, numbers, opened, isUnnamed }) {
@@ -21,15 +23,25 @@ export function unpacked({ numbers, ...others }) {
   return { ...others, numbers: typeof numbers === "string" ? numbers.split("\n") : numbers };
 }
 
+const OF_A_TABLE = {
+  unit: "group",
+  isTable: true,
+  grid: "table",
+  filled: filledGroups,
+  most: MOST_PLAYERS,
+  empty: () => ({ names: ["", "", ""], numbers: Array(8).fill("") }),
+  pack: packed,
+  unpack: unpacked,
+  labelOf: ({ names }, mask) => groupLabel(names, Number(mask)),
+  mapNumbers: (typed, change) => ({
+    ...typed, numbers: typed.numbers.map((text, mask) => (mask ? change(text) : text)),
+  }),
+};
+
 function tableCase(settings) {
   return {
     ...settings,
-    unit: "group",
-    isTable: true,
-    most: MOST_PLAYERS,
-    empty: () => ({ names: ["", "", ""], numbers: Array(8).fill("") }),
-    pack: packed,
-    unpack: unpacked,
+    ...OF_A_TABLE,
 
     read(sent, mark) {
       const state = unpacked(sent);
@@ -186,8 +198,8 @@ function listOf(all, lineOf) {
   const names = [...new Set(read.filter(({ members }) => members.length === 1).map(({ members }) => members[0]))];
   if (!names.length) return { fault: "There is no line of a player alone. A group is its members with + between." };
   if (names.length > MOST_PLAYERS) {
-    return { fault: `These are ${names.length} players, and a table has at most 16. A group of several is its members `
-      + "with + between, as Sales+Ops." };
+    return { fault: `These are ${names.length} players, and a table has at most ${MOST_PLAYERS}. A group of several is `
+      + "its members with + between, as Sales+Ops." };
   }
   return { ...placedList(read, names), remark: heading === null ? "" : headingText(heading) };
 }

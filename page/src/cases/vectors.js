@@ -1,10 +1,11 @@
 // A list of numbers alone, as other programs print it: a line each, a row of a spreadsheet, c(1, 2), R's [1] 1 2, or
 // MATLAB's v = [1 2];
+import { mostOf } from "../game/classes.js";
 import { MANY } from "../game/words.js";
 import { readNumber } from "../exact/decimals.js";
 import { SPOILT } from "./pasting.js";
 
-const MOST_PLAYERS = 16;
+const MOST_PLAYERS = mostOf("table");
 const NAMED = /^\s*[\p{L}_][\p{L}\d_.]*\s*(?:=|<-)\s*(?=[[({]|c\s*\(|(?:np\.)?array\s*\()/u;
 
 

@@ -1,13 +1,14 @@
 // Votes: by one quota, which is a game of its own class, or by two at once, which is a table of who wins.
 import { gcd, lcm, Rational } from "../exact/rational.js";
 import { readNumber, shortText, typedText } from "../exact/decimals.js";
+import { LIMITS, mostOf } from "../game/classes.js";
 import { membersOf } from "../game/groups.js";
 import { withEscapes } from "../game/names.js";
-import { readList } from "./lists.js";
+import { numbersMapped, readList } from "./lists.js";
 import { askOfSum } from "./sum-row.js";
 
-const MOST = 32, MOST_IN_TABLE = 16;
-const MOST_VOTES = 1000n;
+const MOST = mostOf("voting"), MOST_IN_TABLE = mostOf("table");
+const MOST_VOTES = BigInt(LIMITS.votes);
 const VOTER = /voter|state|party|member|country|holder|owner|name|staat|land|partei|mitglied|aktion|état|pays|parti/iu;
 const VOTES = /vote|seat|share|weight|stimme|sitz|anteil|voix|siège|part\b|population|bevölkerung/iu;
 
@@ -17,6 +18,8 @@ export const votes = {
   title: "Votes",
   teaser: "How much power does each voter have, with one quota or two?",
   unit: "voter",
+  grid: "list",
+  mapNumbers: numbersMapped,
   isVote: true,
   places: 3,
   single: {
@@ -32,7 +35,7 @@ export const votes = {
     column: { key: "second", title: "Second votes", number: true, grey: "1" },
   },
   help: "One row for each voter, party or shareholder.",
-  most: 32,
+  most: MOST,
   example: () => ({
     quota: "12",
     rows: [["France", 4], ["Germany", 4], ["Italy", 4], ["Belgium", 2], ["Netherlands", 2], ["Luxembourg", 1]]

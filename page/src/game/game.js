@@ -1,17 +1,17 @@
 // The game of a document, as far as the page has to know it: names, and what a group is worth.
 import { Rational, ZERO } from "../exact/rational.js";
+import { CLASSES, keysOf } from "./classes.js";
 import { everyoneOf, maskOf, membersOf, without } from "./groups.js";
 import { shownName } from "./names.js";
 
-const COSTS = ["cost-table", "airport", "tree"];
-const LISTS = { airport: "costs", bankruptcy: "claims", voting: "weights" };
+const LISTS = keysOf("list"), SINGLES = keysOf("single");
 
 /** A game that the program has read, or that the page has made: its form is right. */
 export class Game {
   constructor(tree) {
     this.tree = tree;
     this.kind = tree.class;
-    this.costs = COSTS.includes(this.kind);
+    this.costs = CLASSES[this.kind]?.costs ?? false;
     this.perHead = tree.excess === "per-head";
     this.worths = new Map();
     if (this.kind in LISTS) this.readList(tree);
@@ -34,8 +34,7 @@ export class Game {
   readList(tree) {
     this.amounts = tree[LISTS[this.kind]].map((number) => Rational.of(number));
     this.n = this.amounts.length;
-    if (this.kind === "bankruptcy") this.single = Rational.of(tree.estate);
-    if (this.kind === "voting") this.single = Rational.of(tree.quota);
+    if (this.kind in SINGLES) this.single = Rational.of(tree[SINGLES[this.kind]]);
   }
 
   readMatrix(tree) {

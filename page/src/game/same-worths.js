@@ -1,5 +1,6 @@
 // What two games are to each other, and whether each group of both is worth the same: where the groups are few each is
 // compared, and of some classes a few groups tell all the others.
+import { mostOf as mostOfClass } from "./classes.js";
 import { everyoneOf, membersOf, without } from "./groups.js";
 
 /** The same: each name and each number is the same, however they are written, and players who have names may stand in
@@ -10,7 +11,7 @@ export const WORTH_THE_SAME = "worth the same";
 export const ANOTHER = "another";
 export const UNSAID = "nobody can say";
 
-const MOST = 16, MOST_SLOW = 12; // players of games that are compared group by group
+const MOST = mostOfClass("table"), MOST_SLOW = 12; // players of games that are compared group by group
 const SLOW = ["tree", "assignment", "market"]; // whose worths take long
 
 const isMarket = ({ kind }) => kind === "assignment" || kind === "market";

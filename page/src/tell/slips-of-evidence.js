@@ -1,6 +1,7 @@
 // What is wrong with shares, and with the form of a certificate.
 import { lcm, Rational } from "../exact/rational.js";
 import { Inexact, isObject, writeJson } from "../exact/json.js";
+import { CLASSES, LIMITS, mostOf } from "../game/classes.js";
 import { withEscapes } from "../game/names.js";
 import { fits, fractionSlip } from "./slips-of-numbers.js";
 import { isOrAre, plural } from "../game/words.js";
@@ -8,7 +9,7 @@ import { isOrAre, plural } from "../game/words.js";
 const MOST_DENOMINATOR = 2n ** 63n;
 const MOST_SHARE = 2n ** 110n;
 const MOST_WEIGHT = 2n ** 63n;
-const MOST_PLAYERS = 64;
+const MOST_PLAYERS = Math.max(...Object.keys(CLASSES).map(mostOf)), MOST_IN_SPAN = LIMITS["mode span"];
 const MOST_ITEMS = 65_536;
 const LEVEL_KEYS = ["bounds", "coalitions", "earlier", "excess", "total"];
 
@@ -68,7 +69,9 @@ export function certificateSlips({ certificate: tree }, players, scale, add) {
   if (keys !== "levels,mode") return shape("A certificate has the keys mode and levels, and no other.", "certificate");
   if (tree.mode !== "players" && tree.mode !== "span") return shape("mode is players or span.", "certificate.mode");
   if (!Array.isArray(tree.levels)) return shape("levels is an array.", "certificate.levels");
-  if (tree.mode === "span" && n > 16) form("Mode span is for at most 16 players.", "certificate.mode");
+  if (tree.mode === "span" && n > MOST_IN_SPAN) {
+    form(`Mode span is for at most ${MOST_IN_SPAN} players.`, "certificate.mode");
+  }
   if (tree.levels.length >= n) {
     form(`There are fewer levels than players, and not ${tree.levels.length} for ${n}.`, "certificate.levels");
   }

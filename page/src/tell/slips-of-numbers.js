@@ -2,11 +2,11 @@
 import { readNumber, stepsOf } from "../exact/decimals.js";
 import { lcm, Rational } from "../exact/rational.js";
 import { Inexact, writeJson } from "../exact/json.js";
+import { LIMITS, mostOf } from "../game/classes.js";
 import { withEscapes } from "../game/names.js";
 import { plural } from "../game/words.js";
 
-const MOST = 2n ** 40n;
-const MOST_SCALE = 65536n;
+const MOST = 2n ** BigInt(LIMITS.bits), MOST_SCALE = BigInt(LIMITS.denominator), MOST_VOTES = BigInt(LIMITS.votes);
 
 /** The common denominator of the numbers. `form` says whether the game is a table, whose numbers may be negative,
  * whether it has fractions, and whether it is a vote, which has none. */
@@ -28,7 +28,8 @@ export function numberSlips(tree, form, add) {
   if (Array.isArray(tree.sparse)) sparseSlips(tree, reader, add);
   else if ("sparse" in tree) add(3, "sparse is an array of pairs.", "game.sparse");
   if (reader.isFine && !form.isVote) {
-    add(5, "The numbers have no common denominator up to 65,536. Give fewer decimals.", "game");
+    const most = LIMITS.denominator.toLocaleString("en");
+    add(5, `The numbers have no common denominator up to ${most}. Give fewer decimals.`, "game");
   } else if (reader.scale > 1n && !reader.most.times(new Rational(reader.scale)).less(new Rational(MOST))) {
     add(5, `A number, times the common denominator ${reader.scale}, is 2^40 or more.`, "game");
   }
@@ -147,7 +148,7 @@ function memberOf(member, { names, players }, place, add) {
   }
   if (member instanceof Inexact) return add(7, `There is no player ${member.text.slice(0, 30)}.`, place), NaN;
   if (typeof member !== "bigint") return add(3, "A member is a number or a name.", place), NaN;
-  const most = typeof players === "bigint" ? players : 16n;
+  const most = typeof players === "bigint" ? players : BigInt(mostOf("table"));
   if (member < 1n || member > most) add(7, `There is no player ${member}.`, place);
   return Number(member);
 }
@@ -164,9 +165,9 @@ export function wholeSlips(tree, kind, add) {
 
 function voteSlips({ weights, quota }, add) {
   const votes = weights.reduce((total, item) => total + item, 0n);
-  if (votes > 1000n) {
+  if (votes > MOST_VOTES) {
     const advice = "Divide all by a common divisor.";
-    add(13, `The votes add to ${votes}, and the program takes 1,000. ${advice}`, "game.weights");
+    add(13, `The votes add to ${votes}, and the program takes ${LIMITS.votes.toLocaleString("en")}. ${advice}`, "game.weights");
   } else if (quota < 1n || quota > votes) {
     add(13, `The quota has to be from 1 to ${votes}, the votes of all.`, "game.quota");
   }

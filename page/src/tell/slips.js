@@ -1,24 +1,16 @@
 // What is wrong with a document: the number of a refusal, a sentence and a place each, in the order in which the
 // program tests. The first is that which the program names. Of later ones not all are found.
 import { countText } from "../exact/decimals.js";
-import { Inexact, isObject, JsonFault, parseJson } from "../exact/json.js";
+import { Inexact, isObject, JsonFault, readJson } from "../exact/json.js";
+import { CLASSES, COMMANDS, keysOf, LIMITS, mostOf } from "../game/classes.js";
 import { bytesOf, isOrAre, MANY, plural } from "../game/words.js";
 import { withEscapes } from "../game/names.js";
 import { whoseOf } from "./places.js";
 import { certificateSlips, shareSlips } from "./slips-of-evidence.js";
 import { numberSlips, wholeSlips } from "./slips-of-numbers.js";
 
-const TABLE = ["players", "worths", "sparse", "default"];
-const KEYS = {
-  table: TABLE, "cost-table": TABLE, airport: ["costs"], bankruptcy: ["claims", "estate"], tree: ["matrix"],
-  assignment: ["matrix"], market: ["matrix"], voting: ["weights", "quota"],
-};
-const COMMON = ["class", "names", "excess", "version"];
-const LISTS = { airport: ["costs", 64], bankruptcy: ["claims", 64], voting: ["weights", 32] };
-
-/** What the commands need beside the game. */
-const NEEDS = { check: ["answer", "certificate", "shares"], propose: ["shares"], kernel: ["shares"] };
-const MOST_BYTES = 2_097_152, MOST_TO_CHECK = 8_388_608; // of a document for a command
+const TABLE = CLASSES.table.keys, KEYS = keysOf("keys"), LISTS = keysOf("list");
+const COMMON = ["class", "names", "excess", "version"], MOST_NAME = LIMITS["bytes of a name"];
 
 /** The place of a refusal in the order in which the program tests: that of a quota, 13, behind an estate, 8. */
 const rankOf = ({ number }) => (number === 13 ? 8.5 : number);
@@ -26,21 +18,29 @@ const rankOf = ({ number }) => (number === 13 ? 8.5 : number);
 /** The slips of a document, a text or its bytes, for a command: {number, sentence, place}. Of parts that the command
  * doesn’t need none is told. */
 export function slipsOf(data, command = "") {
+  return slipsIn(data, command).slips;
+}
+
+/** The same, and the keys that stand twice in an object: {slips, doubles}. */
+export function slipsIn(data, command) {
   const slips = [], add = (number, sentence, place) => slips.push({ number, sentence, place });
-  const most = command === "check" ? MOST_TO_CHECK : MOST_BYTES, size = sizeOf(data);
-  if (command && size > most) {
+  const { needs = [], bytes: most = Infinity } = COMMANDS[command] ?? {}, size = sizeOf(data);
+  if (size > most) {
     add(1, `It has ${countText(size)} bytes, above ${countText(most)}. Leave out the blanks.`, "the document");
-    return slips;
+    return { slips, doubles: [] };
   }
+  let found = { doubles: [] };
   try {
-    const tree = parseJson(data);
-    documentSlips(tree, NEEDS[command] ?? [], slips, add);
+    found = readJson(data);
+    const { tree } = found;
+    documentSlips(tree, needs.filter((key) => key !== "game"), slips, add);
     for (const slip of slips) slip.place = whoseOf(slip.place, tree.game);
   } catch (fault) {
     if (!(fault instanceof JsonFault)) throw fault;
     add(2, ...notJson(fault, data));
   }
-  return slips.sort((one, other) => rankOf(one) - rankOf(other));
+  slips.sort((one, other) => rankOf(one) - rankOf(other));
+  return { slips, doubles: found.doubles };
 }
 
 function sizeOf(data) {
@@ -94,11 +94,11 @@ function gameSlips(tree, slips, add) {
   if (!isKnown) return add(3, classFault(kind), "game.class"), { n: 0, scale: 1n };
   strangeKeys(tree, [...COMMON, ...KEYS[kind]], "game.", add);
   keySlips(tree, kind, add);
-  const isTable = KEYS[kind] === TABLE;
+  const isTable = KEYS[kind].includes("players");
   const playersOf = isTable ? playersOfTable : kind in LISTS ? playersOfList : playersOfMatrix;
   const n = playersOf(tree, add);
   nameSlips(tree, n, add);
-  const form = { isTable, hasFractions: tree.version === 2n, isVote: kind === "voting" };
+  const form = { isTable, hasFractions: tree.version === 2n, isVote: Boolean(CLASSES[kind].whole) };
   const scale = numberSlips(tree, form, add);
   if (!slips.length) wholeSlips(tree, kind, add);
   return { n, scale };
@@ -113,7 +113,7 @@ function keySlips(tree, kind, add) {
   for (const key of KEYS[kind].filter((one) => !TABLE.slice(1).includes(one) && !(one in tree))) {
     add(3, `The key “${key}” is missing.`, "game");
   }
-  if (KEYS[kind] === TABLE) {
+  if (KEYS[kind].includes("players")) {
     if ("worths" in tree === "sparse" in tree) add(3, "A table has either worths or sparse.", "game");
     if ("default" in tree && "worths" in tree) add(3, "default goes with sparse alone.", "game.default");
   }
@@ -125,12 +125,13 @@ function keySlips(tree, kind, add) {
   }
 }
 
-function playersOfTable({ players, worths }, add) {
+function playersOfTable({ class: kind, players, worths }, add) {
   if (typeof players !== "bigint") {
     return add(players instanceof Inexact ? 4 : 3, "players is a whole number, without quotes.", "game.players"), 0;
   }
-  if (players < 1n || players > 16n) {
-    return add(4, `A table has 1 to 16 players, and not ${players}.`, "game.players"), 0;
+  const most = mostOf(kind);
+  if (players < 1n || players > BigInt(most)) {
+    return add(4, `A table has 1 to ${most} players, and not ${players}.`, "game.players"), 0;
   }
   const n = Number(players), count = 2 ** n - 1;
   if (Array.isArray(worths) && worths.length !== count) {
@@ -143,7 +144,7 @@ function playersOfTable({ players, worths }, add) {
 }
 
 function playersOfList(tree, add) {
-  const [key, most] = LISTS[tree.class];
+  const key = LISTS[tree.class], most = mostOf(tree.class);
   if (!Array.isArray(tree[key])) return 0;
   const n = tree[key].length;
   if (n < 1 || n > most) add(4, `${key} has 1 to ${most} items, and not ${n}.`, `game.${key}`);
@@ -155,7 +156,7 @@ function playersOfMatrix({ class: kind, matrix }, add) {
     return add(3, "The matrix is an array of rows.", "game.matrix"), 0;
   }
   const rows = matrix.length, columns = matrix[0]?.length ?? 0, n = kind === "tree" ? rows - 1 : rows + columns;
-  const isWithin = kind === "market" ? rows <= 32 && columns <= 32 : n >= 1 && n <= 16;
+  const { side = Infinity } = CLASSES[kind], isWithin = n >= 1 && n <= mostOf(kind) && rows <= side && columns <= side;
   if (rows < 1 || columns < 1 || !isWithin) {
     add(4, `A matrix of ${rows} rows and ${columns} columns is too large or too small.`, "game.matrix");
   }
@@ -174,7 +175,7 @@ function nameSlips({ names }, n, add) {
   names.forEach((name, i) => {
     const place = `game.names, item ${i + 1}`, shown = withEscapes(name.slice(0, 20));
     if (!name) add(6, "A name is empty.", place);
-    if (bytesOf(name) > 64) add(6, `The name “${shown}…” is longer than 64 bytes.`, place);
+    if (bytesOf(name) > MOST_NAME) add(6, `The name “${shown}…” is longer than ${MOST_NAME} bytes.`, place);
     if (names.indexOf(name) < i) add(6, `The name “${withEscapes(name)}” occurs twice.`, place);
   });
 }

@@ -4,7 +4,7 @@ import { Rational } from "../exact/rational.js";
 import { bars } from "../draw/bars.js";
 import { plan } from "../draw/plan.js";
 import { power, trades } from "../draw/ranges.js";
-import { START, tetrahedron } from "../draw/tetrahedron.js";
+import { START } from "../draw/tetrahedron.js";
 import { triangle } from "../draw/triangle.js";
 import { mayBeOfRounding } from "../cases/coarse.js";
 import { coarseText, dividedText } from "../tell/coarse-text.js";
@@ -19,6 +19,7 @@ import { pinnedNote, pinTools } from "./pinned.js";
 import { missingText } from "./questions.js";
 import { sealsOf } from "./seals.js";
 import { sharesTable } from "./shares-table.js";
+import { turningTetrahedron } from "./turning.js";
 import { typesTable } from "./types-table.js";
 
 /** All parts of an answer. `settings` are {rows, format, proposal, wide, source, coarse, typed, ask}, and of what the
@@ -117,7 +118,7 @@ function pictures({ game, bird }, points, { rows, format, wide, remark, source, 
   const narrow = seen.filter(({ key }) => !["core", "buyers", "sellers"].includes(key));
   const drawn = [bars(game, rows, narrow, { ...format, wide, remark }),
     game.n === 3 && triangle(game, seen, { wide }),
-    game.n === 4 && game.groups && tetrahedron(game, seen, { wide, view: turn })];
+    game.n === 4 && game.groups && turningTetrahedron(game, seen, { wide, view: turn })];
   return [bird && plan(game, bird.tree, { ...format, wide, source }), ...drawn].filter(Boolean);
 }
 

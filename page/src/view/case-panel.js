@@ -19,17 +19,17 @@ import { markChanged } from "./pinned.js";
 import { tableGrid } from "./table-grid.js";
 
 const MOST_FAULTS = 6;
+const GRIDS = { list: listGrid, market: marketGrid, network: networkGrid, table: tableGrid };
 const KEYS = { player: "Alt+Delete in a name removes the player.", row: "Alt+Delete in a row removes it." };
 
 /** `settings` are {mark, setEntry, notes, onReset, onUndo} and what the grids need. */
 export function casePanel(kind, typed, settings) {
   const sample = sampleLine(kind, typed, settings), change = settings.onChange;
   settings = { ...settings, onChange: (wait) => (refill(sample), change(wait)) };
-  const makeGrid = kind.isTable ? tableGrid : kind.isNetwork ? networkGrid : kind.isMarket ? marketGrid : listGrid;
   const { onReset, notes = [] } = settings;
   const undo = el("span"), offer = (before) => refill(undo, before && undoButton(before, settings));
   const remember = (what) => offer({ what, ...settings.snapshot() });
-  const grid = makeGrid(kind, typed, { ...settings, remember });
+  const grid = GRIDS[kind.grid](kind, typed, { ...settings, remember });
   offer(settings.before);
   const faults = el("div", { class: "faults", role: "status" }), made = el("div", { class: "made" });
   const coarse = el("div");

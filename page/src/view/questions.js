@@ -1,5 +1,6 @@
 // What the page asks the program about a game, and the answers in the order in which they come.
 import { Rational } from "../exact/rational.js";
+import { COMMANDS, mostFor } from "../game/classes.js";
 import { Facts } from "../game/facts.js";
 import { inProportion, remainingBenefits } from "../game/practice.js";
 import { ruleName } from "../tell/rule-names.js";
@@ -7,20 +8,12 @@ import { nameByRows } from "../tell/words.js";
 import { capital } from "../game/words.js";
 import { calculated } from "./calculated.js";
 
-/** The greatest numbers of players that the commands take, by class; README.md of the program has them all. */
-const LIMITS = {
-  nucleolus: { airport: 64, bankruptcy: 64, market: 0 },
-  shapley: { airport: 32, voting: 32, market: 0 },
-  propose: { airport: 64, bankruptcy: 64, voting: 32, market: 0 },
-  convex: { market: 0 },
-  kernel: { market: 0 },
-};
-const MOST_PER_HEAD = 8, MOST_HELD = 12;
+const MOST_PER_HEAD = COMMANDS.nucleolus["per head"], MOST_HELD = 12;
 /** The columns that the page itself calculates. */
 export const CALCULATED = ["proportion", "agencies"];
 
 export function takes(question, game) {
-  return game.n <= (LIMITS[question][game.kind] ?? 16);
+  return game.n <= mostFor(question, game.kind);
 }
 
 /** What isn't there of a runway of many landings, and up to how many it is. */

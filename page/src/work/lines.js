@@ -1,7 +1,8 @@
 // A line that came from others: what it says, and whether it is of the agreed game.
 import { Rational } from "../exact/rational.js";
-import { doubleKeys, isObject, JsonFault, parseJson, writeJson } from "../exact/json.js";
+import { isObject, JsonFault, readJson, writeJson } from "../exact/json.js";
 import { factsOf } from "../game/facts.js";
+import { CLASSES, mostOf } from "../game/classes.js";
 import { Game } from "../game/game.js";
 import { remarksOf, withEscapes } from "../game/names.js";
 import { UNSAID } from "../game/same-worths.js";
@@ -68,10 +69,10 @@ function aboutFile({ fault, tree, game }) {
 
 function lineOf(text) {
   try {
-    const tree = parseJson(text);
+    const { tree, doubles } = readJson(text);
     if (!isObject(tree)) return { fault: "It isn’t an object, as a line is." };
-    if ("refused" in tree) return { fault: `The program refused a document. ${refusalText(tree, "{}", "").sentence}` };
-    return { ...partsOf(tree), doubles: doubleKeys(text) };
+    if ("refused" in tree) return { fault: `The program refused a document. ${refusalText(tree).sentence}` };
+    return { ...partsOf(tree), doubles: doubles.map(({ key }) => key) };
   } catch (fault) {
     if (!(fault instanceof JsonFault)) throw fault;
     const place = `in line ${fault.line}, column ${fault.column}`;
@@ -95,11 +96,11 @@ function partsOf(tree) {
 
 /** The game of a tree that nobody has tested yet; null where it isn’t one. */
 function gameOf(tree) {
-  const isLarge = "players" in tree && !(typeof tree.players === "bigint" && tree.players <= 16n);
-  if (isLarge || tree.matrix?.length > 33 || tree.matrix?.[0]?.length > 33) return null;
+  const isLarge = "players" in tree && !(typeof tree.players === "bigint" && tree.players <= mostOf("table"));
+  if (isLarge || [tree.matrix, tree.matrix?.[0]].some((line) => line?.length > CLASSES.market.side + 1)) return null;
   try {
     const game = new Game(tree), areNames = (names) => names.every((name) => typeof name === "string");
-    if (game.kind === "assignment" && game.n > 16) return null;
+    if (game.kind === "assignment" && game.n > mostOf("assignment")) return null;
     const isWhole = Array.isArray(game.names) && game.names.length === game.n && areNames(game.names);
     return isWhole && factsOf(game) ? game : null;
   } catch {

@@ -3,6 +3,7 @@
 // of the costs are the Shapley shares (`shapley_is_by_step`; Littlechild and Owen 1973). The program takes 64 landings,
 // and 32 for Shapley. Nobody has proved what stands here; up to there it is compared with the program.
 import { Rational, ZERO } from "../exact/rational.js";
+import { mostFor } from "../game/classes.js";
 
 /** Each cost of rows {cost, count}, from the least, with the place of the last landing that has it. */
 function placesOf(rows) {
@@ -45,7 +46,7 @@ export function shapleyOf(rows) {
   return rows.map(({ cost }) => shares.get(String(cost)));
 }
 
-const MOST = { nucleolus: 64, shapley: 32 }; // landings that the program takes
+const MOST = { nucleolus: mostFor("nucleolus", "airport"), shapley: mostFor("shapley", "airport") }; // landings
 
 /** What the program doesn't answer of rows {cost, count} with their labels, as texts; null where it
  * answers all. `isAll` tells that it answers nothing. */

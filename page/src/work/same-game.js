@@ -2,6 +2,7 @@
 import { Rational } from "../exact/rational.js";
 import { countText, shortText } from "../exact/decimals.js";
 import { firstDifference, Inexact, isObject, writeJson } from "../exact/json.js";
+import { keysOf } from "../game/classes.js";
 import { membersOf } from "../game/groups.js";
 import { differenceOf, shownName, withEscapes } from "../game/names.js";
 import { ANOTHER, areKnownWorthTheSame, firstOther, SAME, UNSAID, WORTH_THE_SAME } from "../game/same-worths.js";
@@ -10,8 +11,8 @@ import { capital } from "../game/words.js";
 
 const MOST_TOLD = 10, MOST_LISTED = 300;
 const MOST_EXPONENT = 400;
-const LISTS = { airport: "costs", bankruptcy: "claims", voting: "weights" };
-const SINGLES = { bankruptcy: ["estate", "the estate"], voting: ["quota", "the quota"] };
+const LISTS = keysOf("list");
+const SINGLES = Object.fromEntries(Object.entries(keysOf("single")).map(([kind, key]) => [kind, [key, `the ${key}`]]));
 const MEASURES = { plain: "“as a whole”", "per-head": "“per head”" };
 
 /** What a rule may look at beside the worths of groups. */

@@ -3,9 +3,10 @@ import { lcm, Rational } from "../exact/rational.js";
 import { cellNumber, typedText } from "../exact/decimals.js";
 import { onlyMark } from "../exact/marks.js";
 import { groupLabel, packed, unpacked } from "../cases/tables.js";
+import { LIMITS } from "../game/classes.js";
 import { plural } from "../game/words.js";
 
-const MOST_SCALE = 65536n;
+const MOST_SCALE = BigInt(LIMITS.denominator);
 const MOST_NAMED = 300; // groups that are named
 
 /** Fills the empty groups of a table, and anew those that were `filled` before (`again` only these, so that a cell may

@@ -3,6 +3,7 @@ import json
 import os
 import random
 import subprocess
+import sys
 from collections.abc import Iterator
 from importlib.machinery import SourceFileLoader
 from importlib.util import module_from_spec, spec_from_loader
@@ -10,11 +11,15 @@ from types import ModuleType
 from typing import Any, NamedTuple
 
 TOP = os.path.realpath(os.path.join(os.path.dirname(os.path.abspath(__file__)), "..", "..", ".."))
-OF_GAMES = ("nucleolus", "prenucleolus", "core", "shapley", "bird", "convex", "matching")
-OF_SHARES = ("propose", "kernel")
-KINDS = ("table", "airport", "bankruptcy", "tree", "assignment")
-MOST = 2**40 - 1
-SHORT, LONG = 2097152, 8388608
+sys.path.insert(0, os.path.join(TOP, "python"))
+from coop.classes import COMMANDS, GENERATED, LIMITS
+
+OF_GAMES, OF_SHARES = (
+    tuple(command for command, row in COMMANDS.items() if row["needs"] == needs)
+    for needs in (["game"], ["game", "shares"])
+)
+MOST = 2 ** LIMITS["bits"] - 1
+SHORT, LONG = sorted({row["bytes"] for row in COMMANDS.values()})
 # Bytes of a document above which no limits of memory are tried.
 LONGEST_LIMITED = 100_000
 
@@ -244,7 +249,7 @@ def words_alone() -> Iterator[Run]:
     """Words that are no command, games from numbers, and a document where none is read."""
     game = text_of(game={"class": "airport", "costs": [2, 4, 6]})
     yield from (Run(words, game) for words in WORDS)
-    for kind in KINDS:
+    for kind in GENERATED:
         for players in (0, 1, 2, 3, 4, 5, 6, 7, 8, 9, 10, 12, 15, 16, 17, 63, 64, 65):
             for seed in (1, 4294967295):
                 yield Run(["gen", kind, str(players), str(seed)], b"")
