@@ -103,7 +103,7 @@ class Texts(unittest.TestCase):
 
     def test_a_document_of_8_mb(self) -> None:
         """Of a line as long as any there may be, and one that is longer."""
-        shares = ",".join(["1"] * 4_000_000)
+        shares = ",".join(['"12345678901/2147483647"'] * 320_000)
         long = f'{{"game":{{"class":"airport","costs":[1]}},"shares":[{shares}]}}'.encode()
         self.assertLess(len(long), 8 * 1024 * 1024)
         slip, twice = telling.slips(long, "check")
