@@ -30,7 +30,8 @@ FIRST_DAY = (1980, 1, 1, 0, 0, 0)  # the same bytes at each build
 
 DATA = {
     "runtime": (
-        "coop.mjs", "serve.mjs", "telling.mjs", "package.json", "engine/host.js", "engine/inside.js", "engine/ports.js",
+        "coop.mjs", "serve.mjs", "telling.mjs", "usage.txt", "package.json", "engine/host.js", "engine/inside.js",
+        "engine/ports.js",
     ),
     "page": ("coop.html", "package.json"),
     "scripts": ("check-anew",),
@@ -61,6 +62,7 @@ def stem() -> str:
 def metadata() -> str:
     """What pip keeps of the package, and an index shows."""
     lines = [f"Name: {field('name')}", f"Version: {version()}", f"Summary: {field('description')}"]
+    lines += [f"Author: {quoted('authors', 'name')}", f"License: {quoted('license', 'text')}"]
     lines += [f"Keywords: {','.join(keywords())}", f"Requires-Python: {field('requires-python')}"]
     with open(os.path.join(HERE, field("readme")), encoding="utf-8") as file:
         readme = file.read()
@@ -69,10 +71,22 @@ def metadata() -> str:
 
 def keywords() -> list[str]:
     """The keywords of pyproject.toml."""
+    return re.findall('"([^"]+)"', line_of("keywords"))
+
+
+def quoted(key: str, part: str) -> str:
+    """A text of pyproject.toml in braces, such as the name of the authors."""
+    found = re.search(f'{part} = "([^"]+)"', line_of(key))
+    assert found is not None, key
+    return found[1]
+
+
+def line_of(key: str) -> str:
+    """What pyproject.toml has at a key, in its line."""
     with open(os.path.join(HERE, "pyproject.toml"), encoding="utf-8") as file:
-        found = re.search(r"^keywords = \[(.*)\]$", file.read(), re.MULTILINE)
-    assert found is not None
-    return re.findall('"([^"]+)"', found[1])
+        found = re.search(rf"^{key} = (.*)$", file.read(), re.MULTILINE)
+    assert found is not None, key
+    return found[1]
 
 
 def folder_of(part: str) -> str:

@@ -89,6 +89,13 @@ class Game:
     def __repr__(self) -> str:
         return f"Game({self.tree!r})" if self.factor == 1 else f"Game({self.tree!r}, {self.factor})"
 
+    def __eq__(self, other: object) -> bool:
+        """Whether both have the same document, over the same factor."""
+        return isinstance(other, Game) and (self.tree, self.factor) == (other.tree, other.factor)
+
+    def __hash__(self) -> int:
+        return hash((self.kind, self.n, *self.names))
+
     def _repr_html_(self) -> str:
         """What a notebook shows."""
         text: str = shown.makers["game"](self)

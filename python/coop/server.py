@@ -129,6 +129,9 @@ class Server:
     def __reduce__(self) -> tuple[Any, ...]:
         return Server, (self.command, self.processes, self.seconds)
 
+    def __repr__(self) -> str:
+        return f"Server({self.command!r})"
+
     def run(
         self, words: Sequence[str], document: bytes, seconds: Optional[float] = None
     ) -> tuple[int, bytes]:
@@ -165,8 +168,8 @@ class Server:
             raise Fault(f"the module stopped: {line.decode('utf-8', 'replace')}", status)
         return status, line
 
-    def begun(self, seconds: Optional[float]) -> Worker:
-        """A new process, which has said that it is there."""
+    def begun(self, seconds: Optional[float], tries: int = 3) -> Worker:
+        """A new process, which has said that it is there. One that is killed meanwhile is begun again."""
         try:
             worker = Worker(self.command)
         except OSError as fault:
@@ -177,6 +180,8 @@ class Server:
             code = worker.stop()
             if worker.is_late:
                 raise Fault(f"{' '.join(self.command)} didn't begin in {seconds} s", TOO_LATE) from None
+            if code < 0 and tries > 1:
+                return self.begun(seconds, tries - 1)
             raise Fault(f"{' '.join(self.command)} ended with {code} when it began", code) from None
         except BaseException:
             worker.kill()

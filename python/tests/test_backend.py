@@ -58,6 +58,8 @@ class Built(unittest.TestCase):
             self.assertEqual(found[name], bytes_of(path), name)
         self.assertIn("coop/py.typed", found)
         self.assertIn(b"\n\n# coop\n", found[f"{info}/METADATA"])
+        self.assertIn(b"\nLicense: none yet: the owner of the project has not chosen one\n", found[f"{info}/METADATA"])
+        self.assertRegex(found[f"{info}/METADATA"], rb"\nAuthor: \w.*\nLicense")
 
     def test_the_archive(self) -> None:
         with tarfile.open(os.path.join(self.folder, backend.build_sdist(self.folder))) as archive:

@@ -8,6 +8,7 @@ from typing import Any, Optional
 from unittest.mock import patch
 
 import coop
+from coop import answers
 
 from .asking import needs_program
 
@@ -126,7 +127,16 @@ class Pandas(unittest.TestCase):
         names = ["a", "b", "c"]
         self.assertEqual(made[0], ([Fraction(1, 3)] * 3, names, "shapley", object))
         self.assertEqual(made[1], ([0.33, 0.33, 0.33], names, "shapley", float))
-        self.assertFalse(hasattr(coop.convex(THREE), "to_pandas"))
+
+    def test_what_has_no_shares(self) -> None:
+        """An empty Series, so that rows of all kinds make a data frame."""
+        made: list[Any] = []
+        series = types.SimpleNamespace(Series=lambda values, **more: made.append((values, *more.values())))
+        blocked = answers.Blocked("", 1, THREE, ("Ann",), Fraction(1))
+        with patch.dict(sys.modules, {"pandas": series}):
+            blocked.to_pandas()
+            coop.Failure(coop.Fault("no", 70)).to_pandas(places=2)
+        self.assertEqual(made, [([], [], "blocked", object), ([], [], "fault", float)])
 
 
 if __name__ == "__main__":

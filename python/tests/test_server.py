@@ -15,7 +15,7 @@ from typing import Optional
 import coop
 from coop.errors import Fault
 from coop.program import TOP, folder_of, which
-from coop.server import HEAD, Server
+from coop.server import HEAD, Server, processors
 
 NODE = which("node") or which("nodejs")
 COMMAND = [NODE or "", os.path.join(folder_of("runtime", "serve.mjs") or "", "serve.mjs")]
@@ -167,7 +167,8 @@ class Answers(unittest.TestCase):
             with self.assertRaises(coop.NoAnswer) as found:
                 command(game, program=self.server)
             fault, again = found.exception, pickle.loads(pickle.dumps(found.exception))
-            self.assertEqual((type(again), str(again), again.__dict__), (type(fault), str(fault), fault.__dict__))
+            parts = [{**one.__dict__, "find": None} for one in (again, fault)]  # a function isn't like its copy
+            self.assertEqual((type(again), str(again), parts[0]), (type(fault), str(fault), parts[1]))
 
 
 @needs_node
@@ -198,6 +199,33 @@ class Ends(unittest.TestCase):
         for command in (["/nowhere/node"], ["false"], [NODE or "", "/nowhere/serve.mjs"]):
             with self.assertRaises(Fault):
                 Server(command, 1).run(["core"], AIRPORT)
+
+    def test_a_start_that_is_late(self) -> None:
+        begun = time.monotonic()
+        with self.assertRaises(Fault) as found:
+            Server(["sleep", "30"], 1, seconds=0.3).run(["core"], AIRPORT)
+        self.assertEqual(found.exception.status, 124)
+        self.assertLess(time.monotonic() - begun, 20)
+
+    def test_killed_while_it_begins(self) -> None:
+        """It is begun again, unless it happens each time."""
+        with tempfile.TemporaryDirectory() as folder:
+            once = f"mkdir {folder}/once && kill -9 $$; exec {COMMAND[0]} {COMMAND[1]}"
+            server = Server(["sh", "-c", once], 1)
+            self.assertEqual(server.run(["core"], AIRPORT), (0, CORE))
+            server.close()
+        with self.assertRaises(Fault) as found:
+            Server(["sh", "-c", "kill -9 $$"], 1).run(["core"], AIRPORT)
+        self.assertEqual(found.exception.status, -9)
+
+    @unittest.skipUnless(hasattr(os, "sched_setaffinity"), "processes have no affinity")
+    def test_processors_that_may_be_used(self) -> None:
+        allowed = os.sched_getaffinity(0)
+        try:
+            os.sched_setaffinity(0, {min(allowed)})
+            self.assertEqual((processors(), Server(COMMAND).processes), (1, 1))
+        finally:
+            os.sched_setaffinity(0, allowed)
 
     def test_ends_again_and_again(self) -> None:
         with self.assertRaises(Fault) as found:
