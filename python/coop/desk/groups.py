@@ -4,7 +4,7 @@ from __future__ import annotations
 from typing import Iterable, Sequence
 
 from ..game import Game
-from ..masks import is_alone, members
+from ..masks import members
 from ..names import apart
 
 
