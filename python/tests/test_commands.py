@@ -56,7 +56,8 @@ class Scripts(unittest.TestCase):
 
     def test_what_is_too_large(self) -> None:
         """Of numbers and units, in a sentence."""
-        line = '{"answer":"nucleolus","game":{"class":"airport","costs":[2]},"shares":["%s"],"certificate":{"levels":[]}}'
+        game = '{"class":"airport","costs":[2]}'
+        line = f'{{"answer":"nucleolus","game":{game},"shares":["%s"],"certificate":{{"levels":[]}}}}'
         for share in ("1" * 4301, "1" * 401):
             for text in (line % share, (line % share).replace(f'"{share}"', share)):
                 for words in (["shares"], ["picture"], ["shares", "--csv"]):

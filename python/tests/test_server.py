@@ -109,7 +109,7 @@ class Answers(unittest.TestCase):
         self.assertEqual(self.server.run(["core"], AIRPORT), (0, CORE))
 
     def test_all_killed_before(self) -> None:
-        self.server.free += [self.server.begun() for _ in range(3)]
+        self.server.free += [self.server.begun(None) for _ in range(3)]
         for worker in self.server.free:
             os.kill(worker.process.pid, signal.SIGKILL)
         for _ in range(4):
