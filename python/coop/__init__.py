@@ -24,9 +24,9 @@ from .program import find
 from .version import VERSION as __version__
 
 MODULES = (  # fmt: skip
-    "airlines", "answers", "checking", "desk", "errors", "families", "far", "filling", "games", "names", "networks",
-    "program", "readers", "runways", "sensitivity", "server", "sheets", "styles", "telling", "variants", "vectors",
-    "versus", "votes",
+    "airlines", "answers", "checking", "desk", "doubt", "errors", "families", "far", "filling", "games", "names",
+    "networks", "program", "readers", "runways", "sensitivity", "server", "sheets", "solved", "styles", "telling",
+    "variants", "vectors", "versus", "votes",
 )
 """What is imported when it is first named."""
 

@@ -54,6 +54,18 @@ class Scripts(unittest.TestCase):
             ):
                 self.refused(script(name, *words, output=full), f"{name}: ")
 
+    def test_what_is_too_large(self) -> None:
+        """Of numbers and units, in a sentence."""
+        line = '{"answer":"nucleolus","game":{"class":"airport","costs":[2]},"shares":["%s"],"certificate":{"levels":[]}}'
+        for share in ("1" * 4301, "1" * 401):
+            for text in (line % share, (line % share).replace(f'"{share}"', share)):
+                for words in (["shares"], ["picture"], ["shares", "--csv"]):
+                    self.refused(script(*words, text=text), f"{words[0]}: ")
+        solved = os.path.join("examples", "airport-solved.json")
+        for words in (["shares", solved], ["report", solved], ["shares", "--csv", solved]):
+            self.refused(script(*words, "--unit", "\udcff"), "the unit has half of a character")
+        self.assertNotIn("\x1b", script("shares", solved, "--unit", "\x1b[31m")[1])
+
     def test_from_vector(self) -> None:
         status, text, errors = script("from-vector", "--order", "size", "--names", "a,b,c", text="0,0,0,6,2,2,12\n")
         self.assertEqual((status, errors), (0, ""))
