@@ -120,7 +120,8 @@ def require_bounds(low: Game, high: Game) -> None:
         if not isinstance(game, Game):
             raise BadInput(f"{type(game).__name__} isn't a game: make both, such as coop.cost_table({{..}})")
         if not game.is_table:
-            raise BadInput(f"a game of class {game.kind} has no numbers of groups: coop.variants.table_of_game makes one")
+            told = "coop.variants.table_of_game makes a table of it"
+            raise BadInput(f"a game of class {game.kind} has no numbers of groups: {told}")
     if low.kind != high.kind:
         raise BadInput("one game has costs, and the other worths")
     if low.names != high.names:
