@@ -112,6 +112,7 @@ async function twentyVoters(page, expect) {
   await told(page, "#answer .lead", /^S20 has most power, 9\.8/);
   expect("the page's own", await page.text("#answer .notice"),
     /the page itself counted[\s\S]*does NOT come from the proved/i);
+  await showExact(page);
   expect("what isn’t there", await page.text("#answer-body"), /no Banzhaf index, and no third condition/);
   await page.click("Keep this answer to compare");
   await told(page, ".beyond .pinned", /The shares are those of the kept answer/);
