@@ -1,6 +1,6 @@
-// What the readers in JavaScript say of documents: for tools/gate/fuzz-checkers and tools/gate/fuzz-same-game.
+// What the readers in JavaScript say of documents: for tools/gate/try-checkers and tools/gate/fuzz-same-game.
 //
-//     node tools/lib/fuzz_readers.mjs TOP
+//     node tools/lib/readers.mjs TOP
 //
 // A request is a line {"command", "bytes" in base64, "agreed"}; so is the answer: what the module of the page says
 // (status and line), the page's checker, the number of the first slip that the page finds, whether its look at lines ends
