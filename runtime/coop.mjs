@@ -2,28 +2,40 @@
 // coop as a command, by the module inside coop.html, on any system with Node 18 or later:
 //
 //     node runtime/coop.mjs COMMAND < DOCUMENT
+//     node runtime/coop.mjs COMMAND FILE
 //
-// It prints the program's line and ends with the program's status; or with 70, and says why, where there is no answer
-// since a file is missing or the module stops. docs/page.md says what is trusted. --version, which is no word of the
-// program, prints the version that the page names.
+// It prints the program's line and ends with the program's status; or with 70, and says why, if there is no answer since
+// a file is missing or the module stops. Standard error has a sentence if the words are wrong. docs/page.md says what is
+// trusted. These words are none of the program: FILE, --version, which prints the version that the page names, and --help.
 const REFUSED = 3;
+const USAGE = 2;
 // No status of the program. Nor does a broken page end with 1, which is an answer.
 const NO_ANSWER = 70;
+const MOST_SHOWN = 60; // letters of a word
 
-function input({ MOST, needInput, readTo }) {
-  needInput();
-  const bytes = Buffer.alloc(MOST);
-  let count = 0;
-  for (let more; count < MOST && (more = readTo(bytes, count)) > 0; ) count += more;
-  return bytes.subarray(0, count);
-}
-
+/** The answer to the words, and what is wrong with them, if something is. */
 function answer(words, coop, ports) {
-  const module = ports.pageModule();
+  const module = ports.pageModule(), none = new Uint8Array(0);
   // A command on a document refuses an empty one, and nothing else ends so: only such a command reads.
   // So no list of the commands is needed.
-  const first = coop(module, words, new Uint8Array(0));
-  return first.status === REFUSED ? coop(module, words, input(ports)) : first;
+  const reads = (typed) => coop(module, typed, none);
+  const first = reads(words), [command, file] = words;
+  if (first.status === REFUSED) return coop(module, words, ports.documentOf(0));
+  if (first.status !== USAGE) return first;
+  const isFile = words.length === 2 && reads([command]).status === REFUSED;
+  if (isFile && ports.isThere(file)) return coop(module, [command], ports.documentOf(ports.opened(file)));
+  return { ...first, fault: isFile ? `there is no file ${shown(file)}` : faultOf(words, first.line) };
+}
+
+/** What is wrong with words that the program doesn't know. */
+function faultOf(words, line) {
+  if (!Buffer.from(line).includes("words")) return "";
+  const told = words.length ? `${shown(words.join(" "))} is no command` : "which command?";
+  return `${told} (coop --help lists them)`;
+}
+
+function shown(text) {
+  return JSON.stringify(text.length > MOST_SHOWN ? `${text.slice(0, MOST_SHOWN)}..` : text);
 }
 
 async function version() {
@@ -34,16 +46,21 @@ async function version() {
   return Buffer.from(`coop ${found[1]}, answered by runtime/coop.mjs under Node ${process.version}\n`);
 }
 
-async function main() {
+/** What the wrapper itself says to some words, or null. */
+async function ownWords([word, ...more]) {
+  if (more.length) return null;
+  if (word === "--version") return version();
+  if (word !== "--help" && word !== "-h") return null;
+  const { readFileSync } = await import("node:fs");
+  return readFileSync(new URL("usage.txt", import.meta.url));
+}
+
+async function main(words) {
   try {
     const [ports, { coop }] = await Promise.all([import("./engine/ports.js"), import("./engine/host.js")]);
-    if (process.argv.length === 3 && process.argv[2] === "--version") {
-      ports.needOutput();
-      ports.print(await version());
-      return 0;
-    }
-    const { status, line } = answer(process.argv.slice(2), coop, ports);
-    ports.needOutput();
+    const own = await ownWords(words);
+    const { status, line, fault } = own ? { status: 0, line: own } : answer(words, coop, ports);
+    if (fault) console.error(`coop: ${fault}`);
     ports.print(line);
     return status;
   } catch (fault) {
@@ -53,4 +70,4 @@ async function main() {
   }
 }
 
-process.exit(await main());
+process.exit(await main(process.argv.slice(2)));

@@ -15,14 +15,17 @@
 // line says why. The first answer comes before any request, has the status 0 and no line, and says that the module is
 // there.
 //
-// The process ends with 0 if the input ends between two requests, 2 if the options are none of the above, 5 if the
-// input ends within a request, has one that is too long, or can't be read, 6 if an answer can't be written, and 70 if a
-// file of the page is missing or the module can't be compiled. SIGINT doesn't end it, unless --lines is there.
+// The process ends with 0 if the input ends between two requests, 2 if the options are none of the above or a word after
+// --lines is no command on a document, 5 if the input ends within a request, has one that is too long, or can't be read, 6
+// if an answer can't be written, and 70 if a file of the page is missing or the module can't be compiled. SIGINT doesn't
+// end it, unless --lines is there.
 const MOST_WORDS = 64 * 1024;
+const MOST_TOLD = 32 * 1024 * 1024; // bytes of a request, which may be several documents
 const CHUNK = 64 * 1024;
 const HEAD = 8; // bytes of the two numbers
 const NEWLINE = 10;
 const USAGE = 2;
+const REFUSED = 3;
 const WRITE_FAULT = 6;
 const OUT_OF_MEMORY = 7;
 const NO_ANSWER = 70;
@@ -35,7 +38,6 @@ class Input {
   #to = 0;
 
   constructor(ports) {
-    ports.needInput();
     this.#ports = ports;
   }
 
@@ -96,13 +98,13 @@ function requestOf(input, { MOST, READ_FAULT, PortFault }) {
   const head = input.take(HEAD);
   if (head === null && input.left === 0) return null;
   const [words, document] = head ? [head.readUInt32LE(0), head.readUInt32LE(4)] : [0, 0];
-  if (words > MOST_WORDS || document > MOST) {
+  if (words > MOST_WORDS || document > MOST_TOLD) {
     throw new PortFault(READ_FAULT, `a request of ${words} and ${document} bytes`);
   }
   const all = head && input.take(words + document);
   if (!all) throw new PortFault(READ_FAULT, "the input ends within a request");
-  const typed = all.subarray(0, words).toString("utf8");
-  return { words: words ? typed.split("\0") : [], document: all.subarray(words) };
+  const typed = all.subarray(0, words).toString("utf8").split("\0"), rest = all.subarray(words);
+  return { words: words ? typed : [], document: typed[0] === "tell" ? rest : rest.subarray(0, MOST) };
 }
 
 /** An answer as a frame. */
@@ -150,10 +152,17 @@ function serveLines(engine, ports, commands) {
 
 async function serve(commands) {
   const [ports, { Engine }] = await Promise.all([import("./engine/ports.js"), import("./engine/host.js")]);
-  ports.needOutput();
   const engine = new Engine(ports.pageModule());
+  const wrong = commands?.find((command) => !reads(engine, command));
+  if (wrong !== undefined) return `${JSON.stringify(wrong.slice(0, 60))} is no command on a document`;
   if (commands) serveLines(engine, ports, commands);
   else await serveFrames(engine, ports);
+  return "";
+}
+
+/** Whether a word is a command on a document: it refuses an empty one, and nothing else ends so. */
+function reads(engine, command) {
+  return engine.run([command], new Uint8Array(0)).status === REFUSED;
 }
 
 async function main([option, commands, ...more]) {
@@ -162,8 +171,9 @@ async function main([option, commands, ...more]) {
     return USAGE;
   }
   try {
-    await serve(commands?.split(","));
-    return 0;
+    const wrong = await serve(commands?.split(","));
+    if (wrong) console.error(`coop: ${wrong}`);
+    return wrong ? USAGE : 0;
   } catch (fault) {
     if (fault.status !== WRITE_FAULT) console.error(`coop: no answer: ${fault.message}`);
     return fault.name === "PortFault" ? fault.status : NO_ANSWER;

@@ -1,43 +1,96 @@
 // What the page tells of documents, for a program that asks serve.mjs: by the page's own modules, and not by the proved
 // program.
 //
-//     tell explain [SETTINGS]    a line of nucleolus or prenucleolus whose certificate was checked, in sentences
-//     tell same                  two texts, {"line": TEXT, "agreed": TEXT}: what the two games are to each other
-//     tell slip COMMAND          a document: the first refusal of a command, and the first key that is given twice
+//     tell line [SETTINGS]       LINE DOCUMENT VERDICT, in sentences: the document that was asked about gives names and
+//                                numbers to a line that has no game, and the verdict is the line of a checker on a
+//                                certificate; both may be empty
+//     tell report [SETTINGS]     LINE PRINTED ABOUT, a line whose certificate was checked as a paper of HTML
+//     tell picture [SETTINGS]    GAME ABOUT, shares as an SVG
+//     tell same                  LINE AGREED, what the two games are to each other
+//     tell slip COMMAND          a document, the first refusal of a command, and the first key that is given twice
 //
-// SETTINGS are JSON: {"places": N, "unit": TEXT, "mark": TEXT, "thousands": TEXT}, how numbers are spelled. The line
-// has JSON, and the status is 0; of `same` 1 for another game, 2 where nobody can say, 3 where it is worth the same; of
-// `slip` 1 where one is found.
-import { doublesIn, JsonFault, parseJson } from "../page/src/exact/json.js";
+// Several texts have a zero byte between each two. What ABOUT may have, report.mjs and picture.mjs say.
+// SETTINGS are JSON: {"places": N, "unit": TEXT, "mark": TEXT, "thousands": TEXT}, how numbers are spelled. The answer
+// is JSON, and the status is 0; of `same` 1 for another game, 2 where nobody can say, 3 where it is worth the same; of
+// `slip` 1 where one is found; and 2 with {"fault": SENTENCE} for what can't be told.
+import { JsonFault, parseJson } from "../page/src/exact/json.js";
 import { spoken } from "../page/src/exact/marks.js";
+import { Rational } from "../page/src/exact/rational.js";
 import { Game } from "../page/src/game/game.js";
 import { ANOTHER, SAME, UNSAID, WORTH_THE_SAME } from "../page/src/game/same-worths.js";
 import { withEscapes } from "../page/src/game/names.js";
+import { answerTold, columnTexts, sharesTold, Untold } from "../page/src/tell/answers.js";
+import { failureTold } from "../page/src/tell/conditions.js";
 import { explain } from "../page/src/tell/explain.js";
 import { REFUSALS, refusalText } from "../page/src/tell/refusals.js";
-import { slipsOf } from "../page/src/tell/slips.js";
+import { slipsIn } from "../page/src/tell/slips.js";
+import { Namer } from "../page/src/tell/words.js";
 import { compared } from "../page/src/work/lines.js";
 import { entriesOf } from "../page/src/work/same-game.js";
+import { picture } from "./picture.mjs";
+import { report } from "./report.mjs";
 
 const PLAIN = { mark: ".", thousands: ",", places: null, unit: "" };
 const STATUS = { [SAME]: 0, [ANOTHER]: 1, [UNSAID]: 2, [WORTH_THE_SAME]: 3 };
-const TASKS = { explain: explained, same, slip };
+const TASKS = { line: lineTold, report: reportTold, picture: pictureTold, same, slip };
+const CANT = 2;
 
 /** What the words after `tell` ask of the bytes of a document: a status, and the bytes of some JSON. */
-export function told(engine, [task, ...words], document) {
-  Object.assign(spoken, PLAIN);
-  const { status = 0, ...found } = TASKS[task](engine, document, ...words);
+export function told(engine, [task, setting, ...more], document) {
+  if (!Object.hasOwn(TASKS, task) || more.length) return bytesOf({ status: CANT, fault: "there is no such word" });
+  Object.assign(spoken, PLAIN, task === "slip" ? {} : JSON.parse(setting ?? "{}"));
+  try {
+    return bytesOf(TASKS[task](engine, document, setting));
+  } catch (fault) {
+    if (fault instanceof Untold) return bytesOf({ status: CANT, fault: fault.message });
+    const isWrong = [JsonFault, TypeError, SyntaxError].some((kind) => fault instanceof kind);
+    if (!isWrong && !/by zero/.test(fault.message)) throw fault;
+    return bytesOf({ status: CANT, fault: `this isn’t a whole document or line: ${fault.message}` });
+  }
+}
+
+function bytesOf({ status = 0, ...found }) {
   return { status, line: Buffer.from(`${JSON.stringify(found)}\n`) };
 }
 
-function explained(_, document, settings = "{}") {
-  Object.assign(spoken, JSON.parse(settings));
-  const line = parseJson(document);
-  return { parts: explain(new Game(line.game), line) };
+/** The texts of a request. */
+const textsOf = (document) => Buffer.from(document).toString("utf8").split("\0");
+
+function sharesOf(tree) {
+  return Array.isArray(tree?.shares) ? tree.shares.map(Rational.of) : null;
+}
+
+/** Any line but a refusal. */
+function lineTold(_, data) {
+  const [line, document, verdict] = textsOf(data), tree = parseJson(line), beside = document && parseJson(document);
+  const of = beside || tree, game = of.game ? new Game(of.game) : null;
+  const failed = verdict ? parseJson(verdict) : tree;
+  if (failed.answer === "no") return { parts: [{ sentences: failureTold(failed, game, of), items: [] }] };
+  if (!verdict) return { parts: answerTold(tree, game, beside && sharesOf(beside)) };
+  return { parts: [...explain(game, tree), allShares(game, sharesOf(tree))] };
+}
+
+/** Who gets how much, as the last part of an explanation. */
+function allShares(game, shares) {
+  const parts = sharesTold(shares, new Namer(game)), whole = columnTexts(shares).at(-1);
+  const sentence = `They ${game.costs ? "pay" : "get"}: ${parts.join(game.n > 12 ? "; " : ", ")}. Together: ${whole}.`;
+  return { sentences: [sentence], items: [] };
+}
+
+function reportTold(_, data) {
+  const [line, printed, about] = textsOf(data), tree = parseJson(line), game = new Game(tree.game);
+  const found = { game, answer: tree.answer, shares: sharesOf(tree), parts: explain(game, tree) };
+  return { html: report({ ...found, printed, ...JSON.parse(about) }) };
+}
+
+function pictureTold(_, data) {
+  const [game, about] = textsOf(data), { points, ...settings } = JSON.parse(about);
+  const named = points.map(([title, shares]) => ({ title, shares: shares.map(Rational.of) }));
+  return { svg: picture(new Game(parseJson(game)), named, settings) };
 }
 
 function same(engine, document) {
-  const { line, agreed } = JSON.parse(Buffer.from(document).toString("utf8"));
+  const [line, agreed] = textsOf(document);
   const found = compared(line, agreed, (word, text) => answer(engine, word, text));
   const entries = found.outcome === SAME ? entriesOf(parseJson(line).game) : [];
   return { ...found, entries, status: STATUS[found.outcome] };
@@ -51,18 +104,10 @@ function answer(engine, word, document) {
 }
 
 function slip(_, document, command) {
-  const [first] = slipsOf(document, command), twice = twiceIn(document);
-  const told = first && { place: "the document", ...first, name: REFUSALS[first.number] };
-  return { slip: told, twice, status: told || twice ? 1 : 0 };
-}
-
-/** The first key that stands twice; none in what is no JSON. */
-function twiceIn(document) {
-  try {
-    const [first] = doublesIn(document);
-    return first && { key: withEscapes(first.key), place: withEscapes(first.place) };
-  } catch (fault) {
-    if (fault instanceof JsonFault) return undefined;
-    throw fault;
-  }
+  const { slips: [first], doubles: [twice] } = slipsIn(document, command);
+  return {
+    slip: first && { place: "the document", ...first, name: REFUSALS[first.number] },
+    twice: twice && { key: withEscapes(twice.key), place: withEscapes(twice.place) },
+    status: first || twice ? 1 : 0,
+  };
 }

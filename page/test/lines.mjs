@@ -21,6 +21,14 @@ function expect(what, found, wanted) {
   console.log(`${what}: found ${JSON.stringify(found)}, wanted ${wanted}`);
 }
 
+// ---- A line of a refusal, which comes without its document
+
+const OF_REFUSALS = [[3, "Shape", "the form that the program reads"], [5, "Number", "one of the numbers"]];
+for (const [number, name, wanted] of OF_REFUSALS) {
+  const { fault } = lookAtLine({ line: `{"number":${number},"refused":"${name}"}`, agreed: "" }, ask);
+  expect(`a refusal ${number}`, fault.includes(wanted) && !fault.includes("missing"), true);
+}
+
 // ---- Is it the agreed game?
 
 const names = '"names":["Adler","Brandt","Chopra"]';

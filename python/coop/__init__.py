@@ -16,14 +16,18 @@ from . import shown
 from .answers import Answer, Bird, Blocked, Convex, CorePoint, EmptyCore, InCore, InPrekernel, Matching, No
 from .answers import NoImputation, NotConvex, NotEfficient, NotInPrekernel, Nucleolus, Shapley, Yes
 from .calls import bird, check, convex, core, kernel, least_core, matching, nucleolus, prenucleolus, propose, shapley
-from .errors import BadInput, CoopError, Fault, Lost, NoAnswer, NoMemory, NotFound, Refused, Usage
+from .errors import BadInput, CoopError, Failure, Fault, Lost, NoAnswer, NoMemory, NotFound, Refused, Usage
 from .game import Game
 from .games import airport, assignment, bankruptcy, cost_table, landings, market, table, table_of, tree, voting
 from .many import many
 from .program import find
 from .version import VERSION as __version__
 
-MODULES = ("airlines", "desk", "far", "filling", "networks", "readers", "runways", "telling", "variants", "vectors")
+MODULES = (  # fmt: skip
+    "airlines", "answers", "checking", "desk", "doubt", "errors", "families", "far", "filling", "games", "names",
+    "networks", "program", "readers", "runways", "sensitivity", "server", "sheets", "solved", "styles", "telling",
+    "variants", "vectors", "versus", "votes",
+)
 """What is imported when it is first named."""
 
 
@@ -42,55 +46,10 @@ def _of_desk(name: str) -> Any:
 shown.makers.update(game=_of_desk("of_game"), answer=_of_desk("of_answer"), series=_of_desk("series"))
 
 __all__ = [  # fmt: skip
-    "__version__",
-    "Answer",
-    "BadInput",
-    "Bird",
-    "Blocked",
-    "Convex",
-    "CoopError",
-    "CorePoint",
-    "EmptyCore",
-    "Fault",
-    "Game",
-    "InCore",
-    "InPrekernel",
-    "Lost",
-    "Matching",
-    "No",
-    "NoAnswer",
-    "NoImputation",
-    "NoMemory",
-    "NotConvex",
-    "NotEfficient",
-    "NotFound",
-    "NotInPrekernel",
-    "Nucleolus",
-    "Refused",
-    "Shapley",
-    "Usage",
-    "Yes",
-    "airport",
-    "assignment",
-    "bankruptcy",
-    "bird",
-    "check",
-    "convex",
-    "core",
-    "cost_table",
-    "find",
-    "kernel",
-    "landings",
-    "least_core",
-    "many",
-    "market",
-    "matching",
-    "nucleolus",
-    "prenucleolus",
-    "propose",
-    "shapley",
-    "table",
-    "table_of",
-    "tree",
-    "voting",
+    "__version__", "Answer", "BadInput", "Bird", "Blocked", "Convex", "CoopError", "CorePoint", "EmptyCore",
+    "Failure", "Fault", "Game", "InCore", "InPrekernel", "Lost", "Matching", "No", "NoAnswer", "NoImputation",
+    "NoMemory", "NotConvex", "NotEfficient", "NotFound", "NotInPrekernel", "Nucleolus", "Refused", "Shapley", "Usage",
+    "Yes", "airport", "assignment", "bankruptcy", "bird", "check", "convex", "core", "cost_table", "find", "kernel",
+    "landings", "least_core", "many", "market", "matching", "nucleolus", "prenucleolus", "propose", "shapley",
+    "table", "table_of", "tree", "voting",
 ]

@@ -1,26 +1,25 @@
-"""The package as a command: python -m coop COMMAND < DOCUMENT, or python -m coop page.
+"""The package as a command: python -m coop COMMAND < DOCUMENT, python -m coop COMMAND FILE, or python -m coop page.
 
-The first prints the program's line and ends with the program's status; or with 70, and says why, if there is no program
-or it can't answer. The second opens the page in a browser, and prints where it is. --version
-prints the version and what answers.
+The first two print the program's line and end with the program's status; or with 70, and say why, if there is no
+program or it can't answer. If the words are wrong, standard error has a sentence. The third opens the page in a
+browser, and prints where it is. --version prints the version and what answers; --help lists the commands.
 """
 from __future__ import annotations
 
+import json
 import os
 import sys
-from typing import Sequence
+from typing import Optional, Sequence, TextIO
 
 from .classes import COMMANDS
 from .errors import CoopError, NoAnswer, NotFound
-from .program import find, page_folder, said
+from .program import find, folder_of, page_folder, said
 from .version import VERSION
 
 MOST = max(row["bytes"] for row in COMMANDS.values()) + 1  # bytes of a document, one more than any may have
-REFUSED, READ_FAULT, WRITE_FAULT, NO_ANSWER = 3, 5, 6, 70
-USAGE = """usage: python -m coop COMMAND < DOCUMENT
-       python -m coop page
-COMMAND is WORDS, or gen KIND N SEED.
-docs/formats.md of the project describes the documents."""
+MOST_SHOWN = 60  # letters of a word
+USAGE, REFUSED, READ_FAULT, WRITE_FAULT, NO_ANSWER = 2, 3, 5, 6, 70
+HINT = "type or paste the document, then Ctrl-D; or give a file: coop COMMAND FILE"
 
 
 def answer(words: Sequence[str]) -> tuple[int, bytes]:
@@ -30,11 +29,56 @@ def answer(words: Sequence[str]) -> tuple[int, bytes]:
     first = program.run(words, b"")
     if first[0] != REFUSED:
         return first
+    if is_terminal(sys.stdin) and is_terminal(sys.stderr):
+        say(HINT)
     try:
         document = sys.stdin.buffer.read(MOST)
     except (OSError, AttributeError):  # it is closed
         return READ_FAULT, b""
     return program.run(words, document)
+
+
+def answer_to_file(command: str, path: str) -> tuple[int, bytes]:
+    """The status and the line of the program, on the document of a file."""
+    try:
+        with open(path, "rb") as file:
+            document = file.read(MOST)
+    except OSError as fault:
+        say(f"can't read {path}: {fault.strerror}")
+        return READ_FAULT, b""
+    return find().run([command], document)
+
+
+def is_terminal(port: Optional[TextIO]) -> bool:
+    """Whether people type at a port, or read it."""
+    return port is not None and port.isatty()
+
+
+def say(sentence: str) -> None:
+    """A sentence on standard error."""
+    print(f"coop: {sentence}", file=sys.stderr)
+
+
+def fault_of(words: Sequence[str]) -> str:
+    """What is wrong with words that the program doesn't know."""
+    if len(words) == 2 and words[0] in COMMANDS:
+        return f"there is no file {shown(words[1])}"
+    told = f"{shown(' '.join(words))} is no command" if words else "which command?"
+    return f"{told} (coop --help lists them)"
+
+
+def shown(text: str) -> str:
+    """The first letters of a text, with escapes."""
+    return json.dumps(text if len(text) <= MOST_SHOWN else f"{text[:MOST_SHOWN]}..")
+
+
+def usage() -> str:
+    """What may be typed."""
+    folder = folder_of("runtime", "usage.txt")
+    if folder is None:
+        raise NotFound("the list of the commands is missing: install the package again")
+    with open(os.path.join(folder, "usage.txt"), encoding="utf-8") as file:
+        return f"{file.read()}coop page opens the page in a browser. Here coop is python -m coop."
 
 
 def show_page() -> int:
@@ -66,9 +110,13 @@ def run(words: Sequence[str]) -> int:
     if list(words) == ["--version"]:
         print(f"coop {VERSION}, answered by {found()}")
         return 0
-    if not words or words[0] in ("help", "-h", "--help"):
-        print(USAGE.replace("WORDS", ", ".join(COMMANDS)), file=sys.stderr)
-    status, line = answer(words)
+    if list(words) in (["--help"], ["-h"]):
+        print(usage())
+        return 0
+    is_file = len(words) == 2 and words[0] in COMMANDS and os.path.exists(words[1])
+    status, line = answer_to_file(*words) if is_file else answer(words)
+    if status == USAGE and b"words" in line:
+        say(fault_of(words))
     return status if printed(line) else WRITE_FAULT
 
 

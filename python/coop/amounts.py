@@ -8,8 +8,9 @@ import re
 from decimal import Decimal
 from fractions import Fraction
 from math import gcd
+from numbers import Real
 from operator import index
-from typing import Iterable, Optional, Union
+from typing import Any, Iterable, Optional, Union
 
 from .classes import LIMITS
 from .errors import BadInput
@@ -57,7 +58,8 @@ def plain(value: Amount) -> Amount:
         if not isinstance(value, bool):
             return index(value)
     except TypeError:
-        pass
+        if isinstance(value, Real):  # a float of fewer bits
+            return float(value)
     raise BadInput(f"{str(value)[:40]!r} isn't a number")
 
 
@@ -70,11 +72,26 @@ def fractions_of(values: Iterable[Amount], digits: Optional[int] = None) -> list
     """The exact values of a list. A text is none, though it has letters one after the other."""
     if isinstance(values, (str, bytes)):
         raise BadInput(f"{values[:40]!r} is a text, not a list of numbers")
+    require_one_dimension(values)
     try:
         items = list(values)
     except TypeError:
         raise BadInput(f"{str(values)[:40]!r} isn't a list of numbers") from None
     return [fraction_of(value, digits) for value in items]
+
+
+def named_items(values: Any) -> Optional[list[tuple[Any, Any]]]:
+    """Returns the names and the values of a mapping, or of a Series of pandas, whose labels are its names; None if the
+    values have no names. Refuses a data frame."""
+    require_one_dimension(values)
+    return list(values.items()) if hasattr(values, "keys") and hasattr(values, "items") else None
+
+
+def require_one_dimension(values: Any) -> None:
+    """Refuses a data frame, or another array of two dimensions."""
+    if getattr(values, "ndim", 1) > 1:
+        told = f"a {type(values).__name__} of {' x '.join(map(str, values.shape))} isn't a list of numbers"
+        raise BadInput(f"{told}: one row is one game")
 
 
 def written(value: Fraction) -> Union[int, str]:

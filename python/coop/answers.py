@@ -34,19 +34,14 @@ class Answer:
         text: str = shown.makers["answer"](self)
         return text
 
-
-class Sharing:
-    """An answer that has shares."""
-
-    shares: Shares
-
     def to_pandas(self, places: Optional[int] = None) -> Any:
-        """The shares as a Series of pandas: fractions, or floats of so many places."""
-        return shown.makers["series"](self.shares, type(self).__name__.lower(), places)
+        """The shares as a Series of pandas: fractions, or floats of so many places. An answer without shares has an
+        empty one, which is a row of NaN in a data frame."""
+        return shown.makers["series"](getattr(self, "shares", {}), type(self).__name__.lower(), places)
 
 
 @dataclass(frozen=True)
-class Nucleolus(Answer, Sharing):
+class Nucleolus(Answer):
     """The nucleolus or the prenucleolus; `certificate` shows it, and `line` is what `check` reads."""
 
     rule: str
@@ -101,7 +96,7 @@ class NotEfficient(Answer):
 
 
 @dataclass(frozen=True)
-class CorePoint(Answer, Sharing):
+class CorePoint(Answer):
     """A point of the core, of often many."""
 
     shares: Shares
@@ -119,14 +114,14 @@ class EmptyCore(Answer):
 
 
 @dataclass(frozen=True)
-class Shapley(Answer, Sharing):
+class Shapley(Answer):
     """The Shapley shares."""
 
     shares: Shares
 
 
 @dataclass(frozen=True)
-class Bird(Answer, Sharing):
+class Bird(Answer):
     """Bird's shares, and the links in the order in which they are built: the connected end ("0" is the source), the new
     player, and the cost, which the new player pays."""
 

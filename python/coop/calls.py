@@ -7,15 +7,20 @@ from functools import partial
 from typing import Any, Mapping, Optional, Sequence, Union, cast
 
 from . import answers, classes
-from .amounts import Amount, fractions_of, written
+from .amounts import Amount, fractions_of, named_items, written
 from .answers import Answer
-from .errors import BadInput, Fault, NoAnswer, NoMemory, Refused, Slip, Usage
+from .errors import BadInput, Failure, Fault, NoAnswer, NoMemory, Refused, Slip, Usage
 from .game import Game, encoded
 from .program import Program, find
 from .telling import slips
 
 COMMANDS = tuple(classes.COMMANDS)
 """The words of the commands on a document."""
+ON_A_GAME = tuple(word for word, row in classes.COMMANDS.items() if row["needs"] == ["game"])
+"""The words of the commands that a game alone is enough for."""
+
+Outcome = Union[Answer, Failure]
+"""An answer; or, if there is none, what has the exception that the call would raise."""
 
 Chosen = Union[None, str, Program]
 """A program by its name or itself; None for the one that is found."""
@@ -123,10 +128,12 @@ def document_of(game: Game, shares: Optional[Proposal] = None) -> bytes:
 
 def rounded(game: Game, shares: Proposal, digits: Optional[int]) -> list[Fraction]:
     """Shares by names, or in the players' order, as exact numbers in that order."""
-    if isinstance(shares, Mapping):
-        if set(shares) != set(game.names):
+    items = named_items(shares)
+    if items is not None:
+        named = {str(name): share for name, share in items}
+        if len(items) != game.n or set(named) != set(game.names):
             raise BadInput(f"give a share to each of these names, each once: {', '.join(game.names)}")
-        shares = [shares[name] for name in game.names]
+        shares = [named[name] for name in game.names]
     return fractions_of(shares, digits)
 
 

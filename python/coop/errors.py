@@ -4,6 +4,8 @@ from __future__ import annotations
 from dataclasses import dataclass
 from typing import Any, Callable, Optional
 
+from . import shown
+
 
 @dataclass(frozen=True)
 class Slip:
@@ -32,7 +34,19 @@ class NotFound(CoopError):
 
 class Lost(CoopError):
     """An executor gave no answer to some games: it lost them with its processes, again and again, or took longer
-    than allowed. The text names the games, and the cause is the executor's own exception."""
+    than allowed. All games before them have had their rows, and those after them have none. The cause is the executor's
+    own exception."""
+
+    def __init__(self, first: int, last: int, why: str):
+        super().__init__(f"games {first} to {last}, and all after them, have no answer: {why}")
+        self.first = first
+        """The number of the first game without an answer, from 1."""
+        self.last = last
+        """The number of the last game that was lost with it."""
+        self.why = why
+
+    def __reduce__(self) -> tuple[Any, ...]:
+        return Lost, (self.first, self.last, self.why)
 
 
 class NoAnswer(CoopError):
@@ -56,6 +70,32 @@ def restored(kind: type[NoAnswer], args: tuple[Any, ...], parts: dict[str, Any])
     fault.args = args
     fault.__dict__.update(parts)
     return fault
+
+
+@dataclass(frozen=True)
+class Failure:
+    """What a row of `many` has if a call has no answer. It counts as no, since it is false. It isn't an exception, but
+    has one."""
+
+    fault: NoAnswer
+    """The exception that the call raises."""
+
+    def __bool__(self) -> bool:
+        return False
+
+    @property
+    def status(self) -> int:
+        """The status with which the program ended."""
+        return self.fault.status
+
+    @property
+    def line(self) -> str:
+        """What the program wrote."""
+        return self.fault.line
+
+    def to_pandas(self, places: Optional[int] = None) -> Any:
+        """An empty Series of pandas, which is a row of NaN in a data frame."""
+        return shown.makers["series"]({}, type(self.fault).__name__.lower(), places)
 
 
 class Usage(NoAnswer):

@@ -11,9 +11,8 @@ from collections import deque
 from itertools import islice
 from typing import Any, Iterable, Iterator, Optional, Protocol, Sequence, Union
 
-from .answers import Answer
-from .calls import Chosen, answer_from
-from .errors import CoopError, Lost, NoAnswer
+from .calls import Chosen, Outcome, answer_from
+from .errors import CoopError, Failure, Lost, NoAnswer
 from .game import Game
 from .program import Program, find
 
@@ -70,9 +69,9 @@ class Batch:
 
     def lost(self, why: str) -> Lost:
         """The exception that names its games."""
-        return Lost(f"games {self.first + 1} to {self.first + len(self.games)} have no answer: {why}")
+        return Lost(self.first + 1, self.first + len(self.games), why)
 
-    def rows(self, seconds: Optional[float]) -> Iterator[tuple[Union[Answer, NoAnswer], ...]]:
+    def rows(self, seconds: Optional[float]) -> Iterator[tuple[Outcome, ...]]:
         """The answers, in order."""
         for game, document, lines in zip(self.games, self.documents, self.lines(seconds)):
             yield tuple(outcome_of(word, line, document, game) for word, line in zip(self.words, lines))
@@ -102,12 +101,12 @@ def is_late(fault: Exception) -> bool:
     return any(kind.__name__ == "TimeoutError" for kind in type(fault).__mro__)
 
 
-def outcome_of(word: str, line: Line, document: bytes, game: Game) -> Union[Answer, NoAnswer]:
-    """The answer of a line, or the exception."""
+def outcome_of(word: str, line: Line, document: bytes, game: Game) -> Outcome:
+    """The answer of a line, or its failure."""
     try:
         return answer_from(word, *line, document, game)
     except NoAnswer as fault:
-        return fault
+        return Failure(fault)
 
 
 def many_by(
@@ -117,7 +116,7 @@ def many_by(
     program: Chosen = None,
     batch: int = 32,
     seconds: Optional[float] = None,
-) -> Iterator[tuple[Union[Answer, NoAnswer], ...]]:
+) -> Iterator[tuple[Outcome, ...]]:
     """For each game, in order, what each word answers."""
     waiting: deque[Batch] = deque()
     source, count = iter(games), 0

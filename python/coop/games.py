@@ -1,8 +1,9 @@
 """Games from numbers: one constructor for each class of documents.
 
 Numbers are int, Fraction, Decimal or texts ("12.50", "25/2"); floats need a number of digits, to which all numbers are
-rounded. Where names are given as the keys of a mapping, players stand in its order. A game whose numbers have a common
-denominator above 65,536 is multiplied by it (`Game.factor`), and what the calls answer is divided again.
+rounded. If names are given as the keys of a mapping, or as the labels of a Series of pandas, players are in its order.
+A game whose numbers have a common denominator above 65,536 is multiplied by it (`Game.factor`), and what the calls
+answer is divided again.
 """
 from __future__ import annotations
 
@@ -10,7 +11,7 @@ from fractions import Fraction
 from operator import index
 from typing import Any, Callable, Iterable, Mapping, Optional, Sequence, Union
 
-from .amounts import Amount, factor_for, fraction_of, fractions_of, written
+from .amounts import Amount, factor_for, fraction_of, fractions_of, named_items, written
 from .classes import CLASSES, LIMITS
 from .errors import BadInput
 from .game import MOST_IN_A_TABLE, Game, encoded
@@ -188,11 +189,12 @@ def named(
     amounts: Amounts, names: Optional[Sequence[str]], digits: Optional[int]
 ) -> tuple[Optional[Sequence[str]], list[Fraction]]:
     """The names and the numbers of a mapping or a list."""
-    if isinstance(amounts, Mapping):
-        if names is not None:
-            raise BadInput("the mapping has the names already")
-        return [str(name) for name in amounts], fractions_of(amounts.values(), digits)
-    return names, fractions_of(amounts, digits)
+    items = named_items(amounts)
+    if items is None:
+        return names, fractions_of(amounts, digits)
+    if names is not None:
+        raise BadInput("the mapping has the names already")
+    return [str(name) for name, _ in items], fractions_of((amount for _, amount in items), digits)
 
 
 def require_none_negative(amounts: list[Fraction]) -> None:
@@ -205,6 +207,8 @@ def require_rows(rows: Any) -> None:
     """Refuses what is no list of rows; a text is none."""
     if isinstance(rows, (str, bytes)) or not isinstance(rows, Iterable):
         raise BadInput(f"{str(rows)[:40]!r} isn't a list of rows")
+    if hasattr(rows, "columns"):
+        raise BadInput("a data frame isn't a list of rows: give the rows that frame.to_numpy().tolist() has")
 
 
 def rows_of(matrix: Rows, digits: Optional[int]) -> list[list[Fraction]]:
@@ -287,7 +291,8 @@ def listed(
     per_head: bool,
 ) -> Game:
     """A table from a mapping or a vector."""
-    if not isinstance(amounts, Mapping):
+    items = named_items(amounts)
+    if items is None:
         if default is not None:
             raise BadInput("`default` is for a mapping, not for a vector")
         vector = in_mask_order(fractions_of(amounts, digits), order)
@@ -297,8 +302,9 @@ def listed(
             raise BadInput(f"{len(names)} names for {players} players")
         return made(kind, {"players": players, "worths": vector}, names, per_head, digits)
     if order is not None:
-        raise BadInput("`order` is for a vector, not for a mapping")
-    groups = [(members_of(group), fraction_of(amount, digits)) for group, amount in amounts.items()]
+        told = "" if isinstance(amounts, Mapping) else "; the labels of a Series name the groups: give its .to_numpy()"
+        raise BadInput(f"`order` is for a vector, not for a mapping{told}")
+    groups = [(members_of(group), fraction_of(amount, digits)) for group, amount in items]
     empty = [amount for group, amount in groups if not group]
     if any(empty):
         raise BadInput("the empty group has to be worth 0")

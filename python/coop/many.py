@@ -5,20 +5,14 @@ import sys
 import threading
 import time
 from collections import deque
-from typing import TYPE_CHECKING, Any, Callable, Iterable, Iterator, Optional, Sequence, TypeVar, Union
+from typing import Any, Callable, Iterable, Iterator, Optional, Sequence, TypeVar, Union
 
-from .answers import Answer
-from .calls import Chosen, ask
-from .errors import NoAnswer
+from .calls import COMMANDS, ON_A_GAME, Chosen, Outcome, ask
+from .errors import BadInput, Failure, NoAnswer
+from .far import Executor, many_by
 from .game import Game
 from .program import Program, end_calls, find
 from .server import processors as usable
-
-if TYPE_CHECKING:
-    from .far import Executor
-
-Outcome = Union[Answer, NoAnswer]
-"""An answer; or, where there is none, the exception that the call would raise."""
 
 Item = TypeVar("Item")
 Result = TypeVar("Result")
@@ -35,23 +29,46 @@ def many(
     executor: Optional[Executor] = None,
     batch: int = 32,
     seconds: Optional[float] = None,
+    faults: str = "keep",
 ) -> Iterator[tuple[Outcome, ...]]:
     """For each game, in order, what each command answers: `for plain, shares in many(("nucleolus", "shapley"), games)`.
 
-    A game that is refused ends nothing: its outcome is the exception. Progress is told on standard error, where that is
-    a terminal unless it is asked for or not.
+    A game that is refused ends nothing: its outcome is a `Failure`, which is false, and has the exception. With faults
+    "raise" the first such exception is raised instead. Progress is told on standard error, if that is a terminal unless
+    it is asked for or not. An unknown command is refused before the first game.
 
     With an `executor`, which is whatever has the `submit` of `concurrent.futures`, documents go there, `batch` games at
     a time, and lines come back. Each of its processes finds the program by itself, unless one is named. Games that it
-    loses are handed over again; after three times, or where they take more than so many seconds, `Lost` is raised.
+    loses are handed over again; after three times, or if they take more than so many seconds, `Lost` is raised.
     """
-    words = (commands,) if isinstance(commands, str) else tuple(commands)
+    words = words_of(commands)
+    if faults not in ("keep", "raise"):
+        raise BadInput(f"{faults!r} isn't a way to treat faults: use keep or raise")
     if executor is not None:
-        from .far import many_by
+        rows = shown(many_by(executor, words, games, program, batch, seconds), games, progress)
+    else:
+        found = find(program)
+        rows = spread(lambda game: tuple(outcome(word, game, found) for word in words), games, processors, progress)
+    return rows if faults == "keep" else without_faults(rows)
 
-        return shown(many_by(executor, words, games, program, batch, seconds), games, progress)
-    found = find(program)
-    return spread(lambda game: tuple(outcome(word, game, found) for word in words), games, processors, progress)
+
+def words_of(commands: Union[str, Sequence[str]]) -> tuple[str, ...]:
+    """The commands, each of which answers to a game alone."""
+    words = (commands,) if isinstance(commands, str) else tuple(commands)
+    for word in words:
+        if word not in ON_A_GAME:
+            told = "needs more than a game" if word in COMMANDS else "is no command"
+            raise BadInput(f"{str(word)[:40]!r} {told}: many takes {', '.join(ON_A_GAME)}")
+    return words
+
+
+def without_faults(rows: Iterator[tuple[Outcome, ...]]) -> Iterator[tuple[Outcome, ...]]:
+    """The same rows, up to the first that has a failure, whose exception is raised."""
+    for row in rows:
+        for one in row:
+            if isinstance(one, Failure):
+                raise one.fault
+        yield row
 
 
 def outcome(word: str, game: Game, program: Program) -> Outcome:
@@ -59,7 +76,7 @@ def outcome(word: str, game: Game, program: Program) -> Outcome:
     try:
         return ask(word, game, program=program)
     except NoAnswer as fault:
-        return fault
+        return Failure(fault)
 
 
 def spread(
@@ -83,7 +100,7 @@ def by_threads(work: Callable[[Item], Result], items: Iterable[Item], count: int
         try:
             for item in items:
                 waiting.append(pool.submit(work, item))
-                if len(waiting) >= AHEAD * count:
+                while waiting and (len(waiting) >= AHEAD * count or waiting[0].done()):
                     yield waiting.popleft().result()
             while waiting:
                 yield waiting.popleft().result()

@@ -12,9 +12,13 @@ from __future__ import annotations
 import _thread
 import os
 import threading
-from typing import Any, Container, Optional, Protocol, Sequence, Union
+from typing import TYPE_CHECKING, Any, Container, Optional, Protocol, Sequence, Union
 
 from .errors import BadInput, Fault, NotFound
+from .version import VERSION
+
+if TYPE_CHECKING:
+    from .server import Server
 
 TOP = os.path.dirname(os.path.dirname(os.path.dirname(os.path.abspath(__file__))))
 BUILT = os.path.join(TOP, "crates", "coop_program", "out", "coop_program")
@@ -39,6 +43,9 @@ class Command:
 
     def __init__(self, command: Sequence[str]):
         self.command = list(command)
+
+    def __repr__(self) -> str:
+        return f"Command({self.command!r})"
 
     def run(self, words: Sequence[str], document: bytes) -> tuple[int, bytes]:
         """Runs it in a process of its own."""
@@ -82,12 +89,14 @@ def run_elsewhere(words: list[str], document: bytes) -> tuple[int, bytes]:
 class Library:
     """The C library, which answers within this process: see c/coop.h. A call that takes more than so many seconds is
     ended, with the status 124. The library in plain C can be ended, so Ctrl-C ends a call too. In the one that c/build
-    makes, Ctrl-C waits for the answer, and a call that is too late goes on behind its status."""
+    makes, Ctrl-C waits for the answer, and a call that is too late goes on after its status. A library of another
+    version is refused if its first number is another; `version` is what it says, or None."""
 
     def __init__(self, path: str, seconds: Optional[float] = None):
         import ctypes
 
         self.path, self.seconds = path, seconds
+        self.version: Optional[str] = None
         self.ctypes: Any = ctypes
         text, size, self.can_end = ctypes.c_char_p, ctypes.c_size_t, True
         kinds = [text, size, text, size, text, size, ctypes.POINTER(size), ctypes.POINTER(ctypes.c_int)]
@@ -101,6 +110,14 @@ class Library:
             raise NotFound(f"{path} isn't a library of coop: {fault}") from None
         self.function.restype = ctypes.c_uint32
         self.function.argtypes = kinds if self.can_end else kinds[:-1]
+        if hasattr(library, "coop_version"):
+            library.coop_version.restype = text
+            self.version = library.coop_version().decode()
+            if self.version.split(".")[0] != VERSION.split(".")[0]:
+                raise NotFound(f"{path} is coop {self.version}, and this package is {VERSION}")
+
+    def __repr__(self) -> str:
+        return f"Library({self.path!r})"
 
     def __reduce__(self) -> tuple[Any, ...]:
         return Library, (self.path, self.seconds)
@@ -185,7 +202,7 @@ def end_calls(threads: Container[int]) -> None:
 # ---- Finding it
 
 _found: Optional[Program] = None
-_page: Optional[Program] = None
+_page: Optional[Server] = None
 
 
 def find(program: Union[None, str, Program] = None) -> Program:
@@ -239,8 +256,8 @@ def found() -> Program:
         return Command([builder])
     others = "or name a program, set COOP to it, or put it on the path"
     if page:
-        wanted = "put Node 18 or later on the path (nodejs.org), install the package again where a C compiler is"
-        raise NotFound(f"no program found: {wanted}, {others}")
+        wanted = "put Node 18 or later on the path (nodejs.org), install a wheel that has the library"
+        raise NotFound(f"no program found: {wanted} (tools/make/make-wheel), {others}")
     raise NotFound(f"no program found, and the page is missing: install the package again, {others}")
 
 
@@ -260,12 +277,12 @@ def library_inside() -> Optional[Library]:
 def said(program: Program) -> str:
     """What answers, in words."""
     if isinstance(program, Library):
-        return f"the library {program.path}"
+        return f"the library {program.path}" + (f" of coop {program.version}" if program.version else "")
     command = getattr(program, "command", None)
     return " ".join(command) if command else repr(program)
 
 
-def page_server() -> Optional[Program]:
+def page_server() -> Optional[Server]:
     """The processes of Node that answer by the module in the page, and tell what the page does; begun when they are
     first asked, and kept. None where there is no Node or no page."""
     global _page

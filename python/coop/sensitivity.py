@@ -256,7 +256,7 @@ def along(
 
     A number is a group of a table, "Sales+Ops"; ("cost", "light") of an airport, where an airline's or a type's name is
     all its landings; "estate" or ("claim", "Anna"); ("link", "source", "Anna"); ("pair", "Anna", "house"). Several are
-    a mapping from these to rates. A vote has none: its worths jump.
+    a mapping from these to rates. Of a vote it is a group of the table of who wins, which its lines have as their game.
     """
     run = Run(game, what, rule, program)
     first, last = fraction_of(low), fraction_of(high)
@@ -333,8 +333,9 @@ class Run:
     def __init__(self, game: Game, what: What, rule: str, program: calls.Chosen):
         if rule not in RULES:
             raise BadInput(f"{rule!r} has no certificates: name nucleolus or prenucleolus")
-        self.game, self.rule, self.program = game, rule, program
+        self.rule, self.program = rule, program
         self.moving = Moving(game, what)
+        self.game = self.moving.game
         self.low, self.high = self.moving.room(rule)
         self.known: dict[Fraction, Optional[Frame]] = {}
         self.found: list[Piece] = []

@@ -129,26 +129,32 @@ class Server:
     def __reduce__(self) -> tuple[Any, ...]:
         return Server, (self.command, self.processes, self.seconds)
 
-    def run(self, words: Sequence[str], document: bytes) -> tuple[int, bytes]:
-        """The status and the line of one request, by a process that is free. Safe in threads."""
+    def __repr__(self) -> str:
+        return f"Server({self.command!r})"
+
+    def run(
+        self, words: Sequence[str], document: bytes, seconds: Optional[float] = None
+    ) -> tuple[int, bytes]:
+        """The status and the line of one request, by a process that is free; within so many seconds, where the call
+        has a limit of its own. Safe in threads."""
         if os.getpid() != self.owner:
             self.begin()  # this was forked off, and the processes are its parent's
         typed = b"\0".join(word.encode() for word in words)
         request = HEAD.pack(len(typed), len(document)) + typed + document
         with self.places:
-            return self.answered(request, self.free.pop() if self.free else None)
+            return self.answered(request, self.free.pop() if self.free else None, seconds or self.seconds)
 
-    def answered(self, request: bytes, free: Optional[Worker]) -> tuple[int, bytes]:
+    def answered(self, request: bytes, free: Optional[Worker], seconds: Optional[float]) -> tuple[int, bytes]:
         """The answer of a free process; or of a new one, if there is none or it has ended."""
-        worker = free or self.begun()
+        worker = free or self.begun(seconds)
         try:
-            status, line = worker.ask(request, self.seconds)
+            status, line = worker.ask(request, seconds)
         except Ended:
             code = worker.stop()
             if worker.is_late:
                 return TOO_LATE, b""
             if free:  # others that are free may have ended with it, as for want of the machine's memory
-                return self.answered(request, None)
+                return self.answered(request, None, seconds)
             raise Fault(f"{' '.join(self.command)} ended with {code} before it answered", code) from None
         except BaseException:  # as Ctrl-C: its answer would be taken for that of the next request
             worker.kill()
@@ -162,18 +168,20 @@ class Server:
             raise Fault(f"the module stopped: {line.decode('utf-8', 'replace')}", status)
         return status, line
 
-    def begun(self) -> Worker:
-        """A new process, which has said that it is there."""
+    def begun(self, seconds: Optional[float], tries: int = 3) -> Worker:
+        """A new process, which has said that it is there. One that is killed meanwhile is begun again."""
         try:
             worker = Worker(self.command)
         except OSError as fault:
             raise Fault(f"{self.command[0]} doesn't run: {fault.strerror}", -1) from None
         try:
-            worker.ask(None, self.seconds)
+            worker.ask(None, seconds)
         except Ended:
             code = worker.stop()
             if worker.is_late:
-                raise Fault(f"{' '.join(self.command)} didn't begin in {self.seconds} s", TOO_LATE) from None
+                raise Fault(f"{' '.join(self.command)} didn't begin in {seconds} s", TOO_LATE) from None
+            if code < 0 and tries > 1:
+                return self.begun(seconds, tries - 1)
             raise Fault(f"{' '.join(self.command)} ended with {code} when it began", code) from None
         except BaseException:
             worker.kill()

@@ -1,5 +1,5 @@
 """What the page tells of documents, by its own modules under Node: the place of a mistake, what two games are to each
-other, a certificate in sentences.
+other, a line in sentences, a picture, a paper.
 
 Answers don't need it where another program is there: it is asked when somebody wants to be told.
 """
@@ -12,11 +12,14 @@ from typing import Any, Optional
 from .errors import BadInput, Fault, NotFound, Slip
 from .program import page_server
 
-MOST = 8 * 1024 * 1024  # bytes of what is asked at once
-NO_NODE = (
-    "there is no Node on the path (18 or later, nodejs.org), whose process tells this; answers don't need it where "
-    "another program is there"
-)
+MOST = 32 * 1024 * 1024  # bytes of what is asked at once
+SECONDS = 300.0  # for one question; a document of 8 MB takes some ten, and more on a busy machine
+TOO_LATE = 124
+UNTOLD = 2
+NEEDLESS = "answers don't need it where another program is there"
+NO_NODE = f"there is no Node on the path (18 or later, nodejs.org), whose process tells this; {NEEDLESS}"
+Part = dict[str, Any]
+"""A part of what is told: sentences, and perhaps a title, items with a label and a text each, and a last sentence."""
 
 
 @dataclass(frozen=True)
@@ -48,14 +51,32 @@ class Sameness:
 def told(words: list[str], document: bytes) -> Any:
     """What is told of a document, as a tree."""
     if len(document) > MOST:
-        raise BadInput(f"these are {len(document):,} bytes, and none within the limits has more than {MOST:,}")
+        raise BadInput(f"these are {len(document):,} bytes, and at most {MOST:,} are told of")
     server = page_server()
     if server is None:
         raise NotFound(NO_NODE)
-    status, line = server.run(["tell", *words], document)
+    try:
+        status, line = server.run(["tell", *words], document, SECONDS)
+    except Fault as fault:
+        raise Fault(f"Node, whose process tells this, failed: {fault}; {NEEDLESS}", fault.status) from None
+    if status == TOO_LATE:
+        raise Fault(f"Node didn't tell this within {SECONDS:.0f} s; {NEEDLESS}", status)
     if not line:
-        raise Fault("the process of Node ran out of memory", status)
-    return json.loads(line)
+        raise Fault(f"Node ran out of memory; {NEEDLESS}", status)
+    try:
+        found = json.loads(line)
+    except ValueError:
+        found = {"usage": "words"}
+    if "usage" in found:
+        raise Fault(f"the process of Node is of another version of coop, and doesn't tell this; {NEEDLESS}", status)
+    if status == UNTOLD and "fault" in found:
+        raise BadInput(found["fault"])
+    return found
+
+
+def asked(task: str, settings: dict[str, Any], *texts: str) -> Any:
+    """What is told of several texts by settings, which say how numbers are spelled."""
+    return told([task, json.dumps(settings)], "\0".join(texts).encode("utf-8", "surrogatepass"))
 
 
 def slips(document: bytes, command: str = "nucleolus") -> tuple[Optional[Slip], Optional[Twice]]:
@@ -68,12 +89,21 @@ def slips(document: bytes, command: str = "nucleolus") -> tuple[Optional[Slip], 
 
 def same(line: str, agreed: str) -> Sameness:
     """What the game of a line, or of any document, is to the agreed one."""
-    found = told(["same"], json.dumps({"line": line, "agreed": agreed}, ensure_ascii=False).encode())
+    found = asked("same", {}, line, agreed)
     return Sameness(found["outcome"], found["sentence"], found["items"], found["entries"])
 
 
-def explained(line: bytes, settings: dict[str, Any]) -> list[dict[str, Any]]:
-    """The parts of an explanation of a line whose certificate was checked: a title, sentences and items each. The
-    settings say how numbers are spelled, as runtime/telling.mjs has it."""
-    parts: list[dict[str, Any]] = told(["explain", json.dumps(settings)], line)["parts"]
-    return parts
+def parts(line: str, document: str, verdict: str, settings: dict[str, Any]) -> list[Part]:
+    """A line in sentences. The document that was asked about and the verdict on a certificate may be empty."""
+    found: list[Part] = asked("line", settings, line, document, verdict)["parts"]
+    return found
+
+
+def picture(game: str, about: dict[str, Any], settings: dict[str, Any]) -> str:
+    """Shares of a game as an SVG; runtime/picture.mjs has what it is told about them."""
+    return str(asked("picture", settings, game, json.dumps(about))["svg"])
+
+
+def report(line: str, printed: str, about: dict[str, Any], settings: dict[str, Any]) -> str:
+    """A line whose certificate was checked as a paper of HTML; runtime/report.mjs has what it is told about it."""
+    return str(asked("report", settings, line, printed, json.dumps(about))["html"])

@@ -9,7 +9,8 @@ from coop.desk.documents import Point
 from coop.readers import landings
 from coop.sheets import Layout
 from coop.styles import Style, rounded
-from coop.desk.tables import airline_of, put_together, row_of, rounded_by, shares_csv, shares_table
+from coop.desk.tables import put_together, rounded_by, shares_csv, shares_table
+from coop.names import airline_of, row_of
 
 FEW = "Aer,DH8,3,20.50\nAer,A320,2,40\nBee,DH8,1,20.50\nCargo,B744,2,60\n"
 HEADED = Layout(has_head=True)

@@ -14,10 +14,11 @@ from coop.version import VERSION
 FOLDER = os.path.join(TOP, "python", "coop")
 NODE = which("node") or which("nodejs")
 ASKS = """
-import coop, coop.desk.checking
+import coop
 print(coop.airport([1, 2]).worth(3), coop.__file__)
-print(coop.desk.checking.verdict(coop.nucleolus(coop.airport([2, 4, 6])).line.encode()))
+print(coop.checking.verdict(coop.nucleolus(coop.airport([2, 4, 6])).line.encode()))
 print(coop.telling.same(*(coop.airport([cost]).document().decode() for cost in (1, 2))).outcome)
+print(coop.nucleolus(coop.airport([2, 4, 6]))._repr_html_().count("<svg"))
 """
 
 
@@ -58,6 +59,8 @@ class Built(unittest.TestCase):
             self.assertEqual(found[name], bytes_of(path), name)
         self.assertIn("coop/py.typed", found)
         self.assertIn(b"\n\n# coop\n", found[f"{info}/METADATA"])
+        self.assertIn(b"\nLicense: none yet: the owner of the project has not chosen one\n", found[f"{info}/METADATA"])
+        self.assertRegex(found[f"{info}/METADATA"], rb"\nAuthor: \w.*\nLicense")
 
     def test_the_archive(self) -> None:
         with tarfile.open(os.path.join(self.folder, backend.build_sdist(self.folder))) as archive:
@@ -102,7 +105,7 @@ class Built(unittest.TestCase):
         found = self.asked(python, tools)
         self.assertIn(b"NotFound: no program found: put Node 18 or later on the path", found[1])
         os.symlink(NODE or "", os.path.join(tools, "nodejs"))
-        said = f"-2 {os.path.join(site, 'coop', '__init__.py')}\n{{'answer': 'yes'}}\nanother\n"
+        said = f"-2 {os.path.join(site, 'coop', '__init__.py')}\n{{'answer': 'yes'}}\nanother\n1\n"
         self.assertEqual(self.asked(python, tools), (said.encode(), b""))
 
     def asked(self, python: str, path: str) -> tuple[bytes, bytes]:

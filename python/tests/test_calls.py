@@ -2,12 +2,17 @@
 import contextlib
 import io
 import json
+import os
+import re
+import time
 import unittest
+from concurrent.futures import ThreadPoolExecutor
 from fractions import Fraction
-from typing import Union
+from typing import Iterator, Union
 
 import coop
 from coop import answers
+from coop.program import TOP
 
 from .asking import Answering, needs_program
 
@@ -120,7 +125,8 @@ class Calls(unittest.TestCase):
         self.assertEqual(len(found), len(games))
         for game, (nucleolus, shapley) in zip(games, found):
             if game is games[3]:
-                self.assertTrue(isinstance(nucleolus, coop.Refused) and isinstance(shapley, coop.Refused))
+                for one in (nucleolus, shapley):
+                    self.assertIsInstance(getattr(one, "fault", None), coop.Refused)
                 continue
             assert isinstance(nucleolus, answers.Nucleolus) and isinstance(shapley, answers.Shapley)
             self.assertEqual(sum(nucleolus.shares.values()), game.whole())
@@ -130,16 +136,80 @@ class Calls(unittest.TestCase):
         self.assertEqual(again, [outcome.line for outcome, _ in found])
 
 
+class Modules(unittest.TestCase):
+    def test_what_the_pages_name(self) -> None:
+        """Whatever the pages name behind `coop.` is there after `import coop` alone."""
+        named: set[str] = set()
+        for page in ("python.md", "calling.md", "scripts.md", "examples.md"):
+            with open(os.path.join(TOP, "docs", page), encoding="utf-8") as file:
+                named.update(re.findall(r"`(coop(?:\.[a-z_A-Z]+)+)[`(]", file.read()))
+        files = {name for name in named if name.endswith((".mjs", ".html", ".so", ".json", ".h", ".pc"))}
+        self.assertGreater(len(named - files), 20)
+        for name in sorted(named - files):
+            thing: object = coop
+            for part in name.split(".")[1:]:
+                thing = getattr(thing, part)
+
+
+@needs_program
+class Rows(unittest.TestCase):
+    """What the first loop of a user counts."""
+
+    def test_a_failure_counts_as_no(self) -> None:
+        """Whatever the program ends with."""
+        for status in (2, 3, 5, 6, 7, 70, 124, -9):
+            rows = list(coop.many(("core", "convex"), [AIRPORT] * 3, program=Answering(status, '{"usage":"players"}')))
+            self.assertEqual([sum(bool(one) for one in row) for row in rows], [0, 0, 0])
+            self.assertEqual({type(one) for row in rows for one in row}, {coop.Failure})
+
+    def test_failures_of_a_program(self) -> None:
+        refused, many = coop.Game({"class": "bankruptcy", "estate": 100, "claims": [1, 2]}), coop.airport(range(1, 21))
+        rows = list(coop.many(("core", "convex"), [refused, many]))
+        self.assertEqual([[bool(one) for one in row] for row in rows], [[False, False], [True, False]])
+
+    def test_faults_are_raised(self) -> None:
+        with self.assertRaises(coop.Usage):
+            list(coop.many("convex", [AIRPORT], program=Answering(2, '{"usage":"players"}'), faults="raise"))
+        with self.assertRaisesRegex(coop.BadInput, "'rase' isn't a way"):
+            coop.many("convex", [AIRPORT], faults="rase")
+
+    def test_commands_before_the_first_game(self) -> None:
+        program = Answering(0)
+        for words, said in (("convexx", "is no command"), ("propose", "needs more"), (("core", "check"), "needs more")):
+            with self.assertRaisesRegex(coop.BadInput, said):
+                coop.many(words, [AIRPORT], program=program)
+        self.assertEqual(program.asked, [])
+
+    def test_a_slow_source(self) -> None:
+        """A row that is there doesn't wait for others."""
+        drawn: list[int] = []
+
+        def games() -> Iterator[coop.Game]:
+            for number in range(20):
+                drawn.append(number)
+                yield AIRPORT
+                time.sleep(0.05)
+
+        next(coop.many("core", games(), program=Answering(0, '{"answer":"core point","shares":["1","1","1"]}')))
+        self.assertLess(len(drawn), 10)
+
+    def test_an_exception_is_true(self) -> None:
+        """Some versions of concurrent.futures ask whether an exception is true before they raise it."""
+        with ThreadPoolExecutor(1) as pool:
+            with self.assertRaises(coop.Usage):
+                pool.submit(coop.core, AIRPORT, Answering(2, '{"usage":"players"}')).result()
+
+
 class Bars(unittest.TestCase):
     def test_progress(self) -> None:
         program = Answering(1, '{"answer":"blocked","coalition":[1],"excess":"1"}')
         games = [AIRPORT] * 7
         errors = io.StringIO()
         with contextlib.redirect_stderr(errors):
-            list(coop.many("propose", games, program=program, processors=2))
+            list(coop.many("core", games, program=program, processors=2))
         self.assertEqual(errors.getvalue(), "")
         with contextlib.redirect_stderr(errors):
-            list(coop.many("propose", games, program=program, processors=2, progress=True))
+            list(coop.many("core", games, program=program, processors=2, progress=True))
         bars = errors.getvalue().split("\r")
         self.assertTrue(bars[1].startswith("[####......"), bars)
         self.assertEqual((bars[-1], len(program.asked)), (f"[{'#' * 30}] 7 of 7 games, 0 s left \n", 14))

@@ -49,6 +49,30 @@ class Mixing(Losing):
         return last
 
 
+class Breaking(Losing):
+    """Takes some calls, and then no more, as a pool with a process that was killed."""
+
+    def __init__(self, most: int):
+        super().__init__()
+        self.most = most
+
+    def submit(self, function: Any, /, *arguments: Any) -> "Future[Any]":
+        """A future, if there is one."""
+        if self.count == self.most:
+            raise RuntimeError("the pool is broken")
+        return super().submit(function, *arguments)
+
+
+class Late(Losing):
+    """Loses its connection."""
+
+    def submit(self, function: Any, /, *arguments: Any) -> "Future[Any]":
+        """A future that is over."""
+        future: "Future[Any]" = Future()
+        future.set_exception(TimeoutError("comm closed"))
+        return future
+
+
 class Silent(Losing):
     """Never answers."""
 
@@ -69,9 +93,12 @@ class Executors(unittest.TestCase):
 
     def test_refused_games(self) -> None:
         rows = list(coop.many("core", [GAMES[1], REFUSED, GAMES[2]], executor=Losing(), batch=2))
-        self.assertEqual([type(row[0]) for row in rows], [coop.CorePoint, coop.Refused, coop.CorePoint])
-        assert isinstance(rows[1][0], coop.Refused)
-        self.assertEqual((rows[1][0].number, str(rows[1][0].where)[:4]), (5, "game"))
+        self.assertEqual([type(row[0]) for row in rows], [coop.CorePoint, coop.Failure, coop.CorePoint])
+        assert isinstance(rows[1][0], coop.Failure)
+        self.assertEqual((rows[1][0].status, rows[1][0].line), (3, '{"number":5,"refused":"Number"}'))
+        self.assertRegex(str(rows[1][0].fault), "^refused, 5 Number(: game.costs, item 1 .*)?$")
+        with self.assertRaises(coop.Refused):
+            list(coop.many("core", [GAMES[1], REFUSED], executor=Losing(), batch=2, faults="raise"))
 
 
 class Losses(unittest.TestCase):
@@ -86,17 +113,20 @@ class Losses(unittest.TestCase):
         rows = self.rows(Losing(range(3, 99)))
         for _ in range(8):
             self.assertEqual(next(rows)[0].shares["1"], Fraction(1))
-        with self.assertRaisesRegex(coop.Lost, "games 9 to 12 have no answer: the executor lost them 3 times") as found:
+        said = "games 9 to 12, and all after them, .*: the executor lost them 3 times"
+        with self.assertRaisesRegex(coop.Lost, said) as found:
             next(rows)
+        again = pickle.loads(pickle.dumps(found.exception))
+        self.assertEqual((again.first, again.last, str(again)), (9, 12, str(found.exception)))
         self.assertEqual(str(found.exception.__cause__), "the worker is gone")
 
     def test_mixed_up(self) -> None:
-        with self.assertRaisesRegex(coop.Lost, "games 5 to 8 .* the lines of other games"):
+        with self.assertRaisesRegex(coop.Lost, "games 5 to 8, .* the lines of other games"):
             list(self.rows(Mixing()))
 
     def test_never(self) -> None:
         begun = time.monotonic()
-        with self.assertRaisesRegex(coop.Lost, "games 1 to 4 .* more than 0.1 s"):
+        with self.assertRaisesRegex(coop.Lost, "games 1 to 4, .* more than 0.1 s"):
             list(self.rows(Silent(), seconds=0.1))
         self.assertLess(time.monotonic() - begun, 4)
 
@@ -105,6 +135,21 @@ class Losses(unittest.TestCase):
         pool.shutdown()
         with self.assertRaisesRegex(coop.Lost, "the executor takes no more"):
             list(self.rows(pool))  # type: ignore[arg-type]
+
+    def test_a_pool_that_breaks(self) -> None:
+        """Rows of batches that are there come first, although the pool is broken as a later one is handed over."""
+        rows, found = 0, None
+        try:
+            for _ in self.rows(Breaking(3)):
+                rows += 1
+        except coop.Lost as lost:
+            found = (lost.first, lost.last)
+        self.assertEqual((rows, found), (12, (13, 16)))
+
+    def test_a_timeout_of_the_executor(self) -> None:
+        """One of its own is no limit that was set here: it is tried again."""
+        with self.assertRaisesRegex(coop.Lost, "lost them 3 times"):
+            list(self.rows(Late()))
 
     def test_an_endless_source(self) -> None:
         drawn: list[int] = []

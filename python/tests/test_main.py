@@ -28,9 +28,47 @@ class Command(unittest.TestCase):
         core = b'{"answer":"core point","shares":["1","3/2","7/2"]}\n'
         self.assertEqual(ended(["core"], AIRPORT), (0, core, b""))
         self.assertEqual(ended(["core"]), (3, b'{"number":2,"refused":"NotJson"}\n', b""))
-        status, line, said = ended([])
-        self.assertEqual((status, line), (2, b'{"usage":"words"}\n'))
-        self.assertTrue(said.startswith(b"usage: python -m coop COMMAND"))
+
+    @needs_program
+    def test_words(self) -> None:
+        """Wrong ones get the program's line, and a sentence."""
+        cases: list[tuple[list[str], str]] = [
+            ([], "which command?"),
+            (["nuclolus"], '"nuclolus" is no command'),
+            (["core", "/nowhere/game.json"], 'there is no file "/nowhere/game.json"'),
+            (["core", "core", "core"], '"core core core" is no command'),
+            (["\x1b" * 99], '"' + "\\u001b" * 60 + '.." is no command'),
+        ]
+        for words, said in cases:
+            found = ended(words)
+            self.assertEqual(found[:2], (2, b'{"usage":"words"}\n'))
+            self.assertTrue(found[2].startswith(f"coop: {said}".encode()), found)
+            self.assertEqual(found[2].count(b"\n"), 1)
+        status, said_of_help, fault = ended(["--help"])
+        self.assertEqual((status, said_of_help[:26], fault), (0, b"usage: coop COMMAND FILE\n ", b""))
+
+    @needs_program
+    def test_a_file_as_a_word(self) -> None:
+        core = b'{"answer":"core point","shares":["1","3/2","7/2"]}\n'
+        self.assertEqual(ended(["core", os.path.join(TOP, "examples", "airport.json")]), (0, core, b""))
+        status, line, said = ended(["core", TOP])
+        self.assertEqual((status, line, said[:17]), (5, b"", b"coop: can't read "))
+
+    @unittest.skipUnless(sys.platform == "linux", "there are no terminals")
+    @needs_program
+    def test_on_a_terminal(self) -> None:
+        """It says what it waits for."""
+        import pty
+
+        parent, child = pty.openpty()
+        environment = {**os.environ, "PYTHONPATH": os.path.join(TOP, "python")}
+        words = [sys.executable, "-m", "coop", "core"]
+        process = subprocess.Popen(words, stdin=child, stdout=child, stderr=child, env=environment)
+        os.write(parent, b"\x04")
+        self.assertEqual(process.wait(), 3)
+        os.close(child)
+        self.assertIn(b"coop: type or paste the document, then Ctrl-D", os.read(parent, 10000))
+        os.close(parent)
 
     @needs_program
     def test_hostile_ports(self) -> None:

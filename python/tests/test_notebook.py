@@ -8,6 +8,7 @@ from typing import Any, Optional
 from unittest.mock import patch
 
 import coop
+from coop import answers
 
 from .asking import needs_program
 
@@ -57,8 +58,8 @@ class Answers(unittest.TestCase):
     def test_shares(self) -> None:
         found = self.shown(coop.nucleolus(THREE))
         self.assertLessEqual({"table", "svg"}, found.seen)
-        white = '<rect width="100%" height="100%" fill="#fff"/>'  # for notebooks that are dark
-        self.assertIn(white, coop.nucleolus(THREE)._repr_html_())
+        white = r'<rect width="\d+" height="\d+" fill="#ffffff">'  # for notebooks that are dark
+        self.assertRegex(coop.nucleolus(THREE)._repr_html_(), white)
         for word in ("nucleolus", "pays", "light", "3/2", "7/2", "3.50", "together"):
             self.assertIn(word, found.text)
         thirds = self.shown(coop.shapley(coop.airport([1, 1, 1]))).text
@@ -75,9 +76,9 @@ class Answers(unittest.TestCase):
     def test_sentences(self) -> None:
         answers: list[tuple[Any, str]] = [
             (coop.propose(THREE, [3, 1, 2]), "light alone could do better without the others, by 1"),
-            (coop.propose(THREE, [1, 1, 1]), "aren't a division"),
+            (coop.propose(THREE, [1, 1, 1]), "aren’t a division"),
             (coop.core(MAJORITY), "Ann and Bob together"),
-            (coop.convex(MAJORITY), "isn't convex"),
+            (coop.convex(MAJORITY), "isn’t convex"),
             (coop.nucleolus(coop.table([1, 1, 1])), "There is no nucleolus"),
             (coop.propose(FINE, ["1/100000", 1, "1.99999"]), "could do better"),
             (coop.check(coop.prenucleolus(THREE)), "meets all conditions"),
@@ -92,6 +93,14 @@ class Answers(unittest.TestCase):
         self.assertIn("1/100000", self.shown(FINE).text)
         self.assertNotIn("table", self.shown(coop.table({1: 1, 6: 1}, default=0)).seen)
         self.assertIn("A network", self.shown(coop.tree([[0, 1], [1, 0]])).text)
+
+    def test_without_node(self) -> None:
+        """A table stays a table, without its picture; what would be told is the line."""
+        shares, core = coop.nucleolus(THREE), coop.propose(THREE, [1, 1, 1])
+        with patch("coop.telling.page_server", lambda: None):
+            found = self.shown(shares)
+            self.assertEqual(("table" in found.seen, "svg" in found.seen), (True, False))
+            self.assertIn('"answer":"not efficient"', self.shown(core).text)
 
     def test_hostile_names(self) -> None:
         game = coop.airport({"<b>": 2, "x&y</td>": 4, "\u202ec": 6})
@@ -118,7 +127,16 @@ class Pandas(unittest.TestCase):
         names = ["a", "b", "c"]
         self.assertEqual(made[0], ([Fraction(1, 3)] * 3, names, "shapley", object))
         self.assertEqual(made[1], ([0.33, 0.33, 0.33], names, "shapley", float))
-        self.assertFalse(hasattr(coop.convex(THREE), "to_pandas"))
+
+    def test_what_has_no_shares(self) -> None:
+        """An empty Series, so that rows of all kinds make a data frame."""
+        made: list[Any] = []
+        series = types.SimpleNamespace(Series=lambda values, **more: made.append((values, *more.values())))
+        blocked = answers.Blocked("", 1, THREE, ("Ann",), Fraction(1))
+        with patch.dict(sys.modules, {"pandas": series}):
+            blocked.to_pandas()
+            coop.Failure(coop.Fault("no", 70)).to_pandas(places=2)
+        self.assertEqual(made, [([], [], "blocked", object), ([], [], "fault", float)])
 
 
 if __name__ == "__main__":

@@ -12,7 +12,9 @@ from concurrent.futures import FIRST_COMPLETED, ThreadPoolExecutor, wait
 from typing import Any
 
 from coop import Fault, NotFound
-from coop.program import TOP, Call, Command, Library, _running, end_calls, find, named, run_elsewhere, spawned
+from coop.program import TOP, Call, Command, Library, _running, end_calls, find, named, run_elsewhere, said, spawned
+from coop.program import which
+from coop.version import VERSION
 
 PACKAGE = os.path.join(TOP, "python")
 FIND = "import coop; print(coop.find().command)"
@@ -74,6 +76,27 @@ class Finding(unittest.TestCase):
         self.assertIs(find(program), program)
         with self.assertRaises(NotFound):
             Library("/nowhere/libcoop.so")
+        self.assertEqual(repr(program), "Command(['x'])")
+
+    @unittest.skipUnless(which("cc"), "there is no C compiler")
+    def test_a_library_of_another_version(self) -> None:
+        """One that says so is refused; one that isn't coop's, too; and inside a package Node answers instead."""
+        versions = {VERSION: VERSION, "1.9.7": "1.9.7", "2.0.0": None}
+        with tempfile.TemporaryDirectory() as folder:
+            source, path = os.path.join(folder, "library.c"), os.path.join(folder, "{}.so")
+            for version, wanted in versions.items():
+                with open(source, "w", encoding="utf-8") as file:
+                    says = f"const char *coop_version(void) {{ return \"{version}\"; }}"
+                    file.write(f"int coop_run(void) {{ return 0; }} {says}")
+                subprocess.run(["cc", "-shared", "-fPIC", "-o", path.format(version), source], check=True)
+                if wanted:
+                    self.assertEqual(Library(path.format(version)).version, wanted)
+                else:
+                    with self.assertRaisesRegex(NotFound, f"is coop 2.0.0, and this package is {VERSION}"):
+                        Library(path.format(version))
+            with self.assertRaisesRegex(NotFound, "isn't a library of coop"):
+                Library(source)
+            self.assertEqual(said(Library(path.format("1.9.7"))), f"the library {path.format('1.9.7')} of coop 1.9.7")
 
     def test_pickled(self) -> None:
         """A program goes to the processes of an executor by what names it."""

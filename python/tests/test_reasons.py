@@ -76,7 +76,7 @@ THIRDS = {
 BLOCKED = {"answer": "blocked", "coalition": [1], "excess": "1"}
 SENTENCES: list[tuple[Any, Any, str]] = [
     ({"answer": "yes"}, None, "The certificate meets all conditions"),
-    ({"answer": "core"}, None, "No group could do better by itself than by these shares: they lie in the core."),
+    ({"answer": "core"}, None, "No group could do better by itself than by these shares: they are in the core."),
     (
         BLOCKED,
         {"game": AIRPORT, "shares": [3, 1, 2]},
@@ -89,12 +89,12 @@ SENTENCES: list[tuple[Any, Any, str]] = [
     (
         {"answer": "not efficient", "sum": "-6", "total": "6"},
         {"game": AIRPORT, "shares": [-1, -2, -3]},
-        "The shares add to -6, and all together cost 6. So they aren't a division of the whole.",
+        "The shares add to −6, and all together cost 6. So they aren’t a division of the whole.",
     ),
     (
         {"answer": "core point", "shares": ["1", "3/2", "7/2"]},
         {"game": AIRPORT},
-        "and no proposal. - light: 1 - medium: 3/2 - heavy: 7/2",
+        "and no proposal. - light: 1 - medium: 1.50 - heavy: 3.50",
     ),
     (
         {
@@ -108,19 +108,19 @@ SENTENCES: list[tuple[Any, Any, str]] = [
         (
             "- player 1 and player 2 together, counted once (worth 1) - player 1 and player 3 together, counted once"
             " (worth 1) - player 2 and player 3 together, counted once (worth 1) So counted these groups hold each"
-            " player twice, and are worth 3 by themselves. All together, counted as often, are worth 2; the groups' sum"
+            " player twice, and are worth 3 by themselves. All together, counted as often, are worth 2; the groups’ sum"
             " is more. So in every division one of them has to get less than by itself."
         ),
     ),
     (
         {"answer": "shapley", "shares": ["2/3", "1/6", "1/6"]},
         {"game": {"class": "voting", "quota": 5, "weights": [4, 2, 1]}},
-        "Each voter's power",
+        "Each voter’s power",
     ),
     (
         {"answer": "shapley", "shares": ["2/3", "5/3", "11/3"]},
         {"game": AIRPORT},
-        "What each costs more than those in front of it",
+        "What each costs more than those before it",
     ),
     (
         {"answer": "bird", "shares": ["10", "1"], "tree": [[0, 1, 10], [1, 2, 1]]},
@@ -136,15 +136,16 @@ SENTENCES: list[tuple[Any, Any, str]] = [
     (
         {"answer": "not convex", "deficit": "1", "i": 2, "j": 3, "set": [1]},
         {"game": MAJORITY},
-        "Player 3 adds 1 less behind player 1 alone with player 2 than behind player 1 alone: 0, and 1.",
+        "Player 3 adds 1 less after player 1 alone with player 2 than after player 1 alone: 0, and 1.",
     ),
-    ({"answer": "prekernel"}, None, "these shares lie in the prekernel"),
+    ({"answer": "prekernel"}, None, "these shares are in the prekernel"),
     (
         {"answer": "not prekernel", "i": 1, "ij": "-95/6", "j": 2, "ji": "-40/3"},
         {"game": TRIO, "shares": ["125/3", "325/6", "145/6"]},
         (
-            "p has a better hold on s. Of the groups with s and without p the greatest excess is -95/6 (s and d"
-            " together); of those with p and without s it is -40/3 (p and d together)."
+            "p has a better hold on s. Of the groups with s and without p the greatest excess is −95/6 (about −15.83) "
+            "(s and d together); of those with p and without s the greatest excess is −40/3 (about −13.33) (p and d "
+            "together)."
         ),
     ),
     (
@@ -181,7 +182,7 @@ SENTENCES: list[tuple[Any, Any, str]] = [
             "verdict": "yes",
         },
         None,
-        "a table of worths of 12 players from the number 1",
+        "a table of 12 players from the number 1",
     ),
     ({"usage": "players"}, None, "The game has more players than the command serves."),
     (
@@ -195,33 +196,48 @@ SENTENCES: list[tuple[Any, Any, str]] = [
 
 # Each condition, by a document that fails it.
 FAILURES: list[tuple[dict[str, Any], str]] = [
-    (solved(shares=[1, 2, 4]), "by condition 1. The shares add to 7, and all together cost 6."),
-    (solved(shares=[3, 1, 2]), "by condition 2. light pays 3, and costs 2 alone."),
-    (spoilt(0, excess="-2"), "by condition 3 at level 1. The level has the excess -2, and light alone has -1."),
+    (
+        solved(shares=[1, 2, 4]),
+        "condition 1. The payments don’t add to what all together cost. They add to 7, and all together cost 6.",
+    ),
+    (solved(shares=[3, 1, 2]), "condition 2. light pays more than alone. light pays 3, and costs 2 alone."),
+    (
+        spoilt(0, excess="-2"),
+        (
+            "condition 3. At level 1: by these shares what light alone would gain or lose by leaving (its excess) "
+            "isn’t what the line states. The level has the excess −2, and it is −1."
+        ),
+    ),
     (
         spoilt(1, coalitions=[[[1, 2], 0], [[1, 3], 1]]),
-        "by condition 4 at level 2. The weight of light and medium together is below 1.",
+        "condition 4. At level 2: a weight of light and medium is below 1.",
     ),
-    (spoilt(0, bounds=[[2, 0]]), "by condition 4 at level 1. The weight of the bound of medium is below 1."),
-    (spoilt(1, total=2), "by condition 5 at level 2. At light the weights add to 1, and the total is 2."),
+    (spoilt(0, bounds=[[2, 0]]), "condition 4. At level 1: a weight of the bound of medium is below 1."),
+    (
+        spoilt(1, total=2),
+        (
+            "condition 5. At level 2: the weights at light don’t add to the level’s total. They add to 1, and the "
+            "total is 2."
+        ),
+    ),
     (
         spoilt(0, bounds=[[1, 1], [2, 1], [3, 1]], total=2),
         (
-            "by condition 6 at level 1. light has a bound, which only those have who get just "
-            "what they are worth alone: light pays 1, and costs 2 alone."
+            "condition 6. At level 1: light is said to pay exactly what it costs alone, and that isn’t so (or has no "
+            "place here). light pays 1, and costs 2 alone."
         ),
     ),
     (
         {**FOUR, "certificate": {**FOUR["certificate"], "mode": "players"}},
         (
-            "by condition 7 at level 2. The level has the excess -5/2, but "
-            "player 1 and player 2 together, still open, have -2."
+            "condition 7. At level 2: a group that is still open is worse off than the level says; its excess is −2. "
+            "The level has the excess −2.50. It is player 1 and player 2 together."
         ),
     ),
-    (THIRDS, "by condition 7 at level 1. The level has the excess -2, but player 1 alone, still open, has -1."),
+    (THIRDS, "its excess is −1. The level has the excess −2. It is player 1 alone."),
     (
         solved(certificate={"mode": "players", "levels": LEVELS[:1]}),
-        "by condition 8. Behind the last level the share of medium isn't settled.",
+        "condition 8. Behind the last level the share of medium isn’t settled.",
     ),
 ]
 
@@ -238,7 +254,7 @@ class Reasons(unittest.TestCase):
         """Its numbers may have been filled in, which nobody tells the program; those of an airport may not."""
         table = {"game": {"class": "cost-table", "players": 2, "worths": [2, 3, 4]}, "shares": [2, 2]}
         for line in ({"answer": "core"}, {"answer": "core point", "shares": ["2", "2"]}):
-            self.assertIn("Where some of them were filled in, such a group may cost less", said(line, table)[0])
+            self.assertIn("If some of them were filled in, such a group may cost less", said(line, table)[0])
             airport = {"game": {"class": "airport", "costs": [2, 3]}, "shares": [1, 2]}
             self.assertNotIn("filled in", said(line, airport)[0])
 
@@ -250,13 +266,13 @@ class Reasons(unittest.TestCase):
 
     def test_a_no_beside_its_document(self) -> None:
         line = {"answer": "no", "coalition": [1], "level": 1, "reason": 3}
-        self.assertIn("light alone has -1", said(line, spoilt(0, excess="-2"))[0])
+        self.assertIn("and it is −1.", said(line, spoilt(0, excess="-2"))[0])
         self.assertEqual(
             said(line),
             (
                 (
-                    "The certificate fails, by condition 3 at level 1. A group of a level hasn't the excess that "
-                    "the level says."
+                    "The certificate fails condition 3. At level 1: by these shares what the group 1 would gain or "
+                    "lose by leaving (its excess) isn’t what the line states."
                 ),
                 0,
             ),
@@ -292,7 +308,7 @@ class Reasons(unittest.TestCase):
         for line, shares in good:
             said(line, {"game": AIRPORT, "shares": shares})
             for some in others[1:] if line["answer"] == "prekernel" else others:
-                with self.assertRaisesRegex(BadInput, "aren't those that the line judges", msg=f"{line} {some}"):
+                with self.assertRaisesRegex(BadInput, "aren’t those that the line judges", msg=f"{line} {some}"):
                     said(line, {"game": AIRPORT, "shares": some})
         per_head = {**AIRPORT, "excess": "per-head"}
         said({"answer": "blocked", "coalition": [1, 2], "excess": "1/2"}, {"game": per_head, "shares": [2, 3, 1]})
@@ -321,13 +337,13 @@ class Reasons(unittest.TestCase):
     def test_what_is_refused(self) -> None:
         cases: list[tuple[bytes, Optional[bytes], str]] = [
             (b'{"answer":"yes","answer":"no"}', None, 'the key "answer" is given twice'),
-            (b'{"answer":"perhaps"}', None, "isn't an answer of the program"),
-            (b'{"game":{"class":"airport","costs":[1]}}', None, "isn't an answer of the program"),
-            (b'{"answer":"blocked"}', None, "isn't a whole answer"),
+            (b'{"answer":"perhaps"}', None, "isn’t an answer of the program"),
+            (b'{"game":{"class":"airport","costs":[1]}}', None, "isn’t an answer of the program"),
+            (b'{"answer":"blocked"}', None, "isn’t a whole answer"),
             (
                 b'{"answer":"blocked","coalition":[9],"excess":"1"}',
                 json.dumps({"game": AIRPORT}).encode(),
-                "9 isn't a player",
+                "9 isn’t a player",
             ),
             (b'{"number":8,"refused":"Estate"}', json.dumps({"game": AIRPORT}).encode(), "is it another document"),
             (b'{"number":99,"refused":"X"}', None, "isn't a refusal"),

@@ -15,7 +15,7 @@ from typing import Optional
 import coop
 from coop.errors import Fault
 from coop.program import TOP, folder_of, which
-from coop.server import HEAD, Server
+from coop.server import HEAD, Server, processors
 
 NODE = which("node") or which("nodejs")
 COMMAND = [NODE or "", os.path.join(folder_of("runtime", "serve.mjs") or "", "serve.mjs")]
@@ -161,19 +161,31 @@ class Answers(unittest.TestCase):
         self.assertTrue(is_gone(process))
         self.assertEqual(self.server.run(["core"], AIRPORT), (0, CORE))
 
+    @unittest.skipUnless(hasattr(os, "fork"), "there is no fork")
+    def test_a_fork_while_a_call_waits(self) -> None:
+        """The child has no process and all places at once, before it asks by several threads."""
+        server = Server(COMMAND, 1)
+        with server.places:
+            child = os.fork()
+            if not child:
+                has_all = server.owner == os.getpid() and not server.free and server.places.acquire(blocking=False)
+                os._exit(0 if has_all else 1)
+            self.assertEqual(os.waitstatus_to_exitcode(os.waitpid(child, 0)[1]), 0)
+
     def test_exceptions_are_pickled(self) -> None:
         negative = coop.Game({"class": "airport", "costs": [-1]})
         for command, game in ((coop.bird, coop.airport([1, 2])), (coop.core, negative)):
             with self.assertRaises(coop.NoAnswer) as found:
                 command(game, program=self.server)
             fault, again = found.exception, pickle.loads(pickle.dumps(found.exception))
-            self.assertEqual((type(again), str(again), again.__dict__), (type(fault), str(fault), fault.__dict__))
+            parts = [{**one.__dict__, "find": None} for one in (again, fault)]  # a function isn't like its copy
+            self.assertEqual((type(again), str(again), parts[0]), (type(fault), str(fault), parts[1]))
 
 
 @needs_node
 class Ends(unittest.TestCase):
     def test_time(self) -> None:
-        server = Server(COMMAND, 1, seconds=5)
+        server = Server(COMMAND, 1, seconds=60)
         server.run(["core"], AIRPORT)
         process, server.seconds = server.free[0].process.pid, 0.3
         os.kill(process, signal.SIGSTOP)
@@ -182,7 +194,7 @@ class Ends(unittest.TestCase):
         self.assertEqual(server.run(["core"], AIRPORT), (124, b""))
         late.cancel()
         self.assertTrue(is_gone(process))
-        server.seconds = 30
+        server.seconds = 60
         self.assertEqual(server.run(["core"], AIRPORT), (0, CORE))
         server.close()
 
@@ -198,6 +210,33 @@ class Ends(unittest.TestCase):
         for command in (["/nowhere/node"], ["false"], [NODE or "", "/nowhere/serve.mjs"]):
             with self.assertRaises(Fault):
                 Server(command, 1).run(["core"], AIRPORT)
+
+    def test_a_start_that_is_late(self) -> None:
+        begun = time.monotonic()
+        with self.assertRaises(Fault) as found:
+            Server(["sleep", "30"], 1, seconds=0.3).run(["core"], AIRPORT)
+        self.assertEqual(found.exception.status, 124)
+        self.assertLess(time.monotonic() - begun, 20)
+
+    def test_killed_while_it_begins(self) -> None:
+        """It is begun again, unless it happens each time."""
+        with tempfile.TemporaryDirectory() as folder:
+            once = f"mkdir {folder}/once 2>/dev/null && kill -9 $$; exec {COMMAND[0]} {COMMAND[1]}"
+            server = Server(["sh", "-c", once], 1)
+            self.assertEqual(server.run(["core"], AIRPORT), (0, CORE))
+            server.close()
+        with self.assertRaises(Fault) as found:
+            Server(["sh", "-c", "kill -9 $$"], 1).run(["core"], AIRPORT)
+        self.assertEqual(found.exception.status, -9)
+
+    @unittest.skipUnless(hasattr(os, "sched_setaffinity"), "processes have no affinity")
+    def test_processors_that_may_be_used(self) -> None:
+        allowed = os.sched_getaffinity(0)
+        try:
+            os.sched_setaffinity(0, {min(allowed)})
+            self.assertEqual((processors(), Server(COMMAND).processes), (1, 1))
+        finally:
+            os.sched_setaffinity(0, allowed)
 
     def test_ends_again_and_again(self) -> None:
         with self.assertRaises(Fault) as found:
@@ -298,8 +337,18 @@ class Frames(unittest.TestCase):
         long = b'3 {"number":1,"refused":"TooLong"}\n'
         wide = b"x" * (9 << 20) + b"\n" + b" " * (3 << 20) + b"\n" + AIRPORT
         self.assertEqual(ended(wide, ["--lines", "core"]), (0, long * 2 + core))
-        for wrong in (["--lines"], ["core"]):
+        for wrong in (["--lines"], ["core"], ["--lines", "coer"], ["--lines", "core, shapley"], ["--lines", "gen"]):
             self.assertEqual(ended(AIRPORT, wrong), (2, b""))
+
+    def test_output_that_is_thrown_away(self) -> None:
+        """It is open for reading, too, as Python and Node open the null device; and that is no fault."""
+        line = AIRPORT + b"\n"
+        with open(os.devnull, "r+b") as null:
+            for script, words in (("serve.mjs", ["--lines", "core"]), ("coop.mjs", ["core"])):
+                command = [COMMAND[0], os.path.join(os.path.dirname(COMMAND[1]), script), *words]
+                self.assertEqual(subprocess.run(command, input=line, stdout=null).returncode, 0)
+            empty = subprocess.run([*command], stdin=null, stdout=subprocess.PIPE)
+            self.assertEqual((empty.returncode, empty.stdout), (3, b'{"number":2,"refused":"NotJson"}\n'))
 
 
 if __name__ == "__main__":

@@ -5,7 +5,7 @@ from fractions import Fraction
 import coop
 from coop import versus
 from coop.errors import BadInput
-from coop.rivals import csv, told
+from coop.desk.rivals import csv, told
 from coop.styles import EXACT, Style
 
 from .asking import needs_program

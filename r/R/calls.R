@@ -18,16 +18,27 @@ check <- function(answer) {
   answer_of(asked("check", line), "check", NULL)
 }
 
+# The names of the package CoopGame, and its order of arguments.
+shapleyValue <- function(v, ...) shapley(v, ...)
+isConvexGame <- function(v, ...) holds(convex(v, ...))
+isBalancedGame <- function(v, ...) holds(core(v, ...))
+belongsToCore <- function(x, v, ...) holds(propose(v, x, ...))
+belongsToPrekernel <- function(x, v, ...) holds(kernel(v, x, ...))
+
 # The shares of each game of a list, in order. A vector of NA has the program's line as its attribute "why".
 solve_games <- function(command, games, ...) {
-  lapply(games, function(game) {
+  if (!command %in% sharing) stop("solve_games takes one of ", paste(sharing, collapse = ", "))
+  found <- lapply(games, function(game) {
     game <- as_game(game, ...)
     got <- asked(command, document_of(game))
     if (got$status <= 1 && grepl('"shares":', got$line, fixed = TRUE)) return(shares_of(got$line, game))
     why <- if (nzchar(got$line)) got$line else paste("status", got$status)
     structure(stats::setNames(rep(NA_real_, length(game$names)), game$names), why = why)
   })
+  structure(found, class = "coop_many")
 }
+
+sharing <- c("nucleolus", "prenucleolus", "shapley", "core", "bird")
 
 exact <- function(x) attr(x, "exact")
 holds <- function(x) identical(attr(x, "status"), 0L)
@@ -79,6 +90,27 @@ shares_of <- function(line, game) {
 
 values_of <- function(texts)
   vapply(strsplit(texts, "/", fixed = TRUE), function(parts) Reduce(`/`, as.numeric(parts)), 0)
+
+# A row for each player: the number, and the exact fraction as a text.
+as.data.frame.coop_shares <- function(x, ...)
+  data.frame(player = names(x), share = as.numeric(x), exact = unname(exact(x)), stringsAsFactors = FALSE)
+
+# A row for each game and a column for each player; the column why says why a row has none.
+as.data.frame.coop_many <- function(x, ...) {
+  players <- unique(lapply(x, names))
+  if (length(players) > 1) stop("the games have other players: make a data frame of each")
+  shares <- do.call(rbind, lapply(x, as.numeric))
+  frame <- as.data.frame(shares)
+  names(frame) <- unlist(players)
+  frame$why <- vapply(x, function(one) if (is.null(attr(one, "why"))) NA_character_ else attr(one, "why"), "")
+  if (!is.null(names(x))) row.names(frame) <- make.unique(names(x))
+  frame
+}
+
+print.coop_many <- function(x, ...) {
+  print(as.data.frame(x), ...)
+  invisible(x)
+}
 
 print.coop_shares <- function(x, ...) {
   print(data.frame(share = as.numeric(x), exact = unname(exact(x)), row.names = make.unique(names(x))), ...)

@@ -19,7 +19,7 @@ core(game, ...)
 }
 \value{
 A numeric vector of class \code{coop_shares}, by the names of the players. \code{\link{exact}} gives the exact fractions
-as texts. Its attribute \code{line} is what the program printed, with the certificate of a nucleolus.
+as texts, and \code{as.data.frame} a row for each player with both. Its attribute \code{line} is what the program printed, with the certificate of a nucleolus.
 
 If the core is empty, \code{core} returns a list of class \code{coop_answer} that says why. All other outcomes are errors
 of class \code{coop_no_answer}, with \code{status} and \code{line}.

@@ -10,7 +10,8 @@ solve_games(command, games, ...)
   \item{games}{a list of games or of vectors by size.}
   \item{...}{for vectors, the further arguments of \code{\link{table_game}}.}
 }
-\value{A list. A game without an answer has a vector of \code{NA}, with the reason as its attribute \code{why}.}
+\value{A list of class \code{coop_many}. A game without an answer has a vector of \code{NA}, with the reason as its
+attribute \code{why}. \code{as.data.frame} gives a row for each game and a column for each player, beside \code{why}.}
 \examples{
-do.call(rbind, solve_games("nucleolus", list(c(0, 0, 4), c(1, 1, 1))))
+as.data.frame(solve_games("nucleolus", list(c(0, 0, 4), c(1, 1, 1))))
 }

@@ -47,3 +47,13 @@ many <- solve_games("nucleolus", list(c(0, 0, 100000), c(1, 1, 1)))
 near(many[[1]], c(50000, 50000))
 stopifnot(all(is.na(many[[2]])), grepl("no imputation", attr(many[[2]], "why")))
 stopifnot(identical(names(nucleolus(c(0, 0, 2), names = c('a "b"\\', "\u00e9"))), c('a "b"\\', "\u00e9")))
+stopifnot(grepl("takes one of", said(solve_games("nuclolus", list(three)))))
+
+# Data frames, and the names of CoopGame.
+stopifnot(identical(as.data.frame(shares), data.frame(player = c("Ann", "Bob", "Cem"), share = c(4.5, 4.5, 3),
+                                                      exact = c("9/2", "9/2", "3"), stringsAsFactors = FALSE)))
+frame <- as.data.frame(many)
+stopifnot(identical(names(frame), c("1", "2", "why")), identical(frame[[1]], c(50000, NA)), is.na(frame$why[1]))
+stopifnot(grepl("other players", said(as.data.frame(solve_games("core", list(c(0, 0, 1), three))))))
+stopifnot(identical(exact(shapleyValue(three)), exact(shapley(three))), isBalancedGame(three), !isConvexGame(c(0, 0, 0, 6, 2, 2, 3)))
+stopifnot(belongsToCore(c(5, 5, 2), three), !belongsToCore(c(1, 10.5, 0.5), three), belongsToPrekernel(shares, three))

@@ -1,5 +1,6 @@
 // Standard input and output of Node, and the module of the page: what the commands share.
 import fs from "node:fs";
+import { isatty } from "node:tty";
 import { moduleIn } from "./inside.js";
 
 /** One byte more than any document may have. */
@@ -24,9 +25,30 @@ export function pageModule() {
   return new WebAssembly.Module(moduleIn(fs.readFileSync(new URL("../../page/coop.html", import.meta.url), "latin1")));
 }
 
-/** Reads some bytes of standard input to a place of a buffer: how many, and 0 at the end of the input. */
-export function readTo(bytes, place) {
-  return moved(() => fs.readSync(0, bytes, place, bytes.length - place, null), READ_FAULT);
+/** Whether there is a file of this name. */
+export function isThere(name) {
+  return fs.existsSync(name);
+}
+
+/** The number of a file that is opened for reading. */
+export function opened(name) {
+  return moved(() => fs.openSync(name, "r"), READ_FAULT);
+}
+
+/** The bytes of a document: of standard input, 0, or of a file that is open. If people have to type it, they are told. */
+export function documentOf(port) {
+  if (port === 0 && isatty(0) && isatty(2)) {
+    console.error("coop: type or paste the document, then Ctrl-D; or give a file: coop COMMAND FILE");
+  }
+  const bytes = Buffer.alloc(MOST);
+  let count = 0;
+  for (let more; count < MOST && (more = readTo(bytes, count, port)) > 0; ) count += more;
+  return bytes.subarray(0, count);
+}
+
+/** Reads some bytes of a port to a place of a buffer: how many, and 0 at the end of the input. */
+export function readTo(bytes, place, port = 0) {
+  return moved(() => fs.readSync(port, bytes, place, bytes.length - place, null), READ_FAULT);
 }
 
 /** Writes all of some bytes to standard output. */
@@ -34,17 +56,7 @@ export function print(bytes) {
   for (let count = 0; count < bytes.length; ) count += moved(() => fs.writeSync(1, bytes, count), WRITE_FAULT);
 }
 
-/** Fails if standard input is closed. */
-export function needInput() {
-  if (isClosed(0)) throw new PortFault(READ_FAULT, "standard input is closed");
-}
-
-/** Fails if standard output is closed. */
-export function needOutput() {
-  if (isClosed(1)) throw new PortFault(WRITE_FAULT, "standard output is closed");
-}
-
-// How many bytes a call of the system moved, which is tried again while a pipe isn't ready.
+// What a call of the system gives, such as how many bytes it moved. It is tried again while a pipe isn't ready.
 function moved(call, status) {
   for (;;) {
     try {
@@ -55,15 +67,5 @@ function moved(call, status) {
       if (fault.code !== "EAGAIN") throw new PortFault(status, fault);
       Atomics.wait(new Int32Array(new SharedArrayBuffer(4)), 0, 0, 1);
     }
-  }
-}
-
-// In the place of a closed port Node opens the null device, for reading and writing: Linux tells.
-function isClosed(port) {
-  try {
-    const flags = /^flags:\s*([0-7]+)$/m.exec(fs.readFileSync(`/proc/self/fdinfo/${port}`, "latin1"))[1];
-    return fs.readlinkSync(`/proc/self/fd/${port}`) === "/dev/null" && flags.endsWith("2");
-  } catch {
-    return false;
   }
 }

@@ -2,7 +2,6 @@
 import { isObject, writeJson } from "../exact/json.js";
 import { isMark } from "../exact/marks.js";
 import { coarseOf } from "./coarse.js";
-import { maskOf, membersOf } from "../game/groups.js";
 
 const WORD = "coop-page", VERSION = 1n;
 const isText = (one) => typeof one === "string" && one.length <= 200;
@@ -26,24 +25,15 @@ function isKept(one) {
 }
 
 /** The file of a case: `text` is its document, `mark` that of what is shown, `entry` that of the cells. */
-export function caseText({ typed, text, texts, places, mark, entry, kept: pin, paper: { heading, unit } }) {
+export function caseText({ kind, typed, text, texts, places, mark, entry, kept: pin, paper: { heading, unit } }) {
   const proposal = texts.some(Boolean) ? texts : undefined;
   const { coarse, source } = typed;
-  const settings = { filled: filledTree(typed), coarse, decimals: places, mark, entry, heading, unit, source };
+  const settings = { filled: kind.filled?.treeOf(typed), coarse, decimals: places, mark, entry, heading, unit, source };
   const all = Object.entries({ ...settings, proposal, kept: pin });
   const kept = all.filter(([, one]) => one !== undefined && one !== "");
   return `{"${WORD}":${VERSION},\n"document":${text}${kept.map(([key, one]) => {
     return `,\n"${key}":${writeJson(one)}`;
   }).join("")}}\n`;
-}
-
-/** Groups by their players, links by their ends (the source is 0) and how they were filled. */
-function filledTree({ filled = [], how = "split" }) {
-  if (!Array.isArray(filled)) {
-    const links = Object.entries(filled).map(([key, way]) => [...key.split("-").map(Number), way]);
-    return links.length ? { links } : undefined;
-  }
-  return filled.length ? { how, groups: filled.map((mask) => membersOf(mask).map((i) => i + 1)) } : undefined;
 }
 
 export function isCaseFile(tree) {
@@ -66,25 +56,12 @@ function spoilt(place) {
   return { sentence: "This case isn’t as the page saved it, so it isn’t opened. Its document can be.", place };
 }
 
-/** Which cells of a case were filled, as what was typed has it: {filled, how}, or {fault} with its place. */
+/** Which cells of a case were filled, as what was typed has it, or {fault} with its place. */
 export function filledOf(kind, names, tree) {
   if (tree === undefined) return {};
-  const key = kind.isTable ? "groups" : "links", list = Array.isArray(tree[key]) ? tree[key] : [null];
-  const isRight = !kind.isTable && !kind.isNetwork ? () => false : kind.isTable ? isGroup : isLink;
+  const { key = "cells", isRight = () => false, typedOf } = kind.filled ?? {};
+  const list = Array.isArray(tree[key]) ? tree[key] : [null];
   const wrong = list.findIndex((one) => !Array.isArray(one) || !isRight(one, BigInt(names?.length ?? 0)));
   if (wrong >= 0) return { fault: spoilt(`filled, ${key}, item ${wrong + 1}`) };
-  if (kind.isNetwork) return { filled: Object.fromEntries(list.map(([i, j, how]) => [`${i}-${j}`, how])) };
-  const how = tree.how === "larger" && kind.isCost ? "larger" : "split";
-  return { how, filled: [...new Set(list.map((group) => maskOf(group.map((i) => Number(i) - 1))))] };
-}
-
-/** A group of players that isn't that of all. */
-function isGroup(group, n) {
-  const isRising = group.every((i, k) => typeof i === "bigint" && i > (group[k - 1] ?? 0n) && i <= n);
-  return isRising && group.length > 0 && group.length < n;
-}
-
-function isLink([i, j, how], n) {
-  const areEnds = [i, j].every((end) => typeof end === "bigint") && i >= 0n && i < j && j <= n;
-  return areEnds && ["way", "number"].includes(how);
+  return typedOf(list, tree, kind);
 }

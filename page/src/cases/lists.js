@@ -21,6 +21,8 @@ export const runway = {
   title: "A runway",
   teaser: "Each user needs a part of it. It costs what the most demanding user needs.",
   unit: "landing",
+  grid: "list",
+  mapNumbers: numbersMapped,
   columns: [
     {
       key: "name", title: "Airline", wide: true, placeholder: "Airline",
@@ -34,7 +36,7 @@ export const runway = {
     },
   ],
   ofFour: ["name", "type", "cost", "count"], // what four columns without headings are
-  help: "One row for each airline and type, with the cost of a runway for such a landing only. Each landing counts.",
+  help: "One row for each airline and type, with the cost of a runway for such a landing only.",
   most: 500,
   example: () => ({
     rows: [
@@ -107,6 +109,8 @@ export const estate = {
   title: "An estate or a bankruptcy",
   teaser: "The claims add up to more than there is.",
   unit: "claim",
+  grid: "list",
+  mapNumbers: numbersMapped,
   single: { key: "estate", title: "The estate", help: "what there is to divide" },
   columns: [
     { key: "name", title: "Who claims", wide: true, placeholder: "Claimant", heads: CREDITOR },
@@ -178,4 +182,11 @@ export function readList(state, mark, key, what, word) {
 /** A row of the answer for each name. */
 export function rowsOf(names) {
   return names.map((name, i) => ({ label: shownName(name), players: [i] }));
+}
+
+/** What was typed in a list with each number changed; the method of a kind that has one. */
+export function numbersMapped(typed, change) {
+  const keys = this.columns.filter(({ number, fallback }) => number && !fallback).map(({ key }) => key);
+  const rows = typed.rows.map((row) => ({ ...row, ...Object.fromEntries(keys.map((key) => [key, change(row[key])])) }));
+  return { ...typed, rows, ...(this.single ? { [this.single.key]: change(typed[this.single.key]) } : {}) };
 }

@@ -2,6 +2,7 @@
 import { typedText } from "../exact/decimals.js";
 import { CLASSES, mostOf } from "../game/classes.js";
 import { withEscapes } from "../game/names.js";
+import { filledLinks } from "./filled-cells.js";
 import { rowsOf } from "./lists.js";
 import { detoursOf } from "./detours.js";
 import { Reading } from "./reading.js";
@@ -13,6 +14,8 @@ export const network = {
   teaser: "Pipes, cables or roads join everybody to one source.",
   unit: "place",
   isNetwork: true,
+  grid: "network",
+  filled: filledLinks,
   most: mostOf("tree"),
   help: "What would each link cost? A group by itself uses only links between its own places and the source. If a link "
     + "can’t be built, leave it empty. Paste a matrix, or a list of from, to and cost.",
@@ -21,6 +24,11 @@ export const network = {
     links: linksOf([["9.99", "10.25", "12", "14"], ["1.05", "3.50", "8"], ["6", "2"], ["5"]]),
   }),
   empty: () => ({ names: ["", ""], links: {} }),
+
+  mapNumbers(typed, change) {
+    const links = Object.entries(typed.links).map(([key, text]) => [key, change(text)]);
+    return { ...typed, links: Object.fromEntries(links) };
+  },
 
   read(state, mark) {
     const reading = new Reading(mark, state), n = state.names.length;
@@ -67,7 +75,7 @@ export const market = {
   title: "Buyers and sellers",
   teaser: "Each buys one thing or sells one. Who trades with whom, and at which price?",
   unit: "trader",
-  isMarket: true,
+  grid: "market",
   most: CLASSES.market.side,
   help: "What do each buyer and seller gain together if they trade? It is the worth to the buyer less the worth to the "
     + "seller, or 0 if that is negative.",
@@ -77,6 +85,7 @@ export const market = {
     values: [["5", "8"], ["7", "6"], ["6", "6"]],
   }),
   empty: () => ({ buyers: ["", ""], sellers: ["", ""], values: [["", ""], ["", ""]] }),
+  mapNumbers: (typed, change) => ({ ...typed, values: typed.values.map((row) => row.map(change)) }),
 
   read(state, mark) {
     const reading = new Reading(mark, state), { buyers, sellers } = state;

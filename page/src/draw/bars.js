@@ -7,10 +7,11 @@ import { figure } from "./figure.js";
 
 const MOST_ROWS = 12; // of landings that have a bar each
 
-/** `rows` are {label, players}: players of a row have equal shares, and the bar is that of one of them. */
-export function barsPicture(game, rows, points, { show, column, wide }) {
+/** `rows` are {label, players}: players of a row have equal shares, and the bar is that of one. `hasAdded` says
+ * that there are marks at what each adds to all others, and `hasNumbers` that the shares are beside the bars. */
+export function barsPicture(game, rows, points, { show, column, wide, hasAdded = true, hasNumbers = false }) {
   const first = rows.map(({ players: [i] }) => i);
-  const alone = first.map((i) => game.alone(i)), added = first.map((i) => game.added(i));
+  const alone = first.map((i) => game.alone(i)), added = hasAdded ? first.map((i) => game.added(i)) : [];
   const values = [ZERO, ...added, ...points.flatMap((point) => first.map((i) => point.shares[i]))];
   const most = Rational.max(values), isFar = most.times(Rational.of(4)).less(Rational.max(alone));
   const low = Rational.min([...values, ...alone]).toNumber();
@@ -31,16 +32,18 @@ export function barsPicture(game, rows, points, { show, column, wide }) {
       ...(isSeveral ? [{ kind: "text", title: "A bar is what one landing pays" }] : []),
       ...points.map(({ key, title }) => ({ key, title })),
       { kind: "alone", title: own + (isFar ? " (an arrow: far more)" : "") },
-      { kind: "adds", title: `adds to the ${game.costs ? "cost" : "worth"} of all others` },
+      ...(hasAdded ? [{ kind: "adds", title: `adds to the ${game.costs ? "cost" : "worth"} of all others` }] : []),
     ],
+    columns: hasNumbers ? points.map(({ title }, k) => ({ title, texts: texts[k] })) : [],
     rows: rows.map(({ label, players }, r) => ({
       label, note: players.length > 1 ? `each of ${players.length}` : "", end: high,
       told: `${label}: ${[
         ...points.map((point, k) => `${point.title} ${texts[k][r]}`),
-        `${own} ${show(alone[r])}`, `adds ${show(added[r])} to all others`,
+        `${own} ${show(alone[r])}`, ...(hasAdded ? [`adds ${show(added[r])} to all others`] : []),
       ].join(", ")}`,
       bars: points.map((point) => ({ key: point.key, value: point.shares[players[0]].toNumber() })),
-      marks: [{ kind: "adds", value: added[r].toNumber() }, { kind: "alone", value: within(alone[r]) }],
+      marks: [...(hasAdded ? [{ kind: "adds", value: added[r].toNumber() }] : []),
+        { kind: "alone", value: within(alone[r]) }],
     })),
   });
 }

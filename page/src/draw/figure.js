@@ -1,45 +1,33 @@
-// A picture with what is said below it, and a button to save it as a file of its own.
-import { button, download, el } from "../view/dom.js";
+// A picture with what is said below it, and as a file of its own.
+import { el, textOf } from "./tree.js";
 
-const PALETTE = "/* PALETTE */";
-const PICTURE = "/* PICTURE */";
+const CONTENT = "\u0000"; // no text of XML has it
 
 /** `name` is that of the file, without its ending. */
 export function figure(kind, name, drawn, ...caption) {
-  const element = el("figure", { class: kind }, el("div", { class: "scroll" }, drawn),
+  return el("figure", { class: kind, "data-name": name }, el("div", { class: "scroll" }, drawn),
     caption.some(Boolean) && el("figcaption", { class: "hint" }, ...caption));
-  element.save = () => download(`${name}.svg`, asFile(drawn), "image/svg+xml");
-  return element;
 }
 
-/** A button for each picture in some elements, which saves it. */
-export function pictureButtons(holders) {
-  const figures = holders.flatMap((holder) => [...holder.querySelectorAll("figure")]).filter(({ save }) => save);
-  return figures.map((one) => {
-    const title = one.querySelector("svg").getAttribute("aria-label").split(".")[0];
-    return button(`Save the picture “${title}”`, () => one.save(), { class: "quiet save" });
-  });
-}
-
-/** The picture as a document of its own: in the light colours, on white. */
-function asFile(drawn) {
-  const copy = drawn.cloneNode(true), [, , wide, high] = copy.getAttribute("viewBox").split(" ");
-  const style = document.createElementNS("http://www.w3.org/2000/svg", "style");
-  style.textContent = inColours(PICTURE);
-  const paper = document.createElementNS("http://www.w3.org/2000/svg", "rect");
-  const attributes = { width: wide, height: high, fill: "#ffffff" };
-  for (const [key, value] of Object.entries(attributes)) paper.setAttribute(key, value);
-  copy.prepend(style, paper);
-  copy.setAttribute("class", "picture");
-  return `<?xml version="1.0" encoding="UTF-8"?>\n${new XMLSerializer().serializeToString(copy)}\n`;
+/** A picture as a document of its own, in the light colours, on white: `inside` is the text of what it holds, and
+ * `attributes` those of its tree. `styles` has the texts of palette.css and of picture.css. */
+export function pictureFile({ viewBox, "aria-label": label }, inside, styles) {
+  const [, , wide, high] = viewBox.split(" ");
+  const paper = el("rect", { width: wide, height: high, fill: "#ffffff" });
+  const [head, foot] = textOf(el("svg", {
+    xmlns: "http://www.w3.org/2000/svg", class: "picture", viewBox, width: wide, height: high, role: "img",
+    "aria-label": label,
+  }, el("style", {}, inColours(styles)), paper, CONTENT)).split(CONTENT);
+  return `<?xml version="1.0" encoding="UTF-8"?>\n${head}${inside}${foot}\n`;
 }
 
 /** Rules with the light palette in the place of its names. */
-function inColours(rules) {
-  const light = PALETTE.slice(PALETTE.indexOf("{") + 1, PALETTE.indexOf("}"));
+function inColours({ palette, picture }) {
+  const light = palette.slice(palette.indexOf("{") + 1, palette.indexOf("}"));
   const colours = new Map([...light.matchAll(/(--[\w-]+): ([^;]+);/g)].map(([, name, value]) => [name, value]));
-  const points = [...rules.matchAll(/\[data-point="([\w-]+)"\][^{]*\{ --point: var\((--[\w-]+)\)/g)]
+  const points = [...picture.matchAll(/\[data-point="([\w-]+)"\][^{]*\{ --point: var\((--[\w-]+)\)/g)]
     .map(([, key, name]) => `.picture [data-point="${key}"] .own, .picture .own[data-point="${key}"]`
       + ` { fill: ${colours.get(name)}; }`);
-  return `${rules.replace(/var\((--[\w-]+)\)/g, (_, name) => colours.get(name) ?? "#1d1c1a")}\n${points.join("\n")}`;
+  const rules = picture.replace(/^(\/\*|\[).*\n/gm, ""); // without the names of colours and what is said
+  return `${rules.replace(/var\((--[\w-]+)\)/g, (_, name) => colours.get(name) ?? "#1d1c1a")}${points.join("\n")}`;
 }

@@ -1,6 +1,6 @@
 // The cheapest network, drawn from its source to the right: each place hangs on the one that it is joined to.
 import { Rational } from "../exact/rational.js";
-import { svg } from "../view/dom.js";
+import { el } from "./tree.js";
 import { figure } from "./figure.js";
 import { fitted, widthOf } from "./measure.js";
 
@@ -34,7 +34,7 @@ export function planPicture(game, links, { show, wide, source = "Source" }) {
   const x = (point) => 14 + spots.get(point).depth * step, y = (point) => 26 + spots.get(point).row * ROW;
   const curves = links.map(([end, player]) => {
     const [from, to] = [Number(end), Number(player)], bend = x(from) + step * 0.42;
-    return svg("path", {
+    return el("path", {
       class: "link", d: `M${x(from)},${y(from)} C${bend},${y(from)} ${bend - step * 0.1},${y(to)} ${x(to)},${y(to)}`,
     });
   });
@@ -46,7 +46,7 @@ export function planPicture(game, links, { show, wide, source = "Source" }) {
     const [from, to] = [Number(end), Number(player)];
     return `${names[to]} is joined to ${names[from]} and pays ${show(cost.get(to))}`;
   });
-  return svg("svg", {
+  return el("svg", {
     class: "picture", viewBox: `0 0 ${size.width} ${size.height}`, width: size.width, height: size.height, role: "img",
     "aria-label": `The cheapest network. ${told.join("; ")}`,
   }, curves, points);
@@ -57,9 +57,9 @@ function placed(name, x, y, { isSource, isLeaf, price }) {
   const above = isSource ? { x: 4, y: y - 13 } : { x, y: y - 13, "text-anchor": "middle" };
   const spot = isLeaf ? { x: x + 12, y: y + 5 } : above;
   return [
-    svg("circle", { class: isSource ? "place source" : "place", cx: x, cy: y, r: isSource ? 7.5 : 5.5 }),
-    svg("text", { class: "apart", ...spot }, short),
-    price && svg("text", { class: "soft apart", x: x - 11, y: y + 16, "text-anchor": "end" }, price),
+    el("circle", { class: isSource ? "place source" : "place", cx: x, cy: y, r: isSource ? 7.5 : 5.5 }),
+    el("text", { class: "apart", ...spot }, short),
+    price && el("text", { class: "soft apart", x: x - 11, y: y + 16, "text-anchor": "end" }, price),
   ].filter(Boolean);
 }
 

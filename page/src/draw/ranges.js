@@ -1,7 +1,7 @@
 // Who trades with whom, and the range of the price; and the power of votes.
 import { Rational } from "../exact/rational.js";
 import { decimal, fractionText, shortText } from "../exact/decimals.js";
-import { el } from "../view/dom.js";
+import { el } from "./tree.js";
 import { listed } from "../game/words.js";
 import { tickText } from "./bars.js";
 import { chart } from "./chart.js";

@@ -1,16 +1,14 @@
-// The tetrahedron of the divisions among four, with the core in it. It can be turned, by the mouse or the arrow keys.
+// The tetrahedron of the divisions among four, with the core in it, as it is seen from some side.
 import { Rational, ZERO } from "../exact/rational.js";
 import { shortText } from "../exact/decimals.js";
-import { el, svg } from "../view/dom.js";
+import { el } from "./tree.js";
 import { coreOfFour } from "./core-of-four.js";
 import { figure } from "./figure.js";
 import { fitted } from "./measure.js";
 import { markOf, togetherOf } from "./triangle.js";
 
-const TURN = 0.12; // radians of an arrow key
 const [HIGH, LINE] = [420, 24];
 export const START = { yaw: 0.5, pitch: 0.3 };
-const KEYS = { ArrowLeft: [-1, 0], ArrowRight: [1, 0], ArrowUp: [0, -1], ArrowDown: [0, 1] };
 const R = (2 * Math.SQRT2) / 3;
 const ANGLES = [0, 1, 2].map((k) => (k * 2 * Math.PI) / 3);
 const LOW = ANGLES.map((angle) => [R * Math.cos(angle), -1 / 3, R * Math.sin(angle)]);
@@ -33,9 +31,9 @@ function around(points) {
   return [...points].sort((one, other) => angle(one) - angle(other));
 }
 
-/** The picture of four players, which keeps in `view` how it is turned; null if there is no division in which all do as
- * well as alone. */
-export function tetrahedron(game, points, { wide, view = { ...START } }) {
+/** The picture of four players as it is turned in `view`, and `partsOf(view)`, what it holds as it is turned elsewhere;
+ * null if there is no division in which all do as well as alone. */
+export function tetrahedron(game, points, { wide, view }) {
   const sign = game.costs ? (value) => value.negated() : (value) => value;
   const own = [0, 1, 2, 3].map((i) => game.worth([i]));
   const spare = game.worth([0, 1, 2, 3]).minus(Rational.sum(own));
@@ -46,18 +44,16 @@ export function tetrahedron(game, points, { wide, view = { ...START } }) {
   };
   const spots = corners.map(spotOf), solid = faces.map(({ places }) => around(places.map((at) => spots[at])));
   const own3 = points.map(({ key, shares }) => ({ key, at: spotOf(shares.map(sign)) })), said = saidOf(corners, solid);
-  const legend = togetherOf(points), drawn = svg("svg", {
+  const legend = togetherOf(points), shapes = { spots, solid, points: own3, names: game.shown, legend, wide };
+  const drawn = el("svg", {
     class: "picture turning", viewBox: `0 0 ${wide} ${HIGH + legend.length * LINE + 8}`, width: wide, role: "img",
     tabindex: "0", "aria-label": `Tetrahedron of the divisions, to be turned by the arrow keys. ${said}`,
-  });
-  const shapes = { spots, solid, points: own3, names: game.shown, legend, wide };
-  const show = () => drawn.replaceChildren(...partsOf(shapes, view));
-  turnable(drawn, view, show);
-  show();
+  }, partsOf(shapes, view));
   const worse = game.costs ? "pays more" : "gets less";
-  return el("div", {}, figure("triangle tetrahedron", "tetrahedron", drawn, `${said} The frame has all `
+  const tree = el("div", {}, figure("triangle tetrahedron", "tetrahedron", drawn, `${said} The frame has all `
     + `divisions in which nobody ${worse} than alone. Drag it, or use the arrow keys, to turn it.`),
   cornersTable(corners, game, sign));
+  return { tree, partsOf: (other) => partsOf(shapes, other) };
 }
 
 function saidOf({ length }, { length: sides }) {
@@ -79,31 +75,6 @@ function cornersTable(corners, game, sign) {
 
 // ---- Turning
 
-function turnable(drawn, view, show) {
-  const turn = (yaw, pitch) => {
-    view.yaw += yaw;
-    view.pitch = Math.max(-1.5, Math.min(1.5, view.pitch + pitch));
-    show();
-  };
-  let from = null;
-  drawn.addEventListener("pointerdown", (event) => {
-    from = [event.clientX, event.clientY];
-    drawn.setPointerCapture(event.pointerId);
-  });
-  drawn.addEventListener("pointermove", ({ clientX, clientY }) => {
-    if (!from) return;
-    turn((clientX - from[0]) / 120, (clientY - from[1]) / 120);
-    from = [clientX, clientY];
-  });
-  for (const end of ["pointerup", "pointercancel"]) drawn.addEventListener(end, () => (from = null));
-  drawn.addEventListener("keydown", (event) => {
-    const [across, down] = KEYS[event.key] ?? [];
-    if (across === undefined) return;
-    event.preventDefault();
-    turn(across * TURN, down * TURN);
-  });
-}
-
 function turned([x, y, z], { yaw, pitch }) {
   const across = x * Math.cos(yaw) + z * Math.sin(yaw), deep = z * Math.cos(yaw) - x * Math.sin(yaw);
   return [across, y * Math.cos(pitch) - deep * Math.sin(pitch), y * Math.sin(pitch) + deep * Math.cos(pitch)];
@@ -123,7 +94,7 @@ function partsOf({ spots, solid, points, names, legend, wide }, view) {
     ...marks.sort((one, other) => one.z - other.z).map(({ key, x, y }) => markOf(key, x, y)),
     ...frame.map((spot, i) => nameOf(spot, names[i], wide)),
     ...legend.flatMap(({ key, text }, k) => [markOf(key, 14, HIGH + k * LINE + 4),
-      svg("text", { x: 32, y: HIGH + k * LINE + 9 }, fitted(text, wide - 40))]),
+      el("text", { x: 32, y: HIGH + k * LINE + 9 }, fitted(text, wide - 40))]),
   ];
 }
 
@@ -138,16 +109,16 @@ function edgeOf(edge, frame, view) {
   const sides = SIDES.filter((side) => edge.every((i) => side.includes(i)));
   const isFront = sides.some((side) => isSeen(side.map((i) => CORNERS[i]), [0, 0, 0], view));
   const [{ x: x1, y: y1 }, { x: x2, y: y2 }] = edge.map((i) => frame[i]);
-  return svg("line", { class: isFront ? "edge" : "edge hidden-edge", x1, y1, x2, y2 });
+  return el("line", { class: isFront ? "edge" : "edge hidden-edge", x1, y1, x2, y2 });
 }
 
 function facesOf(spots, solid, view, path, at) {
-  if (spots.length === 1) return [svg("circle", { class: "core", cx: at(spots[0]).x, cy: at(spots[0]).y, r: 11 })];
-  if (spots.length === 2) return [svg("polyline", { class: "core thin", points: path(spots) })];
+  if (spots.length === 1) return [el("circle", { class: "core", cx: at(spots[0]).x, cy: at(spots[0]).y, r: 11 })];
+  if (spots.length === 2) return [el("polyline", { class: "core thin", points: path(spots) })];
   const centre = middle(spots.length ? spots : [[0, 0, 0]]);
   const seen = solid.map((face) => ({ face, isFront: solid.length < 2 || isSeen(face, centre, view) }));
   return seen.sort((one, other) => one.isFront - other.isFront).map(({ face, isFront }) => {
-    return svg("polygon", { class: isFront ? "core-face" : "core-face back", points: path(face) });
+    return el("polygon", { class: isFront ? "core-face" : "core-face back", points: path(face) });
   });
 }
 
@@ -155,5 +126,5 @@ function nameOf({ x, y }, name, wide) {
   const anchor = x < wide * 0.4 ? "start" : x > wide * 0.6 ? "end" : "middle", isLow = y > HIGH * 0.56;
   const left = anchor === "start" ? Math.max(4, x - 20) : anchor === "end" ? Math.min(wide - 4, x + 20) : x;
   const place = { x: left, y: y + (isLow ? 20 : -9), "text-anchor": anchor };
-  return svg("text", { class: "strong apart", ...place }, fitted(name, 130));
+  return el("text", { class: "strong apart", ...place }, fitted(name, 130));
 }

@@ -2,7 +2,7 @@
 // that player gets (the less it pays). A payment is a negative share here, and a cost a negative worth.
 import { ZERO } from "../exact/rational.js";
 import { shortText } from "../exact/decimals.js";
-import { svg } from "../view/dom.js";
+import { el } from "./tree.js";
 import { listed } from "../game/words.js";
 import { figure } from "./figure.js";
 import { fitted, widthOf } from "./measure.js";
@@ -37,7 +37,7 @@ export function trianglePicture(game, points, { wide }) {
   const [x, top] = isBeside ? [width + 8, Math.max(20, (bottom - legend.length * LINE) / 2)] : [14, bottom + 8];
   const high = Math.max(bottom, top + legend.length * LINE);
   const title = `${GREY[Math.min(shape.core.length, 3)]}.`;
-  const drawn = svg("svg", {
+  const drawn = el("svg", {
     class: "picture", viewBox: `0 0 ${wide} ${Math.ceil(high)}`, width: wide, role: "img",
     "aria-label": `Triangle of the divisions. ${title} ${toldOf(game, points)}; ${bounds.map(({ text }) => text)
       .join("; ")}`,
@@ -45,7 +45,7 @@ export function trianglePicture(game, points, { wide }) {
   points.map((point, k) => markOf(point.key, ...shape.place(shape.shares[k]))),
   legend.map(({ mark, text }, k) => [
     mark(x + 8, top + k * LINE),
-    svg("text", { x: x + 26, y: top + k * LINE + 5 }, fitted(text, wide - x - 30)),
+    el("text", { x: x + 26, y: top + k * LINE + 5 }, fitted(text, wide - x - 30)),
   ]));
   return { drawn, title, hidden, isImputations: shape.isImputations };
 }
@@ -79,17 +79,17 @@ export function triangle(game, points, settings) {
 }
 
 function coreOf({ core, place, path }) {
-  if (core.length > 2) return svg("polygon", { class: "core", points: path(core) });
-  if (core.length === 2) return svg("polyline", { class: "core thin", points: path(core) });
+  if (core.length > 2) return el("polygon", { class: "core", points: path(core) });
+  if (core.length === 2) return el("polyline", { class: "core thin", points: path(core) });
   if (!core.length) return [];
   const [cx, cy] = place(core[0]);
-  return svg("circle", { class: "core", cx, cy, r: 12 });
+  return el("circle", { class: "core", cx, cy, r: 12 });
 }
 
 function framesOf({ isImputations, spare, path, outer, inner }) {
-  const frame = svg("polygon", { class: isImputations ? "frame" : "outer", points: path(outer) });
+  const frame = el("polygon", { class: isImputations ? "frame" : "outer", points: path(outer) });
   const hasInner = !isImputations && ZERO.less(spare);
-  return hasInner ? [frame, svg("polygon", { class: "frame", points: path(inner) })] : [frame];
+  return hasInner ? [frame, el("polygon", { class: "frame", points: path(inner) })] : [frame];
 }
 
 /** The names at the corners, and how much each gets there, in the order of the players. */
@@ -99,8 +99,8 @@ function cornersOf(game, { spots, side, outer, sign, isImputations }, width) {
     const [name, numbers] = i === 2 ? [-36, -21] : [26, 42];
     const told = outer[i].map((share) => shortText(sign(share))).join("; "), isShort = told.length <= MOST_TOLD;
     const half = widthOf(told) / 2, middle = Math.min(Math.max(x, half), width - half); // within the picture
-    return [svg("text", { class: "strong", x, y: y + name, "text-anchor": "middle" }, text), isImputations && isShort
-      && svg("text", { class: "soft", x: middle, y: y + numbers, "text-anchor": "middle" }, told)];
+    return [el("text", { class: "strong", x, y: y + name, "text-anchor": "middle" }, text), isImputations && isShort
+      && el("text", { class: "soft", x: middle, y: y + numbers, "text-anchor": "middle" }, told)];
   });
 }
 
@@ -118,7 +118,7 @@ function boundsOf(game, shape) {
       continue;
     }
     const letter = LETTERS[bounds.length], [[x1, y1], [x2, y2]] = ends;
-    const line = svg("line", { class: isPair ? "pair" : "single", x1, y1, x2, y2 });
+    const line = el("line", { class: isPair ? "pair" : "single", x1, y1, x2, y2 });
     const [x, y] = roomBeside(isPair ? ends : [...ends].reverse(), shape.spots, taken);
     taken.push([x, y]);
     bounds.push({ letter, text, drawn: [line, letterAt(letter, x, y + 4)] });
@@ -157,15 +157,19 @@ function beside([[x1, y1], [x2, y2]], part) {
 }
 
 function letterAt(letter, x, y) {
-  return svg("text", { class: "letter", x, y, "text-anchor": "middle" }, letter);
+  return el("text", { class: "letter", x, y, "text-anchor": "middle" }, letter);
 }
+
+const CORNERS = {
+  core: [[0, -7], [6.5, 5], [-6.5, 5]], proposal: [[0, -8], [8, 0], [0, 8], [-8, 0]],
+  buyers: [[0, 7], [6.5, -5], [-6.5, -5]], sellers: [[-7, 0], [-3.5, -6], [3.5, -6], [7, 0], [3.5, 6], [-3.5, 6]],
+};
 
 /** Each point has its own mark, told from the others without colour. */
 export function markOf(key, x, y) {
   const own = { class: "own mark", "data-point": key };
   const at = (pairs) => pairs.map(([a, b]) => `${x + a},${y + b}`).join(" ");
-  if (key === "shapley") return svg("rect", { ...own, x: x - 5.5, y: y - 5.5, width: 11, height: 11 });
-  if (key === "core") return svg("polygon", { ...own, points: at([[0, -7], [6.5, 5], [-6.5, 5]]) });
-  if (key === "proposal") return svg("polygon", { ...own, points: at([[0, -8], [8, 0], [0, 8], [-8, 0]]) });
-  return svg("circle", { ...own, cx: x, cy: y, r: key.endsWith("nucleolus") ? 6 : 4.5 });
+  if (key === "shapley") return el("rect", { ...own, x: x - 5.5, y: y - 5.5, width: 11, height: 11 });
+  if (CORNERS[key]) return el("polygon", { ...own, points: at(CORNERS[key]) });
+  return el("circle", { ...own, cx: x, cy: y, r: key.endsWith("nucleolus") ? 6 : 4.5 });
 }

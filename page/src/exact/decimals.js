@@ -74,7 +74,8 @@ function bareText(value) {
   return text.length <= 15 ? text : `about ${decimal(value, 4, spoken)}`;
 }
 
-function unitText() {
+/** The unit of sentences, with a blank before it. */
+export function unitText() {
   return spoken.unit ? ` ${spoken.unit}` : "";
 }
 

@@ -41,16 +41,11 @@ export function parseJson(data) {
   return new Reader(textOf(data)).document();
 }
 
-/** The keys that stand twice in an object, each with the place of the first such object, as "game.sparse, item 2": a
- * reader may see one, and a program counts the other. */
-export function doublesIn(data) {
-  const reader = new Reader(textOf(data));
-  reader.document();
-  return [...reader.doubles].map(([key, place]) => ({ key, place }));
-}
-
-export function doubleKeys(data) {
-  return doublesIn(data).map(({ key }) => key);
+/** A tree, and the keys that stand twice in an object, each with the place of the first such object, as "game.sparse,
+ * item 2": a reader may see one, and a program counts the other. */
+export function readJson(data) {
+  const reader = new Reader(textOf(data)), tree = reader.document();
+  return { tree, doubles: [...reader.doubles].map(([key, place]) => ({ key, place })) };
 }
 
 class Reader {

@@ -26,10 +26,11 @@ const USAGES = {
   class: "The program doesn’t answer this question for this class.",
 };
 
-/** {sentence, place} for the line of a refusal, or of a usage, and the document that a command refused. */
-export function refusalText(line, data, command) {
+/** {sentence, place} for the line of a refusal, or of a usage, and the document that a command refused; without the
+ * document the sentence of its number. */
+export function refusalText(line, data = null, command = "") {
   if (line.usage) return { sentence: USAGES[line.usage] ?? "The program doesn’t know this command." };
   const number = Number(line.number);
-  const found = slipsOf(data, command).find((slip) => slip.number === number);
+  const found = data === null ? null : slipsOf(data, command).find((slip) => slip.number === number);
   return found ?? { number, sentence: SENTENCES[number] ?? "The program refused the document." };
 }

@@ -1,7 +1,7 @@
 // What is wrong with a document: the number of a refusal, a sentence and a place each, in the order in which the
 // program tests. The first is that which the program names. Of later ones not all are found.
 import { countText } from "../exact/decimals.js";
-import { Inexact, isObject, JsonFault, parseJson } from "../exact/json.js";
+import { Inexact, isObject, JsonFault, readJson } from "../exact/json.js";
 import { CLASSES, COMMANDS, keysOf, LIMITS, mostOf } from "../game/classes.js";
 import { bytesOf, isOrAre, MANY, plural } from "../game/words.js";
 import { withEscapes } from "../game/names.js";
@@ -18,21 +18,29 @@ const rankOf = ({ number }) => (number === 13 ? 8.5 : number);
 /** The slips of a document, a text or its bytes, for a command: {number, sentence, place}. Of parts that the command
  * doesn’t need none is told. */
 export function slipsOf(data, command = "") {
+  return slipsIn(data, command).slips;
+}
+
+/** The same, and the keys that stand twice in an object: {slips, doubles}. */
+export function slipsIn(data, command) {
   const slips = [], add = (number, sentence, place) => slips.push({ number, sentence, place });
   const { needs = [], bytes: most = Infinity } = COMMANDS[command] ?? {}, size = sizeOf(data);
   if (size > most) {
     add(1, `It has ${countText(size)} bytes, above ${countText(most)}. Leave out the blanks.`, "the document");
-    return slips;
+    return { slips, doubles: [] };
   }
+  let found = { doubles: [] };
   try {
-    const tree = parseJson(data);
+    found = readJson(data);
+    const { tree } = found;
     documentSlips(tree, needs.filter((key) => key !== "game"), slips, add);
     for (const slip of slips) slip.place = whoseOf(slip.place, tree.game);
   } catch (fault) {
     if (!(fault instanceof JsonFault)) throw fault;
     add(2, ...notJson(fault, data));
   }
-  return slips.sort((one, other) => rankOf(one) - rankOf(other));
+  slips.sort((one, other) => rankOf(one) - rankOf(other));
+  return { slips, doubles: found.doubles };
 }
 
 function sizeOf(data) {

@@ -5,7 +5,7 @@ import { answerParts, solutionOf } from "./answer.js";
 import { beyondParts } from "./beyond.js";
 import { beyondPower } from "./beyond-power.js";
 import { labelOfCell } from "./cell-names.js";
-import { pictureButtons } from "../draw/figure.js";
+import { pictureButtons } from "./save-picture.js";
 import { button, cellOf, copy, el, refill } from "./dom.js";
 import { evidenceParts } from "./evidence.js";
 import { filledLines, filledText, isFilled } from "./filled.js";

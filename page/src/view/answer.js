@@ -4,7 +4,7 @@ import { Rational } from "../exact/rational.js";
 import { bars } from "../draw/bars.js";
 import { plan } from "../draw/plan.js";
 import { power, trades } from "../draw/ranges.js";
-import { START, tetrahedron } from "../draw/tetrahedron.js";
+import { START } from "../draw/tetrahedron.js";
 import { triangle } from "../draw/triangle.js";
 import { mayBeOfRounding } from "../cases/coarse.js";
 import { coarseText, dividedText } from "../tell/coarse-text.js";
@@ -19,6 +19,7 @@ import { pinnedNote, pinTools } from "./pinned.js";
 import { missingText } from "./questions.js";
 import { sealsOf } from "./seals.js";
 import { sharesTable } from "./shares-table.js";
+import { turningTetrahedron } from "./turning.js";
 import { typesTable } from "./types-table.js";
 
 /** All parts of an answer. `settings` are {rows, format, proposal, wide, source, coarse, typed, ask}, and of what the
@@ -72,8 +73,7 @@ export function morePictures(result, settings) {
 const HUNDRED = Rational.of(100);
 const SPLIT = "One player alone and all the others together gain least by joining. What one gains the other loses, so "
   + "no division is better for both.";
-const RUNWAY = "No group pays more than a runway of its own would cost, and those that gain least are treated as well "
-  + "as can be.";
+const RUNWAY = "No group pays more than its own runway would cost, and who gains least comes first.";
 
 /** One sentence of the reasons: what the rule of the class says, or how those are treated that gain least. */
 function becauseOf({ game, reasons }) {
@@ -117,7 +117,7 @@ function pictures({ game, bird }, points, { rows, format, wide, remark, source, 
   const narrow = seen.filter(({ key }) => !["core", "buyers", "sellers"].includes(key));
   const drawn = [bars(game, rows, narrow, { ...format, wide, remark }),
     game.n === 3 && triangle(game, seen, { wide }),
-    game.n === 4 && game.groups && tetrahedron(game, seen, { wide, view: turn })];
+    game.n === 4 && game.groups && turningTetrahedron(game, seen, { wide, view: turn })];
   return [bird && plan(game, bird.tree, { ...format, wide, source }), ...drawn].filter(Boolean);
 }
 

@@ -1,5 +1,4 @@
 // What a cell is called in a sentence.
-import { groupLabel } from "../cases/tables.js";
 import { withEscapes } from "../game/names.js";
 
 /** By the row and the column of a list; otherwise by the name that those have who can't see where it is. */
@@ -12,5 +11,5 @@ export function labelOfCell(cell, { kind, typed }) {
   }
   const input = document.querySelector(`#case [data-cell="${CSS.escape(cell)}"]`);
   if (input) return input.getAttribute("aria-label").replace(/^Link between /, "").replace(/, filled by the page$/, "");
-  return kind.isTable ? groupLabel(typed.names, Number(r)) : cell;
+  return kind.labelOf?.(typed, r) ?? cell;
 }

@@ -1,4 +1,5 @@
 // Elements of the page, made by calls.
+import { measureBy } from "../draw/measure.js";
 
 const SVG = "http://www.w3.org/2000/svg";
 
@@ -7,9 +8,13 @@ export function el(tag, attributes = {}, ...children) {
   return filled(document.createElement(tag), attributes, children);
 }
 
-export function svg(tag, attributes = {}, ...children) {
-  return filled(document.createElementNS(SVG, tag), attributes, children);
-}
+/** The element of a tree (draw/tree.js), in a place of another one; what is none is left as it is. */
+const madeIn = (parent) => (child) => {
+  if (child.tag === undefined) return child;
+  const isSvg = child.tag === "svg" || parent.namespaceURI === SVG;
+  const element = isSvg ? document.createElementNS(SVG, child.tag) : document.createElement(child.tag);
+  return filled(element, child.attributes, child.children);
+};
 
 const isShown = (child) => child !== null && child !== false && child !== undefined && child !== "";
 
@@ -19,7 +24,7 @@ function filled(element, { on = {}, ...attributes }, children) {
     if (name === "value") element.value = value;
     else if (value !== false && isShown(value)) element.setAttribute(name, value === true ? "" : value);
   }
-  element.append(...children.flat(Infinity).filter(isShown));
+  element.append(...children.flat(Infinity).filter(isShown).map(madeIn(element)));
   return element;
 }
 
@@ -43,7 +48,7 @@ export function refill(element, ...children) {
   const cell = focused?.dataset.cell;
   const hasRange = cell !== undefined && typeof focused.selectionStart === "number";
   const range = hasRange ? [focused.selectionStart, focused.selectionEnd] : null;
-  element.replaceChildren(...children.flat(Infinity).filter(isShown));
+  element.replaceChildren(...children.flat(Infinity).filter(isShown).map(madeIn(element)));
   for (const one of isOpen.size ? summaries(element) : []) one.parentElement.open ||= isOpen.has(one.textContent);
   const again = cell !== undefined ? cellOf(element, cell)
     : focused?.tagName === "BUTTON" ? [...element.querySelectorAll("button")].find(calledLike(focused)) : null;
@@ -53,6 +58,15 @@ export function refill(element, ...children) {
 
 export function cellOf(element, cell) {
   return element.querySelector(`[data-cell="${CSS.escape(cell)}"]`);
+}
+
+/** Has the texts of pictures measured as the page shows them. */
+export function measureByCanvas() {
+  const context = document.createElement("canvas").getContext("2d");
+  measureBy((text, size, weight) => {
+    context.font = `${weight} ${size}px "Segoe UI", -apple-system, "Helvetica Neue", Arial, system-ui, sans-serif`;
+    return context.measureText(text).width;
+  });
 }
 
 /** Hands a text to the user as a file. */

@@ -7,8 +7,7 @@ const MOST_GIVEN = 800; // characters of groups with their numbers
 
 /** The sentence for the cells of a case; null where nothing was filled. */
 export function filledText({ kind, typed }) {
-  if (!typed?.filled) return null;
-  return kind.isTable ? ofTable(kind, typed) : kind.isNetwork ? ofNetwork(typed) : null;
+  return (typed?.filled && kind.filled?.told(kind, typed)) ?? null;
 }
 
 /** The groups of a table that have a number which the page didn't fill, each with it; "" where nothing was filled, or
@@ -35,27 +34,4 @@ export function filledLines(session, rows) {
   const who = !others.length ? "each" : whose.length > others.length ? `all but ${names(others)}` : names(whose);
   return `The line “adds to the ${session.kind.isCost ? "cost" : "worth"} of all others” of ${who} stands on a number `
     + "that the page filled.";
-}
-
-function ofTable(kind, { names, filled, how }) {
-  if (!filled.length) return null;
-  const split = kind.isCost ? "cheapest" : "best", all = 2 ** names.length - 1;
-  const were = filled.length === 1 ? "wasn’t" : "weren’t";
-  const given = `Of the ${all} numbers ${filled.length} ${were} given`;
-  if (how === "larger") {
-    return `${given}: the page took the cheapest of each group’s splits into groups that have a number, and of the `
-      + "larger groups that hold it.";
-  }
-  return `${given}: the page took each group’s ${split} split into groups that have a number.`;
-}
-
-function ofNetwork({ names, filled }) {
-  const kinds = Object.values(filled), all = (names.length * (names.length + 1)) / 2;
-  const ways = kinds.filter((how) => how === "way").length, numbers = kinds.length - ways;
-  if (!kinds.length) return null;
-  const told = [
-    ...(ways ? [`${ways} by the cheapest way through the others`] : []),
-    ...(numbers ? [`${numbers} by what it costs to do without`] : []),
-  ];
-  return `Of the ${all} links ${kinds.length} can’t be built, and the page put a number for each: ${told.join(", ")}.`;
 }

@@ -7,7 +7,7 @@ import { writtenBy } from "../exact/marks.js";
 import { AnswerView } from "./answer-view.js";
 import { casePanel } from "./case-panel.js";
 import { Documents } from "./documents.js";
-import { el, refill } from "./dom.js";
+import { el, measureByCanvas, refill } from "./dom.js";
 import { isDeciding, marginsOf, tipOf } from "./margins-part.js";
 import { Paper } from "./paper.js";
 import { changedCells, keptTree, pinOfTree } from "./pinned.js";
@@ -22,6 +22,8 @@ const WAYS = { round: "Round all to four decimals", whole: "All times a power of
 const kept = new Map(); // what was typed in cases that aren't shown
 
 let panel = null, verify = null, isUnsaved = false;
+
+measureByCanvas();
 
 const session = new Session({
   stale: () => view.stale(),
@@ -93,7 +95,7 @@ function asked(kind) {
     help: (task, what) => session.reader.ask(task, what),
     caseText: () => {
       const { pinned, reading, marks } = session, kept = pinned ? keptTree(pinned, session.typed) : undefined;
-      return caseText({ ...nowTyped(), kept, mark: marks.shown, entry: writtenBy(reading), text: reading.text });
+      return caseText({ ...nowTyped(), kind, kept, mark: marks.shown, entry: writtenBy(reading), text: reading.text });
     },
   };
 }
@@ -135,7 +137,7 @@ function nowTyped() {
 /** Shows a part of the page; a case as it was left. What was typed is the game that a line is checked by at first. */
 function show(name) {
   const kind = caseNamed(name), { isTyped, reading } = session;
-  if (name === "verify") verify.fromCase(isTyped && reading?.text ? { ...reading, title: session.kind.title } : null);
+  if (name === "verify") verify.fromCase(reading?.text ? { ...reading, title: session.kind.title, isTyped } : null);
   if (kind && session.kind !== kind) openCase(kind, kept.get(kind)?.typed ?? kind.example(), kept.get(kind));
   else showView(name);
 }

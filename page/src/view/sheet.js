@@ -255,7 +255,7 @@ function pictureOf({ result, rows, format, ...session }) {
 
 /** How high a picture is on paper, across the whole page. */
 function highOf(drawn) {
-  const [, , wide, high] = drawn.getAttribute("viewBox").split(" ").map(Number);
+  const [, , wide, high] = drawn.attributes.viewBox.split(" ").map(Number);
   return Math.round((PAPER_WIDE * high) / wide);
 }
 

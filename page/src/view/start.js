@@ -1,6 +1,7 @@
 // The start: the cases in plain words, and the ways to bring a document or a line.
 import { CASES } from "../cases/cases.js";
-import { el, svg } from "./dom.js";
+import { el as tree } from "../draw/tree.js";
+import { el } from "./dom.js";
 
 /** Small line drawings, one for each case. */
 const ICONS = {
@@ -19,8 +20,8 @@ const ICONS = {
 };
 
 function icon(name) {
-  return svg("svg", { class: "icon", viewBox: "0 0 32 32", width: 32, height: 32, "aria-hidden": "true" },
-    ICONS[name].map((d) => svg("path", { d })));
+  return tree("svg", { class: "icon", viewBox: "0 0 32 32", width: 32, height: 32, "aria-hidden": "true" },
+    ICONS[name].map((d) => tree("path", { d })));
 }
 
 export function startCards({ onCase, onDocument, onCheck }) {

@@ -6,7 +6,6 @@ import { faultOfCase, filledOf, isCaseFile } from "../cases/case-file.js";
 import { coarseOf } from "../cases/coarse.js";
 import { packed } from "../cases/tables.js";
 import { openDocument } from "./cases.js";
-import { mapNumbers } from "./coarser.js";
 import { fillSplits } from "./splits.js";
 
 const OF_A_CASE = "This case is as the page saved it. The program reads its document alone.";
@@ -24,7 +23,7 @@ function withMark(found, mark) {
   if (found.refusal || mark === ".") return found;
   const kind = caseNamed(found.id), plain = kind.unpack?.(found.typed) ?? found.typed;
   const byMark = (text, { value } = readNumber(text)) => (value ? typedText(value, mark) : text);
-  const typed = mapNumbers(kind, plain, (text) => byMark(text));
+  const typed = kind.mapNumbers(plain, (text) => byMark(text));
   return { ...found, typed: kind.pack?.(typed) ?? typed };
 }
 

@@ -12,11 +12,11 @@ const MOST_POWER = 12;
  * or "whole". */
 export function coarser({ id, typed: sent, mark, how }) {
   const kind = caseNamed(id), typed = kind.unpack?.(sent) ?? sent, texts = [];
-  mapNumbers(kind, typed, (text) => (texts.push(text), text));
+  kind.mapNumbers(typed, (text) => (texts.push(text), text));
   const values = texts.map((text) => cellNumber(text, mark).value).filter(Boolean);
   const { change, coarse, fault } = how === "round" ? rounding(values, mark) : scaling(values, mark);
   if (fault) return { fault };
-  const changed = mapNumbers(kind, typed, (text) => {
+  const changed = kind.mapNumbers(typed, (text) => {
     const { value } = cellNumber(text, mark);
     return value ? change(value, text) : text;
   });
@@ -48,17 +48,4 @@ function scaling(values, mark) {
     change: (value) => typedText(value.times(ten), mark),
     coarse: { times: String(powers[power]) },
   };
-}
-
-/** What was typed with each number changed. */
-export function mapNumbers(kind, typed, change) {
-  if (kind.isTable) return { ...typed, numbers: typed.numbers.map((text, mask) => (mask ? change(text) : text)) };
-  if (kind.isMarket) return { ...typed, values: typed.values.map((row) => row.map(change)) };
-  if (kind.isNetwork) {
-    const links = Object.entries(typed.links).map(([key, text]) => [key, change(text)]);
-    return { ...typed, links: Object.fromEntries(links) };
-  }
-  const keys = kind.columns.filter(({ number, fallback }) => number && !fallback).map(({ key }) => key);
-  const rows = typed.rows.map((row) => ({ ...row, ...Object.fromEntries(keys.map((key) => [key, change(row[key])])) }));
-  return { ...typed, rows, ...(kind.single ? { [kind.single.key]: change(typed[kind.single.key]) } : {}) };
 }

@@ -1,6 +1,6 @@
 // A line that came from others: what it says, and whether it is of the agreed game.
 import { Rational } from "../exact/rational.js";
-import { doubleKeys, isObject, JsonFault, parseJson, writeJson } from "../exact/json.js";
+import { isObject, JsonFault, readJson, writeJson } from "../exact/json.js";
 import { factsOf } from "../game/facts.js";
 import { CLASSES, mostOf } from "../game/classes.js";
 import { Game } from "../game/game.js";
@@ -69,10 +69,10 @@ function aboutFile({ fault, tree, game }) {
 
 function lineOf(text) {
   try {
-    const tree = parseJson(text);
+    const { tree, doubles } = readJson(text);
     if (!isObject(tree)) return { fault: "It isn’t an object, as a line is." };
-    if ("refused" in tree) return { fault: `The program refused a document. ${refusalText(tree, "{}", "").sentence}` };
-    return { ...partsOf(tree), doubles: doubleKeys(text) };
+    if ("refused" in tree) return { fault: `The program refused a document. ${refusalText(tree).sentence}` };
+    return { ...partsOf(tree), doubles: doubles.map(({ key }) => key) };
   } catch (fault) {
     if (!(fault instanceof JsonFault)) throw fault;
     const place = `in line ${fault.line}, column ${fault.column}`;

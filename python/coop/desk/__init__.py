@@ -5,7 +5,7 @@ It asks the program as the client does, and the page's modules under Node for wh
 from importlib import import_module
 from typing import Any
 
-MODULES = ("checking", "documents", "excesses", "pictures", "reasons", "report")
+MODULES = ("documents", "excesses", "pictures", "reasons", "report")
 
 
 def __getattr__(name: str) -> Any:

@@ -3,6 +3,7 @@ from __future__ import annotations
 
 import json
 import os
+import re
 from codecs import BOM_UTF8
 from dataclasses import dataclass
 from fractions import Fraction
@@ -10,7 +11,6 @@ from typing import Any, Iterable, Optional, Sequence
 
 from ..errors import BadInput
 from ..game import Game, numbers
-from .mail import spoilt
 from ..names import safe
 from ..program import find
 from ..telling import slips
@@ -96,10 +96,30 @@ def parse(text: str, where: str) -> list[Any]:
         except BadInput as fault:
             raise BadInput(f"{where}: {fault}") from None
         except (ValueError, RecursionError) as fault:
-            raise BadInput(f"{where} isn't JSON: {fault}{spoilt(text)}") from None
+            raise BadInput(f"{where} isn't JSON: {fault}{mailed(text)}") from None
         trees.append(tree)
         rest = rest[end:].strip()
     return trees
+
+
+def mailed(text: str) -> str:
+    """What to do about a text that is no JSON since mail has changed it, to stand behind another sentence; else
+    nothing."""
+    lines = text[text.find("{") : text.rfind("}") + 1].splitlines()
+    if not re.search(r"(?m)^>|=3D|=22|=\r?$", text) and not any(map(is_object, ("".join(lines), " ".join(lines)))):
+        return ""
+    return (
+        "; mail has changed it: ask for it as a file, or paste it into Check of page/coop.html, which has a button "
+        "that undoes this"
+    )
+
+
+def is_object(text: str) -> bool:
+    """Whether a text is an object of JSON."""
+    try:
+        return type(json.loads(text)) is dict
+    except (ValueError, RecursionError):
+        return False
 
 
 def read_documents(paths: Sequence[str], may_be_marked: bool = True) -> list[Document]:

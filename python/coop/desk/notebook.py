@@ -1,6 +1,7 @@
 """What notebooks show of a game and of an answer, as HTML; and shares as a Series of pandas.
 
-An answer with shares is a table and a picture; every other is told in the sentences of `reasons`.
+An answer with shares is a table, and a picture where there is Node; every other is told in the sentences of `reasons`,
+and without Node it is the program's line.
 """
 from __future__ import annotations
 
@@ -10,14 +11,14 @@ from fractions import Fraction
 from importlib import import_module
 from typing import TYPE_CHECKING, Any, Sequence
 
-from .documents import Document, Point, rule_of, shares_in
+from ..errors import Fault, NotFound
 from ..game import KINDS, LISTS, TABLES, Game
-from ..names import apart
+from ..names import apart, safe
+from ..styles import EXACT, Style, column
+from .documents import Document, Point, rule_of, shares_in
 from .over import divided
 from .pictures import picture
-from .reasons import reasons
-from .report import table, text
-from ..styles import EXACT, Style
+from .reasons import parts_of
 
 if TYPE_CHECKING:
     from ..answers import Answer
@@ -36,14 +37,23 @@ def of_answer(answer: Answer) -> str:
         return "\n".join(map(with_table, points)) + drawn(game, points)
     has_game = tree["answer"] not in ("yes", "no")
     document = answer.game.document() if has_game else None
-    sentences = reasons(answer.line.encode(), document, EXACT, over=answer.game.factor if has_game else 1)[0]
-    return "\n".join(map(paragraph, sentences.strip().split("\n\n")))
+    try:
+        parts = parts_of(answer.line.encode(), document, EXACT, over=answer.game.factor if has_game else 1)[0]
+    except (Fault, NotFound):
+        return f"<pre>{text(answer.line.strip())}</pre>"
+    return "\n".join(map(paragraph, parts))
 
 
-def paragraph(sentences: str) -> str:
-    """A paragraph of the reasons, with a list where it has items."""
-    first, *items = (" ".join(text(part).split()) for part in sentences.split("\n  - "))
-    return f"<p>{first}</p>" + ("<ul>" + "".join(f"<li>{item}</li>" for item in items) + "</ul>" if items else "")
+def text(words: str) -> str:
+    """A text as HTML may have it."""
+    return html.escape(safe(words))
+
+
+def paragraph(part: dict[str, Any]) -> str:
+    """A part of what is told, with a list where it has items."""
+    items = "".join(f"<li>{text(item['label'])}</li>" for item in part["items"])
+    last = f"<p>{text(part['last'])}</p>" if part.get("last") else ""
+    return f"<p>{text(' '.join(part['sentences']))}</p>" + (f"<ul>{items}</ul>" if items else "") + last
 
 
 def told(game: Game) -> Game:
@@ -54,14 +64,26 @@ def told(game: Game) -> Game:
 def with_table(point: Point) -> str:
     """The shares of a point below its name: decimals that add up, and fractions."""
     assert point.game is not None
-    return f"<p><strong>{text(point.name)}</strong></p>\n{table(point.game, point, Style(2))}"
+    verb, total = "pays" if point.game.costs else "gets", sum(point.shares, Fraction(0))
+    cells = zip(
+        [*(f"<bdi>{text(name)}</bdi>" for name in point.game.names), "together"],
+        column(point.shares, Style(2)),
+        map(str, [*point.shares, total]),
+    )
+    body = "\n".join("<tr>" + "".join(f"<td>{cell}</td>" for cell in row) + "</tr>" for row in cells)
+    head = f"<p><strong>{text(point.name)}</strong></p>"
+    return f"{head}\n<table>\n<tr><th></th><th>{verb}</th><th>exactly</th></tr>\n{body}\n</table>"
 
 
 def drawn(game: Game, points: Sequence[Point]) -> str:
-    """A picture of some points, where their game is small."""
+    """A picture of some points, where their game is small and there is Node."""
     if game.n > MOST_DRAWN or game.kind == "market":
         return ""
-    return "\n" + picture(points, title=game.title(), style=EXACT)
+    try:
+        found = picture(points, title=game.title(), style=EXACT)
+    except (Fault, NotFound):
+        return ""
+    return "\n" + found[found.index("<svg") :]
 
 
 def of_game(game: Game) -> str:

@@ -1,14 +1,13 @@
-"""Shares as a picture: the triangle of three players, or bars."""
+"""Shares as a picture: the triangle of three players, or bars. The page's modules draw it, under Node."""
 from __future__ import annotations
 
 from typing import Optional, Sequence
 
-from .bars import bars
-from .documents import Document, Point, games_in, without_measure
+from .. import telling
 from ..errors import BadInput
-from ..game import Game
+from ..game import WRITER, Game
 from ..styles import EXACT, Style
-from .triangle import triangle
+from .documents import Document, Point, games_in, without_measure
 
 
 def game_of(points: Sequence[Point]) -> Game:
@@ -26,7 +25,7 @@ def core_alone(documents: Sequence[Document], title: str = "", style: Style = EX
         raise BadInput("no shares: give a line or a document that has them; for three players a game is enough")
     if any(without_measure(game) != without_measure(games[0]) for game in games):
         raise BadInput("no shares, and several games: a picture of only the core needs one game")
-    return triangle(games[0], [], title, style)
+    return drawn(games[0], [], title, style)
 
 
 def picture(
@@ -41,6 +40,17 @@ def picture(
     Bars have marks at what each adds to all others, or none where these numbers aren't known."""
     game = game_of(points)
     one = all(point.game is None or without_measure(point.game) == without_measure(game) for point in points)
-    if game.n == 3 and one and not wants_bars:
-        return triangle(game, points, title, style)
-    return bars(game, points, title, style, with_added=with_added)
+    return drawn(game, points, title, style, wants_bars or not one, with_added)
+
+
+def drawn(
+    game: Game, points: Sequence[Point], title: str, style: Style, wants_bars: bool = False, with_added: bool = True
+) -> str:
+    """The picture of some points of a game."""
+    about = {
+        "points": [[point.name, [str(share) for share in point.shares]] for point in points],
+        "title": title or game.title(),
+        "wantsBars": wants_bars,
+        "hasAdded": with_added,
+    }
+    return telling.picture(WRITER.encode(game.tree), about, style.spelling())

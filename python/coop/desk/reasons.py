@@ -1,22 +1,18 @@
-"""Any line in sentences: an answer, a failed certificate, a refusal with its place."""
+"""Any line in sentences: an answer, a certificate, a failed one, a refusal with its place. The page's modules tell it,
+under Node, once the second checker has looked at a certificate."""
 from __future__ import annotations
 
 import json
+import re
 from typing import Any, Optional
 
-from .. import telling
-from . import checking
-from .documents import once
+from .. import checking, telling
 from ..errors import BadInput
-from .failures import failure
-from .groups import Namer
-from ..game import Game, numbers
-from .mail import spoilt
+from ..game import WRITER, Game
+from ..styles import EXACT, Style
+from .documents import mailed, once
 from .over import divided
 from .prose import filled, with_items
-from .sentences import Teller, capital
-from ..styles import EXACT, Style, each
-from ..telling import slips
 
 CHECKED = ("nucleolus", "prenucleolus")
 REFUSALS = range(1, 14)
@@ -28,20 +24,31 @@ def reasons(
     """The sentences of a line, and 1 where they tell that a certificate fails, else 0. The document that was asked
     about gives names and numbers where the line has no game; and where it was refused, the place of the slip. All
     amounts are told over a number."""
+    parts, status = parts_of(line, document, say, where, over)
+    return "\n\n".join(map(paragraph, parts)) + "\n", status
+
+
+def parts_of(
+    line: bytes, document: Optional[bytes] = None, say: Style = EXACT, where: str = "the line", over: int = 1
+) -> tuple[list[telling.Part], int]:
+    """The same, as parts."""
     tree = read(line, where)
     if "refused" in tree:
-        return refusal(tree, document) + "\n", 0
+        return [{"sentences": refusal(tree, document), "items": []}], 0
+    verdict = None
     if tree.get("answer") in CHECKED:
-        return certificate(line, tree, say, over, where)
-    tree = divided(tree, over)
-    beside = divided(read(document, "the document"), over) if document is not None else tree
-    if tree.get("answer") == "no":
-        return failure(tree, beside if beside is not tree else None, say) + "\n", 0
-    game = Game(beside["game"]) if "game" in beside else None
-    shares = numbers(beside["shares"], "shares") if beside is not tree and "shares" in beside else None
-    if game and shares is not None and len(shares) != game.n:
-        raise BadInput(f"{len(shares)} shares for {game.n} players")
-    return Teller(game, shares, say).told(tree) + "\n", 0
+        if "certificate" not in tree:
+            raise BadInput("the line has no certificate to explain")
+        verdict = verdict_on(line, where)
+    told = text_of(tree, line, over)
+    beside = text_of(read(document, "the document"), document, over) if document is not None and not verdict else ""
+    parts = telling.parts(told, beside, WRITER.encode(verdict) if verdict else "", say.spelling())
+    return parts, int(verdict is not None and verdict["answer"] == "no")
+
+
+def text_of(tree: dict[str, Any], data: bytes, over: int) -> str:
+    """The text of a document or a line, with its amounts over a number."""
+    return data.decode("utf-8-sig") if over == 1 else WRITER.encode(divided(tree, over))
 
 
 def names_in(line: bytes, document: Optional[bytes] = None) -> list[str]:
@@ -63,7 +70,7 @@ def read(data: bytes, where: str) -> dict[str, Any]:
     except BadInput as fault:
         raise BadInput(f"{where}: {fault}") from None
     except (ValueError, RecursionError) as fault:
-        raise BadInput(f"{where} isn't JSON: {fault}{spoilt(data.decode('utf-8', 'replace'))}") from None
+        raise BadInput(f"{where} isn't JSON: {fault}{mailed(data.decode('utf-8', 'replace'))}") from None
     if type(tree) is not dict:
         raise BadInput(f"{where} isn't a document or a line: it isn't a JSON object")
     return tree
@@ -75,10 +82,11 @@ def checked(line: bytes, where: str) -> dict[str, Any]:
     if "refused" in tree or "usage" in tree:
         raise BadInput(f"{where}: the program answered {json.dumps(tree)}")
     if tree.get("answer") not in CHECKED or "certificate" not in tree:
-        raise BadInput(f"{where} isn't a line of nucleolus or prenucleolus with its certificate")
+        raise BadInput(f"{where} isn't a line of nucleolus or prenucleolus")
     verdict = verdict_on(line, where)
     if verdict["answer"] == "no":
-        raise BadInput(f"the certificate fails: {' '.join(failure(verdict, tree).split())}")
+        failed = telling.parts(line.decode("utf-8-sig"), "", WRITER.encode(verdict), EXACT.spelling())
+        raise BadInput(f"{where}: {' '.join(failed[0]['sentences'])}")
     return tree
 
 
@@ -87,62 +95,31 @@ def verdict_on(line: bytes, where: str) -> dict[str, Any]:
     try:
         return checking.verdict(line)
     except BadInput:
-        slip, _ = slips(line, "check")
+        slip, _ = telling.slips(line, "check")
         if slip is None:
             raise
         raise BadInput(f"{where}: {slip}") from None
 
 
-def certificate(line: bytes, tree: dict[str, Any], say: Style, over: int, where: str) -> tuple[str, int]:
-    """A certificate, once it was checked; or the condition that it fails. Amounts are told over a number."""
-    if "certificate" not in tree:
-        raise BadInput("the line has no certificate to explain")
-    verdict = verdict_on(line, where)
-    tree = divided(tree, over)
-    if verdict["answer"] == "no":
-        return failure(verdict, tree, say) + "\n", 1
-    return explained(json.dumps(tree, ensure_ascii=False).encode(), say) + all_shares(tree, say), 0
-
-
-def refusal(tree: dict[str, Any], document: Optional[bytes]) -> str:
+def refusal(tree: dict[str, Any], document: Optional[bytes]) -> list[str]:
     """Why a document is refused, and where."""
     number, name = tree.get("number"), tree["refused"]
     if number not in REFUSALS or type(name) is not str:
         raise BadInput("this isn't a refusal of the program")
+    first = f"The document is refused: {number} {name}."
     if document is None:
-        advice = "Give the document too, and this script finds the mistake."
-        return filled(f"The document is refused: {number} {name}. {advice}")
+        return [first, "Give the document too, and this script finds the mistake."]
     for command in ("nucleolus", "propose", "check"):
-        slip, twice = slips(document, command)
+        slip, twice = telling.slips(document, command)
         if slip and slip.number == number:
-            besides = f" Besides, at {twice}." if twice else ""
-            return filled(f"The document is refused: {number} {name}. {capital(str(slip))}{besides}")
+            told = re.sub("^the ", "The ", str(slip))  # a key keeps its letters
+            return [first, told, *([f"Besides, at {twice}."] if twice else [])]
     raise BadInput(f"the program doesn't refuse this document for {number} {name}: is it another document?")
 
 
-# ---- Sentences of the page
-
-
-def explained(line: bytes, say: Style) -> str:
-    """The paragraphs of a line whose certificate was checked."""
-    return "\n\n".join(map(paragraph_of, telling.explained(line, say.spelling()))) + "\n\n"
-
-
-def all_shares(tree: dict[str, Any], say: Style) -> str:
-    """What each gets, with decimals that add up; of many players, those with equal shares together."""
-    game = Game(tree["game"])
-    shares, namer = numbers(tree["shares"], "shares"), Namer(game)
-    shown = each(shares, say)
-    told = [f"{name}: {share}" for name, share in zip(namer.names, shown)]
-    if game.n > 12:
-        equal = namer.equal(shares, shown, range(game.n))
-        told = [f"{namer.players(who, 64)}: {share}{' each' * (len(who) > 1)}" for share, who in equal]
-    verb = "pay" if game.costs else "get"
-    return filled(f"They {verb}: {('; ' if game.n > 12 else ', ').join(told)}. Together: {say(game.whole())}.") + "\n"
-
-
-def paragraph_of(part: dict[str, Any]) -> str:
-    """A part of an explanation, with its items below it."""
+def paragraph(part: telling.Part) -> str:
+    """A part of what is told, with its items below it."""
+    title = f"{part['title']}. " if part.get("title") else ""
     items = [f"{item['label']} {item.get('text', '')}".strip() for item in part["items"]]
-    text = with_items(f"{part['title']}. {' '.join(part['sentences'])}", items)
+    text = with_items(title + " ".join(part["sentences"]), items)
     return text + (f"\n{filled(part['last'])}" if part.get("last") else "")

@@ -1,7 +1,6 @@
 """Shares as tables: names, fractions, and decimals that add to the rounded sum; and as CSV."""
 from __future__ import annotations
 
-import re
 import unicodedata
 from fractions import Fraction
 from typing import Callable, Collection, NamedTuple, Optional, Sequence
@@ -9,7 +8,7 @@ from typing import Callable, Collection, NamedTuple, Optional, Sequence
 from .cells import PLAIN, Cells, csv_text
 from .documents import Point
 from ..errors import BadInput
-from ..names import END_OF_ISOLATE, ISOLATE, is_from_the_right, safe
+from ..names import END_OF_ISOLATE, ISOLATE, is_from_the_right, row_of, safe
 from ..styles import Style, decimal, rounded, steps_of
 
 DECIMALS = 2
@@ -143,16 +142,6 @@ def shares_csv(
         head.append(f"{point.name} rounded" + (f", {style.unit}" if style.unit else ""))
         columns.append([cells.steps(step, places) for step in steps_for(point, places, owners)])
     return csv_text([head, *zip(map(safe, names), *columns)], cells)
-
-
-def row_of(name: str) -> str:
-    """What stands in front of the number of a landing: "Aer, A320" of "Aer, A320 1"."""
-    return re.sub(" [0-9]+$", "", name)
-
-
-def airline_of(row: str) -> str:
-    """What stands in front of the last comma: "Aer" of "Aer, A320"."""
-    return row.rpartition(", ")[0] or row
 
 
 def put_together(

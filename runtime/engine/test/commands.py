@@ -3,6 +3,8 @@ import base64
 import gzip
 import json
 import os
+import pty
+import re
 import shutil
 import subprocess
 import tempfile
@@ -39,8 +41,9 @@ def faults_of_command(top: str, program: str, runs: list[Run]) -> Iterator[str]:
     command = os.path.join(top, "runtime", "coop.mjs")
     for run in runs:
         wanted, found = called([program, *run.words], run.document), called(["node", command, *run.words], run.document)
-        if found != (*wanted[:2], b""):
-            yield f"coop.mjs {run.words} on {run.document[:200]!r}: {found[:2]}, and not {wanted[:2]}"
+        said = rb"(coop: .*\n)" if wanted[1] == b'{"usage":"words"}\n' else b""
+        if found[:2] != wanted[:2] or not re.fullmatch(said, found[2]):
+            yield f"coop.mjs {run.words} on {run.document[:200]!r}: {found}, and not {wanted[:2]} and {said!r}"
     status, said, _ = called([os.path.join(TOP, "tools", "gate", "hostile-ports"), command])
     if status:
         yield f"coop.mjs with hostile ports:\n{said.decode()}"
@@ -144,7 +147,7 @@ class Bare:
 
 def faults_unbuilt(top: str) -> Iterator[str]:
     """Where bin/coop answers by another than it should: by the program, by the module, or not at all."""
-    module = (1, b'{"answer":"blocked","coalition":[2,3],"excess":"1"}\n', b"coop: answered by runtime/coop.mjs")
+    module = (1, b'{"answer":"blocked","coalition":[2,3],"excess":"1"}\n', b"")
     native, none = (0, b"the built program\n", b""), (NO_ANSWER, b"", b"coop: the program isn't built")
     steps = [  # what is on the path, what is typed, and what comes of it
         ("", "propose", none), ("node", "propose", module), ("node rt", "propose", module), ("node", "--build", none),
@@ -163,5 +166,56 @@ def faults_unbuilt(top: str) -> Iterator[str]:
                 continue
             found = called([os.path.join(bare.top, "bin", "coop"), *typed.split()], document, bare.tools)
             is_said = found[2].startswith(wanted[2]) if wanted[2] else not found[2]
-            if found[:2] != wanted[:2] or not is_said or wanted == module and found[2].count(b"\n") != 1:
+            if found[:2] != wanted[:2] or not is_said:
                 yield f"bin/coop {typed} with {path or 'nothing'} on the path: {found}, and not {wanted}"
+        bare.put("node")
+        bare.edit()
+        yield from faults_of_doors(bare, document)
+
+
+# What is typed after `propose`, and the statuses by bin/coop and by Node alone, which knows no closed port.
+PORTS = (
+    ("<&-", 5, 3), (">&-", 6, 1), ("<&- >&- 2>&-", 5, 3), (">/dev/full", 6, 6), ("1<>/dev/null", 1, 1),
+    ("0<>/dev/null", 3, 3),
+)
+WORDS = (
+    ("nuclolus", b'coop: "nuclolus" is no command (coop --help lists them)\n'),
+    ("core nofile", b'coop: there is no file "nofile"\n'),
+    ("", b"coop: which command? (coop --help lists them)\n"),
+    ("gen table 3", b'coop: "gen table 3" is no command (coop --help lists them)\n'),
+)
+CORE = b'{"answer":"core point","shares":["1","3/2","7/2"]}\n'
+
+
+def faults_of_doors(bare: Bare, document: bytes) -> Iterator[str]:
+    """Where bin/coop, answered by Node, and Node alone take closed ports, files, wrong words or a terminal otherwise."""
+    launcher, alone = f"'{bare.top}/bin/coop'", f"node '{bare.top}/runtime/coop.mjs'"
+    for ports, *statuses in PORTS:
+        for command, status in zip((launcher, alone), statuses):
+            found = called(["sh", "-c", f"{command} propose {ports}"], document, bare.tools)
+            if found[0] != status or found[2]:
+                yield f"{command} propose {ports}: {found}, and not {status}"
+    for command in (launcher, alone):
+        for words, said in WORDS:
+            found = called(["sh", "-c", f"{command} {words}"], document, bare.tools)
+            if found != (2, b'{"usage":"words"}\n', said):
+                yield f"{command} {words}: {found}, and not {said!r}"
+        found = called(["sh", "-c", f"{command} core {AIRPORT}; {command} --help"], document, bare.tools)
+        if found[0] or not found[1].startswith(CORE + b"usage: coop COMMAND FILE\n"):
+            yield f"{command} with a file, and --help: {found}"
+    said = [on_terminal(launcher, bare.tools) for _ in range(2)]
+    if ["answered by" in text for text in said] != [True, False] or not all("then Ctrl-D" in text for text in said):
+        yield f"bin/coop on a terminal: {said}"
+
+
+def on_terminal(command: str, path: str) -> str:
+    """What a terminal shows, at which an empty document is typed."""
+    parent, child = pty.openpty()
+    words = ["sh", "-c", f"{command} core"]
+    process = subprocess.Popen(words, stdin=child, stdout=child, stderr=child, env={"PATH": path})
+    os.write(parent, b"\x04")
+    process.wait()
+    os.close(child)
+    text = os.read(parent, 10000).decode()
+    os.close(parent)
+    return text

@@ -1,0 +1,129 @@
+"""Which numbers of a game matter for an answer, in words: by `sensitivity`."""
+from __future__ import annotations
+
+from fractions import Fraction
+from typing import Optional, Sequence
+
+from .. import calls
+from ..answers import Nucleolus, Shares
+from ..errors import BadInput
+from ..game import Game
+from .groups import Namer, enumerated
+from ..masks import mask_of
+from ..names import safe
+from .prose import filled
+from ..sensitivity import Margin, Margins, Range, margins, ranges
+from ..styles import EXACT, Style, decimal, steps_of
+from .tables import aligned
+
+MOST_TO_MOVE = {"tree": 10, "assignment": 10}  # players of a game of which each number is moved
+MOST_LISTS = 24  # the same of an airport or an estate
+MOST_LISTED = 40  # groups that count, in a sentence
+
+
+def told(answer: Nucleolus, say: Style = EXACT, most: int = 10, program: calls.Chosen = None) -> str:
+    """Which numbers matter: of a table or a vote the groups that count, and those that are near to it; of another class
+    how far each number may go alone."""
+    if answer.game.is_table or answer.game.kind == "voting":
+        return by_groups(answer, margins(answer), say, most)
+    most_players = MOST_TO_MOVE.get(answer.game.kind, MOST_LISTS)
+    if answer.game.n > most_players:
+        told = "`coop.sensitivity.ranges` moves those that you name"
+        raise BadInput(f"{answer.game.n} players: each number is moved for at most {most_players}; {told}")
+    return by_numbers(answer, ranges(answer.game, rule=answer.rule, program=program), say)
+
+
+# ---- Tables
+
+
+def by_groups(answer: Nucleolus, found: Margins, say: Style, most: int) -> str:
+    """The groups of a table that count, and of the others those that are nearest to it."""
+    game, namer = answer.game, Namer(answer.game)
+    counted, near = found.counted(), found.closest(most)
+    does, bound = ("cost", "at least") if game.costs else ("be worth", "at most")
+    free, names = len(found) - len(counted), [name_of(namer, game, margin) for margin in counted]
+    parts = names if len(names) <= MOST_LISTED else [*names[:MOST_LISTED], f"{len(names) - MOST_LISTED} more"]
+    sentences = ["Only all together count: there is no smaller group."]
+    if len(found):
+        sentences = [f"Of the {len(found)} smaller groups {len(counted)} count as they are: {enumerated(parts)}."]
+    if near:
+        rest = "The other one may" if free == 1 else f"Each of the other {free} may"
+        at_once = "" if free == 1 else ", all of them at once"
+        sentences.append(
+            f"{rest} {does} anything that is {bound} its bound{at_once}. The same certificate then shows the same "
+            f"shares.{' Those nearest to it:' if free > len(near) else ''}"
+        )
+    text = "\n".join(map(filled, sentences)) + "\n"
+    return text + ("\n" + margins_table(near, namer, game, say) if near else "")
+
+
+def name_of(namer: Namer, game: Game, margin: Margin) -> str:
+    """The group of a margin."""
+    return namer.group(mask_of(game.names.index(name) for name in margin.group))
+
+
+def margins_table(some: Sequence[Margin], namer: Namer, game: Game, say: Style) -> str:
+    """Groups with their bounds, and how far off these are."""
+    head = ("costs", "at least", "less by") if game.costs else ("is worth", "at most", "more by")
+    columns = [["group"], *([title] for title in head)]
+    for margin in some:
+        assert margin.bound is not None and margin.room is not None
+        cells = [name_of(namer, game, margin), say(margin.number), say(margin.bound), part_of(margin)]
+        for column, cell in zip(columns, cells):
+            column.append(cell)
+    return aligned(columns)
+
+
+def part_of(margin: Margin) -> str:
+    """How far a number is from its bound, as a percentage of the number; of 0 there is none."""
+    assert margin.room is not None
+    if not margin.number:
+        return "-"
+    return decimal(steps_of(margin.room / abs(margin.number) * 100, 1), 1) + " %"
+
+
+# ---- Other classes
+
+
+WORDS = {"cost": "the cost of {}", "claim": "the claim of {}", "link": "the link {} - {}", "pair": "the pair {} - {}"}
+
+
+def by_numbers(answer: Nucleolus, found: Sequence[Range], say: Style) -> str:
+    """How far each number may go alone, and what each share gains meanwhile for each 1 more."""
+    game = answer.game
+    does = "pays" if game.costs else "gets"
+    matter = [item for item in found if item.matters]
+    count = "Each number matters" if len(matter) == len(found) else f"Of {len(found)} numbers {len(matter)} matter"
+    if not matter:
+        count = "No number matters by itself"
+    text = filled(
+        f"{count}: where one moves alone, within the bounds below, each {does} so much more for each 1 that it grows "
+        "by. At a bend what is below it differs from what is above it, and both are told."
+    )
+    columns: list[list[str]] = [["number"], ["is"], ["from"], ["to"], *([safe(name)] for name in game.names)]
+    for item in found:
+        for row in rows_of(item, game, say):
+            for column, cell in zip(columns, row):
+                column.append(cell)
+    return f"{text}\n\n{aligned(columns)}"
+
+
+def rows_of(item: Range, game: Game, say: Style) -> list[list[str]]:
+    """The row of a number; at a bend two."""
+    name = "the estate" if item.what == ("estate",) else WORDS[item.what[0]].format(*map(safe, item.what[1:]))
+    low, high = end(item.number, item.down, -1, say), end(item.number, item.up, 1, say)
+    number = say(item.number)
+    if item.below == item.above or not item.below or not item.above:
+        return [[name, number, low, high, *slopes(item.below or item.above, game)]]
+    first = [name, number, low, number, *slopes(item.below, game)]
+    return [first, ["", "", number, high, *slopes(item.above, game)]]
+
+
+def end(number: Fraction, by: Optional[Fraction], way: int, say: Style) -> str:
+    """Where a number may go to."""
+    return "any" if by is None else say(number + way * by)
+
+
+def slopes(some: Shares, game: Game) -> list[str]:
+    """What each share gains, in the players' order."""
+    return [str(some[name]) if some else "" for name in game.names]
