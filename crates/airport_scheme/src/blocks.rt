@@ -12,8 +12,9 @@ ghost use Rattle.airport_scheme.specs.Levels.{IsRunEnd, IsBlock, AreLevels, with
 use crate::payments::Paid;
 use airport::AirportGame;
 use coalitions::Coalition;
-use kohlberg::{Level, put_pair, ratio};
+use kohlberg::{Level, put_pair};
 use std::alloc::{AllocError, Global};
+use worth_core::ratio;
 
 /// A pair, or nothing.
 fn pair_if(

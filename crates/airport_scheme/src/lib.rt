@@ -17,9 +17,9 @@ ghost use Rattle.airport_scheme.specs.Levels.{AreSchemeLevels};
 use crate::blocks::all_levels;
 use crate::payments::{by_place, by_player};
 use airport::AirportGame;
+use definitions::Mode;
 pub use fractions::OutOfMemory;
 pub use kohlberg::Certificate;
-use kohlberg::Mode;
 use std::alloc::Global;
 use worth_core::Shares;
 

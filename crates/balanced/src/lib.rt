@@ -10,7 +10,7 @@
 mod collection;
 mod optimum;
 
-ghost use Rattle.std.specs.Prelude.{◌≤◌, IfOk, MatchResult};
+ghost use Rattle.std.specs.Prelude.{◌↔◌, ◌<◌, ◌≤◌, IfOk, IsErrOf, MatchResult};
 ghost use Rattle.balanced.specs.Answer.{IsFound, IsFault};
 
 use crate::collection::collection_of;
@@ -48,6 +48,7 @@ pub enum CoreFault {
 pub fn core_of<W: Worth>(alloc: Global, game: &W) -> Result<CoreAnswer, CoreFault>
     ensures answer { MatchResult result (IsFound (W.game game.now)) (IsFault (W.game game.now)) }
     ensures few { IfOk result (λ _. (W.game game.now).players ≤ 16) }
+    ensures too_many { IsErrOf result CoreFault.TooMany ↔ (16 < (W.game game.now).players) }
 {
     if game.players() > 16 {
         return Err(CoreFault::TooMany);

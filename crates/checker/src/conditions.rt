@@ -10,10 +10,11 @@ ghost use Rattle.definitions.specs.Certificates.{IsSmall, HasExcess, has_bound};
 ghost use Rattle.definitions.specs.Failures.{IsLeastFailing, IsFirstFailing, BoundWeighs, Balances, IsTight, Excesses};
 
 use coalitions::Coalition;
+use definitions::{Family, Measure};
 use fractions::Frac;
-use kohlberg::{Family, Level, bounds_at, weights_at};
+use kohlberg::{Level, bounds_at, weights_at};
 use std::cmp::Ordering;
-use worth_core::{Divided, Measure, Shares, Worth, scaled_excess};
+use worth_core::{Divided, Shares, Worth, scaled_excess};
 
 /// What a player's worth alone exceeds its share by, over the denominator.
 pub(crate) fn excess_alone<W: Worth>(game: &W, shares: &Shares, i: u32) -> i128

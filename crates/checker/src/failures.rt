@@ -10,10 +10,11 @@ use crate::conditions::{
 };
 use crate::fixed::Fixed;
 use crate::outside::{first_unfixed, greatest_outside};
+use definitions::{Family, Measure, Mode};
 use fractions::Frac;
-use kohlberg::{Family, Level, Mode, Place, Reason};
+use kohlberg::{Level, Place, Reason};
 use std::cmp::Ordering;
-use worth_core::{Measure, Shares, Worth, is_efficient};
+use worth_core::{Shares, Worth, is_efficient};
 
 /// Whether a fraction is above the level's excess.
 fn is_above(level: &Level, excess: &Frac) -> bool

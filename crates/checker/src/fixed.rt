@@ -10,7 +10,9 @@ ghost use Rattle.kohlberg.specs.Extends.{IsOf};
 ghost use Rattle.checker.specs.Fixed.{mode_of, IsOver, Fixes};
 
 use coalitions::Coalition;
-use kohlberg::{Level, Mode, Outside, Span, add_levels};
+use definitions::Mode;
+use kohlberg::{Level, add_levels};
+use spans::{Outside, Span};
 
 /// What levels fix, by the mode of the certificate.
 #[derive(Drop)]

@@ -13,9 +13,10 @@ ghost use Rattle.definitions.specs.Certificates.{Certifies};
 ghost use Rattle.checker.specs.Meaning.{IsVerdict};
 
 use crate::failures::Claim;
-use kohlberg::{Certificate, Family};
+use definitions::{Family, Measure};
+use kohlberg::Certificate;
 pub use kohlberg::{Place, Reason, Verdict};
-use worth_core::{Measure, Shares, Worth};
+use worth_core::{Shares, Worth};
 
 /// Returns `Yes` exactly if the certificate meets all conditions for these shares by the measure, and otherwise `No`
 /// with the first condition that fails. After `Yes` the shares are the nucleolus of the game, or the prenucleolus for

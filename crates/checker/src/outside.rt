@@ -15,9 +15,11 @@ ghost use Rattle.checker.specs.Paid.{paid_after};
 
 use crate::fixed::Fixed;
 use coalitions::{Coalition, GrayStep};
+use definitions::{Measure, Mode};
 use fractions::Frac;
-use kohlberg::{Mode, Outside, first_unspanned};
-use worth_core::{Divided, Measure, Shares, Worth, is_more, measured_bound, replaced_if};
+use kohlberg::first_unspanned;
+use spans::Outside;
+use worth_core::{Divided, Shares, Worth, is_more, measured_bound, replaced_if};
 
 /// The least member from one number on.
 fn first_member(s: Coalition, from: u32, n: u32) -> Option<u32>

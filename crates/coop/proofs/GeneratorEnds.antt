@@ -1,13 +1,13 @@
 -- A run whose words ask for a generated game ends as it has to.
 use Rattle.std.proofs.Common.{◌≡◌, ℕ, List, length, Option, Result, MatchResult, sym, ap, ◌∙◌}
 use Rattle.std.proofs.Common.{arith}
-use Rattle.coop.specs.declared.reply.Reply.{Reply}
+use Rattle.coop.specs.declared.running.Reply.{Reply}
 use Rattle.coop.specs.Words.{IsRequest, IsNoCommand}
 use Rattle.coop.specs.Outcome.{status_of}
 use Rattle.coop.specs.GeneratorRuns.{AsksForGame, IsMadeFor}
 use Rattle.coop.specs.declared.status.Status.TheVariants as status
-use Rattle.coop.specs.declared.stop.Stop.{Stop}
-use Rattle.coop.specs.declared.stop.Stop.TheVariants.{Memory}
+use Rattle.coop.specs.declared.status.Stop.{Stop}
+use Rattle.coop.specs.declared.status.Stop.TheVariants.{Memory}
 use Rattle.coop.specs.declared.words.Request.{Request}
 use Rattle.coop.specs.declared.words.Request.TheVariants.{Read, Generate}
 

@@ -42,6 +42,7 @@ is_solution family d are_costs x c levels signs found chosen taken same form =
       players = found.players;
       form = here;
       certifies = found.certifies;
+      short = found.few;
       chosen = chosen;
       tree = refl;
       signs = signs;

@@ -5,13 +5,13 @@
 --   EndsMade      nothing was read, and the status is Done, or says that memory ran out or that a write failed
 use Rattle.std.specs.Prelude.{◌≡◌, ◌⊎◌, ⊤, ℕ, List, Option, Result, MatchResult}
 use Rattle.kinds.specs.declared.kind.Kind.{Kind}
-use Rattle.coop.specs.declared.reply.Reply.{Reply}
+use Rattle.coop.specs.declared.running.Reply.{Reply}
 use Rattle.coop.specs.Words.{IsGeneration}
 use Rattle.coop.specs.Outcome.{status_of}
 use Rattle.coop.specs.declared.status.Status.{Status}
 use Rattle.coop.specs.declared.status.Status.TheVariants as status
-use Rattle.coop.specs.declared.stop.Stop.{Stop}
-use Rattle.coop.specs.declared.stop.Stop.TheVariants.{Memory}
+use Rattle.coop.specs.declared.status.Stop.{Stop}
+use Rattle.coop.specs.declared.status.Stop.TheVariants.{Memory}
 use Rattle.coop.specs.declared.words.Request.{Request}
 use Rattle.coop.specs.declared.words.Request.TheVariants.{Read, Generate}
 

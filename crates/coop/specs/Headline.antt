@@ -31,12 +31,13 @@
 --
 -- The game, the shares and the certificate of a document of version 2 are those that it writes, times its scale, and
 -- the line is printed over that scale. One positive factor on all worths and shares changes no comparison
--- (`scales_change_nothing`), so the sentence holds of the game of fractional worths too.
+-- (`scales_change_nothing`), so what is said of shares in fractions holds of the game of fractional worths too.
 --
 -- No answer that isn't named is right, and the answers exclude one another: a nucleolus is an imputation, which gives
 -- each player at least what it is worth alone, so it can't come if the players alone are worth more than all.
 use Rattle.std.specs.Prelude.{◌≡◌, ◌<◌, ◌≤◌, ℕ, List, Bool, true, false, ℤ, pos}
 use Rattle.std.specs.Prelude.{◌<ℤ◌}
+use Rattle.std.specs.List.{AllByRecursion}
 use Rattle.serde_json.specs.Data.{Data}
 use Rattle.serde_json.specs.View.{view}
 use Rattle.definitions.specs.Coalitions.{grand_coalition}
@@ -45,6 +46,7 @@ use Rattle.definitions.specs.Certificates.{HasForm, Certifies}
 use Rattle.definitions.specs.declared.Family.{Family}
 use Rattle.definitions.specs.declared.Family.TheVariants.{Imputations, Preimputations}
 use Rattle.kohlberg.specs.Certificate.{CertificateData}
+use Rattle.kohlberg.specs.Solved.{HasFew}
 use Rattle.real_shares.specs.Claims.{IsNucleolusForReals, IsNucleolusOverGroups}
 use Rattle.game_text.specs.Classes.{game_of, is_cost, IsOfClass}
 use Rattle.game_text.specs.Documents.{Contents}
@@ -79,8 +81,9 @@ IsWithinLimit d = (game_of d.game).players ≤ nucleolus_limit d.measure d.game
 -- from the greatest, come before those of every other member: of those in fractions, of those in real shares, and of
 -- those over any linearly ordered abelian group. The certificate has its form for the game's players and meets all
 -- conditions for the shares, which alone imply this (`certificates_are_sound` and, of `real_shares`,
--- `certificates_are_sound_for_reals` and `certificates_are_sound_over_groups`); with plain excess that of an airport or
--- bankruptcy game is its scheme's. They stand beside the tree of the game that was read.
+-- `certificates_are_sound_for_reals` and `certificates_are_sound_over_groups`), and each of its levels is short: it has
+-- at most twice as many entries as there are players. With plain excess that of an airport or bankruptcy game is its
+-- scheme's. They stand beside the tree of the game that was read.
 pub record IsSolution (family : Family) (d : Contents) (printed : Data) (are_costs : Bool)
     (x : Allocation) (c : CertificateData) : Type 0 where
   pub taken : IsWithinLimit d
@@ -90,6 +93,7 @@ pub record IsSolution (family : Family) (d : Contents) (printed : Data) (are_cos
   pub players : c.players ≡ (game_of d.game).players
   pub form : HasForm c.mode (game_of d.game).players c.levels
   pub certifies : Certifies c.mode family d.measure (game_of d.game) x c.levels
+  pub short : AllByRecursion (HasFew (game_of d.game).players) c.levels
   pub chosen : IsChosen d.measure d.game x c
   pub tree : printed ≡ d.tree
   pub signs : are_costs ≡ is_cost d.game

@@ -1,8 +1,8 @@
 -- Why an answer isn't found.
 use Rattle.std.specs.Prelude.{◌≡◌, ℕ, Bool, true, Result, MatchResult}
 use Rattle.ports.specs.Causes.{CountRose}
-use Rattle.coop.specs.declared.stop.Stop.{Stop}
-use Rattle.coop.specs.declared.stop.Stop.TheVariants.{Fault, Memory}
+use Rattle.coop.specs.declared.status.Stop.{Stop}
+use Rattle.coop.specs.declared.status.Stop.TheVariants.{Fault, Memory}
 
 -- after a fault, the count rose by one or stays at its last value, and the fault was the last call; if memory ran out,
 -- the count is as before

@@ -11,18 +11,21 @@ ghost use Rattle.coop.specs.Classes.{is_market, is_tree, is_no_market, serves_cl
 ghost use Rattle.coop.specs.Classes.{HasFewPlayers, shapley_limit};
 ghost use Rattle.coop.specs.Finding.{IsFoundFor, IsChosenFound};
 ghost use Rattle.coop.specs.CoreClaims.{IsCoreAnswer};
+ghost use Rattle.coop.specs.Limits.{check_limit};
+ghost use Rattle.kohlberg.specs.Certificate.{IsCertificate};
+ghost use Rattle.voting.specs.Voting.{voting_game};
 
-use crate::core_search::core_point;
-use crate::limits::{FEW_PER_HEAD, FEW_PLAYERS, MANY_PLAYERS};
-use crate::shapley_values::votes_of;
-use crate::solve::found_point;
+use crate::commands::recall_limits;
 use balanced::{CoreAnswer, core_of_few};
+use definitions::{Family, Measure};
 use fractions::OutOfMemory;
 use game_text::{Command, Game};
+use kohlberg::Certificate;
 use nested_programs::{Found, solve_few};
 use shapley::{ShapleyFault, airport_shapley, shapley};
 use std::alloc::Global;
-use worth_core::{Family, Measure, Shares};
+use voting::{VotingGame, voting_shapley};
+use worth_core::Shares;
 use worth_tables::KeptWorths;
 
 /// Whether the command serves the class of the game: only `matching` serves a market, and `bird` serves tree games
@@ -60,6 +63,25 @@ fn is_no_market(game: &Game) -> bool
     ensures { result ≡ is_no_market (description_in game.now) }
 {
     !matches!(game, Game::Market(_))
+}
+
+/// The most players of a game whose coalitions are all looked at.
+pub(crate) const FEW_PLAYERS: u32 = 16;
+
+/// The most players of a game that the nested programs solve with excess per head.
+pub(crate) const FEW_PER_HEAD: u32 = 8;
+
+/// The most players of any game.
+pub(crate) const MANY_PLAYERS: u32 = 64;
+
+/// The most players of a game whose certificates are checked: 16 with excess per head, and 64 with plain excess.
+pub(crate) fn check_limit(measure: Measure) -> u32
+    ensures { result ≡ check_limit measure }
+{
+    match measure {
+        Measure::Plain => MANY_PLAYERS,
+        Measure::PerHead => FEW_PLAYERS,
+    }
 }
 
 /// The most players of a game whose nucleolus is answered: 8 with excess per head. With plain excess they are 64 for an
@@ -110,6 +132,13 @@ pub(crate) fn solve_plain(alloc: Global, game: &Game, family: Family) -> Result<
     }
 }
 
+/// Returns the point and the certificate of a scheme's solution.
+fn found_point(solution: (Shares, Certificate)) -> Found
+    ensures { result ≡ Found.Point solution.0 solution.1 }
+{
+    Found::Point(solution.0, solution.1)
+}
+
 /// What the scheme of the game's class says, or else the balanced program.
 pub(crate) fn core_answer(alloc: Global, game: &Game) -> Result<CoreAnswer, OutOfMemory>
     requires { HasFewPlayers (description_in game.now) }
@@ -127,6 +156,15 @@ pub(crate) fn core_answer(alloc: Global, game: &Game) -> Result<CoreAnswer, OutO
     }
 }
 
+/// Returns the point of a scheme's solution, without its certificate.
+fn core_point(solution: (Shares, Certificate)) -> CoreAnswer
+    ensures point { result ≡ CoreAnswer.Point solution.0 }
+    ensures certificate { IsCertificate solution.1 }
+{
+    recall_limits(&solution.0, &solution.1);
+    CoreAnswer::Point(solution.0)
+}
+
 /// The shares of an airport game by the steps of its costs, those of a voting game by its sums of weights, and those of
 /// another by its coalitions.
 pub(crate) fn shares_of(alloc: Global, game: &Game) -> Result<Shares, ShapleyFault>
@@ -138,6 +176,22 @@ pub(crate) fn shares_of(alloc: Global, game: &Game) -> Result<Shares, ShapleyFau
         Game::Airport(game) => airport_shapley(alloc, game),
         Game::Voting(game) => votes_of(alloc, game),
         _ => shapley(alloc, game),
+    }
+}
+
+// The most players of a voting game.
+const MOST_VOTERS: u32 = 32;
+
+/// The shares of a voting game, which never has too many players.
+fn votes_of(alloc: Global, game: &VotingGame) -> Result<Shares, ShapleyFault>
+    ensures value { IfOk result (IsShapley (voting_game game.now)) }
+    ensures few { ¬ (IsErrOf result ShapleyFault.TooMany) }
+    ensures players { (voting_game game.now).players ≤ MOST_VOTERS }
+{
+    game.len(); // There are at most 32, by its type.
+    match voting_shapley(alloc, game) {
+        Ok(shares) => Ok(shares),
+        Err(_) => Err(ShapleyFault::Memory),
     }
 }
 

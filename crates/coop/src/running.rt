@@ -1,12 +1,6 @@
 //! From the words and the input to the status and the line.
-ghost use Rattle.std.specs.Prelude.{◌≡◌, ◌⊎◌, ℕ, List, [], ◌∷◌, map, string_bytes, true, IfOk};
+ghost use Rattle.std.specs.Prelude.{◌≡◌, ◌⊎◌, ℕ, List, [], ◌∷◌, map, string_bytes, IfOk};
 ghost use Rattle.report.specs.Limits.{IsScale, IsPrintable};
-ghost use Rattle.game_text.specs.declared.command.Command.{Command};
-ghost use Rattle.game_text.specs.Classes.{description_in};
-ghost use Rattle.game_text.specs.Readings.{contents_in};
-ghost use Rattle.coop.specs.Classes.{serves_class};
-ghost use Rattle.coop.specs.Headline.{IsRightAnswer};
-ghost use Rattle.coop.specs.Needs.{HasNeeded};
 ghost use Rattle.coop.specs.GeneratorRuns.{AsksForGame, EndsMade, IsMadeFor};
 ghost use Rattle.coop.specs.Completeness.{IsComplete};
 ghost use Rattle.coop.specs.Outcome.{IsRight, Ends, IsCauseOf};
@@ -14,28 +8,16 @@ ghost use Rattle.coop.specs.ReadBack.{CanBeRead};
 ghost use Rattle.coop.specs.Stops.{IsFaultOf};
 ghost use Rattle.coop.specs.Words.{word_of, IsFit, IsRequest, IsNoCommand};
 
-use crate::bird_shares::bird_document;
-use crate::check::check_document;
 use crate::classes::serves_class;
-use crate::convex_shares::convex_document;
-use crate::core_search::core_document;
-use crate::generated::summary_of;
-use crate::judge::judge_document;
-use crate::market_matching::matching_document;
-use crate::prekernel_test::kernel_document;
-use crate::reply::Reply;
-use crate::shapley_values::shapley_document;
-use crate::solve::solve_document;
-use crate::status::{Status, status_of};
-use crate::stop::Stop;
+use crate::commands::answer_where_served;
+use crate::commands::gen_command::summary_of;
+use crate::status::{Status, Stop, status_of};
 use crate::stream::{read_input, write_line};
 use crate::words::{Request, request_of, usage_line};
-use fractions::OutOfMemory;
-use game_text::{Command, Document, TextFault, document_limit, read_document};
+use game_text::{Command, TextFault, document_limit, read_document};
 use ports::{Sink, Source};
 use report::{Answer, UsageKind, write_report};
 use std::alloc::Global;
-use worth_core::Family;
 
 /// Answers what the words ask for, a command on the input of the source or a generated game, and prints one line to the
 /// sink.
@@ -85,6 +67,15 @@ pub fn run<S: Source, K: Sink>(
         Ok(()) => status,
         Err(_) => Status::WriteFault,
     }
+}
+
+/// An answer, and the scale that its line is printed over: that of the document, and 1 if there is none.
+#[derive(Drop)]
+pub struct Reply {
+    /// The answer, to the game times the scale.
+    pub answer: Answer,
+    /// The scale, from 1 to 65,536.
+    pub scale: i64,
 }
 
 // The answer to what the words ask for, with its scale.
@@ -149,32 +140,4 @@ fn reply_to_input<S: Source>(alloc: Global, command: Command, source: &mut S) ->
         return Err(Stop::Memory);
     };
     Ok(Reply { answer, scale })
-}
-
-// The answer to the command on its document, whose class it serves. A nucleolus takes the document's tree over. Each
-// other command is a call that isn't inlined, so that a run takes the stack of its own command alone.
-#[tactic(auto, using(crate::proofs::ReadLines::readable_anyway, crate::proofs::ReadLines::readable_where_ok))]
-fn answer_where_served(
-    alloc: Global,
-    command: Command,
-    document: &mut Document,
-) -> Result<Answer, OutOfMemory>
-    requires needed { HasNeeded command (contents_in document.old) }
-    requires class { serves_class command (description_in document.old.game) ≡ true }
-    ensures says { IfOk result (IsRightAnswer command (contents_in document.old)) }
-    ensures printable { IfOk result IsPrintable }
-    ensures readable { IfOk result (CanBeRead document.old.scale) }
-{
-    match command {
-        Command::Nucleolus => solve_document(alloc, document, Family::Imputations),
-        Command::Prenucleolus => solve_document(alloc, document, Family::Preimputations),
-        Command::Propose => Ok(judge_document(document)),
-        Command::Core => core_document(alloc, document),
-        Command::Check => check_document(alloc, document),
-        Command::Shapley => shapley_document(alloc, document),
-        Command::Bird => bird_document(alloc, document),
-        Command::Convex => convex_document(alloc, document),
-        Command::Kernel => Ok(kernel_document(document)),
-        Command::Matching => matching_document(alloc, document),
-    }
 }

@@ -1,10 +1,11 @@
-//! How a run ends, and the number that says so to the system.
+//! How a run ends, and the number that says so to the system; and why it ends without an answer.
 ghost use Rattle.std.specs.Prelude.{◌≡◌};
 ghost use Rattle.coop.specs.Outcome.{status_number, status_of};
 
 use checker::Verdict;
 use convexity::ConvexAnswer;
 use report::Answer;
+use std::alloc::AllocError;
 
 /// How a run ends, with the number that the program ends with.
 #[derive(Clone, Copy, Debug, PartialEq, Eq)]
@@ -64,5 +65,25 @@ pub(crate) fn status_of(answer: &Answer) -> Status
         | Answer::Verdict(Verdict::No(_)) => Status::Negative,
         Answer::Usage(_) => Status::Usage,
         Answer::Refused(_) => Status::Refused,
+    }
+}
+
+/// Why an answer isn't found.
+#[derive(Clone, Copy)]
+pub enum Stop {
+    /// A read failed.
+    Fault,
+    /// Memory was not found.
+    Memory,
+}
+
+impl From<AllocError> for Stop {
+    ghost use Rattle.std.specs.Prelude.{◌≡◌};
+    ghost use Rattle.coop.specs.declared.status.Stop.TheVariants.{Memory};
+
+    ghost from_gives = { λ _ e. e ≡ Memory };
+
+    fn from(_: AllocError) -> Stop {
+        Stop::Memory
     }
 }

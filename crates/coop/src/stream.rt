@@ -6,7 +6,7 @@ ghost use Rattle.std.specs.Io.KnownBytes.{Appends, Consumes, IsAtEnd};
 ghost use Rattle.ports.specs.Causes.{HasCause};
 ghost use Rattle.coop.specs.Stops.{IsFaultOf};
 
-use crate::stop::Stop;
+use crate::status::Stop;
 use ports::{Failed, Sink, Source};
 use std::alloc::Global;
 

@@ -11,8 +11,9 @@ ghost use Rattle.airport.specs.Airport.{airport_game};
 use airport::AirportGame;
 use checker::{Verdict, check};
 use coalitions::Coalition;
-use kohlberg::{Certificate, Family};
-use worth_core::{Measure, Shares, Worth};
+use definitions::{Family, Measure};
+use kohlberg::Certificate;
+use worth_core::{Shares, Worth};
 
 /// Returns the coalition that blocks the shares most. Returns none exactly if no coalition blocks, or the shares are
 /// for another number of players.

@@ -3,10 +3,9 @@
 
 use airport::AirportGame;
 use checker::{Verdict, check};
-use kohlberg::Family;
+use definitions::{Family, Measure};
 use nested_programs::{Found, solve};
 use std::process::ExitCode;
-use worth_core::Measure;
 
 fn main(rt: HostRuntime) -> ExitCode {
     let Ok(costs) = Vec::from_array(rt.alloc(), [2, 4, 6]) else {

@@ -26,8 +26,8 @@ use Rattle.game_text.specs.Readings.{IsSizeFault, AreNeededFractions, IsFraction
 use Rattle.game_text.specs.Readings.{IsLateReading, IsLateFault, IsReading, IsFault, contents_in}
 use Rattle.game_text.specs.declared.command.Command.{Command}
 use Rattle.game_text.specs.declared.document.Document.{Document}
-use Rattle.game_text.specs.declared.fault.TextFault.{TextFault}
-use Rattle.game_text.specs.declared.fault.TextFault.TheVariants.{Refused, Memory}
+use Rattle.game_text.specs.declared.document.TextFault.{TextFault}
+use Rattle.game_text.specs.declared.document.TextFault.TheVariants.{Refused, Memory}
 use Rattle.game_text.specs.declared.classes.Game.{Game}
 use Rattle.game_text.specs.declared.reading.Said.{Said}
 use Rattle.kinds.specs.declared.refusal.Refusal.{Refusal}

@@ -24,7 +24,7 @@ use Rattle.game_text.specs.declared.command.Command.{Command}
 use Rattle.game_text.specs.declared.command.Command.TheVariants.{Nucleolus, Prenucleolus, Propose, Core, Check}
 use Rattle.game_text.specs.declared.command.Command.TheVariants.{Shapley, Bird, Convex, Kernel, Matching}
 use Rattle.game_text.specs.declared.document.Document.{Document}
-use Rattle.game_text.specs.declared.fault.TextFault.{TextFault}
+use Rattle.game_text.specs.declared.document.TextFault.{TextFault}
 use Rattle.kinds.specs.declared.refusal.Refusal.{Refusal}
 use Rattle.kinds.specs.declared.refusal.Refusal.TheVariants.{Proposal, TooFine}
 

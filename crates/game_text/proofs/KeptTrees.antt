@@ -26,7 +26,7 @@ use Rattle.game_text.specs.Readings.{IsTreeReading, IsTreeFault}
 use Rattle.game_text.specs.Kept.{IsKept}
 use Rattle.game_text.specs.declared.command.Command.{Command}
 use Rattle.game_text.specs.declared.document.Document.{Document}
-use Rattle.game_text.specs.declared.fault.TextFault.{TextFault}
+use Rattle.game_text.specs.declared.document.TextFault.{TextFault}
 use Rattle.game_text.proofs.Laws.{laws_of}
 use Rattle.game_text.proofs.PlainTrees.{IsPlain}
 use Rattle.game_text.proofs.Passed.{Passes, passed_tests}

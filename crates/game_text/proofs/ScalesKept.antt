@@ -13,7 +13,7 @@ use Rattle.document_parts.specs.Scales.{game_numbers, game_fractions, scale_of, 
 use Rattle.game_text.specs.Readings.{IsTreeReading, IsTreeFault}
 use Rattle.game_text.specs.declared.command.Command.{Command}
 use Rattle.game_text.specs.declared.document.Document.{Document}
-use Rattle.game_text.specs.declared.fault.TextFault.{TextFault}
+use Rattle.game_text.specs.declared.document.TextFault.{TextFault}
 use Rattle.document_parts.proofs.LeastDenominators.{least_denominator_is}
 use Rattle.game_text.proofs.Passed.{passed_tests}
 

@@ -31,8 +31,8 @@ use Rattle.game_text.specs.declared.classes.Class.{Class}
 use Rattle.game_text.specs.declared.classes.Class.TheVariants.{Table, Cost}
 use Rattle.game_text.specs.declared.command.Command.{Command}
 use Rattle.game_text.specs.declared.document.Document.{Document}
-use Rattle.game_text.specs.declared.fault.TextFault.{TextFault}
-use Rattle.game_text.specs.declared.fault.TextFault.TheVariants.{Refused, Memory}
+use Rattle.game_text.specs.declared.document.TextFault.{TextFault}
+use Rattle.game_text.specs.declared.document.TextFault.TheVariants.{Refused, Memory}
 use Rattle.game_text.specs.declared.classes.Game.{Game}
 use Rattle.game_text.specs.declared.reading.Said.{Said}
 use Rattle.kinds.specs.declared.refusal.Refusal.{Refusal}

@@ -3,16 +3,14 @@
 //!
 //! A new class adds here its module, the class, its arm of `by_class!`, its word in `class_named`, its making in
 //! `game_of`, the game, its arm of `of_its_class!`, and `is_cost`.
-ghost use Rattle.std.specs.Prelude.{◌≡◌, codes, true, false, Some, None, if◌then◌else◌, ◌≤◌};
+ghost use Rattle.std.specs.Prelude.{◌≡◌, true, false, Some, None, if◌then◌else◌, ◌≤◌};
 ghost use Rattle.std.specs.Prelude.{length, MatchResult, IfOk, IfSome, IfNone};
-ghost use Rattle.std.specs.Str.{bytes_eq};
 ghost use Rattle.serde_json.specs.View.{view};
 ghost use Rattle.document_parts.specs.Names.{names_of};
 ghost use Rattle.game_text.specs.Classes.{class_named, class_of, is_shaped_as, players, is_cost, description_in};
 ghost use Rattle.game_text.specs.Classes.{game_of, has_players, are_numbers_as, own_values, own_numbers};
 ghost use Rattle.document_parts.specs.Numbers.{AreWorths};
 ghost use Rattle.document_parts.specs.Version.{has_texts};
-ghost use Rattle.game_text.specs.declared.classes.Class.TheVariants.{Tree, Assignment, Market, Voting};
 ghost use Rattle.game_text.specs.Shape.{is_shaped};
 ghost use Rattle.game_text.specs.Readings.{IsBuilt, IsBuildFault};
 
@@ -25,8 +23,8 @@ mod table_class;
 mod tree_class;
 mod voting_class;
 
-use crate::fault::TextFault;
-use crate::shaped::{ShapedGame, SizedGame};
+use crate::document::TextFault;
+use crate::shape::{ShapedGame, SizedGame};
 use airport::AirportGame;
 use airport_class::airport_of;
 use assignment_class::assignment_of;
@@ -85,39 +83,20 @@ macro_rules! by_class {
     };
 }
 
-/// The class that a word names, of the classes from the tree game on.
-fn later_class_named(word: &str) -> Option<Class>
-    ensures { result ≡ (if bytes_eq word.now (codes "tree") then Some Tree
-        else (if bytes_eq word.now (codes "assignment") then Some Assignment
-        else (if bytes_eq word.now (codes "market") then Some Market
-        else (if bytes_eq word.now (codes "voting") then Some Voting else None)))) }
-{
-    if word == "tree" {
-        Some(Class::Tree)
-    } else if word == "assignment" {
-        Some(Class::Assignment)
-    } else if word == "market" {
-        Some(Class::Market)
-    } else if word == "voting" {
-        Some(Class::Voting)
-    } else {
-        None
-    }
-}
-
+/// The class that a word names.
 pub(crate) fn class_named(word: &str) -> Option<Class>
     ensures { result ≡ class_named word.now }
 {
-    if word == "table" {
-        Some(Class::Table)
-    } else if word == "cost-table" {
-        Some(Class::Cost)
-    } else if word == "airport" {
-        Some(Class::Airport)
-    } else if word == "bankruptcy" {
-        Some(Class::Bankruptcy)
-    } else {
-        later_class_named(word)
+    match word {
+        "table" => Some(Class::Table),
+        "cost-table" => Some(Class::Cost),
+        "airport" => Some(Class::Airport),
+        "bankruptcy" => Some(Class::Bankruptcy),
+        "tree" => Some(Class::Tree),
+        "assignment" => Some(Class::Assignment),
+        "market" => Some(Class::Market),
+        "voting" => Some(Class::Voting),
+        _ => None,
     }
 }
 

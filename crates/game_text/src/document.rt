@@ -1,8 +1,11 @@
-//! A document that isn't refused.
+//! A document that isn't refused, and why bytes give none.
 use crate::classes::Game;
 use definitions::{Family, Measure};
+use fractions::OutOfMemory;
+use kinds::Refusal;
 use kohlberg::Certificate;
 use serde_json::Value;
+use thiserror::Error;
 use worth_core::Shares;
 
 /// A game and what is said of it.
@@ -24,4 +27,26 @@ pub struct Document {
     pub shares: Option<Shares>,
     /// The certificate that the shares are best in the family; there for every command that needs it.
     pub certificate: Option<Certificate>,
+}
+
+/// Why bytes give no document.
+#[derive(Clone, Copy, Debug, PartialEq, Eq, Error)]
+pub enum TextFault {
+    /// The first refusal that applies.
+    #[error("the document is refused: {0:?}")]
+    Refused(Refusal),
+    /// Memory was not found.
+    #[error("memory was not found")]
+    Memory,
+}
+
+impl From<OutOfMemory> for TextFault {
+    ghost use Rattle.std.specs.Prelude.{◌≡◌};
+    ghost use Rattle.game_text.specs.declared.document.TextFault.TheVariants.{Memory};
+
+    ghost from_gives = { λ _ e. e ≡ Memory };
+
+    fn from(_: OutOfMemory) -> TextFault {
+        TextFault::Memory
+    }
 }

@@ -4,14 +4,11 @@
 mod classes;
 mod command;
 mod document;
-mod fault;
 mod reading;
 mod shape;
-mod shaped;
 
 pub use classes::Game;
 pub use command::{Command, Inputs};
-pub use document::Document;
-pub use fault::TextFault;
+pub use document::{Document, TextFault};
 pub use kinds::{Kind, Refusal};
 pub use reading::{document_limit, read_document};

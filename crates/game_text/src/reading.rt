@@ -24,10 +24,8 @@ ghost use Rattle.game_text.specs.Readings.{IsShareReading, IsShareFault, IsCerti
 
 use crate::classes::{Game, game_of};
 use crate::command::Command;
-use crate::document::Document;
-use crate::fault::TextFault;
-use crate::shape::shaped_game;
-use crate::shaped::{SizedGame, sized_game};
+use crate::document::{Document, TextFault};
+use crate::shape::{SizedGame, shaped_game, sized_game};
 use certificate_texts::{certificate_of, family_of};
 use definitions::{Family, Measure};
 use document_parts::{Names, know_sparse, measure_of, names_of, shares_as_worth, written_shares};

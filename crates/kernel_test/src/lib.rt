@@ -10,8 +10,9 @@ ghost use Rattle.kernel_test.specs.Answers.{IsSurplusFraction, IsKernelAnswer};
 
 use crate::surpluses::Surpluses;
 use coalitions::Coalition;
+use definitions::{Family, Measure};
 use fractions::Frac;
-use worth_core::{Family, Measure, Shares, Worth, is_efficient, raised, ratio};
+use worth_core::{Shares, Worth, is_efficient, raised, ratio};
 
 /// Whether shares are in the prekernel (Maschler, Peleg and Shapley 1972). Players count from 0.
 #[derive(Clone, Copy, Debug, PartialEq, Eq)]

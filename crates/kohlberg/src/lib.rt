@@ -9,7 +9,7 @@ mod spanned;
 mod verdicts;
 
 pub use certificates::{Certificate, Malformed};
-pub use definitions::{Family, Mode};
+pub use definitions::Mode;
 pub use levels::Level;
 pub use spans::Span;
 pub use verdicts::{Place, Reason, Verdict};
@@ -18,5 +18,3 @@ pub use verdicts::{Place, Reason, Verdict};
 pub use levels::{bounds_at, weights_at};
 pub use mask_order::put_pair;
 pub use spanned::{add_levels, first_unspanned};
-pub use spans::Outside;
-pub use worth_core::ratio;

@@ -10,10 +10,11 @@ ghost use Rattle.kohlberg.specs.Pairs.{placed, placed_behind};
 
 use crate::numbers::net_of;
 use coalitions::Coalition;
-use kohlberg::{Level, put_pair, ratio};
+use kohlberg::{Level, put_pair};
 use separation::coalition_count;
 use simplex::{ColumnId, Optimal};
 use std::alloc::{AllocError, Global};
+use worth_core::ratio;
 
 /// The coalitions outside that have a number, in mask order, where `first` is the number of the column of the empty
 /// one.

@@ -14,15 +14,15 @@ mod point;
 mod singles;
 mod stages;
 
-ghost use Rattle.std.specs.Prelude.{◌≡◌, ◌≤◌, IfOk, MatchResult};
+ghost use Rattle.std.specs.Prelude.{◌≡◌, ◌↔◌, ◌<◌, ◌≤◌, IfOk, IsErrOf, MatchResult};
 ghost use Rattle.definitions.specs.declared.Measure.{Measure};
 ghost use Rattle.nested_programs.specs.Answer.{IsFound, IsFault};
 
+use definitions::{Family, Measure};
 pub use found::{Found, NestedFault};
-use kohlberg::Family;
 pub use point::solve_few;
 use std::alloc::Global;
-use worth_core::{Measure, Worth};
+use worth_core::Worth;
 
 /// Returns the nucleolus of a game of at most 16 players for the imputations, or its prenucleolus for the
 /// preimputations, with a certificate in mode span (Schmeidler 1969, Kohlberg 1971). Excesses are as they are or per
@@ -42,6 +42,7 @@ pub fn solve<W: Worth>(
     requires heads { measure ≡ Measure.PerHead → (W.game game.now).players ≤ 8 }
     ensures answer { MatchResult result (IsFound family measure (W.game game.now)) (IsFault (W.game game.now)) }
     ensures few { IfOk result (λ _. (W.game game.now).players ≤ 16) }
+    ensures too_many { IsErrOf result NestedFault.TooMany ↔ (16 < (W.game game.now).players) }
 {
     if game.players() > 16 {
         return Err(NestedFault::TooMany);

@@ -10,11 +10,12 @@ use crate::found::Found;
 use crate::singles::lacks_imputation;
 use crate::stages::all_stages;
 use coalitions::Coalition;
+use definitions::{Family, Measure, Mode};
 use fractions::OutOfMemory;
-use kohlberg::{Certificate, Family, Mode};
+use kohlberg::Certificate;
 use simplex::Multipliers;
 use std::alloc::Global;
-use worth_core::{Measure, Shares, Worth};
+use worth_core::{Shares, Worth};
 
 /// The shares that are the multipliers of the players' rows, over their denominator. Without multipliers it is one
 /// share, the worth of all.

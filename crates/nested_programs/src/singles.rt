@@ -3,7 +3,7 @@ ghost use Rattle.std.specs.Prelude.{◌≡◌, ◌≤◌, MatchOption};
 ghost use Rattle.nested_programs.specs.Answer.{singles, HasMember, LacksImputation};
 
 use coalitions::Coalition;
-use kohlberg::Family;
+use definitions::Family;
 use worth_core::Worth;
 
 /// The worths of the players alone, added.

@@ -63,7 +63,7 @@ pub fn core_points_for_reals()
     ensures { CorePointsForReals }
 {}
 
-/// Shares in fractions that lie in the prekernel lie there among real shares, and so does the prenucleolus.
+/// Shares in fractions that lie in the prekernel lie there among real shares.
 pub fn prekernel_for_reals()
     ensures { PrekernelForReals }
 {}

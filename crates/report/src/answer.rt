@@ -4,12 +4,13 @@ use balanced_collections::Collection;
 use big_assignment::Solution;
 use coalitions::Coalition;
 use convexity::ConvexAnswer;
+use definitions::Family;
 use fractions::Frac;
 use kinds::Refusal;
 use kohlberg::{Certificate, Verdict};
 use serde_json::Value;
 use tree_games::Tree;
-use worth_core::{Family, Shares};
+use worth_core::Shares;
 
 /// Why a command has no other answer: for its words, or for the class and the players of its document.
 #[derive(Clone, Copy, PartialEq, Eq)]

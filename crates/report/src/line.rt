@@ -4,24 +4,20 @@ ghost use Rattle.serde_json.specs.Read.{read};
 ghost use Rattle.serde_json.specs.Data.{object};
 ghost use Rattle.serde_json.specs.View.{members_view};
 ghost use Rattle.json_texts.specs.Newlines.{without_newline};
-ghost use Rattle.report.specs.Limits.{IsScale, IsFine, IsPrintable};
+ghost use Rattle.report.specs.Limits.{IsScale, IsPrintable};
 ghost use Rattle.report.specs.Lines.{answer_tree, line};
+ghost use Rattle.report.specs.Words.{refusal_name, usage_word};
 
 use crate::answer::{Answer, UsageKind};
-use crate::bird_answer::bird_members;
-use crate::convex_answers::convex_members;
-use crate::core_answers::{core_point_members, empty_core_members};
-use crate::kernel_answers::not_prekernel_members;
-use crate::matching_answer::matching_members;
-use crate::nucleolus::nucleolus_members;
-use crate::objects::{with, with_answer, with_coalition, with_integer, with_text, with_value};
-use crate::scale::Scale;
-use crate::shapley_answers::shapley_members;
+use crate::core_points::{bird_members, core_point_members, empty_core_members, matching_members};
+use crate::nucleolus::{no_imputation_members, nucleolus_members};
+use crate::objects::{with, with_answer, with_text};
+use crate::proposals::{blocked_members, not_efficient_members, not_prekernel_members};
+use crate::shapley_shares::{convex_members, shapley_members};
 use crate::summary::summary_members;
+use crate::values::Scale;
 use crate::verdict::verdict_members;
-use crate::words::{refusal_name, usage_word};
-use coalitions::Coalition;
-use fractions::{Frac, OutOfMemory};
+use fractions::OutOfMemory;
 use kinds::Refusal;
 use serde_json::{Map, Value};
 use std::alloc::Global;
@@ -87,50 +83,6 @@ fn members_of(
     }
 }
 
-fn no_imputation_members(
-    alloc: Global,
-    singles: i64,
-    total: i64,
-    scale: Scale,
-) -> Result<Map<String, Value>, OutOfMemory>
-    ensures { IfOk result
-        (λ m. object (members_view m.entries) ≡ answer_tree scale (Answer.NoImputation singles total)) }
-{
-    let members = with_answer(alloc, "no imputation")?;
-    let members = with_integer(alloc, members, "singles", i128::from(singles), scale)?;
-    with_integer(alloc, members, "total", i128::from(total), scale)
-}
-
-fn not_efficient_members(
-    alloc: Global,
-    sum: &Frac,
-    total: i64,
-    scale: Scale,
-) -> Result<Map<String, Value>, OutOfMemory>
-    requires { IsFine sum.now.den }
-    ensures { IfOk result
-        (λ m. object (members_view m.entries) ≡ answer_tree scale (Answer.NotEfficient sum.now total)) }
-{
-    let members = with_answer(alloc, "not efficient")?;
-    let members = with_value(alloc, members, "sum", sum, scale)?;
-    with_integer(alloc, members, "total", i128::from(total), scale)
-}
-
-fn blocked_members(
-    alloc: Global,
-    coalition: Coalition,
-    excess: &Frac,
-    scale: Scale,
-) -> Result<Map<String, Value>, OutOfMemory>
-    requires { IsFine excess.now.den }
-    ensures { IfOk result
-        (λ m. object (members_view m.entries) ≡ answer_tree scale (Answer.Blocked coalition excess.now)) }
-{
-    let members = with_answer(alloc, "blocked")?;
-    let members = with_coalition(alloc, members, "coalition", coalition)?;
-    with_value(alloc, members, "excess", excess, scale)
-}
-
 fn usage_members(alloc: Global, kind: UsageKind) -> Result<Map<String, Value>, OutOfMemory>
     ensures { IfOk result (λ m. object (members_view m.entries) ≡ answer_tree 1 (Answer.Usage kind)) }
 {
@@ -147,4 +99,36 @@ fn refused_members(alloc: Global, refusal: Refusal) -> Result<Map<String, Value>
         Value::from(refusal.number()),
     )?;
     with_text(alloc, members, "refused", refusal_name(refusal))
+}
+
+/// The word for what is wrong with the words of a command line.
+fn usage_word(kind: UsageKind) -> &'static str
+    ensures { result.now ≡ usage_word kind }
+{
+    match kind {
+        UsageKind::Words => "words",
+        UsageKind::Class => "class",
+        UsageKind::Players => "players",
+    }
+}
+
+/// The name of a refusal.
+fn refusal_name(refusal: Refusal) -> &'static str
+    ensures { result.now ≡ refusal_name refusal }
+{
+    match refusal {
+        Refusal::TooLong => "TooLong",
+        Refusal::NotJson => "NotJson",
+        Refusal::Shape => "Shape",
+        Refusal::Players => "Players",
+        Refusal::Number => "Number",
+        Refusal::Names => "Names",
+        Refusal::Coalition => "Coalition",
+        Refusal::Estate => "Estate",
+        Refusal::Matrix => "Matrix",
+        Refusal::Proposal => "Proposal",
+        Refusal::TooFine => "TooFine",
+        Refusal::Certificate => "Certificate",
+        Refusal::Quota => "Quota",
+    }
 }

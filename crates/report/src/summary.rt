@@ -6,12 +6,10 @@ ghost use Rattle.report.specs.Limits.{IsFineIfThere};
 ghost use Rattle.report.specs.SummaryTrees.{least_denominator, player_share, share_members};
 ghost use Rattle.report.specs.SummaryTrees.{greatest_data, summary_tree};
 ghost use Rattle.report.specs.Values.{integer_data};
+ghost use Rattle.report.specs.Words.{kind_word};
 
-use crate::fraction::{integer_value, value_over};
 use crate::objects::{with, with_text};
-use crate::scale::Scale;
-use crate::shares::share_text;
-use crate::words::kind_word;
+use crate::values::{Scale, integer_value, share_text, value_over};
 use fractions::{Frac, OutOfMemory};
 use kinds::Kind;
 use serde_json::{Map, Value};
@@ -105,5 +103,18 @@ fn greatest_value(
     match greatest {
         Some(excess) => value_over(alloc, excess, scale),
         None => Ok(Value::try_from_str(alloc, "none")?),
+    }
+}
+
+/// The word for a kind of generated games.
+fn kind_word(kind: Kind) -> &'static str
+    ensures { result.now ≡ kind_word kind }
+{
+    match kind {
+        Kind::Table => "table",
+        Kind::Airport => "airport",
+        Kind::Bankruptcy => "bankruptcy",
+        Kind::Tree => "tree",
+        Kind::Assignment => "assignment",
     }
 }

@@ -8,8 +8,7 @@ ghost use Rattle.kohlberg.specs.Reasons.{reason_number};
 ghost use Rattle.report.specs.Verdicts.{no_above, reason_tree, verdict_tree};
 
 use crate::objects::{with, with_answer, with_coalition, with_value};
-use crate::players::player_value;
-use crate::scale::Scale;
+use crate::values::{Scale, player_value};
 use coalitions::Coalition;
 use fractions::{Frac, OutOfMemory};
 use kohlberg::{Place, Reason, Verdict};

@@ -1,4 +1,4 @@
--- The first column that rises of a list, found part by part.
+-- The first column that improves of a list, found part by part.
 use Rattle.std.proofs.Common.{◌≡◌, ℕ, zero, suc, ◌+◌, ◌-◌, ◌<◌, ◌≤◌, Bool, true}
 use Rattle.std.proofs.Common.{false, List, ◌++◌, length, length-append, ℤ, pos, ◌-ℤ◌, ◌*ℤ◌, ◌<ℤ◌}
 use Rattle.std.proofs.Common.{Option, None, Some, refl, sym, ap, subst, inl, inr, ◌∙◌}
@@ -21,7 +21,7 @@ use Rattle.separation.specs.Kept.{column_at, plain_entry}
 use Rattle.separation.specs.Making.{listed, plain, minus, single, bound, both_columns, earlier_columns}
 use Rattle.separation.specs.Making.{alone_columns, inner_columns}
 use Rattle.separation.specs.Values.{multiplier_at, column_value, counted}
-use Rattle.separation.specs.Scanned.{game_of, RisesIn, NoneOf, IsFirstOf, worth_in}
+use Rattle.separation.specs.Scanned.{game_of, ImprovesIn, NoneOf, IsFirstOf, worth_in}
 use Rattle.separation.specs.declared.scan.Scan.{Scan}
 use Rattle.worth_core.specs.declared.worth.Worth.{Ghosts}
 use Rattle.separation.specs.declared.column.Column.{Column}
@@ -56,7 +56,7 @@ module _ {X : Type 0} {W : Ghosts X} (x : Scan X W) where
   n = x.program.now.players
 
   abbrev Up : Option Column → Type 0
-  Up = RisesIn x
+  Up = ImprovesIn x
 
   abbrev NoneUp : List (Option Column) → Type 0
   NoneUp = NoneOf x
@@ -79,14 +79,14 @@ module _ {X : Type 0} {W : Ghosts X} (x : Scan X W) where
     lost : x.m.now.den *ℤ counted x.with_costs (pos 0 -ℤ g.worth s) ≡ pos 0 -ℤ cost
     lost = negated_cost x.m.now.den (g.worth s) x.with_costs
 
-    minus_rises : cost <ℤ value → Up (Some (minus g s level))
-    minus_rises lt = negated_below value cost _ _ negative lost lt
+    minus_improves : cost <ℤ value → Up (Some (minus g s level))
+    minus_improves lt = negated_below value cost _ _ negative lost lt
 
     minus_not : ¬ (cost <ℤ value) → ¬ Up (Some (minus g s level))
     minus_not le up = le (below_negated value cost _ _ negative lost up)
 
     pub second_up : ¬ (value <ℤ cost) → cost <ℤ value → FirstUp (both_columns g s level) 1
-    second_up not_first lt = record { place = omega arith; rises = minus_rises lt; least = before }
+    second_up not_first lt = record { place = omega arith; improves = minus_improves lt; least = before }
       where
         before : (j : ℕ) → j < 1 → ¬ Up (column_at (both_columns g s level) j)
         before zero less = not_first
@@ -112,7 +112,7 @@ module _ {X : Type 0} {W : Ghosts X} (x : Scan X W) where
         let lt : place < length before = h.place in
         record {
           place = let e = length-append before behind in omega arith;
-          rises = rw (get_or_append_left before behind None place lt) h.rises;
+          improves = rw (get_or_append_left before behind None place lt) h.improves;
           least = λ j less up. h.least j less
               (rw (get_or_append_left before behind None j (omega arith)) at up);
         }
@@ -123,9 +123,9 @@ module _ {X : Type 0} {W : Ghosts X} (x : Scan X W) where
         let d : length before + place - length before ≡ place = omega arith in
         record {
           place = let e = length-append before behind in let lt = h.place in omega arith;
-          rises =
+          improves =
               rw (get_or-append_right before behind (length before) (length before + place) None refl (omega arith)
-              ∙ ap (column_at behind) d) h.rises;
+              ∙ ap (column_at behind) d) h.improves;
           least = λ j less up. elim (below_or_above j (length before)) [
             | inl lt ↦ none j (rw (get_or_append_left before behind None j lt) at up)
             | inr le ↦ h.least (j - length before) (omega arith)
@@ -133,7 +133,7 @@ module _ {X : Type 0} {W : Ghosts X} (x : Scan X W) where
           ];
         }
 
-  -- ---- what is left of a list decides, where no column that was passed rises
+  -- ---- what is left of a list decides, where no column that was passed improves
 
   abbrev pub Decide : List (Option Column) → ℕ → List (Option Column) → Type 0
   Decide columns passed rest =
@@ -163,8 +163,8 @@ module _ {X : Type 0} {W : Ghosts X} (x : Scan X W) where
     pub first_listed : (i : ℕ) → i < count → Up (f i) → ((j : ℕ) → j < i → ¬ Up (f j)) → FirstUp (listed count f) i
     first_listed i lt up none = record {
       place = let e = length-listed count f in omega arith;
-      rises = rw (listed_at count i f lt) up;
-      least = λ j less rises. none j less (rw (listed_at count j f (omega arith)) at rises);
+      improves = rw (listed_at count i f lt) up;
+      least = λ j less improves. none j less (rw (listed_at count j f (omega arith)) at improves);
     }
 
     pub none_listed : ((j : ℕ) → j < count → ¬ Up (f j)) → NoneUp (listed count f)

@@ -20,4 +20,4 @@ pub mod Products
 pub mod Searches
 pub mod InFront
 mod Picked
-mod SmallPeaks
+mod SmallBounds

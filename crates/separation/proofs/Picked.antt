@@ -1,9 +1,10 @@
--- A search for the best column that rises, number by number.
+-- A search for the best column that improves, number by number.
 --
--- Any column that rises may enter, and the least is a bad choice: on games whose players are numbered by their strength
--- it took very many steps. So a search asks the columns in front first, then goes round in blocks of 256 coalitions,
--- from the block in which it found the last one. Of the first block that has any, it takes the one whose cost is most
--- above its value. No answer rests on that choice, but `IsMost` says it, since only time would show a bad one.
+-- Any column that improves may enter, and the least is a bad choice: on games whose players are numbered by their
+-- strength it took very many steps. So a search asks the columns in front first, then goes round in blocks of 256
+-- coalitions, from the block in which it found the last one. Of the first block that has any, it takes the one whose
+-- cost is most above its value. No answer rests on that choice, but `IsMost` says it, since only time would show a bad
+-- one.
 use Rattle.std.proofs.Common.{◌≡◌, ◌↔◌, ◌⊎◌, inl, inr, ℕ, ◌+◌, ◌<◌, ◌≤◌, ℤ}
 use Rattle.std.proofs.Common.{◌+ℤ◌, ◌≤ℤ◌, ◌<ℤ◌, int_lt, Bool, true, false}
 use Rattle.std.proofs.lemmas.Int.{ints}
@@ -23,7 +24,7 @@ module _ (R : ℕ → Type 0) (G : ℕ → ℤ) (a s count : ℕ) where
   most_passed : (t : ℕ) → (R s → ⊥) → IsMost R G a s count t → IsMost R G a (s + 1) count t
   most_passed t here h = record {
     below = h.below;
-    rises = h.rises;
+    improves = h.improves;
     most = λ j low lt within r. elim (last_or_less_of j s lt) [
       | inl same ↦ absurd (here (rw same at r))
       | inr less ↦ h.most j low less within r
@@ -39,11 +40,11 @@ module _ (R : ℕ → Type 0) (G : ℕ → ℤ) (a s count : ℕ) where
   ]
   passed_over (Some b) here h = (most_passed b.0 here h.0, h.1)
 
-  -- the first that rises, one that has more, and one that has no more
+  -- the first that improves, one that has more, and one that has no more
   first_picked : s < count → R s → ((j : ℕ) → a ≤ j → j < s → j < count → R j → ⊥) → IsMost R G a (s + 1) count s
-  first_picked within rises none = record {
+  first_picked within improves none = record {
     below = within;
-    rises = rises;
+    improves = improves;
     most = λ j low lt below r. elim (last_or_less_of j s lt) [
       | inl same ↦ rw same (omega (arith, linear))
       | inr less ↦ absurd (none j low less below r)
@@ -51,9 +52,9 @@ module _ (R : ℕ → Type 0) (G : ℕ → ℤ) (a s count : ℕ) where
   }
 
   more_picked : (t : ℕ) → s < count → R s → G t <ℤ G s → IsMost R G a s count t → IsMost R G a (s + 1) count s
-  more_picked t within rises more h = record {
+  more_picked t within improves more h = record {
     below = within;
-    rises = rises;
+    improves = improves;
     most = λ j low lt below r. elim (last_or_less_of j s lt) [
       | inl same ↦ rw same (omega (arith, linear))
       | inr less ↦ let older = h.most j low less below r in omega (arith, linear)
@@ -63,7 +64,7 @@ module _ (R : ℕ → Type 0) (G : ℕ → ℤ) (a s count : ℕ) where
   kept_picked : (t : ℕ) → G s ≤ℤ G t → IsMost R G a s count t → IsMost R G a (s + 1) count t
   kept_picked t less h = record {
     below = h.below;
-    rises = h.rises;
+    improves = h.improves;
     most = λ j low lt below r. elim (last_or_less_of j s lt) [
       | inl same ↦ rw same less
       | inr before ↦ h.most j low before below r
@@ -74,10 +75,10 @@ module _ (R : ℕ → Type 0) (G : ℕ → ℤ) (a s count : ℕ) where
       → MatchOption o (r ≡ (s, z)) (λ b. (b.1 <ℤ z → r ≡ (s, z)) × (z ≤ℤ b.1 → r ≡ b))
       → MatchOption o ((j : ℕ) → a ≤ j → j < s → j < count → R j → ⊥) (IsPicked R G a s count)
       → IsPicked R G a (s + 1) count r
-  picked_more None r z within rises has e h = rw e (first_picked within rises h, has)
-  picked_more (Some b) r z within rises has e h = elim (less_or_more b.1 z) [
+  picked_more None r z within improves has e h = rw e (first_picked within improves h, has)
+  picked_more (Some b) r z within improves has e h = elim (less_or_more b.1 z) [
     | inl more ↦ rw (e.0 more)
-        (more_picked b.0 within rises (above b.1 z (G b.0) (G s) h.1 has more) h.0, has)
+        (more_picked b.0 within improves (above b.1 z (G b.0) (G s) h.1 has more) h.0, has)
     | inr less ↦ rw (e.1 less)
         (kept_picked b.0 (at_most b.1 z (G b.0) (G s) h.1 has less) h.0, h.1)
   ]
@@ -101,12 +102,12 @@ module _ (R : ℕ → Type 0) (G : ℕ → ℤ) (a s count : ℕ) where
 module _ (R : ℕ → Type 0) (G : ℕ → ℤ) (a s count : ℕ) (base height : ℤ) (picked : ℕ) where
   pub highest_more : (z : ℤ) → s < count → ((base <ℤ z) ↔ R s) → z ≡ base +ℤ G s → height <ℤ z
       → IsHighest R G a s count base height picked → IsHighest R G a (s + 1) count base z s
-  highest_more z within rises has more h =
+  highest_more z within improves has more h =
       let low = h.low in
       record {
         low = omega (arith, linear);
         none = λ e. absurd (omega (arith, linear));
-        found = λ up. (within, rises.0 up, has);
+        found = λ up. (within, improves.0 up, has);
         most = λ j lower lt below r. elim (last_or_less_of j s lt) [
           | inl same ↦ rw same (omega (arith, linear, has))
           | inr before ↦ let older = h.most j lower before below r in omega (arith, linear)
@@ -130,10 +131,10 @@ module _ (R : ℕ → Type 0) (G : ℕ → ℤ) (a s count : ℕ) (base height :
 
   pub highest_kept : (z : ℤ) → (R s → base <ℤ z) → z ≡ base +ℤ G s → z ≤ℤ height
       → IsHighest R G a s count base height picked → IsHighest R G a (s + 1) count base height picked
-  highest_kept z rises has less h = record {
+  highest_kept z improves has less h = record {
     low = h.low;
     none = λ e j low lt within. elim (last_or_less_of j s lt) [
-      | inl same ↦ λ r. let up = rises (rw same at r) in absurd (omega (arith, linear))
+      | inl same ↦ λ r. let up = improves (rw same at r) in absurd (omega (arith, linear))
       | inr before ↦ h.none e j low before within
     ];
     found = h.found;
@@ -159,7 +160,7 @@ module _ (R : ℕ → Type 0) (G : ℕ → ℤ) (a s count : ℕ) (base height :
         | inr le ↦ omega arith
       ]
 
-  -- a stretch of which none that rises is higher
+  -- a stretch of which none that improves is higher
   pub highest_skipped : (t : ℕ) → ((j : ℕ) → s ≤ j → j < t → j < count → R j → base <ℤ height)
       → ((j : ℕ) → s ≤ j → j < t → j < count → (base +ℤ G j) ≤ℤ height)
       → IsHighest R G a s count base height picked → IsHighest R G a t count base height picked
@@ -180,7 +181,7 @@ module _ (R : ℕ → Type 0) (G : ℕ → ℤ) (a s count : ℕ) (base height :
   pub highest_is_most : base <ℤ height → IsHighest R G a s count base height picked → IsMost R G a s count picked
   highest_is_most up h = record {
     below = (h.found up).0;
-    rises = (h.found up).1;
+    improves = (h.found up).1;
     most = λ j low lt within r.
         let less = h.most j low lt within r in
         let has = (h.found up).2 in

@@ -5,7 +5,7 @@ pub mod Same
 pub mod Kept
 pub mod Lawful
 pub mod Shares
-pub mod Peaks
+pub mod BlockBounds
 pub mod Values
 pub mod Making
 pub mod Fronts

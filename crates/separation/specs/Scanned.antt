@@ -1,27 +1,27 @@
 -- For the private functions of this crate.
 -- What a scan finds.
 --
---   RisesAt          the column under a number of a program rises: under multipliers its cost is above its value
---   IsFirstAt        the first number whose column rises
+--   ImprovesAt          the column under a number of a program improves: under multipliers its cost is above its value
+--   IsFirstAt        the first number whose column improves
 --   game_of          the game of the program that is scanned
---   RisesIn          a column rises, as the scan counts cost and value
---   ColumnRises      the column under a number does
+--   ImprovesIn          a column improves, as the scan counts cost and value
+--   ColumnImproves      the column under a number does
 --   IsFirstColumn    the first number whose column does
 --   NoneOf           none of the columns in a list does
 --   IsFirstOf        the place of the first of these that does
 --   NoneInFront      none of the columns before those of the coalitions does
 --   IsFirstInFront   the first of these that does
 --   column_of        the column of a coalition, if it has one
---   CoalitionRises   that column rises
---   NoneBetween      no column rises of the coalitions from one on up to another
---   NoneBelow        none rises of those below one
---   NoneRises        none rises of any coalition
---   IsFirstRising    the first coalition whose column rises
---   IsSomeRising     a coalition whose column rises
+--   CoalitionImproves   that column improves
+--   NoneBetween      no column improves of the coalitions from one on up to another
+--   NoneBelow        none improves of those below one
+--   NoneImproves        none improves of any coalition
+--   IsFirstImproving    the first coalition whose column improves
+--   IsSomeImproving     a coalition whose column improves
 --   value_in         the value of a coalition's column
 --   worth_in         what the worth of a coalition counts for
 --   gap_in           by how much the cost of its column is above the value
---   IsMostIn         a coalition whose column rises; of some coalitions, none whose column rises has a greater gap
+--   IsMostIn         a coalition whose column improves; of some others, none whose column improves has a greater gap
 --   IsHighestIn      which of the coalitions from one on up to another has the greatest height
 --   AreValues        a base and the sums of a table give the values of some coalitions
 --   IsSmallTable     the numbers of a table are at most 2^60 in size
@@ -33,16 +33,16 @@ use Rattle.simplex.specs.declared.multipliers.Multipliers.{Multipliers}
 use Rattle.separation.specs.Kept.{column_at}
 use Rattle.separation.specs.Making.{plain}
 use Rattle.separation.specs.Fronts.{front_columns, front_level, marked_column, lazy_columns}
-use Rattle.separation.specs.Values.{column_value, counted, Rises, IsFirst, IsFirstBelow, IsSomeBelow}
+use Rattle.separation.specs.Values.{column_value, counted, Improves, IsFirst, IsFirstBelow, IsSomeBelow}
 use Rattle.separation.specs.Values.{IsMost, IsHighest}
 use Rattle.separation.specs.declared.column.Column.{Column}
 use Rattle.separation.specs.declared.lazy.Lazy.{Lazy}
-use Rattle.separation.specs.declared.narrow.Highest.{Highest}
+use Rattle.separation.specs.declared.block_bounds.Highest.{Highest}
 use Rattle.separation.specs.declared.scan.Scan.{Scan}
 
-abbrev pub RisesAt : {X : Type 0} {W : Ghosts X} → Lazy X W → Multipliers → Bool → ℕ → Type 0
-RisesAt {W = W} p m with_costs id =
-    Rises p.measure m.num.items m.den p.players with_costs
+abbrev pub ImprovesAt : {X : Type 0} {W : Ghosts X} → Lazy X W → Multipliers → Bool → ℕ → Type 0
+ImprovesAt {W = W} p m with_costs id =
+    Improves p.measure m.num.items m.den p.players with_costs
     (column_at (lazy_columns (W.game p.game.now) p.front p.marks) id)
 
 -- and no earlier column's is
@@ -54,12 +54,12 @@ abbrev pub game_of : {X : Type 0} {W : Ghosts X} → Scan X W → Game
 game_of {W = W} x = W.game x.program.now.game.now
 
 -- a column's cost is above its value
-abbrev pub RisesIn : {X : Type 0} {W : Ghosts X} → Scan X W → Option Column → Type 0
-RisesIn x column =
-    Rises x.program.now.measure x.m.now.num.items x.m.now.den x.program.now.players x.with_costs column
+abbrev pub ImprovesIn : {X : Type 0} {W : Ghosts X} → Scan X W → Option Column → Type 0
+ImprovesIn x column =
+    Improves x.program.now.measure x.m.now.num.items x.m.now.den x.program.now.players x.with_costs column
 
-abbrev pub ColumnRises : {X : Type 0} {W : Ghosts X} → Scan X W → ℕ → Type 0
-ColumnRises x id = RisesAt x.program.now x.m.now x.with_costs id
+abbrev pub ColumnImproves : {X : Type 0} {W : Ghosts X} → Scan X W → ℕ → Type 0
+ColumnImproves x id = ImprovesAt x.program.now x.m.now x.with_costs id
 
 abbrev pub IsFirstColumn : {X : Type 0} {W : Ghosts X} → Scan X W → ℕ → Type 0
 IsFirstColumn x id = IsFirstAt x.program.now x.m.now x.with_costs id
@@ -67,7 +67,7 @@ IsFirstColumn x id = IsFirstAt x.program.now x.m.now x.with_costs id
 -- ---- in front of the coalitions' columns
 
 abbrev pub NoneOf : {X : Type 0} {W : Ghosts X} → Scan X W → List (Option Column) → Type 0
-NoneOf x columns = (j : ℕ) → ¬ RisesIn x (column_at columns j)
+NoneOf x columns = (j : ℕ) → ¬ ImprovesIn x (column_at columns j)
 
 abbrev pub IsFirstOf : {X : Type 0} {W : Ghosts X} → Scan X W → List (Option Column) → ℕ → Type 0
 IsFirstOf x columns place =
@@ -76,7 +76,7 @@ IsFirstOf x columns place =
 abbrev pub NoneInFront : {X : Type 0} {W : Ghosts X} → Scan X W → Type 0
 NoneInFront x =
     (j : ℕ) → j < x.program.now.first
-    → ¬ RisesIn x (column_at (front_columns (game_of x) x.program.now.front) j)
+    → ¬ ImprovesIn x (column_at (front_columns (game_of x) x.program.now.front) j)
 
 abbrev pub IsFirstInFront : {X : Type 0} {W : Ghosts X} → Scan X W → ℕ → Type 0
 IsFirstInFront x id =
@@ -88,26 +88,26 @@ IsFirstInFront x id =
 abbrev pub column_of : {X : Type 0} {W : Ghosts X} → Scan X W → ℕ → Option Column
 column_of x s = marked_column (game_of x) (front_level x.program.now.front) x.program.now.marks s
 
-abbrev pub CoalitionRises : {X : Type 0} {W : Ghosts X} → Scan X W → ℕ → Type 0
-CoalitionRises x s = RisesIn x (column_of x s)
+abbrev pub CoalitionImproves : {X : Type 0} {W : Ghosts X} → Scan X W → ℕ → Type 0
+CoalitionImproves x s = ImprovesIn x (column_of x s)
 
--- none rises of the coalitions from a on below b
+-- none improves of the coalitions from a on below b
 abbrev pub NoneBetween : {X : Type 0} {W : Ghosts X} → Scan X W → ℕ → ℕ → Type 0
-NoneBetween x a b = (j : ℕ) → a ≤ j → j < b → j < 2 ^ x.program.now.players → ¬ CoalitionRises x j
+NoneBetween x a b = (j : ℕ) → a ≤ j → j < b → j < 2 ^ x.program.now.players → ¬ CoalitionImproves x j
 
 abbrev pub NoneBelow : {X : Type 0} {W : Ghosts X} → Scan X W → ℕ → Type 0
-NoneBelow x b = (j : ℕ) → j < b → j < 2 ^ x.program.now.players → ¬ CoalitionRises x j
+NoneBelow x b = (j : ℕ) → j < b → j < 2 ^ x.program.now.players → ¬ CoalitionImproves x j
 
-abbrev pub NoneRises : {X : Type 0} {W : Ghosts X} → Scan X W → Type 0
-NoneRises x = (j : ℕ) → j < 2 ^ x.program.now.players → ¬ CoalitionRises x j
+abbrev pub NoneImproves : {X : Type 0} {W : Ghosts X} → Scan X W → Type 0
+NoneImproves x = (j : ℕ) → j < 2 ^ x.program.now.players → ¬ CoalitionImproves x j
 
-abbrev pub IsFirstRising : {X : Type 0} {W : Ghosts X} → Scan X W → ℕ → Type 0
-IsFirstRising x s =
+abbrev pub IsFirstImproving : {X : Type 0} {W : Ghosts X} → Scan X W → ℕ → Type 0
+IsFirstImproving x s =
     IsFirstBelow x.program.now.measure x.m.now.num.items x.m.now.den x.program.now.players x.with_costs
     (column_of x) (2 ^ x.program.now.players) s
 
-abbrev pub IsSomeRising : {X : Type 0} {W : Ghosts X} → Scan X W → ℕ → Type 0
-IsSomeRising x s =
+abbrev pub IsSomeImproving : {X : Type 0} {W : Ghosts X} → Scan X W → ℕ → Type 0
+IsSomeImproving x s =
     IsSomeBelow x.program.now.measure x.m.now.num.items x.m.now.den x.program.now.players x.with_costs
     (column_of x) (2 ^ x.program.now.players) s
 
@@ -126,14 +126,15 @@ worth_in x s = counted x.with_costs ((game_of x).worth s)
 abbrev pub gap_in : {X : Type 0} {W : Ghosts X} → Scan X W → ℕ → ℤ
 gap_in x s = (x.m.now.den *ℤ worth_in x s) -ℤ value_in x s
 
--- the column of coalition s rises, and of the coalitions from a on below b none whose column rises has a greater gap
+-- the column of coalition s improves, and of the coalitions from a on below b none whose column improves has a greater
+-- gap
 abbrev pub IsMostIn : {X : Type 0} {W : Ghosts X} → Scan X W → ℕ → ℕ → ℕ → Type 0
-IsMostIn x a b s = IsMost (CoalitionRises x) (gap_in x) a b (2 ^ x.program.now.players) s
+IsMostIn x a b s = IsMost (CoalitionImproves x) (gap_in x) a b (2 ^ x.program.now.players) s
 
 -- of the coalitions from a on below s the highest: its height is so much above the base as its gap
 abbrev pub IsHighestIn : {X : Type 0} {W : Ghosts X} → Scan X W → ℕ → ℕ → Highest → Type 0
 IsHighestIn x a s h =
-    IsHighest (CoalitionRises x) (gap_in x) a s (2 ^ x.program.now.players) h.base h.height h.coalition
+    IsHighest (CoalitionImproves x) (gap_in x) a s (2 ^ x.program.now.players) h.base h.height h.coalition
 
 -- a base and the sums of a table give the values of the coalitions from a on below b
 abbrev pub AreValues : {X : Type 0} {W : Ghosts X} → Scan X W → ℤ → List ℤ → ℕ → ℕ → Type 0

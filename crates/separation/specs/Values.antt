@@ -13,11 +13,11 @@
 --   level_multiplier    the multiplier of a column's level row
 --   column_value        the sum of multiplier times entry
 --   counted             what a cost counts for, with costs or without them
---   Rises, IsFirst      a column's cost is above its value; the first such
+--   Improves, IsFirst      a column's cost is above its value; the first such
 --   IsFirstBelow        the first such of so many columns
 --   IsSomeBelow         one such of so many columns
---   IsMost              one that rises, and none of some that rise has more
---   IsHighest           of some numbers none rises, and the height is the base; or the one that has most is picked
+--   IsMost              one that improves, and none of some that improve has more
+--   IsHighest           of some numbers none improves, and the height is the base; or the one that has most is picked
 use Rattle.std.specs.Prelude.{◌≡◌, ℕ, ◌+◌, ◌<◌, ◌≤◌, Bool, true, false, nat_lt, List}
 use Rattle.std.specs.Prelude.{length, ℤ, pos, ◌+ℤ◌, ◌*ℤ◌, ◌<ℤ◌}
 use Rattle.std.specs.Prelude.{if◌then◌else◌, slice_index_or, Option, Some, None, ◌^◌, unsigned_abs, ◌≤ℤ◌}
@@ -93,39 +93,39 @@ counted true cost = cost
 counted false cost = pos 0
 
 -- a column whose cost is above its value
-abbrev pub Rises : Measure → List ℤ → ℤ → ℕ → Bool → Option Column → Type 0
-Rises measure num den n with_costs None = ⊥
-Rises measure num den n with_costs (Some c) = column_value measure num n c <ℤ (den *ℤ counted with_costs c.cost)
+abbrev pub Improves : Measure → List ℤ → ℤ → ℕ → Bool → Option Column → Type 0
+Improves measure num den n with_costs None = ⊥
+Improves measure num den n with_costs (Some c) = column_value measure num n c <ℤ (den *ℤ counted with_costs c.cost)
 
 -- the first column whose cost is above its value
 pub record IsFirst (measure : Measure) (num : List ℤ) (den : ℤ) (n : ℕ) (with_costs : Bool)
     (columns : List (Option Column)) (id : ℕ) : Type 0 where
   pub place : id < length columns
-  pub rises : Rises measure num den n with_costs (column_at columns id)
-  pub least : (j : ℕ) → j < id → ¬ Rises measure num den n with_costs (column_at columns j)
+  pub improves : Improves measure num den n with_costs (column_at columns id)
+  pub least : (j : ℕ) → j < id → ¬ Improves measure num den n with_costs (column_at columns j)
 
 -- the first of so many columns whose cost is above its value
 pub record IsFirstBelow (measure : Measure) (num : List ℤ) (den : ℤ) (n : ℕ) (with_costs : Bool)
     (column : ℕ → Option Column) (count id : ℕ) : Type 0 where
   pub below : id < count
-  pub rises : Rises measure num den n with_costs (column id)
-  pub least : (j : ℕ) → j < id → ¬ Rises measure num den n with_costs (column j)
+  pub improves : Improves measure num den n with_costs (column id)
+  pub least : (j : ℕ) → j < id → ¬ Improves measure num den n with_costs (column j)
 
 -- one of so many columns whose cost is above its value
 pub record IsSomeBelow (measure : Measure) (num : List ℤ) (den : ℤ) (n : ℕ) (with_costs : Bool)
     (column : ℕ → Option Column) (count id : ℕ) : Type 0 where
   pub below : id < count
-  pub rises : Rises measure num den n with_costs (column id)
+  pub improves : Improves measure num den n with_costs (column id)
 
--- a number below a count that rises, and of those from a on below b none that rises has more by G
+-- a number below a count that improves, and of those from a on below b none that improves has more by G
 pub record IsMost (R : ℕ → Type 0) (G : ℕ → ℤ) (a b count s : ℕ) : Type 0 where
   pub below : s < count
-  pub rises : R s
+  pub improves : R s
   pub most : (j : ℕ) → a ≤ j → j < b → j < count → R j → G j ≤ℤ G s
 
--- Of the numbers from a on below s and below a count, none rises, and the height is the base; or the height is above
--- the base, and a number below the count is picked that rises and has that height: so much above the base as it has by
--- G. None that rises is higher.
+-- Of the numbers from a on below s and below a count, none improves, and the height is the base; or the height is above
+-- the base, and a number below the count is picked that improves and has that height: so much above the base as it has
+-- by G. None that improves is higher.
 pub record IsHighest (R : ℕ → Type 0) (G : ℕ → ℤ) (a s count : ℕ) (base height : ℤ) (picked : ℕ) : Type 0 where
   pub low : base ≤ℤ height
   pub none : height ≡ base → (j : ℕ) → a ≤ j → j < s → j < count → ¬ R j

@@ -1,10 +1,13 @@
-//! Columns of the programs.
+//! Columns of the programs, and how each is made by the worth of its coalition.
 
 ghost use Rattle.std.specs.Prelude.{◌≡◌, ◌≤◌, ◌<◌, ◌^◌, pos, ◌-ℤ◌, true, false, unsigned_abs};
 ghost use Rattle.definitions.specs.Measures.{divisor};
+ghost use Rattle.separation.specs.Making.{plain, minus, single, bound};
 
 use coalitions::Coalition;
-use worth_core::Measure;
+use definitions::{Family, Measure};
+use kohlberg::Level;
+use worth_core::Worth;
 
 /// The place of a column among some that stand in a row, from 0.
 pub(crate) type ColumnPlace = u64;
@@ -85,5 +88,47 @@ impl Column {
         } else {
             0
         }
+    }
+}
+
+/// The column of a coalition.
+pub(crate) fn plain<W: Worth>(game: &W, s: Coalition, level: Option<u32>) -> Column
+    requires { s < 2 ^ (W.game game.now).players }
+    ensures { result ≡ plain (W.game game.now) s level }
+{
+    Column::new(s, level, game.worth(s))
+}
+
+/// The column of a coalition, negated.
+pub(crate) fn minus<W: Worth>(game: &W, s: Coalition, level: Option<u32>) -> Column
+    requires { s < 2 ^ (W.game game.now).players }
+    ensures { result ≡ minus (W.game game.now) s level }
+{
+    game.players(); // Brings the laws of the game.
+    Column::minus(s, level, game.worth(s))
+}
+
+/// The column of a player alone, for imputations.
+pub(crate) fn single<W: Worth>(game: &W, family: Family, i: u32) -> Option<Column>
+    requires { i < (W.game game.now).players }
+    ensures { result ≡ single family (W.game game.now) i }
+{
+    game.players(); // Brings the laws of the game.
+    match family {
+        Family::Imputations => Some(plain(game, Coalition::single(i), None)),
+        Family::Preimputations => None,
+    }
+}
+
+/// The column of a player alone, negated, for imputations and if a level bounds the player.
+pub(crate) fn bound<W: Worth>(game: &W, family: Family, levels: &[Level], i: u32) -> Option<Column>
+    requires { i < (W.game game.now).players }
+    ensures { result ≡ bound family (W.game game.now) levels.now i }
+{
+    game.players(); // Brings the laws of the game.
+    if family == Family::Imputations && Level::has_bound(levels, i) {
+        Some(minus(game, Coalition::single(i), None))
+    } else {
+        None
     }
 }

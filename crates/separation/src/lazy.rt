@@ -1,29 +1,30 @@
 //! A program whose columns are found by their numbers, and not listed.
 
-ghost use Rattle.std.specs.Prelude.{◌≡◌, ◌+◌, ◌<◌, ◌≤◌, ◌^◌, length, IsOk, IfOk, IfSome};
+ghost use Rattle.std.specs.Prelude.{◌≡◌, ◌+◌, ◌<◌, ◌≤◌, ◌^◌, length, IsOk, IfOk, IfSome, List};
 ghost use Rattle.std.specs.List.{AllByRecursion};
 ghost use Rattle.std.proofs.Props.{props};
+ghost use Rattle.definitions.specs.Certificates.{HasForm, Level};
 ghost use Rattle.definitions.specs.Games.{IsGame};
-ghost use Rattle.definitions.specs.Certificates.{HasForm};
 ghost use Rattle.definitions.specs.declared.Measure.{Measure};
 ghost use Rattle.definitions.specs.declared.Mode.{Mode};
-ghost use Rattle.separation.specs.Kept.{kept_program, AreSmall, AreShort};
-ghost use Rattle.separation.specs.Peaks.{ArePeaks};
+ghost use Rattle.kohlberg.specs.Marking.{IsMarking};
 ghost use Rattle.separation.specs.Fronts.{front_columns, front_rows, lazy_columns, IsSmallLevel};
+ghost use Rattle.separation.specs.Kept.{kept_program, AreSmall, AreShort};
+ghost use Rattle.separation.specs.BlockBounds.{AreBlockBounds};
+ghost use Rattle.separation.specs.Same.{IsSpanOf};
 
-use crate::column::Column;
-use crate::entering::first_found;
+use crate::block_bounds::block_bounds_of;
+use crate::column::{Column, plain};
 use crate::front::Front;
-use crate::making::plain;
-use crate::marks::outside_of;
-use crate::peaks::peaks_of;
-use crate::rising::{block_of, some_found};
+use crate::pricing::{block_of, first_found, some_found};
 use coalitions::Coalition;
+use definitions::{Family, Measure};
 use fractions::OutOfMemory;
-use kohlberg::{Family, Level, Outside, Span};
+use kohlberg::Level;
 use simplex::{ColumnId, Columns, Multipliers};
+use spans::{Outside, Span};
 use std::alloc::Global;
-use worth_core::{Measure, Worth};
+use worth_core::Worth;
 
 /// A program that keeps a mark for each coalition and no columns. It finds each column by its number, and the one that
 /// enters by going over the numbers.
@@ -40,7 +41,7 @@ pub struct Lazy<'a, W: Worth> {
     /// The coalitions that have a column; without marks these are all but the empty one.
     pub(crate) marks: Option<Outside>,
     /// The greatest worth of each block of 256 coalitions, or 0 if that is more.
-    pub(crate) peaks: [i64; 256],
+    pub(crate) block_bounds: [i64; 256],
     /// The block of 256 coalitions in which the last coalition was found, whose column entered; there the next search
     /// of coalitions begins, whatever entered since from the front.
     pub(crate) at: u8,
@@ -53,9 +54,21 @@ pub struct Lazy<'a, W: Worth> {
         (λ f. AllByRecursion (IsSmallLevel players) f.levels.now) } by { Prim.hlevel props },
     ghost first_is: { first ≡ length (front_columns (W.game game.now) front) },
     ghost first_small: { first ≤ 2 ^ 32 },
-    ghost peaks_are: { ArePeaks (W.game game.now) peaks },
+    ghost block_bounds_are: { AreBlockBounds (W.game game.now) block_bounds },
     ghost small: { AreSmall levels (lazy_columns (W.game game.now) front marks) },
     ghost short: { AreShort measure players levels (lazy_columns (W.game game.now) front marks) },
+}
+
+/// The coalitions of `n` players that a span doesn't hold, but for the empty one and that of all. These are the
+/// coalitions outside behind any levels of which the span holds exactly what they fix.
+pub(crate) fn outside_of(span: &Span, n: u32) -> Outside
+    requires few { n ≤ 16 }
+    requires players { span.now.players ≡ n }
+    ensures { (levels : List Level) → IsSpanOf n span.now.kept levels → IsMarking n levels result }
+{
+    let mut outside = Outside::all(n);
+    outside.clear(span);
+    outside
 }
 
 impl<'a, W: Worth> Lazy<'a, W> {
@@ -86,22 +99,22 @@ impl<'a, W: Worth> Lazy<'a, W> {
         ensures program { IfOk result (λ l. (⟦<Lazy<'a, W> as Columns>⟧.players l ≡ (W.game game.now).players)
             × IsStage family measure (W.game game.now) levels.now (⟦<Lazy<'a, W> as Columns>⟧.program l)) }
     {
-        let peaks = peaks_of(game);
-        Ok(Lazy::stage_with(game, &peaks, family, measure, levels, span))
+        let block_bounds = block_bounds_of(game);
+        Ok(Lazy::stage_with(game, &block_bounds, family, measure, levels, span))
     }
 
     /// Makes the stage program that `stage` makes, when the greatest worths of the game are known from an earlier
     /// stage.
     pub fn stage_with(
         game: &'a W,
-        peaks: &[i64; 256],
+        block_bounds: &[i64; 256],
         family: Family,
         measure: Measure,
         levels: &'a [Level],
         span: &Span,
     ) -> Lazy<'a, W>
         requires few { (W.game game.now).players ≤ 16 }
-        requires peaks { ArePeaks (W.game game.now) peaks.now }
+        requires block_bounds { AreBlockBounds (W.game game.now) block_bounds.now }
         requires heads { measure ≡ Measure.PerHead → (W.game game.now).players ≤ 8 }
         requires form { HasForm Mode.Span (W.game game.now).players levels.now }
         requires count { length levels.now + 2 ≤ (W.game game.now).players }
@@ -121,7 +134,7 @@ impl<'a, W: Worth> Lazy<'a, W> {
             front: Some(front),
             first: front.count(game),
             marks: Some(outside_of(span, players)),
-            peaks: *peaks,
+            block_bounds: *block_bounds,
             at: 0,
         }
     }
@@ -144,7 +157,7 @@ impl<'a, W: Worth> Lazy<'a, W> {
             front: None,
             first: 0,
             marks: None,
-            peaks: peaks_of(game),
+            block_bounds: block_bounds_of(game),
             at: 0,
         })
     }
@@ -270,7 +283,7 @@ impl<W: Worth> Columns for Lazy<'_, W> {
         first_found(self, m, with_costs)
     }
 
-    fn rising(&mut self, m: &Multipliers, with_costs: bool) -> Option<u64> {
+    fn improving(&mut self, m: &Multipliers, with_costs: bool) -> Option<u64> {
         let found = some_found(self, m, with_costs);
         self.at = block_of(found, self.first, self.at);
         found

@@ -3,14 +3,23 @@
 //! No command asks for it: it says column by column, in a list that can be looked at, what `Lazy` finds by number. The
 //! tests of `Lazy` compare the two, and a caller who wants the columns of a small game has them here.
 
-ghost use Rattle.std.specs.Prelude.{◌≡◌, ◌≤◌};
+ghost use Rattle.std.specs.Prelude.{◌≡◌, ◌≤◌, MatchOption, ℕ, ◌+◌, ◌^◌, ◌<◌, unsigned_abs, length, IfOk};
+ghost use Rattle.std.specs.Option.{ForSome};
+ghost use Rattle.separation.specs.Balanced.{balanced_program};
 ghost use Rattle.separation.specs.Kept.{column_at, kept_program, AreSmall, AreShort};
+ghost use Rattle.separation.specs.Making.{listed, balanced_column};
+ghost use Rattle.separation.specs.Same.{IsSame};
+ghost use Rattle.separation.specs.Values.{AreSums, Improves, IsFirst};
 
-use crate::column::Column;
-use crate::sums::{first_rising, wide};
+use crate::column::{Column, plain};
+use crate::sums::{improves, wide};
 use crate::tables::Sums;
+use coalitions::Coalition;
+use definitions::Measure;
+use fractions::OutOfMemory;
 use simplex::{ColumnId, Columns, Multipliers};
-use worth_core::Measure;
+use std::alloc::{AllocError, Global};
+use worth_core::Worth;
 
 /// A program with all its columns, the level rows behind those of the players.
 #[derive(Drop)]
@@ -34,6 +43,32 @@ fn column_at(columns: &[Option<Column>], id: ColumnId) -> Option<Column>
     } else {
         None
     }
+}
+
+/// The number of the first column whose cost is above its value, without costs as if each were 0.
+pub(crate) fn first_improving(
+    columns: &[Option<Column>],
+    m: &Multipliers,
+    measure: Measure,
+    n: u32,
+    sums: &Sums<'_>,
+    with_costs: bool,
+) -> Option<ColumnId>
+    requires within { (id : ℕ) → ForSome (column_at columns.now id)
+        (λ c. ForSome c.level (λ l. n + l < length m.now.num.items)) }
+    requires small { (id : ℕ) → ForSome (column_at columns.now id) (λ c. unsigned_abs c.cost < 2 ^ 46) }
+    requires players { n ≤ length m.now.num.items }
+    requires sums { AreSums m.now.num.items n sums.now }
+    ensures { MatchOption result
+        ((id : ℕ) → ¬ Improves measure m.now.num.items m.now.den n with_costs (column_at columns.now id))
+        (IsFirst measure m.now.num.items m.now.den n with_costs columns.now) }
+{
+    for id in 0..columns.len() {
+        if improves(columns[id], m, measure, n, sums, with_costs) {
+            return Some(id as ColumnId);
+        }
+    }
+    None
 }
 
 impl Listed {
@@ -104,7 +139,7 @@ impl Columns for Listed {
 
     fn entering(&mut self, m: &Multipliers, with_costs: bool) -> Option<u64> {
         let tables = wide(m, self.players);
-        first_rising(
+        first_improving(
             &self.columns,
             m,
             self.measure,
@@ -112,5 +147,48 @@ impl Columns for Listed {
             &Sums::Wide(&tables),
             with_costs,
         )
+    }
+}
+
+/// The column of a coalition, unless it is empty.
+fn nonempty<W: Worth>(game: &W, s: Coalition) -> Option<Column>
+    requires { s < 2 ^ (W.game game.now).players }
+    ensures { result ≡ balanced_column (W.game game.now) s }
+{
+    if s.0 > 0 {
+        Some(plain(game, s, None))
+    } else {
+        None
+    }
+}
+
+/// The columns of the balanced program, each under its mask.
+fn balanced_columns<W: Worth>(alloc: Global, game: &W) -> Result<Vec<Option<Column>>, AllocError>
+    requires { (W.game game.now).players ≤ 16 }
+    ensures { IfOk result (λ v. v.items ≡ listed (2 ^ (W.game game.now).players) (balanced_column (W.game game.now))) }
+{
+    let mut columns = Vec::new(alloc);
+    for s in 0..1u64 << game.players() {
+        columns.push(nonempty(game, Coalition(s)))?;
+    }
+    Ok(columns)
+}
+
+impl Listed {
+    /// Makes the balanced program of a game of at most 16 players (Bondareva 1963, Shapley 1967): the greatest worth
+    /// that coalitions have by weights that hold each player once. If that is the worth of all, the multipliers are a
+    /// point of the core. If it is more, the weights show that there is none. Fails only if memory runs out.
+    pub fn balanced<W: Worth>(alloc: Global, game: &W) -> Result<Listed, OutOfMemory>
+        requires { (W.game game.now).players ≤ 16 }
+        ensures { IfOk result (λ l. (⟦<Listed as Columns>⟧.players l ≡ (W.game game.now).players)
+            × IsSame (⟦<Listed as Columns>⟧.program l) (balanced_program (W.game game.now))) }
+    {
+        match balanced_columns(alloc, game) {
+            Ok(columns) => {
+                let players = game.players();
+                Ok(Listed::of(Measure::Plain, players, 0, columns))
+            }
+            Err(_) => Err(OutOfMemory),
+        }
     }
 }

@@ -1,11 +1,11 @@
-//! What a search for a column that rises goes over.
+//! What a search for a column that improves goes over.
 
 ghost use Rattle.std.specs.Prelude.{◌≡◌, ◌+◌, ◌^◌, ◌<◌, length, unsigned_abs};
 ghost use Rattle.separation.specs.Values.{AreSums, counted};
 
 use crate::column::Column;
 use crate::lazy::Lazy;
-use crate::sums::{bar, is_below, rises, value};
+use crate::sums::{bar, improves, is_below, value};
 use crate::tables::Sums;
 use coalitions::Coalition;
 use simplex::Multipliers;
@@ -39,7 +39,7 @@ impl<W: Worth> Scan<'_, W> {
     ghost use Rattle.std.specs.Option.{ForSome};
     ghost use Rattle.definitions.specs.declared.Measure.{Measure};
     ghost use Rattle.separation.specs.Values.{low_of, column_value};
-    ghost use Rattle.separation.specs.Scanned.{AreValues, RisesIn, CoalitionRises, value_in, worth_in};
+    ghost use Rattle.separation.specs.Scanned.{AreValues, ImprovesIn, CoalitionImproves, value_in, worth_in};
 
     /// What the 256 coalitions from 256 * `block` on have in common with plain excess: the multipliers of the members
     /// past the first eight players, and that of their level row.
@@ -83,13 +83,13 @@ impl<W: Worth> Scan<'_, W> {
     }
 
     /// Whether there is a column and its cost is above its value.
-    pub(crate) fn rises(&self, column: Option<Column>) -> bool
+    pub(crate) fn improves(&self, column: Option<Column>) -> bool
         requires within { ForSome column (λ c. ForSome c.level (λ l. l < self.now.program.now.levels)) }
         requires small { ForSome column (λ c. unsigned_abs c.cost < 2 ^ 46) }
-        ensures { IsTrue result ↔ RisesIn self.now column }
+        ensures { IsTrue result ↔ ImprovesIn self.now column }
     {
         let program = self.program;
-        rises(
+        improves(
             column,
             self.m,
             program.measure,
@@ -100,10 +100,10 @@ impl<W: Worth> Scan<'_, W> {
     }
 
     /// Whether a coalition has a column and its cost is above the column's value.
-    pub(crate) fn marked_rises(&self, value: i128, s: Coalition) -> bool
+    pub(crate) fn marked_improves(&self, value: i128, s: Coalition) -> bool
         requires within { s < 2 ^ self.now.program.now.players }
         requires value { value ≡ value_in self.now s }
-        ensures { IsTrue result ↔ CoalitionRises self.now s }
+        ensures { IsTrue result ↔ CoalitionImproves self.now s }
     {
         if self.program.has_mark(s) {
             let worth = self.worth(s);

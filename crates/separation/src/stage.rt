@@ -1,24 +1,120 @@
 //! The stage programs of the nucleolus.
 
-ghost use Rattle.std.specs.Prelude.{◌≡◌, ℕ, ◌+◌, ◌<◌, ◌≤◌, ◌^◌, length, IfOk, OnOk, OnErr};
+ghost use Rattle.std.specs.Prelude.{◌≡◌, ◌<◌, ◌≤◌, ◌^◌, ◌++◌, map, length, OnOk, OnErr, ℕ};
+ghost use Rattle.std.specs.Prelude.{◌+◌, IfOk};
 ghost use Rattle.std.specs.List.{AllByRecursion};
 ghost use Rattle.definitions.specs.Certificates.{HasForm};
+ghost use Rattle.definitions.specs.Coalitions.{grand_coalition};
 ghost use Rattle.definitions.specs.declared.Measure.{Measure};
 ghost use Rattle.definitions.specs.declared.Mode.{Mode};
 ghost use Rattle.kohlberg.specs.Marking.{IsMarking};
+ghost use Rattle.separation.specs.Making.{listed, plain, minus, earlier_columns, whole_columns, single, bound};
+ghost use Rattle.separation.specs.Making.{AddsSome, AreWithin, IsOuter, EndsOuter, inner_columns};
 ghost use Rattle.separation.specs.Same.{IsSpanOf, IsStage};
-ghost use Rattle.separation.specs.Making.{AreWithin, IsOuter, EndsOuter, inner_columns};
+ghost use Rattle.separation.specs.Stage.{earlier_of};
 
-use crate::column::Column;
+use crate::column::{Column, bound, minus, plain, single};
+use crate::lazy::outside_of;
 use crate::listed::Listed;
-use crate::making::{plain, push_bounds, push_earlier, push_singles, push_whole};
-use crate::marks::outside_of;
 use coalitions::Coalition;
+use definitions::{Family, Measure};
 use fractions::OutOfMemory;
-use kohlberg::{Family, Level, Outside, Span};
+use kohlberg::Level;
 use simplex::Columns;
+use spans::{Outside, Span};
 use std::alloc::{AllocError, Global};
-use worth_core::{Measure, Worth};
+use worth_core::Worth;
+
+/// Adds both columns of the coalition of all players. Fails only if memory runs out; then the first few are added.
+pub(crate) fn push_whole<W: Worth>(
+    columns: &mut Vec<Option<Column>>,
+    game: &W,
+) -> Result<(), AllocError>
+    ensures ok { OnOk result (columns.new.items
+        ≡ columns.old.items ++ whole_columns (W.game game.now) (grand_coalition (W.game game.now).players)) }
+    ensures err { OnErr result (AddsSome columns.old.items
+        (whole_columns (W.game game.now) (grand_coalition (W.game game.now).players)) columns.new.items) }
+{
+    let all = Coalition::all(game.players());
+    columns.push(Some(plain(game, all, None)))?;
+    columns.push(Some(minus(game, all, None)))?;
+    Ok(())
+}
+
+/// Adds both columns of each coalition of level `k`. Fails only if memory runs out; then the first few are added.
+fn push_level<W: Worth>(
+    columns: &mut Vec<Option<Column>>,
+    game: &W,
+    k: u32,
+    pairs: &[(Coalition, i128)],
+) -> Result<(), AllocError>
+    requires { AllByRecursion (λ c. c.0 < 2 ^ (W.game game.now).players) pairs.now }
+    ensures ok { OnOk result (columns.new.items
+        ≡ columns.old.items ++ earlier_columns (W.game game.now) (map (λ c. (c.0, k)) pairs.now)) }
+    ensures err { OnErr result (AddsSome columns.old.items
+        (earlier_columns (W.game game.now) (map (λ c. (c.0, k)) pairs.now)) columns.new.items) }
+{
+    for (s, _) in pairs {
+        columns.push(Some(plain(game, *s, Some(k))))?;
+        columns.push(Some(minus(game, *s, Some(k))))?;
+    }
+    Ok(())
+}
+
+/// Adds both columns of each coalition of the levels. Fails only if memory runs out; then the first few are added.
+pub(crate) fn push_earlier<W: Worth>(
+    columns: &mut Vec<Option<Column>>,
+    game: &W,
+    levels: &[Level],
+) -> Result<(), AllocError>
+    requires few { length levels.now ≤ 16 }
+    requires within { AllByRecursion (AreWithin (W.game game.now).players) levels.now }
+    ensures ok { OnOk result (columns.new.items
+        ≡ columns.old.items ++ earlier_columns (W.game game.now) (earlier_of 0 levels.now)) }
+    ensures err { OnErr result (AddsSome columns.old.items
+        (earlier_columns (W.game game.now) (earlier_of 0 levels.now)) columns.new.items) }
+{
+    for k in 0..levels.len() {
+        let level = &levels[k];
+        push_level(columns, game, k as u32, &level.coalitions)?;
+    }
+    Ok(())
+}
+
+/// Adds the column of each player alone. Fails only if memory runs out; then the first few are added.
+pub(crate) fn push_singles<W: Worth>(
+    columns: &mut Vec<Option<Column>>,
+    game: &W,
+    family: Family,
+) -> Result<(), AllocError>
+    ensures ok { OnOk result (columns.new.items
+        ≡ columns.old.items ++ listed (W.game game.now).players (single family (W.game game.now))) }
+    ensures err { OnErr result (AddsSome columns.old.items
+        (listed (W.game game.now).players (single family (W.game game.now))) columns.new.items) }
+{
+    for i in 0..game.players() {
+        columns.push(single(game, family, i))?;
+    }
+    Ok(())
+}
+
+/// Adds the column of each player alone, negated. Fails only if memory runs out; then the first few are added.
+pub(crate) fn push_bounds<W: Worth>(
+    columns: &mut Vec<Option<Column>>,
+    game: &W,
+    family: Family,
+    levels: &[Level],
+) -> Result<(), AllocError>
+    ensures ok { OnOk result (columns.new.items
+        ≡ columns.old.items ++ listed (W.game game.now).players (bound family (W.game game.now) levels.now)) }
+    ensures err { OnErr result (AddsSome columns.old.items
+        (listed (W.game game.now).players (bound family (W.game game.now) levels.now)) columns.new.items) }
+{
+    for i in 0..game.players() {
+        columns.push(bound(game, family, levels, i))?;
+    }
+    Ok(())
+}
 
 /// The column of a coalition, if it is outside.
 fn outer<W: Worth>(game: &W, levels: &[Level], outside: &Outside, s: Coalition) -> Option<Column>

@@ -2,23 +2,19 @@
 //! members among the first eight players and one for those among the next eight, so that a coalition costs one
 //! addition.
 
-ghost use Rattle.std.specs.Prelude.{◌≡◌, ◌↔◌, IsTrue, IfSome, MatchOption};
-ghost use Rattle.std.specs.Prelude.{ℕ, ◌+◌, ◌%◌, ◌^◌, ◌<◌, ◌≤◌};
-ghost use Rattle.std.specs.Prelude.{ℤ, pos, ◌+ℤ◌, ◌*ℤ◌, ◌<ℤ◌, unsigned_abs};
-ghost use Rattle.std.specs.Prelude.{length, List, slice_index_or};
+ghost use Rattle.std.specs.Prelude.{◌≡◌, ℕ, ◌<◌, ◌≤◌, ◌^◌, pos, unsigned_abs, slice_index_or, ◌↔◌, IsTrue};
+ghost use Rattle.std.specs.Prelude.{IfSome, ◌+◌, ◌%◌, ℤ, ◌+ℤ◌, ◌*ℤ◌, ◌<ℤ◌, length, List};
 ghost use Rattle.std.specs.Option.{ForSome};
 ghost use Rattle.definitions.specs.Coalitions.{sum_over};
 ghost use Rattle.definitions.specs.Measures.{divisor};
-ghost use Rattle.separation.specs.Kept.{column_at};
-ghost use Rattle.separation.specs.Values.{multiplier_at, player_multiplier, IsEight, IsTable, AreSums};
-ghost use Rattle.separation.specs.Values.{low_of, high_of, AreNarrow, level_multiplier, column_value, counted};
-ghost use Rattle.separation.specs.Values.{Rises, IsFirst};
+ghost use Rattle.separation.specs.Values.{multiplier_at, player_multiplier, IsEight, IsTable, AreSums, low_of, high_of};
+ghost use Rattle.separation.specs.Values.{AreNarrow, level_multiplier, column_value, counted, Improves};
 
 use crate::column::{Column, level_entry};
 use crate::tables::{Sums, WideSums};
 use coalitions::Coalition;
-use simplex::{ColumnId, Multipliers};
-use worth_core::Measure;
+use definitions::Measure;
+use simplex::Multipliers;
 
 /// The multiplier of player `i`, and 0 past `n` players.
 fn player_multiplier(m: &Multipliers, n: u32, i: u32) -> i128
@@ -204,7 +200,7 @@ pub(crate) fn is_below(value: i128, m: &Multipliers, cost: i64, with_costs: bool
 }
 
 /// Whether there is a column and its cost is above its value.
-pub(crate) fn rises(
+pub(crate) fn improves(
     column: Option<Column>,
     m: &Multipliers,
     measure: Measure,
@@ -216,7 +212,7 @@ pub(crate) fn rises(
     requires small { ForSome column (λ c. unsigned_abs c.cost < 2 ^ 46) }
     requires players { n ≤ length m.now.num.items }
     requires sums { AreSums m.now.num.items n sums.now }
-    ensures { IsTrue result ↔ Rises measure m.now.num.items m.now.den n with_costs column }
+    ensures { IsTrue result ↔ Improves measure m.now.num.items m.now.den n with_costs column }
 {
     match column {
         Some(column) => {
@@ -225,30 +221,4 @@ pub(crate) fn rises(
         }
         None => false,
     }
-}
-
-/// The number of the first column whose cost is above its value, without costs as if each were 0.
-pub(crate) fn first_rising(
-    columns: &[Option<Column>],
-    m: &Multipliers,
-    measure: Measure,
-    n: u32,
-    sums: &Sums<'_>,
-    with_costs: bool,
-) -> Option<ColumnId>
-    requires within { (id : ℕ) → ForSome (column_at columns.now id)
-        (λ c. ForSome c.level (λ l. n + l < length m.now.num.items)) }
-    requires small { (id : ℕ) → ForSome (column_at columns.now id) (λ c. unsigned_abs c.cost < 2 ^ 46) }
-    requires players { n ≤ length m.now.num.items }
-    requires sums { AreSums m.now.num.items n sums.now }
-    ensures { MatchOption result
-        ((id : ℕ) → ¬ Rises measure m.now.num.items m.now.den n with_costs (column_at columns.now id))
-        (IsFirst measure m.now.num.items m.now.den n with_costs columns.now) }
-{
-    for id in 0..columns.len() {
-        if rises(columns[id], m, measure, n, sums, with_costs) {
-            return Some(id as ColumnId);
-        }
-    }
-    None
 }

@@ -1,7 +1,7 @@
 //! Tables of the sums of multipliers over coalitions of eight players.
 
 ghost use Rattle.std.specs.Prelude.{◌≡◌, ◌⊎◌, ℕ, ◌<◌, ◌≤◌, ◌≤ℤ◌, ◌^◌, pos, unsigned_abs, slice_index_or};
-ghost use Rattle.separation.specs.Peaks.{IsLeast, AreLeast};
+ghost use Rattle.separation.specs.BlockBounds.{IsLeast, AreLeast};
 
 /// The sums over each coalition of the first eight players, and over each coalition of the next eight.
 #[derive(Drop)]

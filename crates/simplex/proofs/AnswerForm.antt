@@ -19,7 +19,7 @@ use Rattle.definitions.proofs.Cancel.{cancel}
 use Rattle.determinants.specs.Basis.{dot}
 use Rattle.determinants.specs.Matrix.{entry_at}
 use Rattle.simplex.specs.Answer.{AreInForm, IsAnswer}
-use Rattle.simplex.specs.declared.part.Part.TheVariants.{Second}
+use Rattle.simplex.specs.declared.columns.Part.TheVariants.{Second}
 use Rattle.simplex.specs.declared.state.State.{State}
 use Rattle.simplex.specs.Improving.{AreMultipliersOf, IsImproving}
 use Rattle.simplex.specs.Reduced.{listed, AreReduced}

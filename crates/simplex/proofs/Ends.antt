@@ -2,9 +2,9 @@
 --
 -- In the first part costs are 0 or -1. It always has an end: at an entering column without a positive weight, the
 -- objective's value would be negative, and it is a sum of products that aren't negative (`no_first_direction`). If an
--- added unit keeps a weight, the multipliers bound the program without costs, and their value at the right sides is
--- negative. By weak duality nothing solves the program (`no_solution`). Weak duality for right sides 0 is that no ray
--- exists beside multipliers that bound the program (`no_ray`).
+-- artificial variable keeps a weight, the multipliers bound the program without costs, and their value at the
+-- right-hand sides is negative. By weak duality nothing solves the program (`no_solution`). Weak duality for right-hand
+-- sides 0 is that no ray exists beside multipliers that bound the program (`no_ray`).
 use Rattle.std.proofs.Common.{◌≡◌, ◌⊎◌, inl, inr, ℕ, zero, suc, ◌<◌, false, List}
 use Rattle.std.proofs.Common.{[], ◌∷◌, Option, Some, None, slice_index_or, arith, refl, sym, ap}
 use Rattle.std.proofs.Common.{subst, ◌∙◌, ℤ, pos, negsuc, ◌+ℤ◌, ◌*ℤ◌, neg_ℤ, ◌<ℤ◌, ◌≤ℤ◌}
@@ -18,9 +18,9 @@ use Rattle.determinants.proofs.Duality.{weak_duality}
 use Rattle.determinants.proofs.Objective.{objective}
 use Rattle.determinants.specs.Basis.{dot}
 use Rattle.determinants.specs.Matrix.{entry_at, weight_at}
-use Rattle.simplex.specs.Between.{HasAddedWeight}
-use Rattle.simplex.specs.declared.part.Part.{Part}
-use Rattle.simplex.specs.declared.part.Part.TheVariants.{First}
+use Rattle.simplex.specs.Artificial.{HasArtificialWeight}
+use Rattle.simplex.specs.declared.columns.Part.{Part}
+use Rattle.simplex.specs.declared.columns.Part.TheVariants.{First}
 use Rattle.simplex.specs.declared.state.State.{State}
 use Rattle.simplex.specs.Improving.{part_cost, AreMultipliersOf, IsImproving, HasDirection}
 use Rattle.simplex.specs.Program.{column, right_side, price, priced}
@@ -99,7 +99,7 @@ negative_times (pos zero) (negsuc z) p h k = absurd (omega (arith, ints))
 negative_times (pos (suc d)) (negsuc z) p h k = absurd (omega (arith, ints))
 negative_times (negsuc d) (negsuc z) p h k = absurd (omega (arith, ints))
 
--- multipliers that bound the program without costs, of a negative value at the right sides
+-- multipliers that bound the program without costs, of a negative value at the right-hand sides
 pub contradicts : (P : Program) (num : List ℤ) (den : ℤ) → Bounds (priced P false) num den
     → value_of P num P.right <ℤ pos 0 → HasNoSolution P
 contradicts P num den b neg ws wden s =
@@ -115,7 +115,7 @@ positive_product (pos (suc a)) (pos (suc b)) h k l = absurd (omega (arith, ints)
 positive_product (pos (suc a)) (negsuc b) h k l = absurd (omega (arith, ints))
 positive_product (negsuc a) b h k l = absurd (omega (arith, ints))
 
--- the program with right sides 0, which a ray solves
+-- the program with right-hand sides 0, which a ray solves
 abbrev homogeneous : Program → Program
 homogeneous P =
     record { rows = P.rows; right = λ i. pos 0; is_column = P.is_column; entry = P.entry; cost = P.cost }
@@ -149,7 +149,7 @@ part_value_negative P o w e h =
     unit_cost_negative : (w : ℤ) → pos 0 <ℤ w → (negsuc 0 *ℤ w) <ℤ pos 0
     unit_cost_negative w h = omega (arith, ints)
 
--- the objective of the right sides is what the tracked weights give
+-- the objective of the right-hand sides is what the tracked weights give
 pub objective_right : (P : Program) (part : Part) (s : State) → IsImproving P part s
     → objective P.rows (weight_at s.costs) (entry_at 32 s.inverse) (right_side P)
     ≡ dot P.rows (weight_at s.costs) (λ k. entry_at 32 s.tracked k 0)
@@ -158,7 +158,7 @@ objective_right P part s st =
     (λ k. entry_at 32 s.tracked k 0) (λ k lt. refl) (λ k lt. sym (st.table.tracked.tracked k 0 lt (omega arith)))
 
 pub no_solution : (P : Program) (s : State) (num : List ℤ) (den : ℤ) → IsImproving P First s
-    → AreMultipliersOf s num den → Bounds (priced P false) num den → HasAddedWeight s → HasNoSolution P
+    → AreMultipliersOf s num den → Bounds (priced P false) num den → HasArtificialWeight s → HasNoSolution P
 no_solution P s num den st m b a =
     let place = rw st.rows_is at a.place in
     contradicts P num den b (rw (value_is P s s.costs num den P.right st.rows_is m ∙ objective_right P First s st)
@@ -166,4 +166,4 @@ no_solution P s num den st m b a =
     (λ k lt. rw (st.costs_are k lt)
     (part_value_nonpos P (id_at s.ids k) (entry_at 32 s.tracked k 0)
     (first_nonneg (entry_at 32 s.tracked k 0) (st.nonneg.rows k lt)))) (rw (st.costs_are a.position place)
-    (part_value_negative P (id_at s.ids a.position) (entry_at 32 s.tracked a.position 0) a.added a.positive))))
+    (part_value_negative P (id_at s.ids a.position) (entry_at 32 s.tracked a.position 0) a.artificial a.positive))))

@@ -49,7 +49,7 @@ listed_count ids w (suc k) =
     let a = with_count (id_at ids k) (w k) (listed ids w k) in let b = listed_count ids w k in omega arith
 
 -- ---- their sum
--- the value of f at a column, and 0 at an added unit
+-- the value of f at a column, and 0 at an artificial variable
 abbrev pub on_id : (ℕ → ℤ) → Option ℕ → ℤ
 on_id f None = pos 0
 on_id f (Some id) = f id

@@ -1,11 +1,11 @@
 -- One step of the simplex: the rows stay, and what the objective can still go up is less.
 --
--- The reference basis is the one at the start of the part. Its weights are kept beside those of the right sides, and
--- pivoted with them. With z(t) the costs of the basis times its weights of t, a step gives d·z'(t) = d'·z(t) + (d·c_s -
--- z(s))·T_p(t), at the right sides and at each reference column t (`objective_step`). The factor is positive, since s
--- costs more than its value; any such s may enter. The row T_p isn't lexicographically negative, and not 0, as a row
--- that is 0 at a basis is 0 at s (`row_positive`). So z / d goes up, and `objective_room` goes down (`room_falls`). The
--- least ratio keeps all rows nonnegative (`next_rows`). No set of bases is spoken of.
+-- The reference basis is the one at the start of the part. Its weights are kept beside those of the right-hand sides,
+-- and pivoted with them. With z(t) the costs of the basis times its weights of t, a step gives d·z'(t) = d'·z(t) +
+-- (d·c_s - z(s))·T_p(t), at the right-hand sides and at each reference column t (`objective_step`). The factor is
+-- positive, since s costs more than its value; any such s may enter. The row T_p isn't lexicographically negative, and
+-- not 0, as a row that is 0 at a basis is 0 at s (`row_positive`). So z / d goes up, and `objective_room` goes down
+-- (`room_falls`). The least ratio keeps all rows nonnegative (`next_rows`). No set of bases is spoken of.
 use Rattle.std.proofs.Common.{◌≡◌, ◌≢◌, inl, inr, ℕ, zero, suc, ◌*◌, ◌^◌, ◌<◌}
 use Rattle.std.proofs.Common.{◌≤◌, List, arith, refl, sym}
 use Rattle.std.proofs.Common.{◌∙◌, ℤ, pos, ◌+ℤ◌, ◌-ℤ◌, ◌*ℤ◌, ◌<ℤ◌, unsigned_abs, mul-le-mul}

@@ -1,8 +1,8 @@
 -- The weights of a basis solve the program, and a direction of its second part is a ray.
 --
--- d times an entry of the right sides is the sum over the basis with the weights of the right sides (`spread`), and
--- added units have weight 0. A column that improves the objective and lowers no weight gives a ray: d of it, and minus
--- its weights of the basis (`has_ray`).
+-- d times an entry of the right-hand sides is the sum over the basis with the weights of the right-hand sides
+-- (`spread`), and artificial variables have weight 0. A column that improves the objective and lowers no weight gives a
+-- ray: d of it, and minus its weights of the basis (`has_ray`).
 use Rattle.std.proofs.Common.{◌≡◌, ◌≢◌, ℕ, zero, suc, ◌-◌, ◌<◌, false, IsTrue, List}
 use Rattle.std.proofs.Common.{◌∷◌, nat_eq, Option, Some, None, arith, refl, sym, ap, subst}
 use Rattle.std.proofs.Common.{◌∙◌, ℤ, pos, ◌+ℤ◌, ◌-ℤ◌, ◌*ℤ◌, neg_ℤ, ◌<ℤ◌, ◌≤ℤ◌}
@@ -17,7 +17,7 @@ use Rattle.determinants.specs.Determinant.{Column}
 use Rattle.determinants.specs.Matrix.{entry_at, weight_at}
 use Rattle.determinants.specs.Weighted.{weigh}
 use Rattle.simplex.specs.Answer.{HasSolution}
-use Rattle.simplex.specs.declared.part.Part.TheVariants.{Second}
+use Rattle.simplex.specs.declared.columns.Part.TheVariants.{Second}
 use Rattle.simplex.specs.declared.state.State.{State}
 use Rattle.simplex.specs.Improving.{part_cost, AreMultipliersOf, IsImproving, HasDirection}
 use Rattle.simplex.specs.Laws.{first_columns}
@@ -58,8 +58,8 @@ on_place P k (Some id) w i lt h =
     ap (λ (z : ℤ). w *ℤ z) (flipped_at P.rows (P.entry id) (P.rows - 1 - i) (flipped_below P.rows i lt)
     ∙ ap (P.entry id) (flipped_twice P.rows i lt))
 
--- d times an entry of a column is the sum of the basis's entries with the column's weights, if the added units have
--- weight 0
+-- d times an entry of a column is the sum of the basis's entries with the column's weights, if the artificial variables
+-- have weight 0
 pub spread : (P : Program) (s : State) (c : Column) (w : ℕ → ℤ)
     → IsInverse P s → IsWithin P.rows c → ((k : ℕ) → k < P.rows → w k ≡ dot P.rows (entry_at 32 s.inverse k) c)
     → ((k : ℕ) → k < P.rows → id_at s.ids k ≡ None → w k ≡ pos 0)

@@ -3,7 +3,7 @@ use Rattle.std.specs.Prelude.{ℕ, ◌<◌, IsTrue, List, ℤ, ◌*ℤ◌, ◌<�
 use Rattle.definitions.specs.Programs.{Program, value_of}
 
 -- a column whose cost is above the multipliers' value
-pub record IsRising (p : Program) (multipliers : List ℤ) (den : ℤ) (id : ℕ) : Type 0 where
+pub record IsImprovingColumn (p : Program) (multipliers : List ℤ) (den : ℤ) (id : ℕ) : Type 0 where
   pub is_column : IsTrue (p.is_column id)
   pub above : value_of p multipliers (p.entry id) <ℤ (den *ℤ p.cost id)
 

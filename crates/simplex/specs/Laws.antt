@@ -4,10 +4,10 @@
 --   IsInBandA        entries of one sign and of size at most 1, and few of them in the level rows
 --   sizes            the sum of the sizes of the first n entries
 --   IsInBandB        few rows, and columns with a small sum of sizes
---   IsLawful         one of both, few player rows, right sides 0 or 1, and small costs
+--   IsLawful         one of both, few player rows, right-hand sides 0 or 1, and small costs
 --   first_columns    the first n columns of a sequence
 --   put              the columns with another one at place k
---   AreMinorsSmall   each determinant of columns, units and at most one right side is below 2^58
+--   AreMinorsSmall   each determinant of columns, units and at most one right-hand side is below 2^58
 use Rattle.std.specs.Prelude.{ℕ, zero, suc, ◌+◌, ◌^◌, ◌≤◌, ◌<◌, ◌≡◌, ◌⊎◌, IsTrue}
 use Rattle.std.specs.Prelude.{cond}
 use Rattle.std.specs.Prelude.{nat_eq, List, [], ◌∷◌, ℤ, pos, negsuc, unsigned_abs}
@@ -22,7 +22,7 @@ pub record IsSparse (players rows : ℕ) (a : ℕ → ℤ) : Type 0 where
   pub entry : (i : ℕ) → i < rows → (a i ≡ pos 0) ⊎ (a i ≡ sign)
   pub one : (i j : ℕ) → players ≤ i → i < j → j < rows → (a i ≡ pos 0) ⊎ (a j ≡ pos 0)
 
--- at most 15 level rows, in which a column and the right sides have at most one entry
+-- at most 15 level rows, in which a column and the right-hand sides have at most one entry
 pub record IsInBandA (players : ℕ) (p : Program) : Type 0 where
   pub levels : p.rows ≤ players + 15
   pub columns : (id : ℕ) → IsTrue (p.is_column id) → IsSparse players p.rows (p.entry id)

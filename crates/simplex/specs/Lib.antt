@@ -9,5 +9,5 @@ pub mod Replacing
 pub mod Tableau
 pub mod Measure
 pub mod Improving
-pub mod Between
+pub mod Artificial
 pub mod Reduced

@@ -9,7 +9,7 @@ use Rattle.determinants.specs.Measure.{room_left}
 abbrev pub cut : ℕ → (ℕ → ℤ) → ℕ → ℤ
 cut m a j = cond (nat_lt j m) (a j) (pos 0)
 
--- the costs of the basis times its weights of the right sides and of the reference columns
+-- the costs of the basis times its weights of the right-hand sides and of the reference columns
 abbrev pub objective_at : ℕ → List ℤ → List ℤ → ℕ → ℤ
 objective_at n costs ts j = dot n (weight_at costs) (λ k. entry_at 32 ts k j)
 

@@ -4,7 +4,7 @@
 --   priced       the program, or the program whose costs are all 0
 --   flipped      numbers from the last, as a column
 --   column       a column of the program, from its last row
---   right_side   the right sides, from the last row
+--   right_side   the right-hand sides, from the last row
 --   IsOf         a column of the program, or the unit of one of its rows
 use Rattle.std.specs.Prelude.{ℕ, ◌-◌, ◌<◌, ◌≡◌, ◌⊎◌, Bool, true, false, IsTrue, cond}
 use Rattle.std.specs.Prelude.{nat_lt, ℤ, pos}

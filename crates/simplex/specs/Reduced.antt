@@ -5,7 +5,7 @@
 --   with_weight   one more column, if its weight is positive
 --   listed        the columns that have a positive weight, by their positions
 --   IsMultiple    a number divides another
---   IsCommon      the greatest common divisor of the denominator and the weights of the right sides
+--   IsCommon      the greatest common divisor of the denominator and the weights of the right-hand sides
 --   AreReduced    the listed weights and the denominator over their greatest common divisor
 use Rattle.std.specs.Prelude.{ℕ, zero, suc, ◌<◌, ◌≡◌, Bool, true, false, cond, ℤ}
 use Rattle.std.specs.Prelude.{pos, negsuc, ◌*ℤ◌}

@@ -5,10 +5,9 @@ ghost use Rattle.arrayvec.specs.ArrayVec.{array_vec_len};
 ghost use Rattle.determinants.specs.Matrix.{limit, entry_at, weight_at};
 ghost use Rattle.simplex.specs.Reduced.{AreReduced, IsCommon, IsMultiple, listed, with_weight};
 
-use crate::arrays::{Matrix, Numbers, STRIDE};
 use crate::columns::ColumnId;
 use crate::multipliers::Multipliers;
-use crate::state::State;
+use crate::state::{Matrix, Numbers, STRIDE, State};
 use arrayvec::ArrayVec;
 use fractions::gcd;
 
@@ -24,7 +23,7 @@ pub struct Optimal {
     pub multipliers: Multipliers,
 }
 
-/// The greatest common divisor of the denominator and the weights of the right sides.
+/// The greatest common divisor of the denominator and the weights of the right-hand sides.
 fn common_of(tracked: &Matrix, n: usize, den: i128) -> i128
     requires rows { n ≤ 31 }
     requires positive { pos 0 <ℤ den }
@@ -47,7 +46,7 @@ fn reduced_number(number: i128, common: i128) -> i128
     number / common
 }
 
-/// The reduced weights of the right sides: over their common divisor with the denominator.
+/// The reduced weights of the right-hand sides: over their common divisor with the denominator.
 fn reduced_weights(tracked: &Matrix, n: usize, den: i128, common: i128) -> Numbers
     requires rows { n ≤ 31 }
     requires common { IsCommon tracked.now n den common }

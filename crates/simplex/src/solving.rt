@@ -5,12 +5,9 @@ ghost use Rattle.simplex.specs.Answer.{IsAnswer, IsFault};
 ghost use Rattle.simplex.specs.Laws.{AreMinorsSmall};
 
 use crate::answer::{Optimal, answer_of};
-use crate::between::{drive_out, has_added_weight};
-use crate::columns::Columns;
+use crate::artificial::{drive_out, has_artificial_weight, restart, start};
+use crate::columns::{Columns, Part};
 use crate::improve::improve;
-use crate::part::Part;
-use crate::restart::restart;
-use crate::start::start;
 use crate::state::State;
 use fractions::OutOfMemory;
 use std::alloc::Global;
@@ -66,7 +63,7 @@ fn solve_in<C: Columns>(work: &mut State, columns: &mut C) -> Result<Optimal, Lp
     let Some(_bounds) = improve(work, columns, Part::First) else {
         unreachable!();
     };
-    if has_added_weight(work) {
+    if has_artificial_weight(work) {
         return Err(LpFault::NoSolution);
     }
     let n = work.rows;

@@ -12,8 +12,9 @@ ghost use Rattle.talmud.specs.Division.{is_gain};
 use crate::cut_claims::CutClaims;
 use crate::division::{Division, Side};
 use coalitions::Coalition;
-use kohlberg::{Level, put_pair, ratio};
+use kohlberg::{Level, put_pair};
 use std::alloc::{AllocError, Global};
+use worth_core::ratio;
 
 /// A player alone if players gain, and all of `n` but that player if they lose.
 fn key(player: u32, n: u32, side: Side) -> Coalition

@@ -20,9 +20,9 @@ use crate::cut_claims::CutClaims;
 use crate::division::Division;
 use crate::levels::all_levels;
 use bankruptcy::BankruptcyGame;
+use definitions::Mode;
 pub use fractions::OutOfMemory;
 pub use kohlberg::Certificate;
-use kohlberg::Mode;
 use std::alloc::Global;
 use worth_core::{Shares, Worth};
 

@@ -14,7 +14,7 @@ pub fn measures_divide()
 
 /// A certificate that meets its form and its conditions certifies the nucleolus, for both families (Kohlberg 1971): for
 /// any number of players in mode players, and for at most 16 in mode span, as the form asks, and for excess per head.
-/// For more players in mode span, see `kohlberg` of `duality`.
+/// For more players in mode span, see `kohlberg` of `law_duality`.
 pub fn certificates_are_sound()
     ensures { CertificatesAreSound }
 {}

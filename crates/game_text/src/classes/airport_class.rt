@@ -10,7 +10,7 @@ ghost use Rattle.game_text.specs.Readings.{HasSizes, IsBuilt, IsBuildFault};
 ghost use Rattle.game_text.specs.declared.classes.Class.TheVariants.{Airport};
 
 use crate::classes::Game;
-use crate::fault::TextFault;
+use crate::document::TextFault;
 use airport::{AirportFault, AirportGame};
 use document_parts::{Numbers, add_values, is_list_size, read_costs};
 use fractions::OutOfMemory;

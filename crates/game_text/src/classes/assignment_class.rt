@@ -8,7 +8,7 @@ ghost use Rattle.game_text.specs.declared.classes.Class.TheVariants.{Assignment}
 
 use crate::classes::Game;
 pub(crate) use crate::classes::matrix_class::{is_shaped, numbers};
-use crate::fault::TextFault;
+use crate::document::TextFault;
 use assignment_games::{AssignmentFault, AssignmentGame};
 use document_parts::in_rows;
 use json_trees::{parts, parts_at};

@@ -11,7 +11,7 @@ ghost use Rattle.game_text.specs.Readings.{HasSizes, IsBuilt, IsBuildFault};
 ghost use Rattle.game_text.specs.declared.classes.Class.TheVariants.{Bankruptcy};
 
 use crate::classes::Game;
-use crate::fault::TextFault;
+use crate::document::TextFault;
 use bankruptcy::{BankruptcyFault, BankruptcyGame};
 use document_parts::{Numbers, add_at, add_values, is_list_size, read_costs};
 use fractions::OutOfMemory;

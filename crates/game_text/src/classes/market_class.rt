@@ -10,7 +10,7 @@ ghost use Rattle.game_text.specs.declared.classes.Class.TheVariants.{Market};
 use crate::classes::Game;
 use crate::classes::assignment_class::sellers_at;
 pub(crate) use crate::classes::matrix_class::{is_shaped, numbers};
-use crate::fault::TextFault;
+use crate::document::TextFault;
 use big_assignment::{MarketFault, MarketGame};
 use document_parts::{in_rows, is_short_list_size};
 use json_trees::parts_at;

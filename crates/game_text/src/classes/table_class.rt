@@ -18,10 +18,10 @@ ghost use Rattle.game_text.specs.Classes.TableClass.{is_table_shaped, is_sparse_
 ghost use Rattle.game_text.specs.Classes.TableClass.{players_at, table_players, has_items, has_worths_for};
 ghost use Rattle.game_text.specs.Classes.TableClass.{has_table_players};
 ghost use Rattle.game_text.specs.declared.classes.Class.TheVariants.{Table, Cost};
-ghost use Rattle.game_text.specs.declared.fault.TextFault.TheVariants.{Memory};
+ghost use Rattle.game_text.specs.declared.document.TextFault.TheVariants.{Memory};
 
 use crate::classes::Game;
-use crate::fault::TextFault;
+use crate::document::TextFault;
 use document_parts::{
     Names, Numbers, add_at, add_seconds, add_values, read_worths, sparse_numbers,
 };

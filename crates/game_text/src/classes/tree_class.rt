@@ -8,7 +8,7 @@ ghost use Rattle.game_text.specs.declared.classes.Class.TheVariants.{Tree};
 
 use crate::classes::Game;
 pub(crate) use crate::classes::matrix_class::{is_shaped, numbers};
-use crate::fault::TextFault;
+use crate::document::TextFault;
 use document_parts::in_rows;
 use json_trees::parts_at;
 use kinds::Refusal;

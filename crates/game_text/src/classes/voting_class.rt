@@ -9,7 +9,7 @@ ghost use Rattle.game_text.specs.Readings.{HasSizes, IsBuilt, IsBuildFault};
 ghost use Rattle.game_text.specs.declared.classes.Class.TheVariants.{Voting};
 
 use crate::classes::Game;
-use crate::fault::TextFault;
+use crate::document::TextFault;
 use document_parts::{Numbers, add_at, add_values, is_short_list_size, read_costs};
 use fractions::OutOfMemory;
 use json_trees::{ArrayOf, Number, has, has_only_keys, parts_at};

@@ -1,5 +1,5 @@
 use Rattle.std.proofs.Common.{ℕ, ◌*◌, ◌<◌, ◌≤◌, ℤ, pos, ◌≤ℤ◌, slice_index_or}
-use Rattle.separation.specs.Peaks.{AreAtLeast}
+use Rattle.separation.specs.BlockBounds.{AreAtLeast}
 use Rattle.separation.proofs.tables.least_of.Given as goal
 
 abbrev pub invariant-loop-k : goal.invariant-loop-k

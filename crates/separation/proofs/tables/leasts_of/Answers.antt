@@ -1,7 +1,7 @@
 use Rattle.std.proofs.Common.{◌≡◌, ◌<◌, length, length-set, ◌∙◌, to_z, of_z, rules}
 use mir.Syntax.{w64}
 use Rattle.spans.proofs.EightSums.{filled_below}
-use Rattle.separation.specs.Peaks.{IsLeast}
+use Rattle.separation.specs.BlockBounds.{IsLeast}
 use Rattle.separation.proofs.tables.leasts_of.Goals as goal
 
 pub loop-quarter-preserved : goal.loop-quarter-preserved

@@ -1,5 +1,5 @@
 use Rattle.std.proofs.Common.{◌≡◌, ℕ, ◌<◌, length, pos, slice_index_or}
-use Rattle.separation.specs.Peaks.{IsLeast}
+use Rattle.separation.specs.BlockBounds.{IsLeast}
 use Rattle.separation.proofs.tables.leasts_of.Given as goal
 
 abbrev pub invariant-loop-quarter : goal.invariant-loop-quarter

@@ -36,37 +36,39 @@ multipliers_of-m-requires-clause-den_small g c =
     simp to_z-of_z
     (Steps.den_small _ _ _ (tame_of _ (g.met.C.Columns.lawful c.loop-id.columns)) c.loop-id.invariant.state)
 
-pub rising_in-requires : goal.rising_in-requires
-rising_in-requires g c = c.multipliers_of-m.ensures.count ∙ c.loop-id.invariant.state.rows_is
+pub improving_in-requires : goal.improving_in-requires
+improving_in-requires g c = c.multipliers_of-m.ensures.count ∙ c.loop-id.invariant.state.rows_is
 
 pub returns-in_default-clause-same : goal.returns-in_default-clause-same
-returns-in_default-clause-same g c = c.rising_in.ensures.same ∙ c.loop-id.invariant.same
+returns-in_default-clause-same g c = c.improving_in.ensures.same ∙ c.loop-id.invariant.same
 
 pub returns-in_default-clause-same_players : goal.returns-in_default-clause-same_players
-returns-in_default-clause-same_players g c = c.rising_in.ensures.same_players ∙ c.loop-id.invariant.same_players
+returns-in_default-clause-same_players g c = c.improving_in.ensures.same_players ∙ c.loop-id.invariant.same_players
 
 pub returns-in_default-clause-state : goal.returns-in_default-clause-state
 returns-in_default-clause-state g c =
-    rw c.rising_in.ensures.same
+    rw c.improving_in.ensures.same
     (holds_after_use (IsImproving _ c.args.part) c.loop-id.work _ _ c.loop-id.invariant.state)
 
 pub returns-in_default-clause-answer : goal.returns-in_default-clause-answer
 returns-in_default-clause-answer g c =
-    let fd : FitsSigned w128 c.loop-id.work.den = search rules in
-    (simp to_z-of_z at c.multipliers_of-m.ensures, rw c.rising_in.ensures.same (c.in_default.ensures {u = tt}).answer)
+    let fd : FitsSigned w128 c.loop-id.work.den = search rules in (
+      simp to_z-of_z at c.multipliers_of-m.ensures,
+      rw c.improving_in.ensures.same (c.in_default.ensures {u = tt}).answer,
+    )
 
 -- the column that enters, as it was loaded
 entering : (g : Over) (c : After-load_column-column g)
-    → Steps.Enters (g.C.Columns.program c.rising_in.new.columns) c.args.part c.loop-id.work
+    → Steps.Enters (g.C.Columns.program c.improving_in.new.columns) c.args.part c.loop-id.work
     c.multipliers_of-m.result.num.items c.multipliers_of-m.result.den c.in-Some.id c.load_column-column.result
 entering g c =
     let fd : FitsSigned w128 c.loop-id.work.den = search rules in
     let enter = c.in-Some.ensures {u = tt} in
     record {
-      tame = tame_of _ (g.met.C.Columns.lawful c.rising_in.new.columns);
+      tame = tame_of _ (g.met.C.Columns.lawful c.improving_in.new.columns);
       state = rw enter.same c.loop-id.invariant.state;
       multipliers = simp to_z-of_z at c.multipliers_of-m.ensures;
-      rising = rw enter.same enter.answer;
+      improving = rw enter.same enter.answer;
       loaded = c.load_column-column.ensures;
     }
 
@@ -75,7 +77,7 @@ load_column-column-requires-clause-column g c =
     let enter = c.in-Some.ensures {u = tt} in rw enter.same enter.answer.is_column
 
 pub load_column-column-requires-clause-rows : goal.load_column-column-requires-clause-rows
-load_column-column-requires-clause-rows g c = rw c.rising_in.ensures.same c.loop-id.invariant.state.rows_is
+load_column-column-requires-clause-rows g c = rw c.improving_in.ensures.same c.loop-id.invariant.state.rows_is
 
 pub weights_of-weights-requires-clause-rows : goal.weights_of-weights-requires-clause-rows
 weights_of-weights-requires-clause-rows g c = omega (arith, g.met.C.Columns.lawful c.loop-id.columns)
@@ -107,20 +109,20 @@ least_ratio-requires-clause-weights_small g c =
     c.weights_of-weights.result c.weights_of-weights.ensures
 
 pub returns-in_default-least_ratio-clause-same : goal.returns-in_default-least_ratio-clause-same
-returns-in_default-least_ratio-clause-same g c = c.rising_in.ensures.same ∙ c.loop-id.invariant.same
+returns-in_default-least_ratio-clause-same g c = c.improving_in.ensures.same ∙ c.loop-id.invariant.same
 
 pub returns-in_default-least_ratio-clause-same_players : goal.returns-in_default-least_ratio-clause-same_players
 returns-in_default-least_ratio-clause-same_players g c =
-    c.rising_in.ensures.same_players ∙ c.loop-id.invariant.same_players
+    c.improving_in.ensures.same_players ∙ c.loop-id.invariant.same_players
 
 pub returns-in_default-least_ratio-clause-state : goal.returns-in_default-least_ratio-clause-state
 returns-in_default-least_ratio-clause-state g c =
-    rw c.rising_in.ensures.same
+    rw c.improving_in.ensures.same
     (holds_after_use (IsImproving _ c.args.part) c.loop-id.work _ _ c.loop-id.invariant.state)
 
 pub returns-in_default-least_ratio-clause-answer : goal.returns-in_default-least_ratio-clause-answer
 returns-in_default-least_ratio-clause-answer g c =
-    holds_after_use (HasDirection (g.C.Columns.program c.rising_in.new.columns) c.args.part) c.loop-id.work _ _
+    holds_after_use (HasDirection (g.C.Columns.program c.improving_in.new.columns) c.args.part) c.loop-id.work _ _
     (Steps.endless (entering g (goal.at.returns-in_default-least_ratio-clause-answer g c).After-load_column-column)
     c.weights_of-weights.result c.weights_of-weights.ensures (c.in_default-least_ratio.ensures {u = tt}))
 
@@ -138,9 +140,10 @@ replace-requires-clause-apart g c = c.loop-id.invariant.state.table.inverse.basi
 
 -- the facts of a step
 step_facts : (g : Over) (c : In-Some-least_ratio g)
-    → Steps.Enters (g.C.Columns.program c.rising_in.new.columns) c.args.part c.loop-id.work
+    → Steps.Enters (g.C.Columns.program c.improving_in.new.columns) c.args.part c.loop-id.work
     c.multipliers_of-m.result.num.items c.multipliers_of-m.result.den c.in-Some.id c.load_column-column.result
-    → Steps.Step (g.C.Columns.program c.rising_in.new.columns) c.args.part c.loop-id.work c.weights_of-weights.result
+    → Steps.Step (g.C.Columns.program c.improving_in.new.columns) c.args.part c.loop-id.work
+    c.weights_of-weights.result
     c.in-Some-least_ratio.p c.in-Some.id
 step_facts g c f =
     Steps.step_of f c.weights_of-weights.result c.weights_of-weights.ensures c.in-Some-least_ratio.p

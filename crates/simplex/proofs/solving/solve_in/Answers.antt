@@ -11,13 +11,13 @@ unreachable-requires g c =
     let e = c.in_default.ensures {u = tt} in
     Ends.no_first_direction (g.C.Columns.program c.improve.new.columns) c.improve.new.work e.state e.answer
 
-pub returns-then-has_added_weight-clause-answer : goal.returns-then-has_added_weight-clause-answer
-returns-then-has_added_weight-clause-answer g c =
+pub returns-then-has_artificial_weight-clause-answer : goal.returns-then-has_artificial_weight-clause-answer
+returns-then-has_artificial_weight-clause-answer g c =
     let m = c.in-Some._bounds in
     let e = c.in-Some.ensures {u = tt} in
     rw e.same at
     (Ends.no_solution (g.C.Columns.program c.improve.new.columns) c.improve.new.work m.num.items m.den e.state
-    e.answer.0 e.answer.1 (c.if-has_added_weight.ensures {u = tt}))
+    e.answer.0 e.answer.1 (c.if-has_artificial_weight.ensures {u = tt}))
 
 pub returns-in_default-improve-clause-answer : goal.returns-in_default-improve-clause-answer
 returns-in_default-improve-clause-answer g c =

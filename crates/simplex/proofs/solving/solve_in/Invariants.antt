@@ -1,5 +1,5 @@
 use Rattle.std.proofs.Common.{◌≡◌}
-use Rattle.simplex.specs.Between.{IsBetween}
+use Rattle.simplex.specs.Artificial.{IsDrivenOut}
 use Rattle.simplex.proofs.solving.solve_in.Given as goal
 
 abbrev pub invariant-loop-k : goal.invariant-loop-k
@@ -7,5 +7,5 @@ invariant-loop-k g l = record {
   rows : l.work.rows ≡ l.n;
   same : g.C.Columns.program l.columns ≡ g.C.Columns.program l.fn.columns;
   same_players : g.C.Columns.players l.columns ≡ g.C.Columns.players l.fn.columns;
-  state : IsBetween (g.C.Columns.program l.columns) l.work l.k;
+  state : IsDrivenOut (g.C.Columns.program l.columns) l.work l.k;
 }

@@ -6,4 +6,4 @@ returns-clause-answer c =
     let t = c.args.self.now in
     let m = c.args.m.now in
     entered t.measure t.players t.levels t.columns.items m.num.items m.den c.args.with_costs c.requires
-    c.first_rising.result m.den_positive (rw c.deref.ensures.value at c.first_rising.ensures)
+    c.first_improving.result m.den_positive (rw c.deref.ensures.value at c.first_improving.ensures)

@@ -1,5 +1,0 @@
-use Rattle.airport_laws.proofs.EveryNucleolusIsPaid.{nucleolus_all}
-use Rattle.airport_laws.proofs.payments.all_pay_the_greatest_cost_by_nucleolus.Goals as goal
-
-pub returns : goal.returns
-returns c = nucleolus_all

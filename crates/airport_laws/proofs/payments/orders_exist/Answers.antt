@@ -1,6 +1,0 @@
-use Rattle.std.proofs.Common.{length, get_or}
-use Rattle.airport_laws.proofs.OrdersExist.{order_exists}
-use Rattle.airport_laws.proofs.payments.orders_exist.Goals as goal
-
-pub returns : goal.returns
-returns c = λ costs. order_exists (length costs) (λ k. get_or costs k 0)

@@ -1,5 +1,0 @@
-use Rattle.airport_laws.proofs.ShapleyIsByStep.{shapley_by_step}
-use Rattle.airport_laws.proofs.steps.shapley_is_by_step.Goals as goal
-
-pub returns : goal.returns
-returns c = shapley_by_step

@@ -1,5 +1,0 @@
-use Rattle.airport_laws.proofs.ShapleyIsInCore.{shapley_in_core}
-use Rattle.airport_laws.proofs.steps.shapley_is_in_core.Goals as goal
-
-pub returns : goal.returns
-returns c = shapley_in_core

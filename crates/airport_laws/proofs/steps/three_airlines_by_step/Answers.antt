@@ -1,5 +1,0 @@
-use Rattle.airport_laws.proofs.ThreeAirlinesByStep.{three_airlines_by_step}
-use Rattle.airport_laws.proofs.steps.three_airlines_by_step.Goals as goal
-
-pub returns : goal.returns
-returns c = three_airlines_by_step

@@ -1,5 +1,0 @@
-use Rattle.class_laws.proofs.ConstantSumGames.{constant_sum_cores}
-use Rattle.class_laws.proofs.constant_sums.constant_sum_cores.Goals as goal
-
-pub returns : goal.returns
-returns c = constant_sum_cores

@@ -1,5 +1,0 @@
-use Rattle.class_laws.proofs.ConstantSumGames.{majority_is_constant_sum}
-use Rattle.class_laws.proofs.constant_sums.majority_is_constant_sum.Goals as goal
-
-pub returns : goal.returns
-returns c = majority_is_constant_sum

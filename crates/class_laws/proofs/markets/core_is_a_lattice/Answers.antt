@@ -1,5 +1,0 @@
-use Rattle.class_laws.proofs.MarketLattices.{core_is_a_lattice}
-use Rattle.class_laws.proofs.markets.core_is_a_lattice.Goals as goal
-
-pub returns : goal.returns
-returns c = core_is_a_lattice

@@ -1,5 +1,0 @@
-use Rattle.class_laws.proofs.VetoCores.{a_core_needs_a_veto}
-use Rattle.class_laws.proofs.vetoes.a_core_needs_a_veto.Goals as goal
-
-pub returns : goal.returns
-returns c = a_core_needs_a_veto

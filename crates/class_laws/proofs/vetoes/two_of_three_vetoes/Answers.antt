@@ -1,5 +1,0 @@
-use Rattle.class_laws.proofs.VetoCores.{two_of_three_vetoes}
-use Rattle.class_laws.proofs.vetoes.two_of_three_vetoes.Goals as goal
-
-pub returns : goal.returns
-returns c = two_of_three_vetoes

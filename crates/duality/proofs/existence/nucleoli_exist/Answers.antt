@@ -1,5 +1,0 @@
-use Rattle.duality.proofs.Nucleoli.{nucleoli_exist}
-use Rattle.duality.proofs.existence.nucleoli_exist.Goals as goal
-
-pub returns : goal.returns
-returns c = nucleoli_exist

@@ -1,5 +1,0 @@
-use Rattle.duality.proofs.Nucleoli.{prenucleoli_exist}
-use Rattle.duality.proofs.existence.prenucleoli_exist.Goals as goal
-
-pub returns : goal.returns
-returns c = prenucleoli_exist

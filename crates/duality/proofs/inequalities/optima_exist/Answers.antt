@@ -1,5 +1,0 @@
-use Rattle.duality.proofs.Optima.{optima_exist}
-use Rattle.duality.proofs.inequalities.optima_exist.Goals as goal
-
-pub returns : goal.returns
-returns c = optima_exist

@@ -1,5 +1,0 @@
-use Rattle.duality.proofs.RealCorePointsExist.{real_core_points_exist}
-use Rattle.duality.proofs.real_cores.real_core_points_exist.Goals as goal
-
-pub returns : goal.returns
-returns c = real_core_points_exist

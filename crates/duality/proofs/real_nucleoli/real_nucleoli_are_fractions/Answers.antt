@@ -1,5 +1,0 @@
-use Rattle.duality.proofs.RealNucleoli.{real_nucleoli_are_fractions}
-use Rattle.duality.proofs.real_nucleoli.real_nucleoli_are_fractions.Goals as goal
-
-pub returns : goal.returns
-returns c = real_nucleoli_are_fractions

@@ -1,0 +1,5 @@
+use Rattle.law_answers.proofs.WhoNeedsMorePaysNoLess.{needs_more_pays_no_less}
+use Rattle.law_answers.proofs.airports.who_needs_more_pays_no_less.Goals as goal
+
+pub returns : goal.returns
+returns c = needs_more_pays_no_less

@@ -1,0 +1,5 @@
+use Rattle.law_answers.proofs.WhoClaimsMoreLosesNoLess.{claims_more_loses_no_less}
+use Rattle.law_answers.proofs.estates.who_claims_more_loses_no_less.Goals as goal
+
+pub returns : goal.returns
+returns c = claims_more_loses_no_less

@@ -1,0 +1,5 @@
+use Rattle.law_answers.proofs.WhoHasMoreVotesGetsNoLess.{more_votes_get_no_less}
+use Rattle.law_answers.proofs.votes.who_has_more_votes_gets_no_less.Goals as goal
+
+pub returns : goal.returns
+returns c = more_votes_get_no_less

@@ -1,0 +1,17 @@
+pub mod Nucleolus
+pub mod StrategicEquivalence
+pub mod ShapleyValue
+pub mod FairRules
+pub mod ClassGames
+pub mod Airports
+pub mod Estates
+pub mod TalmudRule
+pub mod Votes
+pub mod SortedLists
+pub mod CommonScales
+pub mod SmallNucleoli
+pub mod Renumbering
+pub mod ShapleyEquivalence
+pub mod Mixtures
+pub mod Reasonable
+pub mod Newcomers

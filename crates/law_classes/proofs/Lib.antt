@@ -1,0 +1,13 @@
+mod VetoCores
+mod FurtherClaimants
+mod ARisenClaim
+mod SmallerGroups
+mod CutClaims
+mod AGreaterWhole
+mod AllOfThree
+mod OrdersBegin
+mod OnlyConvexGames
+mod ConstantSumGames
+mod MatchedPairs
+mod SidesOfMarkets
+mod MarketLattices

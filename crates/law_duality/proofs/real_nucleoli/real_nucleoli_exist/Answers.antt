@@ -1,0 +1,5 @@
+use Rattle.law_duality.proofs.RealNucleoli.{real_nucleoli_exist}
+use Rattle.law_duality.proofs.real_nucleoli.real_nucleoli_exist.Goals as goal
+
+pub returns : goal.returns
+returns c = real_nucleoli_exist

@@ -1,5 +1,0 @@
-use Rattle.laws.proofs.LittlechildPayments.{all_pay}
-use Rattle.laws.proofs.airports.all_pay_the_greatest_cost.Goals as goal
-
-pub returns : goal.returns
-returns c = λ costs at pay x p. all_pay costs at pay x p

@@ -1,5 +1,0 @@
-use Rattle.laws.proofs.WhoNeedsMorePaysNoLess.{needs_more_pays_no_less_by_shapley}
-use Rattle.laws.proofs.airports.who_needs_more_pays_no_less_by_shapley.Goals as goal
-
-pub returns : goal.returns
-returns c = needs_more_pays_no_less_by_shapley

@@ -1,5 +1,0 @@
-use Rattle.laws.proofs.WhoNeedsMoreSavesNoLess.{needs_more_saves_no_less}
-use Rattle.laws.proofs.airports.who_needs_more_saves_no_less.Goals as goal
-
-pub returns : goal.returns
-returns c = needs_more_saves_no_less

@@ -1,5 +1,0 @@
-use Rattle.laws.proofs.WhoClaimsMoreGetsNoLess.{claims_more_gets_no_less_by_shapley}
-use Rattle.laws.proofs.estates.who_claims_more_gets_no_less_by_shapley.Goals as goal
-
-pub returns : goal.returns
-returns c = claims_more_gets_no_less_by_shapley

@@ -1,5 +1,0 @@
-use Rattle.laws.proofs.MixedCertificates.{all_between}
-use Rattle.laws.proofs.mixtures.all_between_are_nucleoli.Goals as goal
-
-pub returns : goal.returns
-returns c = all_between

@@ -1,5 +1,0 @@
-use Rattle.laws.proofs.DummiesMayGetLess.{dummies_may_get_less}
-use Rattle.laws.proofs.nucleolus.dummies_may_get_less.Goals as goal
-
-pub returns : goal.returns
-returns c = dummies_may_get_less

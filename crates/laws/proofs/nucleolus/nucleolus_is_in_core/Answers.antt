@@ -1,5 +1,0 @@
-use Rattle.laws.proofs.NucleolusIsInCore.{nucleolus_in_core}
-use Rattle.laws.proofs.nucleolus.nucleolus_is_in_core.Goals as goal
-
-pub returns : goal.returns
-returns c = nucleolus_in_core

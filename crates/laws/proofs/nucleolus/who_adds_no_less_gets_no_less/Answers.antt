@@ -1,5 +1,0 @@
-use Rattle.laws.proofs.WhoAddsNoLessGetsNoLess.{adds_gets_no_less}
-use Rattle.laws.proofs.nucleolus.who_adds_no_less_gets_no_less.Goals as goal
-
-pub returns : goal.returns
-returns c = adds_gets_no_less

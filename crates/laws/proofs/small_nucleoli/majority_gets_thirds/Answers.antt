@@ -1,5 +1,0 @@
-use Rattle.laws.proofs.SmallNucleoli.{majority_gets_thirds}
-use Rattle.laws.proofs.small_nucleoli.majority_gets_thirds.Goals as goal
-
-pub returns : goal.returns
-returns c = majority_gets_thirds

@@ -1,5 +1,0 @@
-use Rattle.laws.proofs.LeavingOut.{leaving_out}
-use Rattle.laws.proofs.sorted_lists.leaving_out_changes_nothing.Goals as goal
-
-pub returns : goal.returns
-returns c = leaving_out

@@ -1,5 +1,0 @@
-use Rattle.laws.proofs.SortedLists.{sorted_is_the_sorting}
-use Rattle.laws.proofs.sorted_lists.sorted_is_the_sorting.Goals as goal
-
-pub returns : goal.returns
-returns c = sorted_is_the_sorting

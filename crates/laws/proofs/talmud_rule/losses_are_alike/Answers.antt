@@ -1,5 +1,0 @@
-use Rattle.laws.proofs.NoOtherIsConsistent.{lost_alike}
-use Rattle.laws.proofs.talmud_rule.losses_are_alike.Goals as goal
-
-pub returns : goal.returns
-returns c = lost_alike

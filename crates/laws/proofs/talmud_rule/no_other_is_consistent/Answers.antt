@@ -1,5 +1,0 @@
-use Rattle.laws.proofs.NoOtherIsConsistent.{no_other}
-use Rattle.laws.proofs.talmud_rule.no_other_is_consistent.Goals as goal
-
-pub returns : goal.returns
-returns c = no_other

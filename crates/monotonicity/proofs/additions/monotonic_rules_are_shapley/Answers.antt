@@ -1,5 +1,0 @@
-use Rattle.monotonicity.proofs.MonotonicRulesAreShapley.{monotonic_rules_are_shapley}
-use Rattle.monotonicity.proofs.additions.monotonic_rules_are_shapley.Goals as goal
-
-pub returns : goal.returns
-returns c = monotonic_rules_are_shapley

@@ -1,5 +1,0 @@
-use Rattle.monotonicity.proofs.SmallGrowth.{contracts_compared}
-use Rattle.monotonicity.proofs.examples.contracts_compared.Goals as goal
-
-pub returns : goal.returns
-returns c = contracts_compared

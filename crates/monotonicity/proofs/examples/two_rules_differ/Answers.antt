@@ -1,5 +1,0 @@
-use Rattle.monotonicity.proofs.TwoRules.{two_rules_differ}
-use Rattle.monotonicity.proofs.examples.two_rules_differ.Goals as goal
-
-pub returns : goal.returns
-returns c = two_rules_differ

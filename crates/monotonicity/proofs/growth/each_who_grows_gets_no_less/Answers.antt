@@ -1,5 +1,0 @@
-use Rattle.monotonicity.proofs.EachWhoGrows.{each_who_grows}
-use Rattle.monotonicity.proofs.growth.each_who_grows_gets_no_less.Goals as goal
-
-pub returns : goal.returns
-returns c = each_who_grows

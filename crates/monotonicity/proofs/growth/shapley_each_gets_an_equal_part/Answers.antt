@@ -1,5 +1,0 @@
-use Rattle.monotonicity.proofs.ShapleyParts.{shapley_parts}
-use Rattle.monotonicity.proofs.growth.shapley_each_gets_an_equal_part.Goals as goal
-
-pub returns : goal.returns
-returns c = shapley_parts

@@ -1,5 +1,0 @@
-use Rattle.monotonicity.proofs.WhoGrowGetNoLess.{who_grow_get_no_less}
-use Rattle.monotonicity.proofs.growth.who_grow_get_no_less.Goals as goal
-
-pub returns : goal.returns
-returns c = who_grow_get_no_less

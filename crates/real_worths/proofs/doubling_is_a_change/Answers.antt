@@ -1,5 +1,0 @@
-use Rattle.real_worths.proofs.Examples.{doubling}
-use Rattle.real_worths.proofs.doubling_is_a_change.Goals as goal
-
-pub returns : goal.returns
-returns c = doubling

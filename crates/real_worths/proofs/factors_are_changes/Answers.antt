@@ -1,5 +1,0 @@
-use Rattle.real_worths.proofs.OneChange.{factors_are_changes}
-use Rattle.real_worths.proofs.factors_are_changes.Goals as goal
-
-pub returns : goal.returns
-returns c = factors_are_changes

@@ -1,5 +1,0 @@
-use Rattle.real_worths.proofs.KohlbergTheorem.{kohlberg}
-use Rattle.real_worths.proofs.kohlberg.Goals as goal
-
-pub returns : goal.returns
-returns c = kohlberg

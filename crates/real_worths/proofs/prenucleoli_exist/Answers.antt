@@ -1,5 +1,0 @@
-use Rattle.real_worths.proofs.MembersExist.{prenucleoli_exist}
-use Rattle.real_worths.proofs.prenucleoli_exist.Goals as goal
-
-pub returns : goal.returns
-returns c = prenucleoli_exist

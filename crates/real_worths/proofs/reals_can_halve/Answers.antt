@@ -1,5 +1,0 @@
-use Rattle.real_worths.proofs.RealsCanHalve.{can_halve}
-use Rattle.real_worths.proofs.reals_can_halve.Goals as goal
-
-pub returns : goal.returns
-returns c = can_halve

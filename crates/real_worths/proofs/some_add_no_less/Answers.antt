@@ -1,5 +1,0 @@
-use Rattle.real_worths.proofs.Examples.{some_add_no_less}
-use Rattle.real_worths.proofs.some_add_no_less.Goals as goal
-
-pub returns : goal.returns
-returns c = some_add_no_less

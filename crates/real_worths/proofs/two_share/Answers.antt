@@ -1,5 +1,0 @@
-use Rattle.real_worths.proofs.Examples.{two_share}
-use Rattle.real_worths.proofs.two_share.Goals as goal
-
-pub returns : goal.returns
-returns c = two_share

@@ -1,5 +1,0 @@
-use Rattle.real_worths.proofs.WholeWorths.{agree}
-use Rattle.real_worths.proofs.whole_worths_agree.Goals as goal
-
-pub returns : goal.returns
-returns c = agree

@@ -1,5 +1,0 @@
-use Rattle.reduced_games.proofs.EstateByNucleolus.{estate_by_nucleolus}
-use Rattle.reduced_games.proofs.estates_left.estate_by_nucleolus.Goals as goal
-
-pub returns : goal.returns
-returns c = estate_by_nucleolus

@@ -1,5 +1,0 @@
-use Rattle.reduced_games.proofs.TalmudIsConsistent.{talmud_is_consistent}
-use Rattle.reduced_games.proofs.estates_left.talmud_is_consistent.Goals as goal
-
-pub returns : goal.returns
-returns c = talmud_is_consistent

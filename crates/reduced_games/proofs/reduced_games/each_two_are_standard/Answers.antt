@@ -1,5 +1,0 @@
-use Rattle.reduced_games.proofs.Pairs.{each_two_are_standard}
-use Rattle.reduced_games.proofs.reduced_games.each_two_are_standard.Goals as goal
-
-pub returns : goal.returns
-returns c = each_two_are_standard

@@ -1,5 +1,0 @@
-use Rattle.reduced_games.proofs.TwoOfThreeVoters.{two_of_three_voters}
-use Rattle.reduced_games.proofs.reduced_games.two_of_three_voters.Goals as goal
-
-pub returns : goal.returns
-returns c = two_of_three_voters

@@ -1,5 +1,0 @@
-use Rattle.reduced_games.proofs.InTheirOrder.{in_their_order}
-use Rattle.reduced_games.proofs.sobolevs_theorem.in_their_order.Goals as goal
-
-pub returns : goal.returns
-returns c = in_their_order

@@ -1,5 +1,0 @@
-use Rattle.reduced_games.proofs.SobolevsTheorem.{sobolevs_theorem}
-use Rattle.reduced_games.proofs.sobolevs_theorem.sobolevs_theorem.Goals as goal
-
-pub returns : goal.returns
-returns c = sobolevs_theorem

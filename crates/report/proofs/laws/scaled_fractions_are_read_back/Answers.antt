@@ -1,5 +1,0 @@
-use Rattle.report.proofs.Readers.{scaled_fractions_read_back}
-use Rattle.report.proofs.laws.scaled_fractions_are_read_back.Goals as goal
-
-pub returns : goal.returns
-returns c = scaled_fractions_read_back

@@ -1,5 +1,0 @@
-use Rattle.separation.specs.Scanned.{NoneBelow}
-use Rattle.separation.proofs.entering.first_of_block.Given as goal
-
-abbrev pub invariant-loop-mask : goal.invariant-loop-mask
-invariant-loop-mask g l = NoneBelow l.scan l.mask

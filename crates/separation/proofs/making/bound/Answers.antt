@@ -1,5 +1,0 @@
-use Rattle.std.proofs.Math.Pow.{pow-lt}
-use Rattle.separation.proofs.making.bound.Goals as goal
-
-pub minus-requires : goal.minus-requires
-minus-requires g c = rw c.single.ensures (pow-lt c.requires)

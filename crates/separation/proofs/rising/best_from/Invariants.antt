@@ -1,6 +1,0 @@
-use Rattle.std.proofs.Common.{◌*◌}
-use Rattle.separation.specs.Scanned.{NoneBetween}
-use Rattle.separation.proofs.rising.best_from.Given as goal
-
-abbrev pub invariant-loop-block : goal.invariant-loop-block
-invariant-loop-block g l = NoneBetween l.scan (256 * l.from) (256 * l.block)

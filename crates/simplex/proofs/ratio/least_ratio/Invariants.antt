@@ -1,5 +1,0 @@
-use Rattle.simplex.specs.Ratio.{IsChoice}
-use Rattle.simplex.proofs.ratio.least_ratio.Given as goal
-
-abbrev pub invariant-loop-k : goal.invariant-loop-k
-invariant-loop-k l = IsChoice l.tracked l.weights l.n l.k l.best

@@ -1,5 +1,0 @@
-use Rattle.stability.proofs.JustifiedObjection.{bargaining_set_is_core}
-use Rattle.stability.proofs.convex_cores.convex_bargaining_set_is_core.Goals as goal
-
-pub returns : goal.returns
-returns c = bargaining_set_is_core

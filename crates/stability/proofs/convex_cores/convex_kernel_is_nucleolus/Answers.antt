@@ -1,5 +1,0 @@
-use Rattle.stability.proofs.ConvexKernel.{kernel_is_nucleolus}
-use Rattle.stability.proofs.convex_cores.convex_kernel_is_nucleolus.Goals as goal
-
-pub returns : goal.returns
-returns c = kernel_is_nucleolus

@@ -1,5 +1,0 @@
-use Rattle.stability.proofs.ConvexKernel.{prekernel_is_prenucleolus}
-use Rattle.stability.proofs.convex_cores.convex_prekernel_is_prenucleolus.Goals as goal
-
-pub returns : goal.returns
-returns c = prekernel_is_prenucleolus

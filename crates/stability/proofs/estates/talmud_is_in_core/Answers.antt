@@ -1,5 +1,0 @@
-use Rattle.laws.proofs.EveryNucleolus.{rule_in_core}
-use Rattle.stability.proofs.estates.talmud_is_in_core.Goals as goal
-
-pub returns : goal.returns
-returns c = rule_in_core

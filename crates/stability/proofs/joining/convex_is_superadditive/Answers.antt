@@ -1,5 +1,0 @@
-use Rattle.stability.proofs.SuperadditiveGames.{convex_is_superadditive}
-use Rattle.stability.proofs.joining.convex_is_superadditive.Goals as goal
-
-pub returns : goal.returns
-returns c = convex_is_superadditive

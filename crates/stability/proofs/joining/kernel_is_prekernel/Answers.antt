@@ -1,5 +1,0 @@
-use Rattle.stability.proofs.ZeroMonotonic.{kernel_is_prekernel}
-use Rattle.stability.proofs.joining.kernel_is_prekernel.Goals as goal
-
-pub returns : goal.returns
-returns c = kernel_is_prekernel

@@ -1,5 +1,0 @@
-use Rattle.stability.proofs.SuperadditiveGames.{superadditive_is_zero_monotonic}
-use Rattle.stability.proofs.joining.superadditive_is_zero_monotonic.Goals as goal
-
-pub returns : goal.returns
-returns c = superadditive_is_zero_monotonic

@@ -1,5 +1,0 @@
-use Rattle.stability.proofs.Kernel.{kernel_isnt_empty}
-use Rattle.stability.proofs.kernels.kernel_isnt_empty.Goals as goal
-
-pub returns : goal.returns
-returns c = kernel_isnt_empty

@@ -1,5 +1,0 @@
-use Rattle.stability.proofs.Desirability.{who_adds_no_less_gets_no_less}
-use Rattle.stability.proofs.kernels.who_adds_no_less_gets_no_less.Goals as goal
-
-pub returns : goal.returns
-returns c = who_adds_no_less_gets_no_less

@@ -1,5 +1,0 @@
-use Rattle.stability.proofs.LeastCore.{prenucleolus_in_least_core}
-use Rattle.stability.proofs.least_cores.prenucleolus_is_in_least_core.Goals as goal
-
-pub returns : goal.returns
-returns c = prenucleolus_in_least_core

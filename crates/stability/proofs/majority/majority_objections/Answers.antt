@@ -1,5 +1,0 @@
-use Rattle.stability.proofs.MajorityObjections.{majority_objections}
-use Rattle.stability.proofs.majority.majority_objections.Goals as goal
-
-pub returns : goal.returns
-returns c = majority_objections

@@ -1,5 +1,0 @@
-use Rattle.stability.proofs.BargainingSet.{bargaining_set_isnt_empty}
-use Rattle.stability.proofs.objections.bargaining_set_isnt_empty.Goals as goal
-
-pub returns : goal.returns
-returns c = bargaining_set_isnt_empty

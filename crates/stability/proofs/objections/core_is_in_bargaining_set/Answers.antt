@@ -1,5 +1,0 @@
-use Rattle.stability.proofs.BargainingSet.{core_in_bargaining_set}
-use Rattle.stability.proofs.objections.core_is_in_bargaining_set.Goals as goal
-
-pub returns : goal.returns
-returns c = core_in_bargaining_set

@@ -1,5 +1,0 @@
-use Rattle.stability.proofs.BargainingSet.{kernel_in_bargaining_set}
-use Rattle.stability.proofs.objections.kernel_is_in_bargaining_set.Goals as goal
-
-pub returns : goal.returns
-returns c = kernel_in_bargaining_set

@@ -1,5 +1,0 @@
-use Rattle.stability.proofs.BargainingSet.{prekernel_counters}
-use Rattle.stability.proofs.objections.prekernel_counters.Goals as goal
-
-pub returns : goal.returns
-returns c = prekernel_counters

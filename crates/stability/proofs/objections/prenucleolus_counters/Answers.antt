@@ -1,5 +1,0 @@
-use Rattle.stability.proofs.BargainingSet.{prenucleolus_counters}
-use Rattle.stability.proofs.objections.prenucleolus_counters.Goals as goal
-
-pub returns : goal.returns
-returns c = prenucleolus_counters

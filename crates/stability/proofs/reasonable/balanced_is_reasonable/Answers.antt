@@ -1,5 +1,0 @@
-use Rattle.stability.proofs.BalancedIsReasonable.{balanced_is_reasonable}
-use Rattle.stability.proofs.reasonable.balanced_is_reasonable.Goals as goal
-
-pub returns : goal.returns
-returns c = balanced_is_reasonable

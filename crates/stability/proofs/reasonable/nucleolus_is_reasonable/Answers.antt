@@ -1,5 +1,0 @@
-use Rattle.stability.proofs.BalancedIsReasonable.{nucleolus_is_reasonable}
-use Rattle.stability.proofs.reasonable.nucleolus_is_reasonable.Goals as goal
-
-pub returns : goal.returns
-returns c = nucleolus_is_reasonable

@@ -1,5 +1,0 @@
-use Rattle.stability.proofs.CoreTransfers.{prekernel_is_in_the_middle}
-use Rattle.stability.proofs.transfers.prekernel_is_in_the_middle.Goals as goal
-
-pub returns : goal.returns
-returns c = prekernel_is_in_the_middle

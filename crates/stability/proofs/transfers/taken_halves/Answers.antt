@@ -1,5 +1,0 @@
-use Rattle.stability.proofs.CoreTransfers.{taken_halves}
-use Rattle.stability.proofs.transfers.taken_halves.Goals as goal
-
-pub returns : goal.returns
-returns c = taken_halves
