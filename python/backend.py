@@ -33,8 +33,9 @@ DATA = {
         "coop.mjs", "serve.mjs", "telling.mjs", "usage.txt", "package.json", "engine/host.js", "engine/inside.js",
         "engine/ports.js",
     ),
-    "page": ("coop.html", "package.json"),
+    "page": ("coop.html", "package.json", "src/palette.css", "src/picture.css"),
     "scripts": ("check-anew",),
+    "examples": ("literature.jsonl",),
 }
 """What a package has beside its modules, by the folders of the repository; and what TELLING imports."""
 TELLING = "runtime/telling.mjs"
@@ -89,10 +90,10 @@ def line_of(key: str) -> str:
     return found[1]
 
 
-def folder_of(part: str) -> str:
-    """Where a folder of DATA is: beside this folder in the repository, and in it in an archive of sources."""
-    inside = os.path.join(HERE, part)
-    return inside if os.path.exists(inside) else os.path.join(os.path.dirname(HERE), part)
+def path_of(part: str, name: str) -> str:
+    """Where a file of DATA is: beside this folder in the repository, and in it in an archive of sources."""
+    inside = os.path.join(HERE, part, name)
+    return inside if os.path.exists(inside) else os.path.join(os.path.dirname(HERE), part, name)
 
 
 def modules() -> list[str]:
@@ -111,18 +112,21 @@ def data() -> dict[str, list[str]]:
     paths = [TELLING]
     for path in paths:
         part, name = path.split("/", 1)
-        with open(os.path.join(folder_of(part), name), encoding="utf-8") as file:
+        with open(path_of(part, name), encoding="utf-8") as file:
             others = {posixpath.normpath(f"{posixpath.dirname(path)}/{other}") for other in IMPORT.findall(file.read())}
         paths += sorted(others - set(paths))
-    imported = [path[len("page/") :] for path in paths if path.startswith("page/")]
-    return {part: [*names, *(imported if part == "page" else ())] for part, names in DATA.items()}
+    imported = [path.split("/", 1) for path in paths]
+    return {
+        part: [*names, *(name for other, name in imported if other == part and name not in names)]
+        for part, names in DATA.items()
+    }
 
 
 def sources() -> dict[str, str]:
     """The files of the package, by their places in it."""
     found = {f"{PACKAGE}/{name}": os.path.join(HERE, PACKAGE, name) for name in modules()}
     for part, names in data().items():
-        found.update((f"{PACKAGE}/{part}/{name}", os.path.join(folder_of(part), name)) for name in names)
+        found.update((f"{PACKAGE}/{part}/{name}", path_of(part, name)) for name in names)
     return found
 
 
@@ -213,7 +217,7 @@ def build_sdist(directory: str, settings: Any = None) -> str:
     files = {name: os.path.join(HERE, name) for name in own}
     files.update((f"{PACKAGE}/{name}", os.path.join(HERE, PACKAGE, name)) for name in modules())
     for part, names in data().items():
-        files.update((f"{part}/{name}", os.path.join(folder_of(part), name)) for name in names)
+        files.update((f"{part}/{name}", path_of(part, name)) for name in names)
     name = f"{stem()}.tar.gz"
     with tarfile.open(os.path.join(directory, name), "w:gz") as archive:
         for place, path in files.items():

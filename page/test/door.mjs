@@ -1,13 +1,10 @@
-// Scenarios: what a paste puts into the cells and what stays there; what the answer says of itself, and no more than
-// was found; which numbers matter; the start's example.
-import { giveLine, noted, READY, settle, told } from "./harness.mjs";
+// Scenarios: what a paste puts into the cells, and what stays there; what is asked; what is kept, copied and opened.
+import { noted, READY, settle, told } from "./harness.mjs";
 
 const cells = (page) => page.run(`[...document.querySelectorAll("#case [data-cell]")].filter((one) => one.value)
   .map((one) => one.value).join("|")`);
 const sheetOf = (page) => page.run(`(dispatchEvent(new Event("beforeprint")),
   document.getElementById("sheet").textContent)`);
-const seals = "#answer .seals";
-
 /** Pastes into the first cell of a list, and waits for what is told. */
 async function pasted(page, rows, cell = "rows.0.name") {
   await page.paste(`[data-cell="${cell}"]`, rows.map((row) => row.join("\t")).join("\n"));
@@ -102,6 +99,96 @@ const pastes = [
   }],
 ];
 
+const questions = [
+  ["door: a rounded per cent isn’t taken for two thirds", "votes", async (page, expect) => {
+    await pasted(page, [["Member", "Votes"], ["Ada", 40], ["Bo", 12], ["Cy", 10], ["Di", 8], ["Ed", 7], ["Flo", 5],
+      ["Gus", 4], ["Hal", 2], ["Ida", 2]]);
+    await page.type("quota", "66.67 %");
+    await noted(page, /“66\.67 %” asks for 61 votes, and 2\/3 for 60 votes\. Which is meant\?/);
+    expect("no answer before", await page.run("document.getElementById('answer').hidden"), true);
+    await page.click("2/3, 60 votes");
+    await told(page, ".power", /Ada[\s\S]*59\.2/);
+    await page.click("Undo");
+    await page.click("Exactly that, 61 votes");
+    await told(page, ".power", /Ada[\s\S]*57\.9/);
+    for (const [text, least] of [["two-thirds majority", 60], ["50 % + 1", 46], ["Zweidrittelmehrheit", 60]]) {
+      await page.type("quota", text);
+      await noted(page, new RegExp(`at least ${least}\\b`));
+    }
+  }],
+  ["door: three decimals throughout are asked about", "runway", async (page, expect) => {
+    await pasted(page, [["Airline", "Cost", "Landings"], ["North", "1.200", 1], ["South", "2.500", 2]]);
+    await noted(page, /“1\.200” can be read as 1200 or as 1\.2, .* So can the 2 numbers like it\. Which is it\?/);
+    expect("no answer before", await page.run("document.getElementById('answer').hidden"), true);
+    await page.click("1200, whole");
+    await told(page, "#answer .lead", /together 2\s?500[.,]00/);
+    await page.click("Clear all");
+    await pasted(page, [["Airline", "Cost", "Landings"], ["North", "1.200", 1], ["South", "2.500", 2]]);
+    await page.click("1.2, with decimals");
+    await told(page, "#answer .lead", /together 2[.,]50/);
+  }],
+  ["door: a price for each kilometre is multiplied only if somebody says so", "network", async (page, expect) => {
+    const rows = [["From", "To", "Length km", "Cost per km"], ["Works", "Alby", 10, 5], ["Works", "Brook", 8, 5],
+      ["Alby", "Brook", 2, 50]];
+    await pasted(page, rows, "names.0");
+    const asked = /“Cost per km” looks like a price for each\. Does a link cost “Cost per km” times “Length km”\?/;
+    await told(page, "#case .note", asked);
+    expect("nothing is taken", await page.run(`document.querySelector('[data-cell="names.0"]').value`), "Harbour");
+    await page.click("Yes, multiply by “Length km”");
+    await told(page, "#answer .lead", /together 90\.00/);
+    await pasted(page, [rows[0], ["Works", "Alby", "1.200", "85,00"], ["Works", "Brook", "900", "85,00"],
+      ["Alby", "Brook", "700", "110,00"]], "names.0");
+    await page.click("Yes, multiply by “Length km”");
+    await told(page, "#answer .lead", /together 153\s?500,00/);
+    await pasted(page, rows, "names.0");
+    await page.click("No, it costs “Cost per km”");
+    await told(page, "#answer .lead", /together 10[.,]00/);
+  }],
+  ["door: one unit behind all numbers is left out, and two are asked for", "estate", async (page, expect) => {
+    await pasted(page, [["Who", "Claim"], ["Anna", "500 kg"], ["Ben", "600 kg"]]);
+    await told(page, "#case .pasted", /“kg” behind the numbers was left out, as their unit/);
+    expect("the cells", await cells(page), "Anna|500|Ben|600");
+    await pasted(page, [["Who", "Claim"], ["Cem", "700 kg"], ["Dora", "8 t"]]);
+    await told(page, "#case .pasted", /several units: “kg” and “t”\. Give all in one\. Nothing was taken/);
+    expect("nothing was taken", await cells(page), "Anna|500|Ben|600");
+    await page.run("location.hash = '#costs'");
+    await page.until(`document.querySelector('[data-cell="numbers.1"]') && ${READY}`);
+    await page.paste('[data-cell="numbers.1"]', "A\t10 k€\nB\t8 k€\nA+B\t12 k€");
+    await told(page, "#case", /“k€” behind the numbers was left out/);
+    await told(page, "#answer .lead", /A pays 7\.00 and B pays 5\.00/);
+    await page.run("location.hash = '#market'");
+    await page.until(`document.querySelector('[data-cell="buyers.0"]') && ${READY}`);
+    await page.paste('[data-cell="buyers.0"]', "\thouse\tflat\nDora\t5 k\t8 k\nEmil\t7 k\t6 k");
+    await told(page, "#answer .lead", /Dora – flat and Emil – house trade: together they gain 15\.00/);
+  }],
+  ["door: lines of a mail are names and numbers, unless they only count", "estate", async (page, expect) => {
+    await page.paste('[data-cell="rows.0.name"]', "Anna 500\nBen Ali: 600\nCem 300");
+    await noted(page, /1 cell is still empty/);
+    expect("parted", await cells(page), "Anna|500|Ben Ali|600|Cem|300");
+    await page.paste('[data-cell="rows.0.name"]', "Lot 1\nLot 2\nLot 3");
+    await page.until(`document.querySelector('[data-cell="rows.2.name"]').value === "Lot 3"`);
+    expect("names", await cells(page), "Lot 1|500|Lot 2|600|Lot 3|300");
+  }],
+  ["door: groups in other words are groups", "costs", async (page, expect) => {
+    await page.paste('[data-cell="names.0"]', "Group\tCost\nNorth\t120\nSouth\t140\nEast\t100\nNorth & South\t190\n"
+      + "North and East\t170\nSouth, East\t180\nAll\t250");
+    await told(page, "#answer .lead", /North pays 83\.34, South pays 93\.33 and East pays 73\.33: together 250\.00/);
+    expect("told", await page.text("#case"), /“North & South”, “North and East”, “South, East”, “All” are groups\./);
+  }],
+  ["door: a product in a cell is read as its numbers show", "estate", async (page, expect) => {
+    await page.type("rows.0.claim", "1.200*85,00");
+    await noted(page, /“1\.200\*85,00” is worked out: 102\s?000/);
+    expect("no failure", /never should/.test(await page.text("#side")), false);
+  }],
+  ["door: the game of a worked example is offered, where a line is checked", "costs", async (page, expect) => {
+    await page.click("Check an answer that you received");
+    const agreed = "document.querySelectorAll('#verify textarea')[1].value";
+    expect("not taken by itself", await page.run(agreed), "");
+    await page.click("The game of my case, “Costs of each group”");
+    expect("then", await page.run(agreed), /"Legal"/);
+  }],
+];
+
 const kept = [
   ["door: who is gone stays in the kept column", "estate", async (page, expect) => {
     await page.click("Clear all");
@@ -126,7 +213,7 @@ const perHead = [
     expect("no answer", await page.run("document.getElementById('answer').hidden"), true);
     await page.click("Count it as a whole");
     await settle(page);
-    expect("then", await page.text("#answer .shares thead"), /nucleolus(?! per head)/);
+    expect("then", await page.text("#answer .shares thead"), /gain least(?!, per head)/);
   }],
   ["door: nor where a ninth is typed", "estate", async (page, expect) => {
     await page.click("Clear all");
@@ -141,7 +228,7 @@ const perHead = [
     await noted(page, /and here are 9\./);
     await page.run(`document.querySelector('[aria-label="Remove row 9"]').click()`);
     await settle(page);
-    expect("again", await page.text("#answer .shares thead"), /nucleolus per head/);
+    expect("again", await page.text("#answer .shares thead"), /gain least, per head/);
   }],
 ];
 
@@ -170,121 +257,23 @@ const guards = [
 ];
 
 const SPACED = { game: { class: "tree", matrix: [[0, 5], [5, 0]], names: ["b "] } };
-const renamed = [
-  ["door: an opened document keeps its names, or it is told", "document", async (page, expect) => {
+const opened = [
+  ["door: an opened document keeps its names to the letter", "document", async (page, expect) => {
+    const made = () => page.run("document.querySelector('.made pre').textContent");
     await page.fill("#document textarea", JSON.stringify(SPACED));
-    await told(page, "#case", /A name stands here as “b”, and in the document as “b ”\. .* counts as another game\./);
+    await page.until(READY);
+    expect("with its blank", JSON.parse(await made()).game.names[0], "b ");
+    await page.type("names.0", "b  ");
+    await settle(page);
+    expect("an edited one is read as typed", JSON.parse(await made()).game.names[0], "b");
     await page.run("location.hash = '#document'");
     await page.fill("#document textarea", '{"game":{"class":"airport","costs":[2,4]}}');
-    await told(page, "#case", /The document has no names, and the page gives some\./);
-    await page.run("location.hash = '#document'");
-    await page.fill("#document textarea", '{"game":{"class":"airport","costs":[2,4],"names":["x","y"]}}');
-    await told(page, "#answer .lead", /x pays 1\.00 and y pays 3\.00/);
-    expect("else nothing", /another game/.test(await page.text("#case")), false);
+    await told(page, "#answer .lead", /Airline 1 pays 1\.00 and Airline 2 pays 3\.00/);
+    expect("none where there are none", JSON.parse(await made()).game.names, undefined);
+    await page.type("rows.0.name", "x");
+    await settle(page);
+    expect("all where one is typed", JSON.parse(await made()).game.names.join(), "x,Airline 2");
   }],
 ];
 
-const answers = [
-  ["door: the seals say what was found", "gains", async (page, expect) => {
-    expect("both", await page.text(seals), /No group would do better alone\s+Two checkers agree/);
-    const shown = "document.querySelector('.shares .verdict').checkVisibility()";
-    expect("no row of it", await page.run(shown), false);
-    await page.type("numbers.7", "90"); // less than the pairs want
-    await told(page, seals, /A group would do better alone: \w+ and \w+, by \d/);
-    expect("in red", await page.run("document.querySelector('#answer .seal').className"), "seal bad");
-    expect("and the row", await page.run(shown), true);
-  }],
-  ["door: a checker’s no is no seal of two", "costs", async (page, expect) => {
-    await page.run(`(() => {
-      const post = Worker.prototype.postMessage;
-      Worker.prototype.postMessage = function (message) {
-        const isIt = message.task === "checkLine" && { task: "checkAnew", what: { document: "{}" } };
-        return post.call(this, isIt ? { ...message, ...isIt } : message);
-      };
-    })()`);
-    await page.type("numbers.3", "10.5");
-    await told(page, seals, /A checker says no/);
-    expect("in red", await page.run("document.querySelectorAll('#answer .seal')[1].className"), "seal bad");
-    await settle(page);
-    expect("and so it stays", await page.text(seals), /A checker says no/);
-  }],
-  ["door: fractions and per head are options", "costs", async (page, expect) => {
-    const exact = "document.querySelector('#answer-body .exact').checkVisibility()";
-    expect("not at first", await page.run(exact), false);
-    expect("nor per head", await page.run("document.querySelector('#answer-measure select')"), null);
-    await page.click("Options");
-    await page.run("document.querySelector('[data-cell=\"exact\"]').click()");
-    expect("then", await page.run(exact), true);
-    await page.choose("measure", "per-head");
-    await settle(page);
-    expect("beside the heading", await page.run("document.querySelector('#answer-measure select').value"), "per-head");
-  }],
-  ["door: the parts stand there once", "costs", async (page, expect) => {
-    await page.run("for (const part of document.querySelectorAll('.part')) part.open = false");
-    const seen = "[...document.querySelectorAll('.part')].filter((one) => one.checkVisibility())"
-      + ".map(({ id }) => id).join()";
-    expect("none", await page.run(seen), "");
-    for (const [title, id] of [["Why these shares?", "why"], ["What if", "what-if"], ["Evidence", "evidence"],
-      ["On paper", "paper"], ["Files", "files"]]) {
-      await page.click(title, "document.getElementById('next')");
-      expect(title, await page.run(seen), id);
-      await page.until(`document.querySelector('#next [data-part="${id}"]').ariaExpanded === "true"`);
-    }
-  }],
-  ["door: the example says that it is one, until somebody types", "runway", async (page, expect) => {
-    expect("at first", await page.text("#case .sample"), /^Worked example\. Type over it, paste your own table into/);
-    await page.click("start empty");
-    await told(page, "#case .sample", /^Fill in the cells, or paste a table/);
-    await page.type("rows.0.name", "Aer");
-    expect("gone", await page.text("#case .sample"), "");
-    await page.click("Fill in the worked example");
-    await told(page, "#case .sample", /Worked example/);
-    await pasted(page, [["North", 30], ["South", 50]]);
-    expect("gone by a paste", await page.text("#case .sample"), "");
-  }],
-  ["door: a wrong game is a no", "verify", async (page, expect) => {
-    const agreed = '{"game":{"class":"bankruptcy","estate":200,"claims":[100,200,300]}}';
-    const line = '{"answer":"nucleolus","certificate":{"levels":[],"mode":"players"},"game":{"claims":[100],'
-      + '"class":"bankruptcy","estate":90},"shares":[90]}';
-    await giveLine(page, line, agreed);
-    const found = await told(page, "#verify .answers", /says yes[\s\S]*says yes/);
-    expect("first of all", found, /^No: it answers another game\. /);
-  }],
-];
-
-const numbers = [
-  ["door: which numbers matter", "costs", async (page, expect) => {
-    await page.until("document.querySelectorAll('#case .decides').length === 5");
-    const marked = "[...document.querySelectorAll('#case .decides .group')].map((one) => one.textContent).join()";
-    expect("marked", await page.run(marked), "Legal,Sales + Ops,Sales + Legal,Ops + Legal,Sales + Ops + Legal");
-    const tip = (mask) => page.run(`document.querySelector('[data-cell="numbers.${mask}"]').parentElement.title`);
-    expect("one that decides", await tip(3), "The shares rest on this number as it is.");
-    expect("one that doesn’t", await tip(1), /^It may cost anything from 6\.00 up, and the shares stay/);
-    const before = await page.text("#answer .lead");
-    await page.type("numbers.1", "6");
-    await settle(page);
-    expect("at its bound", await page.text("#answer .lead"), before);
-    await page.type("numbers.1", "5.5");
-    await settle(page);
-    expect("beyond it", (await page.text("#answer .lead")) === before, false);
-    await page.type("numbers.1", "8");
-    await told(page, ".margins", /rest on 5 of the 7 numbers as they are: Legal, [\s\S]*Ops\s+7\.50\s+from 6\.25 up/);
-  }],
-];
-
-const demos = [
-  ["door: the start’s example lives", "", async (page, expect) => {
-    await told(page, ".demo", /Sales\s+3\.88[\s\S]*No group would do better alone\s+Two checkers agree/);
-    const move = (value) => page.run(`(() => {
-      const slider = document.querySelector(".demo input");
-      slider.value = "${value}"; slider.dispatchEvent(new Event("input"));
-    })()`);
-    await move(16);
-    await told(page, ".demo", /16\.00[\s\S]*A group would do better alone: [\w ]+, by 0\.\d\d\s+Two checkers agree/);
-    await page.click("Open this example");
-    await page.until(READY);
-    expect("as it was left", await page.run(`document.querySelector('[data-cell="numbers.7"]').value`), "16");
-  }],
-];
-
-export const door = [...pastes, ...kept, ...perHead, ...guards, ...renamed, ...answers, ...numbers, ...demos];
+export const door = [...pastes, ...questions, ...kept, ...perHead, ...guards, ...opened];

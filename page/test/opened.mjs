@@ -4,8 +4,9 @@ import { parseJson, writeJson } from "../src/exact/json.js";
 import { started } from "./page-worker.mjs";
 
 // names that reading a cell would change, or that the page itself could have given to other players
-const ODD = ["b ", " a", "\u00a0", "e\u0301", "\u00e9", "\ufeff", "Aer", "Aer 1", "Aer 2", "Aer, A320", "Aer, DH8", "Bee 1",
-  "Place 2", "Player 1", "=1+1", "x\u200by", "Total", "\u2212 3", "A, B 2", "a\tb", "\u30c9", "\u30c8\u3099", "1", "."];
+const ODD = ["b ", " a", "\u00a0", "e\u0301", "\u00e9", "\ufeff", "Aer", "Aer 1", "Aer 2", "Aer, A320", "Aer, DH8",
+  "Bee 1", "Place 2", "Player 1", "=1+1", "x\u200by", "Total", "\u2212 3", "A, B 2", "a\tb", "\u30c9", "\u30c8\u3099",
+  "1", "."];
 const COUNT = 400;
 
 let seed = 11;
@@ -19,12 +20,13 @@ function namesOf(count) {
 
 /** A game of some class, with names or without. */
 function gameOf(k) {
-  const n = 2 + below(3), number = () => 1 + below(9), table = (one) => ({ class: one, players: n, worths: some(2 ** n - 1, number) });
+  const n = 2 + below(3), number = () => 1 + below(9), numbers = some(n, number);
+  const table = (one) => ({ class: one, players: n, worths: some(2 ** n - 1, number) });
   const square = some(n + 1, () => Array(n + 1).fill(0));
   for (let i = 0; i <= n; i++) for (let j = 0; j < i; j++) square[i][j] = square[j][i] = number();
   const games = [() => table("table"), () => table("cost-table"), () => ({ class: "tree", matrix: square }),
-    () => ({ class: "airport", costs: some(n, number) }), () => ({ class: "voting", weights: some(n, number), quota: 2 }),
-    () => ({ class: "bankruptcy", claims: some(n, number), estate: 2 }),
+    () => ({ class: "airport", costs: numbers }), () => ({ class: "voting", weights: numbers, quota: 2 }),
+    () => ({ class: "bankruptcy", claims: numbers, estate: 2 }),
     () => ({ class: "assignment", matrix: some(n, () => some(2, number)) })];
   const game = games[k % games.length](), players = game.class === "assignment" ? n + 2 : n;
   return k % 5 ? { ...game, names: namesOf(players) } : game;

@@ -12,6 +12,7 @@ import { desk } from "./desk.mjs";
 import { checking, documents } from "./documents.mjs";
 import { door } from "./door.mjs";
 import { entering } from "./entering.mjs";
+import { face } from "./face.mjs";
 import { failing } from "./failing.mjs";
 import { figures } from "./figures.mjs";
 import { Harness } from "./harness.mjs";
@@ -35,6 +36,7 @@ const program = resolve(option("--program", join(top, "crates", "coop_program", 
 harness.add(large(slack, told));
 harness.add(desk);
 harness.add(door);
+harness.add(face);
 harness.add(users);
 harness.add(figures);
 harness.add(parts);

@@ -1,7 +1,8 @@
 """A game of which some numbers move: which they are, their game after a change, and how far they may go.
 
 What moves is a number that a document has: what a group of a table is worth or costs; what a landing costs; a claim, or
-the estate; the cost of a link; what a pair is worth. A change by t is t times each number's rate.
+the estate; the cost of a link; what a pair is worth. Of a vote it is a number of its table. A change by t is t times
+each number's rate.
 """
 from __future__ import annotations
 
@@ -16,7 +17,10 @@ from .game import LISTS, SINGLE, WRITER, Game, encoded
 from .games import members_of, player_of
 from .masks import mask_of, members
 from .names import row_of
+from .variants import table_of_game
 from .worths import worths_of
+
+MOST_KEPT = 6  # changes whose worths of all groups are kept
 
 Place = tuple[int, int]
 """Where a number stands: a group's mask, a player or a row; and the column, or -1 for the estate."""
@@ -30,6 +34,7 @@ CLASSES = {
     "tree": '("link", name, name), where "source" is the source',
     "assignment": '("pair", buyer, seller)',
 }
+NONE = "it has no nucleolus here"
 LINEAR = ("table", "cost-table", "airport")
 """Classes whose worths are linear while no two costs change their order. Those of the others are convex: between two
 changes no group is worth more than the line between tells."""
@@ -47,7 +52,7 @@ class Bound:
 def what_moves(game: Game) -> list[tuple[str, ...]]:
     """The numbers of a game that may move, each by the names under which it is asked for."""
     names = game.names
-    if game.is_table:
+    if game.is_table or game.kind == "voting":
         return [tuple(names[i] for i in members(group)) for group in range(1, game.everyone + 1)]
     if game.kind == "airport":
         return [("cost", name) for name in names]
@@ -59,14 +64,13 @@ def what_moves(game: Game) -> list[tuple[str, ...]]:
     if game.kind == "assignment":
         buyers = len(game.rows)
         return [("pair", buyer, seller) for buyer in names[:buyers] for seller in names[buyers:]]
-    raise BadInput(f"numbers of the class {game.kind} don't move: {reason(game.kind)}")
+    raise BadInput(f"numbers of the class {game.kind} don't move: {NONE}")
 
 
-def reason(kind: str) -> str:
-    """Why a class has no numbers that move."""
-    if kind == "voting":
-        return "power jumps where a vote or the quota crosses a sum of votes, and stays the same between"
-    return "it has no nucleolus here"
+def movable(game: Game) -> Game:
+    """The game whose numbers move. Of a vote it is the table of who wins: power jumps where a vote or the quota crosses
+    a sum of votes, and stays the same between."""
+    return table_of_game(game) if game.kind == "voting" else game
 
 
 def places_of(game: Game, what: Any) -> list[Place]:
@@ -77,7 +81,7 @@ def places_of(game: Game, what: Any) -> list[Place]:
             raise BadInput("the empty group has no number")
         return [(group, 0)]
     if game.kind not in CLASSES:
-        raise BadInput(f"numbers of the class {game.kind} don't move: {reason(game.kind)}")
+        raise BadInput(f"numbers of the class {game.kind} don't move: {NONE}")
     parts = (what,) if isinstance(what, (str, int)) else tuple(what)
     if game.kind == "bankruptcy" and parts == ("estate",):
         return [(-1, -1)]
@@ -130,7 +134,8 @@ class Moving:
     """A game along a change. Numbers and worths are the game's own, not those of its document."""
 
     def __init__(self, game: Game, what: What):
-        self.game, self.sign = game, -1 if game.costs else 1
+        self.game = game = movable(game)
+        self.sign = -1 if game.costs else 1
         named: Mapping[Any, Amount] = what if isinstance(what, Mapping) else {what: 1}
         self.rates: dict[Place, Fraction] = {}
         for item, rate in named.items():
@@ -141,6 +146,7 @@ class Moving:
         self.base = Base(game, {group for group, _ in self.rates}) if game.is_table else None
         self.games: dict[Fraction, Game] = {}
         self.all_worths: Optional[tuple[int, list[int]]] = None
+        self.found: dict[Fraction, tuple[int, list[int]]] = {}
 
     def number_at(self, place: Place) -> Fraction:
         """What stands at a place before the change."""
@@ -214,7 +220,11 @@ class Moving:
     def worths(self, t: Fraction) -> tuple[int, list[int]]:
         """A unit, and the worths of all groups after a change, times that; for at most 16 players."""
         if self.base is None:
-            return worths_of(self.game_at(t))
+            if t not in self.found:
+                if len(self.found) > MOST_KEPT:
+                    self.found.clear()
+                self.found[t] = worths_of(self.game_at(t))
+            return self.found[t]
         if self.all_worths is None:
             self.all_worths = worths_of(self.game)
         scale, worths = self.all_worths

@@ -30,9 +30,10 @@ from .amounts import Amount, fraction_of
 from .answers import Names, Nucleolus, Shares
 from .errors import BadInput
 from .game import MOST_IN_A_TABLE, Game
-from .levels import Level, level_of
-from .linear import Span, simplest, solution, sums
-from .masks import is_alone, members
+from .frames import Frame
+from .levels import Level, by_last_level, level_of, open_tests
+from .linear import simplest, sums
+from .masks import members
 from .moving import Moving, TooFine, What, what_moves
 from .worths import worths_of
 
@@ -74,8 +75,10 @@ class Margins(Sequence[Margin]):
 
     @overload
     def __getitem__(self, place: int) -> Margin: ...
+
     @overload
     def __getitem__(self, place: slice) -> list[Margin]: ...
+
     def __getitem__(self, place: Union[int, slice]) -> Union[Margin, list[Margin]]:
         places = range(len(self))[place]
         return self.at(places + 1) if isinstance(places, int) else [self.at(other + 1) for other in places]
@@ -132,47 +135,6 @@ def levels_of(answer: Nucleolus) -> list[Level]:
     """The levels of a certificate, with excesses in the game's own unit."""
     found = map(level_of, answer.certificate["levels"])
     return [level._replace(excess=level.excess / answer.game.factor) for level in found]
-
-
-def open_tests(n: int, mode: str, levels: Sequence[Level]) -> list[Union[int, list[int]]]:
-    """What tells which groups are open, for each level and behind the last: in mode players the mask of those who
-    aren't settled; in mode span a number for each player, and a group is open where their sum over it isn't 0."""
-    everyone = 2**n - 1
-    span, settled = Span(n), 0
-    found: list[Union[int, list[int]]] = []
-    for level in [*levels, None]:
-        found.append(everyone & ~settled if mode == "players" else span.packed())
-        if level:
-            settled |= settled_by(level, everyone)
-            for group, weight in [*level.coalitions, *level.bounds]:
-                if weight >= 1:
-                    span.add(group)
-    return found
-
-
-def is_open(test: Union[int, list[int]], group: int) -> bool:
-    """Whether a group is open by the test of a level."""
-    if isinstance(test, int):
-        return 0 != group & test != test
-    return sum(test[i] for i in members(group)) != 0
-
-
-def by_last_level(n: int, tests: Sequence[Union[int, list[int]]]) -> list[list[int]]:
-    """The groups by the last level at which they are open. A group that is settled stays so."""
-    groups: Sequence[int] = range(1, 2**n - 1)
-    found: list[list[int]] = []
-    for test in tests[1:]:
-        if isinstance(test, int):
-            found.append([group for group in groups if (rest := group & test) == 0 or rest == test])
-            groups = [group for group in groups if 0 != group & test != test]
-        elif not any(test):
-            found.append(list(groups))
-            groups = []
-        else:
-            totals = sums(test)
-            found.append([group for group in groups if not totals[group]])
-            groups = [group for group in groups if totals[group]]
-    return found
 
 
 # ---- Along a change
@@ -256,7 +218,7 @@ def along(
 
     A number is a group of a table, "Sales+Ops"; ("cost", "light") of an airport, where an airline's or a type's name is
     all its landings; "estate" or ("claim", "Anna"); ("link", "source", "Anna"); ("pair", "Anna", "house"). Several are
-    a mapping from these to rates. A vote has none: its worths jump.
+    a mapping from these to rates. Of a vote it is a group of the table of who wins, which its lines have as their game.
     """
     run = Run(game, what, rule, program)
     first, last = fraction_of(low), fraction_of(high)
@@ -333,14 +295,15 @@ class Run:
     def __init__(self, game: Game, what: What, rule: str, program: calls.Chosen):
         if rule not in RULES:
             raise BadInput(f"{rule!r} has no certificates: name nucleolus or prenucleolus")
-        self.game, self.rule, self.program = game, rule, program
+        self.rule, self.program = rule, program
         self.moving = Moving(game, what)
+        self.game = self.moving.game
         self.low, self.high = self.moving.room(rule)
         self.known: dict[Fraction, Optional[Frame]] = {}
         self.found: list[Piece] = []
         self.pool: set[int] = set()  # groups that ended a piece: the first to be looked at
 
-    def frame_at(self, t: Fraction) -> "Optional[Frame]":
+    def frame_at(self, t: Fraction) -> Optional[Frame]:
         """The certificate at a change, with slopes; None where it has none."""
         if t not in self.known:
             document, factor = self.moving.document(t)
@@ -373,7 +336,7 @@ class Run:
                 return piece
         raise BadInput(f"no piece was found between {low} and {high}")
 
-    def piece(self, frame: "Frame", low: Fraction, high: Fraction) -> Optional[Piece]:
+    def piece(self, frame: Frame, low: Fraction, high: Fraction) -> Optional[Piece]:
         """The piece of a frame within a range; None if it is but a point."""
         (first, near), (last, far) = self.reach(frame, low), self.reach(frame, high)
         if first == last:
@@ -382,7 +345,7 @@ class Run:
         lines = [(near, frame.line(near)), *((t, frame.line(t)) for t in between), (far, frame.line(far))]
         return Piece(first, last, frame.shares(first), frame.shares(last), frame.named(), tuple(lines))
 
-    def reach(self, frame: "Frame", end: Fraction) -> tuple[Fraction, Fraction]:
+    def reach(self, frame: Frame, end: Fraction) -> tuple[Fraction, Fraction]:
         """How far towards a change a frame holds, and the last place on the way there that a line shows. They differ
         where no document has the numbers of the first."""
         while end != frame.t and (limit := frame.broken_at(end, self.pool)) is not None:
@@ -390,7 +353,7 @@ class Run:
             end = frame.crossing(end, limit)
         return end, end if end == frame.t else self.nearest(frame, end)
 
-    def nearest(self, frame: "Frame", end: Fraction) -> Fraction:
+    def nearest(self, frame: Frame, end: Fraction) -> Fraction:
         """The change itself, or the nearest simple one before it at which a document can be made."""
         try:
             self.moving.tree_at(end)
@@ -462,201 +425,6 @@ def unscaled(game: Game) -> Game:
     copy: Game = object.__new__(Game)
     copy.__dict__.update(game.__dict__, factor=1)
     return copy
-
-
-class Frame:
-    """A certificate at a change t, and slopes of its shares and levels there. Inside, a cost is a negative worth."""
-
-    def __init__(self, moving: Moving, rule: str, t: Fraction, answer: Nucleolus, factor: int):
-        self.moving, self.rule, self.t, self.n = moving, rule, t, moving.game.n
-        self.certificate = answer.certificate
-        self.levels: list[Level] = [level_of(level) for level in self.certificate["levels"]]
-        values = [moving.sign * share for share in answer.shares.values()]
-        self.values = [q / factor for q in [*values, *(level.excess for level in self.levels)]]
-        self.tight: list[Limit] = [(moving.game.everyone, None)]
-        for k, level in enumerate(self.levels):
-            self.tight += [(group, k) for group, _ in level.coalitions]
-            self.tight += [(player, None) for player, _ in level.bounds]
-        self.slopes = self.solve()
-        self.tests = open_tests(self.n, self.certificate["mode"], self.levels)
-        self.groups: Optional[list[list[int]]] = None
-
-    def size(self, group: int) -> int:
-        """What an excess is divided by."""
-        return bin(group).count("1") if self.moving.game.per_head else 1
-
-    def solve(self) -> Optional[list[Fraction]]:
-        """Slopes of shares and levels by what the certificate says: each group that it lists has the excess of its
-        level. None if the change breaks that at once."""
-        rates = [self.moving.slope(self.t, group, 1) for group, _ in self.tight]
-        unit = lcm(*(rate.denominator for rate in rates))
-        width, equations = self.n + len(self.levels), []
-        for (group, k), rate in zip(self.tight, rates):
-            row = [group >> i & 1 for i in range(self.n)] + [0] * (len(self.levels) + 1)
-            if k is not None:
-                row[self.n + k] = self.size(group)
-            row[width] = (rate * unit).numerator
-            equations.append(row)
-        found = solution(equations, width)
-        return None if found is None else [slope / unit for slope in found]
-
-    def at(self, t: Fraction) -> list[Fraction]:
-        """Shares and levels after another change."""
-        assert self.slopes is not None
-        return [value + (t - self.t) * slope for value, slope in zip(self.values, self.slopes)]
-
-    def shares(self, t: Fraction) -> Shares:
-        """The shares after another change, as a document counts them."""
-        return {name: self.moving.sign * q for name, q in zip(self.moving.game.names, self.at(t))}
-
-    def named(self) -> Shares:
-        """The slopes of the shares, as a document counts them."""
-        assert self.slopes is not None
-        return {name: self.moving.sign * q for name, q in zip(self.moving.game.names, self.slopes)}
-
-    def line(self, t: Fraction) -> bytes:
-        """What `check` reads after another change."""
-        values = self.at(t)
-        _, factor = self.moving.tree_at(t)
-        excesses = [str(q * factor) for q in values[self.n :]]
-        levels = [{**level, "excess": excess} for level, excess in zip(self.certificate["levels"], excesses)]
-        shares = [str(self.moving.sign * q * factor) for q in values[: self.n]]
-        others = {"answer": self.rule, "certificate": {**self.certificate, "levels": levels}, "shares": shares}
-        return self.moving.document(t, **others)[0]
-
-    # ---- How far it holds
-
-    def slack(self, values: Sequence[Fraction], worth: Fraction, limit: "Limit") -> Fraction:
-        """How far a group that is worth so much is from what shares and levels allow it: the excess of a level, or what
-        it is worth. Of a negative group it is how far a level is above the next one."""
-        group, level = limit
-        if group < 0:
-            return values[self.n - 1 - group] - values[self.n - group]
-        gets = sum((values[i] for i in members(group)), Fraction(0))
-        return gets - worth if level is None else gets + self.size(group) * values[self.n + level] - worth
-
-    def slack_at(self, t: Fraction, limit: "Limit") -> Fraction:
-        """The same after another change."""
-        return self.slack(self.at(t), self.moving.worth(t, limit[0]) if limit[0] >= 0 else Fraction(0), limit)
-
-    def crossing(self, end: Fraction, limit: "Limit") -> Fraction:
-        """Where on the way to a change a limit is met that is broken there, by Newton's method: what is left of it is a
-        concave function."""
-        assert self.slopes is not None
-        way = 1 if self.t > end else -1
-        while (value := self.slack_at(end, limit)) < 0:
-            grows = self.moving.slope(end, limit[0], way) if limit[0] >= 0 else Fraction(0)
-            slope = self.slack(self.slopes, grows, limit)
-            step = -value / slope if slope else Fraction(0)
-            if step * way <= 0 or abs(step) >= abs(self.t - end):
-                return self.t
-            end += step
-        return end if value == 0 or limit not in self.tight else self.t
-
-    def broken_at(self, t: Fraction, pool: "set[int]") -> "Optional[Limit]":
-        """A limit that is broken after another change, of those of open groups the one that is broken most; None if the
-        frame holds there."""
-        values = self.at(t)
-        for limit in () if self.moving.is_linear else self.tight:
-            if self.slack(values, self.moving.worth(t, limit[0]), limit) != 0:
-                return limit
-        for k in range(len(self.levels) - 1):
-            if values[self.n + k] < values[self.n + k + 1]:
-                return -1 - k, None
-        if self.rule == "nucleolus":
-            for i in range(self.n):
-                if values[i] < self.moving.worth(t, 1 << i):
-                    return 1 << i, None
-        for group in pool:
-            if (level := self.last_open(group)) is not None:
-                if self.slack(values, self.moving.worth(t, group), (group, level)) < 0:
-                    return group, level
-        worst = min(self.worst(t, values), default=(Fraction(0), (0, None)), key=lambda found: found[0])
-        return worst[1] if worst[0] < 0 else None
-
-    def worst(self, t: Fraction, values: list[Fraction]) -> "Iterator[tuple[Fraction, Limit]]":
-        """For each level the open group that has least left, and how much. Of a group only its last level counts, since
-        levels are ever lower."""
-        if self.n > MOST_IN_A_TABLE:
-            for k, rest in enumerate(self.tests[:-1]):
-                if not isinstance(rest, int):
-                    most = f"sensitivity is for at most {MOST_IN_A_TABLE}"
-                    raise BadInput(f"{self.n} players, and a certificate in mode span: {most}")
-                for group in widest(self.moving.game_at(t), values[: self.n], rest):
-                    yield self.slack(values, self.moving.worth(t, group), (group, k)), (group, k)
-            return
-        scale, worths = self.moving.worths(t)
-        unit = lcm(scale, *(q.denominator for q in values))
-        whole = [(q * unit).numerator for q in values]
-        gets, times = sums(whole[: self.n]), unit // scale
-        for k, groups in enumerate(self.by_last_level()):
-            excess = whole[self.n + k]
-            if not groups:
-                continue
-            if self.moving.game.per_head:
-                left = [gets[s] + excess * bin(s).count("1") - times * worths[s] for s in groups]
-            else:
-                left = [gets[s] - times * worths[s] for s in groups]
-            least = min(left)
-            yield Fraction(least + (0 if self.moving.game.per_head else excess), unit), (groups[left.index(least)], k)
-
-    def by_last_level(self) -> list[list[int]]:
-        """The groups by the last level at which they are open."""
-        if self.groups is None:
-            self.groups = by_last_level(self.n, self.tests)
-        return self.groups
-
-    def last_open(self, group: int) -> Optional[int]:
-        """The last level at which a group is open."""
-        if group <= 0 or group == self.moving.game.everyone:
-            return None
-        return max((k for k, test in enumerate(self.tests[:-1]) if is_open(test, group)), default=None)
-
-
-Limit = tuple[int, Optional[int]]
-"""A group, and the level whose excess it may have at most; without one, what it gets is at least what it is worth."""
-
-
-def settled_by(level: Level, everyone: int) -> int:
-    """The players whom a level settles in mode players."""
-    alone = [group for group, weight in level.bounds if weight >= 1]
-    others = [group for group, _ in level.coalitions]
-    return mask_or([*alone, *(s for group in others for s in (group, everyone & ~group) if is_alone(s))])
-
-
-def mask_or(groups: Iterable[int]) -> int:
-    """All members of some groups."""
-    found = 0
-    for group in groups:
-        found |= group
-    return found
-
-
-def widest(game: Game, values: Sequence[Fraction], rest: int) -> Iterator[int]:
-    """Of an airport or an estate of any number of players, groups among which is one of the greatest excess of those
-    that have some of the rest, and not all: for each cost those who need no more, and with an estate those who get less
-    than nothing, or than their claims."""
-    everyone = game.everyone
-    if game.kind == "airport":
-        for cost in set(game.amounts):
-            allowed = mask_or(1 << i for i, other in enumerate(game.amounts) if other <= cost)
-            yield from heaviest([-value for value in values], allowed, rest)
-    else:
-        yield from heaviest([-value for value in values], everyone, rest)
-        claims = (claim / game.factor for claim in game.amounts)
-        yield from heaviest([claim - value for claim, value in zip(claims, values)], everyone, rest)
-
-
-def heaviest(weights: Sequence[Fraction], allowed: int, rest: int) -> Iterator[int]:
-    """The group of the greatest weight among those allowed that has some of the rest, and not all; none if there is
-    none."""
-    group = mask_or(1 << i for i in members(allowed) if weights[i] > 0)
-    if not group & rest and allowed & rest:
-        group |= 1 << max(members(allowed & rest), key=lambda i: weights[i])
-    if group & rest == rest:
-        group &= ~(1 << min(members(rest), key=lambda i: weights[i]))
-    if group & rest:
-        yield group
 
 
 def inside(low: Fraction, high: Fraction) -> Iterator[Fraction]:

@@ -59,19 +59,43 @@ def matchings(rows: Sequence[Sequence[int]]) -> list[int]:
     return found
 
 
+Groups = int
+"""A set of groups: the bit of each group's mask."""
+
+MEMBERS = [members(byte) for byte in range(256)]
+
+
 def networks(rows: Sequence[Sequence[int]]) -> list[int]:
-    """Minus the least cost of a network that joins each group to the source, by Prim."""
+    """Minus the least cost of a network that joins each group to the source, by Kruskal for all groups at once: a link
+    is taken in the groups that have both of its ends, and in which the cheaper links don't join these yet."""
     n = len(rows) - 1
-    found = [0] * 2**n
-    for group in range(1, 2**n):
-        points = [i + 1 for i in members(group)]
-        links, cost = [rows[0][i] for i in points], 0
-        while links:
-            least = min(links)
-            at = links.index(least)
-            cost += least
-            row = rows[points.pop(at)]
-            del links[at]
-            links = [link if link <= row[i] else row[i] for link, i in zip(links, points)]
-        found[group] = -cost
+    found, points = [0] * 2**n, range(n + 1)
+    joined = [[0] * (n + 1) for _ in points]  # the groups in which two points are joined
+    for a in points:
+        joined[a][a] = groups_with(a - 1, n) if a else (1 << 2**n) - 1
+    for cost, i, j in sorted((rows[i][j], i, j) for j in points for i in range(j)):
+        taking = joined[i][i] & joined[j][j] & ~joined[i][j]
+        if taking:
+            join(joined, taking, i, j)
+            for at, byte in enumerate(taking.to_bytes(2**n + 7 >> 3, "little")):
+                for k in MEMBERS[byte]:
+                    found[8 * at + k] -= cost
+    return found
+
+
+def join(joined: list[list[Groups]], taking: Groups, i: int, j: int) -> None:
+    """Joins what is joined to two points, in the groups that take the link between these."""
+    to_i, to_j = ([row[end] & taking for row in joined] for end in (i, j))
+    for a, row in enumerate(joined):
+        for b in range(a):
+            row[b] |= to_i[a] & to_j[b] | to_j[a] & to_i[b]
+            joined[b][a] = row[b]
+
+
+def groups_with(player: int, n: int) -> Groups:
+    """The groups of n players that have this one."""
+    found, width = ((1 << (1 << player)) - 1) << (1 << player), 2 << player
+    while width < 1 << n:
+        found |= found << width
+        width *= 2
     return found

@@ -113,7 +113,8 @@ class Losses(unittest.TestCase):
         rows = self.rows(Losing(range(3, 99)))
         for _ in range(8):
             self.assertEqual(next(rows)[0].shares["1"], Fraction(1))
-        with self.assertRaisesRegex(coop.Lost, "games 9 to 12, and all after.*: the executor lost them 3 times") as found:
+        said = "games 9 to 12, and all after them, .*: the executor lost them 3 times"
+        with self.assertRaisesRegex(coop.Lost, said) as found:
             next(rows)
         again = pickle.loads(pickle.dumps(found.exception))
         self.assertEqual((again.first, again.last, str(again)), (9, 12, str(found.exception)))

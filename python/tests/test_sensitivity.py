@@ -107,9 +107,10 @@ class SensitivityOfMargins(unittest.TestCase):
         self.assertIn("Of 4 numbers 2 matter", text)
         self.assertIn("the estate         200   150    250     0   1/2   1/2", text)
         self.assertIn("the link source - harbour  10     0   10        1     0\n", told(nucleolus(NETWORK)))
-        for game, sentence in ((coop.voting(2, [1, 1, 1]), "power jumps"), (big_network(), "at most 10")):
-            with self.assertRaisesRegex(BadInput, sentence):
-                told(nucleolus(game))
+        text = told(nucleolus(coop.voting(2, [1, 1, 1])))
+        self.assertIn("Of the 6 smaller groups 3 count as they are", text)
+        with self.assertRaisesRegex(BadInput, "at most 10"):
+            told(nucleolus(big_network()))
 
 
 def with_numbers(answer: coop.Nucleolus, numbers: "list[Fraction]") -> bytes:
@@ -152,6 +153,7 @@ class Paths(unittest.TestCase):
             (NETWORK, ("link", "source", "mill"), -10, 5, "0"),
             (MARKET, ("pair", "Ann", "flat"), -5, 10, "-8/3 0 2 4"),
             (VALLEY, "n+p", -20000, 5, "-12491"),
+            (coop.voting(3, {"a": 2, "b": 1, "c": 1}), "b+c", 0, 1, "VOTES"),
             (coop.landings([("Aer", 2, 3), ("Bee", 4, 1)]), ("cost", "Aer"), -1, 1, ""),
         ]
         for game, what, low, high, bends in cases:
@@ -210,7 +212,8 @@ class Paths(unittest.TestCase):
 
     def test_what_is_refused(self) -> None:
         cases: list[tuple[str, coop.Game, Any, Amount, Amount, str]] = [
-            ("power jumps", coop.voting(2, [1, 1]), "1", 0, 1, "nucleolus"),
+            ("17 players: a table has at most 16", coop.voting(2, [1] * 17), "1", 0, 1, "nucleolus"),
+            ("'quota' isn't a player", coop.voting(2, [1, 1]), "quota", 0, 1, "nucleolus"),
             ("has no nucleolus", coop.market([[1]]), ("pair", "1", "2"), 0, 1, "nucleolus"),
             ("2 isn't below 2", ESTATE, "estate", 2, 2, "nucleolus"),
             ("of 401 the claims add to less than", ESTATE, "estate", 0, 401, "nucleolus"),

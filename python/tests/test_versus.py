@@ -3,7 +3,7 @@ import unittest
 from fractions import Fraction
 
 import coop
-from coop import versus
+from coop import solved, versus
 from coop.errors import BadInput
 from coop.desk.rivals import csv, told
 from coop.styles import EXACT, Style
@@ -31,6 +31,14 @@ class Formulas(unittest.TestCase):
         shares = versus.remaining(VALLEY)
         assert shares is not None
         self.assertEqual([round(share) for share in shares.values()], [117476, 99157, 195951])
+
+    def test_published_at_lund(self) -> None:
+        """The split by the agencies' rule (Young, Okada and Hashimoto 1982), whose hundredths are one off at three."""
+        shares = versus.remaining(solved.example("lund-nucleolus").game)
+        assert shares is not None
+        printed = map(Fraction, ("19.54", "13.28", "5.62", "10.90", "16.66", "17.82"))
+        apart = [abs(share / 100 - other) for share, other in zip(shares.values(), printed)]
+        self.assertEqual((len(apart), max(apart) < Fraction("0.015"), sum(shares.values())), (6, True, 8382))
 
     def test_benefits(self) -> None:
         shares = versus.remaining(VALLEY, {"n": 50000, "f": 150000, "p": "300000"})
@@ -64,6 +72,15 @@ class Judged(unittest.TestCase):
         same = {row.rule: row for row in versus.rules(blocked)}["equal shares"]
         self.assertEqual((same.leaving, same.by), (("small",), Fraction(7, 2)))
         self.assertNotIn("nucleolus per head", [row.rule for row in versus.rules(coop.airport([1] * 9))])
+
+    def test_published(self) -> None:
+        """Both nucleoli and the Shapley shares of Lund and of the Tennessee Valley, and who would leave."""
+        for name, leaving in (("lund", ("H", "K", "L")), ("tva", None)):
+            rows = {row.rule: row for row in versus.rules(solved.example(f"{name}-nucleolus").game)}
+            for rule, part in (("nucleolus", "nucleolus"), ("Shapley shares", "shapley")):
+                example = solved.example(f"{name}-{part}")
+                self.assertEqual(list(rows[rule].shares.values()), list(map(Fraction, example.expected["shares"])))
+            self.assertEqual((rows["nucleolus"].leaving, rows[versus.REMAINING].leaving), (None, leaving))
 
     def test_told(self) -> None:
         game = coop.airport({"small": 1, "large": 9})

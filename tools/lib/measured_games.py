@@ -102,6 +102,38 @@ def solved_games(players: int) -> Iterator[tuple[str, Making]]:
     yield "votes, two thirds", lambda: {"class": "voting", "quota": quota, "weights": votes}
 
 
+# Of the hardest table that a search over some sixty families and 230,000 games of 12 players led to: what each player
+# adds, and what pairs of players add, by their letters from a on.
+HARD_PLAYERS = [12, 186, 129, 49, 129, 166, 14, 34, 187, 174, 107, 6, 33, 52, 198, 188]
+HARD_PAIRS = {
+    100: "bj bp ch dg di do eg eh em fk im lm np",
+    50: "bn hk ho ip",
+    3: "ci cp de ej ep fm gh gi gn hm mo",
+    2: "be bh cl cn dk fg fn fo gj gl io jl jm",
+    1: "af ah aj ak an ao ce cf ck dh fi gk gm hj ik jk jp ko kp",
+}
+
+
+def hardest_table() -> Game:
+    """A table near a concave function of the sizes, whose many levels are told by small numbers and by coins. A single
+    player has nothing."""
+    draw, players = random.Random(1), len(HARD_PLAYERS)
+
+    def mask_of(letters: str) -> int:
+        return sum(1 << ord(letter) - ord("a") for letter in letters)
+
+    pairs = [(mask_of(pair), more) for more, words in HARD_PAIRS.items() for pair in words.split()]
+
+    def worth(mask: int) -> int:
+        size = size_of(mask)
+        if size < 2:
+            return 0
+        inside = sum(more for pair, more in pairs if pair & mask == pair)
+        return 1000 * size * (2 * players - size) + weight_of(HARD_PLAYERS, mask) + inside + draw.randrange(2)
+
+    return table(players, worth)
+
+
 def rising_market(size: int) -> Game:
     """A market whose least prices take exponentially many steps where buyers don't take turns: pairs on the diagonal
     are worth the same, those below it a bit more, the later the seller, and those above it nothing."""
@@ -134,6 +166,7 @@ def larger_games() -> Iterator[tuple[str, Making]]:
     yield "estate of 16", lambda: {"class": "bankruptcy", "claims": costs[:16], "estate": sum(costs[:16]) // 3}
     for players in range(11, 16):
         yield f"square of the mask, {players} players", partial(table, players, lambda mask: mask**2)
+    yield "the hardest table known", hardest_table
     yield "a sparse table of all coalitions", sparse_table
     yield "a table of fractions", fractions
 

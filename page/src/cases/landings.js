@@ -28,7 +28,8 @@ export function landingsOf(kept, opened = new Set()) {
   const costs = [], players = kept.map(({ cost, count }) => {
     return Array.from({ length: count }, () => costs.push(cost.toDocument()) - 1);
   });
-  const isOpened = kept.every(({ airline, type, count }) => count === 1 && !type && opened.has(airline));
+  const isOpened = kept.every(({ airline, type, count }) => count === 1 && !type && opened.has(airline))
+    && new Set(kept.map(baseOf)).size === kept.length;
   const plain = namesOf(kept, new Set()), found = airlinesOf({ names: plain, amounts: costs });
   const taken = kept.filter(({ count }, k) => count === 1 && found[players[k][0]] !== undefined).map(baseOf);
   const names = isOpened ? kept.map(baseOf) : namesOf(kept, new Set(taken));

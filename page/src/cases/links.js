@@ -16,11 +16,12 @@
 // The numbers of any other block go to the cells where they were pasted. The source is the point that has the source's
 // name already; otherwise the only one with a name such as reservoir or Wasserwerk; otherwise the first of a half. If
 // there is none, the page asks.
-import { readNumber } from "../exact/decimals.js";
+import { cellNumber, readNumber } from "../exact/decimals.js";
 import { mostOf } from "../game/classes.js";
 import { isSumWord, withEscapes } from "../game/names.js";
 import { plural } from "../game/words.js";
 import { SPOILT } from "./pasting.js";
+import { withoutUnits } from "./units.js";
 
 const MOST_POINTS = mostOf("tree") + 1; // with the source
 const NONE = /^([-–—.x×∞]|n\/?a|#n\/?a|#?nv|none|null|inf|infinity|kein(e|er)?|aucun(e)?)?$/i; // no such link
@@ -39,9 +40,9 @@ const clean = (text) => text.normalize("NFC").trim();
 
 /** Tells numbers, names and missing links apart, by a decimal mark. */
 function judgeOf(mark) {
-  const isNumber = (text = "") => text !== "" && !readNumber(text, mark).fault;
+  const isNumber = (text = "") => text !== "" && !cellNumber(text, mark).fault;
   const isName = (text = "") => !isNone(text) && !isNumber(text) && !SPOILT.test(text);
-  const valueOf = (text) => readNumber(text, mark).value;
+  const valueOf = (text) => cellNumber(text, mark).value;
   const isZero = (text) => isNumber(text) && valueOf(text).isZero();
   const isSame = (one, other) => one === other || (isNumber(one) && isNumber(other)
     && valueOf(one).equals(valueOf(other)));
@@ -55,9 +56,14 @@ function padded(rows) {
 }
 
 /** What a pasted block says of a whole network: {points, source, links, said}, `links` by "i-j" of the points; {fault}
- * if it contradicts itself; null if it is a block of numbers for the cells where it was pasted. */
-export function networkOf(pasted, { mark = ".", source = "" } = {}) {
-  const { rows, unit } = withoutUnit(padded(withEnds(pasted)), mark), judge = judgeOf(mark);
+ * if it contradicts itself; {product} if one of its columns is a price for each of another, and nobody said `isTimes`,
+ * whether the two are to be multiplied; null if it is a block of numbers for the cells where it was pasted. */
+export function networkOf(pasted, { mark = ".", source = "", isTimes } = {}) {
+  const { rows: bare, units = [], fault: several } = withoutUnits(padded(withEnds(pasted)), 1);
+  if (several) return { fault: several };
+  const product = productOf(bare, mark), judge = judgeOf(mark);
+  if (product && isTimes === undefined) return { product };
+  const rows = product && isTimes ? multiplied(bare, product) : bare;
   if (rows.length < 2) return null;
   const found = listOf(rows, judge) ?? labelledOf(rows, judge) ?? namedOf(rows, judge) ?? squareOf(rows, judge);
   if (!found || found.fault) return found;
@@ -70,11 +76,34 @@ export function networkOf(pasted, { mark = ".", source = "" } = {}) {
   const { links, fault } = joined(found, judge);
   if (fault) return { fault };
   if (!Object.values(links).some(judge.isNumber)) return { fault: "No link has a number." };
-  const out = unit ? [...left, `“${unit}”, the unit`] : left;
+  const out = [...left, ...units.map((unit) => `“${unit}”, the unit`)];
   return { points, links, shape, left: out, ...sourceOf(points, found, source) };
 }
 
 const ENDS = /^(.+?)\s*(?: [-–—] |[–—]|->|→|(?<=\S)-(?=\S))\s*([^:]+?)\s*:\s*(\S.*)$/u;
+
+const PRICE = /\b(per|pro|je|par|each|price|rate|preis|prix|tarif)\b|\p{L}\s*\/\s*\p{L}/iu;
+const SIZE = /length|distance|metres?\b|meters?\b|\bk?m\b|länge|entfernung|longueur|quantity|menge/iu;
+
+/** Of a list with headings, the column of a price for each, and that of a length: {price, size} with their headings;
+ * undefined where it has no two such columns of numbers. */
+function productOf([heads = [], ...below], mark) {
+  const kept = below.filter((row) => row.some(Boolean));
+  const isNumeric = (c) => kept.length > 0 && kept.every((row) => !readNumber(row[c], mark).fault);
+  const numeric = heads.map((_, c) => c).filter((c) => /\p{L}/u.test(heads[c]) && isNumeric(c));
+  const price = numeric.find((c) => PRICE.test(heads[c]));
+  const size = numeric.find((c) => c !== price && SIZE.test(heads[c]));
+  return price !== undefined && size !== undefined ? { price: heads[price], size: heads[size] } : undefined;
+}
+
+/** The rows with the product of two columns, as a cost, in the place of both. Its cell works it out. */
+function multiplied([heads, ...below], product) {
+  const [price, size] = [heads.indexOf(product.price), heads.indexOf(product.size)];
+  const others = (row) => row.filter((_, c) => c !== price && c !== size);
+  return [[...others(heads), "Cost"], ...below.filter((row) => row.some(Boolean)).map((row) => {
+    return [...others(row), `${row[size]}*${row[price]}`];
+  })];
+}
 
 /** Lines as "Alby-Brook: 12" as rows of two ends and a number, where all are such. */
 function withEnds(rows) {
@@ -84,15 +113,6 @@ function withEnds(rows) {
   });
   const isAll = kept.length > 1 && kept.every((row) => row.filter(Boolean).length <= 2) && lines.every(Boolean);
   return isAll ? lines.map(([, from, to, cost]) => [from, to, cost]) : rows;
-}
-
-/** The rows without a unit that stands behind each of their numbers, as in "12 km". */
-function withoutUnit(rows, mark) {
-  const units = rows.flat().map((text) => /^[-−]?\d[\d.,'’\s]*?\s*(\p{L}{1,8}|€|\$|£)$/u.exec(text)).filter(Boolean);
-  const [, unit] = units[0] ?? [], isNumber = (text) => text !== "" && !readNumber(text, mark).fault;
-  const isOne = units.length > 1 && units.every(([, own]) => own === unit) && !rows.flat().some(isNumber);
-  const bare = (text) => (units.some(([whole]) => whole === text) ? text.slice(0, -unit.length).trim() : text);
-  return isOne ? { rows: rows.map((row) => row.map(bare)), unit } : { rows };
 }
 
 /** The source: the point that has its name already, or a name that says so, or else the first. */

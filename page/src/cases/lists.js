@@ -36,7 +36,7 @@ export const runway = {
     },
   ],
   ofFour: ["name", "type", "cost", "count"], // what four columns without headings are
-  help: "One row for each airline and type, with the cost of a runway for such a landing only. Each landing counts.",
+  help: "One row for each airline and type, with the cost of a runway for such a landing only.",
   most: 500,
   example: () => ({
     rows: [

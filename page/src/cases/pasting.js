@@ -35,6 +35,22 @@ function splitLine(line, by) {
   return [...cells, cell];
 }
 
+const NAME_AND_NUMBER = /^(.*\p{L}.*?)\s*[:\s]\s*([-−(]?\d\S*|\d\S* ?\S{1,4})$/u;
+
+/** Lines as mails and PDFs have them, in one cell each: parted at two blanks or more, or into a name and a number
+ * behind its last blank or colon; the same rows where not all are so, or where the numbers only count, as in "Lot 1".
+ */
+export function partedLines(rows) {
+  if (rows.length < 2 || rows.some((row) => row.filter(Boolean).length !== 1)) return rows;
+  const texts = rows.map((row) => row.find(Boolean)), wide = texts.map((text) => text.split(/\s{2,}/));
+  if (wide.every(({ length }) => length > 1 && length === wide[0].length)) return wide;
+  const parts = texts.map((text) => NAME_AND_NUMBER.exec(text)?.slice(1));
+  const isHeaded = !parts[0] && parts.length > 2 && !/\d/.test(texts[0]), found = isHeaded ? parts.slice(1) : parts;
+  const isCount = found.every((one, k) => Number(one?.[1]) === k + 1);
+  if (isCount || !found.every((one) => one && !readNumber(one[1]).fault)) return rows;
+  return isHeaded ? [texts[0].split(/\s+(?=\S+$)/), ...found] : found;
+}
+
 /** Rows without the numbers that R's write.csv puts in front of them, below a first heading that is empty; the same
  * rows where there are none. */
 export function withoutRowNumbers(rows) {

@@ -1,17 +1,18 @@
 // Reads what a person typed into the cells of a case, and keeps what is wrong, cell by cell.
 import { bytesOf } from "../game/words.js";
 import { lcm } from "../exact/rational.js";
-import { cellNumber, countText, readNumber, shortText, thousandsIn } from "../exact/decimals.js";
+import { cellNumber, countText, shortText, thousandsIn } from "../exact/decimals.js";
 import { isMark, MARKS, onlyMark, otherMark } from "../exact/marks.js";
 import { LIMITS } from "../game/classes.js";
 import { remarksOf, withEscapes } from "../game/names.js";
 
 const MOST_SCALE = BigInt(LIMITS.denominator);
 const MOST = 2n ** BigInt(LIMITS.bits), MOST_NAME = LIMITS["bytes of a name"];
+const MOST_TOLD = 3; // numbers that are worked out, of which that is told
 const MOST_KEPT = 200; // faults that are kept with their cells; of the others only the number
 
 export class Reading {
-  /** `opened` are the names of a document in whose cells nothing was typed yet, and `isUnnamed` says that it has none. */
+  /** `opened` are the names of a document in whose cells nothing was typed yet; `isUnnamed` says that it has none. */
   constructor(mark, { opened = [], isUnnamed = false } = {}) {
     Object.assign(this, { mark, opened: new Set(opened), isUnnamed });
     this.faults = []; // {cell, sentence}
@@ -22,9 +23,11 @@ export class Reading {
     this.shown = new Map(); // marks that stand in front of decimals beyond doubt, each with a text that shows it
     this.asked = null; // a row that may be the sum of the others: {r, name}
     this.mixed = null; // a number that would have decimals, though it hardly looks so: {typed, proof, count, value}
+    this.unsure = null; // a number that can be read both ways, where nothing shows which: {typed, ways, count}
     this.isUneven = false; // whether some number shows its mark by other than three decimals
     this.either = null; // a whole number that is one by both marks, as 5.000: {typed, ways}, each [value, mark]
     this.isOpen = false; // whether the grid itself has a question
+    this.part = null; // a quota in per cent that may be a rounded fraction: {cell, typed, text, ways}
     this.notes = []; // what was changed for the program, and what is remarkable
     this.numbers = [];
     this.texts = new Map();
@@ -36,10 +39,18 @@ export class Reading {
       const found = cellNumber(typed, this.mark), { value, by, isWorkedOut } = found;
       if (value && !isWorkedOut) this.thousands.add(thousandsIn(typed, found));
       if (by && !new RegExp(`\\${by}\\d{3}\\D*$`).test(typed)) this.isUneven = true;
-      if (isWorkedOut) this.notes.push(`“${withEscapes(typed.trim())}” is worked out: ${shortText(value)}.`);
+      if (value && isWorkedOut) this.tellWorkedOut(typed, value);
       this.texts.set(typed, found);
     }
     return this.texts.get(typed);
+  }
+
+  /** Of the first few each by itself. */
+  tellWorkedOut(typed, value) {
+    this.workedOut = (this.workedOut ?? 0) + 1;
+    if (this.workedOut <= MOST_TOLD) {
+      this.notes.push(`“${withEscapes(typed.trim())}” is worked out: ${shortText(value)}.`);
+    } else if (this.workedOut === MOST_TOLD + 1) this.notes.push("So are others like it.");
   }
 
   fault(cell, sentence) {
@@ -82,7 +93,17 @@ export class Reading {
   askOfMixed(isMarked) {
     const odd = this.doubts.get("decimals"), [proof] = this.shown.values(), isClash = this.shown.size > 1;
     if (isMarked || !odd || !proof || !(isClash || (odd.isRound && this.isUneven))) return;
-    this.mixed = { ...odd, proof, whole: String(readNumber(odd.typed, "").value) };
+    this.mixed = { ...odd, proof, whole: String(cellNumber(odd.typed, "").value) };
+  }
+
+  /** Where numbers can be read both ways, as 1.200, and nothing shows which, it is asked, unless the user said it. */
+  askOfUnsure(isMarked) {
+    const [doubt] = this.doubts.values();
+    if (isMarked || !doubt || this.shown.size || this.either || !isMark(this.mark)) return;
+    const ways = MARKS.map(([mark]) => [cellNumber(doubt.typed, mark).value, mark]);
+    ways.sort(([one], [other]) => other.compare(one));
+    const count = [...this.doubts.values()].reduce((all, one) => all + one.count, 0);
+    this.unsure = { typed: doubt.typed, count, ways: ways.map(([value, mark]) => [String(value), mark]) };
   }
 
   /** The one mark that all other numbers show; null where none does, or both stand there. */
@@ -108,7 +129,7 @@ export class Reading {
   /** The mark that a whole number shows, by which alone it is whole; none if it is whole by both. */
   markOfWhole(typed, isWhole) {
     if (!isWhole) return otherMark(/[.,]/.exec(typed)[0]);
-    const other = isMark(this.mark) && readNumber(typed, otherMark(this.mark)).value;
+    const other = isMark(this.mark) && cellNumber(typed, otherMark(this.mark)).value;
     return other && !other.isWhole() ? this.mark : undefined;
   }
 
@@ -176,13 +197,13 @@ export class Reading {
 
   isRight() {
     return !this.isOpen && !this.count && !this.empty.count && !this.asked && !this.either && !this.mixed
-      && !this.isPaused;
+      && !this.unsure && !this.part && !this.isPaused;
   }
 }
 
 /** What a text is by each mark, the lesser number first; null where it isn't whole by both. */
 function eitherOf(typed) {
-  const ways = MARKS.map(([mark]) => [readNumber(typed, mark).value, mark]);
+  const ways = MARKS.map(([mark]) => [cellNumber(typed, mark).value, mark]);
   if (!ways.every(([value]) => value.isWhole())) return null;
   ways.sort(([one], [other]) => one.compare(other));
   return { typed, ways: ways.map(([value, mark]) => [String(value), mark]) };

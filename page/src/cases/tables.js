@@ -2,16 +2,18 @@
 import { readNumber, typedText } from "../exact/decimals.js";
 import { mostOf } from "../game/classes.js";
 import { maskOf, masksBySize, membersOf } from "../game/groups.js";
-import { withEscapes } from "../game/names.js";
+import { isSumWord, withEscapes } from "../game/names.js";
 import { filledGroups } from "./filled-cells.js";
 import { rowsOf } from "./lists.js";
 import { oddsOf } from "./odds.js";
 import { cellsOf, ROW_NUMBERS, withoutRowNumbers } from "./pasting.js";
 import { Reading } from "./reading.js";
+import { unitsText, withoutUnits } from "./units.js";
 import { headingOf, manyBelow, numbersIn, vectorOf } from "./vectors.js";
 
 const MOST_BY_NAME = 6; // above, the document lists numbers alone: it would be too long by names
 const MOST_PLAYERS = mostOf("table");
+const MOST_TOLD = 4; // groups in other words that are named
 
 /** A table as it goes to a worker and back: one text is copied faster than 65,536. */
 export function packed({ names, numbers, opened, isUnnamed }) {
@@ -128,10 +130,12 @@ export function tableOf(text, names = [], order = "size", mark = ".") {
   const rows = cellsOf(text), kept = rows.filter((row) => row.some(Boolean));
   const many = kept.length > 0 && manyBelow(below ? [[], ...below] : kept);
   if (many) return { fault: many };
-  const bare = withoutRowNumbers(kept);
-  if (bare !== kept) {
+  const { rows: bare = [], units = [], fault } = withoutUnits(withoutRowNumbers(kept), 1);
+  if (fault) return { fault };
+  if (bare.length !== kept.length || bare.some((row, k) => row !== kept[k])) {
     const inside = tableOf(bare.map((row) => row.join("\t")).join("\n"), names, order, mark);
-    return inside.state ? { ...inside, remark: ` ${ROW_NUMBERS}${inside.remark}` } : inside;
+    const told = [withoutRowNumbers(kept) !== kept && ROW_NUMBERS, unitsText(units)].filter(Boolean).join(" ");
+    return inside.state ? { ...inside, remark: ` ${told}${inside.remark}` } : inside;
   }
   const lines = new Map(rows.map((row, k) => [row, `Line ${k + 1}: `]));
   return kept.length ? listOf(kept, (row) => lines.get(row)) : { fault: "There is nothing in this list." };
@@ -195,13 +199,40 @@ function listOf(all, lineOf) {
     const [group, number = ""] = row, members = group.normalize("NFC").split("+").map((member) => member.trim());
     return { members, number, line: lineOf(row) };
   });
+  const grouped = inOtherWords(read);
   const names = [...new Set(read.filter(({ members }) => members.length === 1).map(({ members }) => members[0]))];
   if (!names.length) return { fault: "There is no line of a player alone. A group is its members with + between." };
   if (names.length > MOST_PLAYERS) {
     return { fault: `These are ${names.length} players, and a table has at most ${MOST_PLAYERS}. A group of several is `
       + "its members with + between, as Sales+Ops." };
   }
-  return { ...placedList(read, names), remark: heading === null ? "" : headingText(heading) };
+  return { ...placedList(read, names), remark: `${heading === null ? "" : headingText(heading)}${grouped}` };
+}
+
+const AND = /\s*(?:&|,|\/|\band\b|\bund\b|\bet\b)\s*/u;
+const ALL = /^(all|everybody|everyone|alle|tous)( (of them|three|four|five|six|drei|vier|trois|quatre))?$/i;
+
+/** Finds groups that are written without +, as "North & South" where both have a line, or "All": their members are put
+ * in place. What is told of it. */
+function inOtherWords(read) {
+  const alone = read.filter(({ members }) => members.length === 1), told = [];
+  const lines = new Set(alone.map(({ members: [one] }) => one));
+  for (const line of alone) {
+    const [text] = line.members, parts = text.split(AND);
+    if (parts.length < 2 || !parts.every((part) => lines.has(part))) continue;
+    line.members = parts;
+    told.push(text);
+  }
+  const isWhole = ({ members: [text, other] }) => other === undefined && (ALL.test(text) || isSumWord(text));
+  const whole = read.find(isWhole), players = alone.filter(({ members: [, other] }) => other === undefined)
+    .filter((line) => line !== whole).map(({ members: [one] }) => one);
+  if (whole && players.length > 1 && read.every(({ members }) => members.length < players.length)) {
+    told.push(whole.members[0]);
+    whole.members = players;
+  }
+  const quoted = told.slice(0, MOST_TOLD).map((text) => `“${withEscapes(text)}”`).join(", ");
+  const more = told.length > MOST_TOLD ? " and others" : "";
+  return told.length ? ` ${quoted}${more} ${told.length > 1 ? "are groups" : "is a group"}.` : "";
 }
 
 function placedList(read, names) {

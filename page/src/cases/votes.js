@@ -1,10 +1,11 @@
 // Votes: by one quota, which is a game of its own class, or by two at once, which is a table of who wins.
 import { gcd, lcm, Rational } from "../exact/rational.js";
-import { readNumber, shortText, typedText } from "../exact/decimals.js";
+import { shortText, typedText } from "../exact/decimals.js";
 import { LIMITS, mostOf } from "../game/classes.js";
 import { membersOf } from "../game/groups.js";
 import { withEscapes } from "../game/names.js";
 import { numbersMapped, readList } from "./lists.js";
+import { leastOf, roundedPart } from "./quota.js";
 import { askOfSum } from "./sum-row.js";
 
 const MOST = mostOf("voting"), MOST_IN_TABLE = mostOf("table");
@@ -49,7 +50,7 @@ export const votes = {
     const { opened, isUnnamed } = state, own = { rows, opened, isUnnamed };
     const list = readList(own, mark, "votes", "The number of votes", "Voter"), { reading, names } = list;
     askOfSum(reading, state, ["votes"]);
-    const ballots = [readBallot(reading, state.quota, "quota", "The quota", list)];
+    const ballots = [readBallot(reading, state.quota, "quota", "The quota", list, state)];
     if (isDouble) ballots.push(readSecond(reading, state, mark, names));
     if (!isDouble) reading.close();
     if (names.length > MOST) {
@@ -69,32 +70,13 @@ export const votes = {
   }),
 };
 
-const SPOKEN = {
-  "two thirds": "2/3", "two-thirds": "2/3", "\u2154": "2/3", "three quarters": "3/4", "\u00be": "3/4",
-  "three fifths": "3/5", half: "1/2", "\u00bd": "1/2", majority: "> 1/2", "simple majority": "> 1/2",
-};
-
-/** The least number of votes that reaches a part of all votes, in per cent or as a fraction, or that is more than it;
- * null for another text. */
-function partOf(typed, all, mark, isWhole) {
-  const said = (typed ?? "").trim().toLowerCase().replace(/^(more than|over)\s+|^>\s*/, "> ");
-  const parted = (words) => /^(> )?(.*)$/.exec(words), [, first = "", bare] = parted(said);
-  const [, second = "", text] = parted(SPOKEN[bare] ?? bare);
-  const [, percent] = /^(.*)%$/.exec(text) ?? [], isFraction = /^\d+\s*\/\s*\d+$/.test(text);
-  if (percent === undefined && !isFraction) return null;
-  const [, whole, over] = /^(\d+)\s+(\d+\/\d+)$/.exec((percent ?? "").trim()) ?? []; // 66 2/3 %
-  const { value } = readNumber((over ?? percent ?? text).trim(), mark);
-  if (!value || (isFraction && !value.less(Rational.of(1)))) return null;
-  const part = all.times(over ? value.plus(Rational.of(whole)) : value).over(Rational.of(isFraction ? 1 : 100));
-  if (!isWhole) return part;
-  return Rational.of(first || second ? part.floor() + 1n : -part.negated().floor());
-}
-
-/** The quota of some votes. With decimals it may have some, too. */
-function readBallot(reading, typed, cell, what, { values }) {
+/** The quota of some votes: a number, or a part of all. With decimals it may have some, too. */
+function readBallot(reading, typed, cell, what, { values }, { exactParts = [] }) {
   const all = Rational.sum(values), isWhole = values.every((value) => value.isWhole());
-  const part = partOf(typed, all, reading.mark, isWhole), quota = part ?? reading.number(cell, typed, what);
+  const part = leastOf(typed, values, reading.mark), quota = part ?? reading.number(cell, typed, what);
   if (part) {
+    const rounded = !exactParts.includes(typed) && roundedPart(typed, values, reading.mark);
+    if (rounded) reading.part = { cell, typed, ...rounded };
     const [told, least] = [all, part].map(shortText);
     reading.notes.push(`${what}: ${withEscapes(typed.trim())} of ${told} votes, so at least ${least}.`);
   }
@@ -125,7 +107,7 @@ function readSecond(reading, state, mark, names) {
     values.push(reading.number(cells.at(-1), typed, "The second number of votes") ?? Rational.of(0));
   }
   if (!isAny) reading.notes.push("No second votes are typed, so each voter has one.");
-  return readBallot(reading, state.secondQuota, "secondQuota", "The second quota", { values, cells });
+  return readBallot(reading, state.secondQuota, "secondQuota", "The second quota", { values, cells }, state);
 }
 
 function votingGame(reading, { named, cells }, ballot) {

@@ -34,8 +34,10 @@ export function plainNames(key, title, { perHead, kind, costs }, isAlone = true)
     const what = kind === "bankruptcy" ? "the claims" : costs ? "costs alone" : "worth alone";
     return { plain: title, name: "", note: `to ${what}` };
   }
-  if (key === "prenucleolus") {
-    return { plain: isAlone ? PLAIN.nucleolus : "The same, but some may do worse than alone", name };
+  if (key.endsWith("nucleolus")) {
+    const isOther = key === "prenucleolus" && !isAlone;
+    const plain = isOther ? "The same, but some may do worse than alone" : PLAIN.nucleolus;
+    return { plain: perHead ? `${plain}, per head` : plain, name: other ? `${name}, ${other}` : name };
   }
-  return PLAIN[key] ? { plain: PLAIN[key], name: other ? `${name}, ${other}` : name } : { plain: title, name: "" };
+  return PLAIN[key] ? { plain: PLAIN[key], name } : { plain: title, name: "" };
 }

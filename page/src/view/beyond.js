@@ -30,6 +30,13 @@ export function beyondTexts({ isAll, all, points }) {
     + "proved is the page’s own calculation; where the program answers too, tests compare the two."];
 }
 
+/** One line of it, and the rest below a fold. */
+function beyondNotice(beyond) {
+  const [said, laws] = beyondTexts(beyond);
+  return el("div", { class: "notice" }, el("p", {}, said),
+    el("details", { class: "inline" }, el("summary", {}, "Why the formula is right"), el("p", {}, laws)));
+}
+
 const COSTS = { costs: true }; // as of a game
 
 /** A number rounded to so many decimals. */
@@ -45,7 +52,7 @@ export function beyondParts(beyond, { format, today, pinned, labelOfCell }) {
     typeLines(rows, points, plain), roundingLines(points, plain)];
   return el("div", { class: "beyond" }, isAll && leadOf(beyond, format),
     el("h3", {}, isAll ? "Above 64 landings" : "Shapley shares above 32 landings"),
-    el("div", { class: "notice" }, beyondTexts(beyond).map((text) => el("p", {}, text))),
+    beyondNotice(beyond),
     isAll && pinnedNote(pinned, points[0], rows, { format, labelOfCell }),
     el("div", { class: "scroll" }, table(beyond, { format, today, pinned, own: (row, r) => {
       return ownInput(row, r, today, "today", todayTitle(COSTS));
@@ -154,7 +161,8 @@ export function beyondSheet(beyond, { format, unit, today, pinned, labelOfCell }
   const own = (_, r) => shown.values[r] && format.show(shown.values[r]);
   const kind = `shares dense${rows.every(({ type }) => type) ? " whole" : ""}`;
   return [
-    el("section", {}, unit?.trim() && el("p", { class: "hint" }, `All amounts are in ${unit.trim()}.`),
+    el("section", {}, leadOf(beyond, format),
+      unit?.trim() && el("p", { class: "hint" }, `All amounts are in ${unit.trim()}.`),
       table(beyond, { format, today: shown, pinned, own }, kind),
       pinned.pin && el("p", { class: "hint" }, pinnedText(pinned, points[0], rows, { format, labelOfCell })),
       points.some(({ totals }) => format.isMoved(totals, rows)) && el("p", { class: "hint" }, movedText(rows))),

@@ -1,14 +1,11 @@
 // The panel of a case: its grid, what is wrong with it, and the document that it makes.
 import { fileNames } from "../cases/coarse.js";
-import { withEscapes } from "../game/names.js";
 import { coarseNumbers, coarseText } from "../tell/coarse-text.js";
-import { Rational } from "../exact/rational.js";
-import { countText, quotedText } from "../exact/decimals.js";
-import { DECIMALS, WHOLE, writtenBy } from "../exact/marks.js";
+import { writtenBy } from "../exact/marks.js";
 import { plural } from "../game/words.js";
+import { questions } from "./case-questions.js";
 import { markFaults, markOdds } from "./cells.js";
 import { button, cellOf, copy, download, el, refill } from "./dom.js";
-import { doubtNotes } from "./doubts.js";
 import { shown } from "./files.js";
 import { landingsList } from "./landings-list.js";
 import { listGrid } from "./list-grid.js";
@@ -60,16 +57,6 @@ export function casePanel(kind, typed, settings) {
   };
 }
 
-/** What has to be settled before there is an answer, and how numbers were read. */
-function questions(reading, typed, settings) {
-  const { asked, swap, perHead, mixed, either } = reading;
-  return [
-    asked && sumQuestion(asked, typed, settings), swap && swapQuestion(swap, typed, settings),
-    perHead && perHeadQuestion(perHead, settings), mixed && mixedQuestion(mixed, reading, settings),
-    either ? eitherQuestion(either, settings) : !mixed && doubtNotes(reading, settings),
-  ];
-}
-
 function moreTools(kind, typed, others, onReset) {
   const reset = (title, next) => button(title, () => onReset(next(), title), { class: "quiet" });
   return el("details", { class: "inline more-tools" }, el("summary", {}, "More for the cells"),
@@ -85,61 +72,6 @@ function sampleLine(kind, typed, { onReset }) {
     el("b", {}, "Worked example."), " Type over it, paste your own table into any cell, or ",
     button("start empty", empty, { class: "link" }), "."],
   is(cleared(kind, typed)) && "Fill in the cells, or paste a table from a spreadsheet into any of them.");
-}
-
-/** Asks whether a row is the sum of the others: until that is settled there is no answer. */
-function sumQuestion({ r, name, isLast }, typed, { onReset, onChange }) {
-  const without = () => onReset({ ...typed, rows: typed.rows.filter((_, k) => k !== r) }, "Remove the sum", true);
-  const keep = () => {
-    typed.notSums = [...(typed.notSums ?? []), name];
-    onChange(0);
-  };
-  const [which, rest] = name ? [`, “${withEscapes(name)}”.`, " "] : [" has no name.", " If not, give it a name. "];
-  const row = isLast ? "The last row" : `Row ${r + 1}`, others = isLast ? "the others" : "others";
-  const asked = `${row}${which} Is it the sum of ${others}? It would count as one more.${rest}`;
-  return el("p", { class: "note" }, asked,
-    button("Yes, remove it", without, { class: "quiet" }), name && button("No, it counts", keep, { class: "quiet" }));
-}
-
-/** Asks whether costs stand where landings belong: until that is settled there is no answer. */
-function swapQuestion({ count, cost, name }, typed, { onReset, onChange }) {
-  const rows = typed.rows.map((row) => ({ ...row, cost: row.count, count: row.cost }));
-  const swapped = () => onReset({ ...typed, rows, isUnordered: false }, "Swap the columns", true);
-  const keep = () => {
-    typed.isUnordered = false;
-    onChange(0);
-  };
-  const shown = (text) => `“${withEscapes(text.trim())}”`;
-  return el("p", { class: "note" }, `Are ${shown(count)} the landings of ${name}, and does one need ${shown(cost)}? `,
-    button("No, swap the columns", swapped, { class: "quiet" }), button("Yes, so it is", keep, { class: "quiet" }));
-}
-
-/** Per head is another rule, so nobody gets other shares without a word. */
-function perHeadQuestion(players, { setMeasure }) {
-  return el("p", { class: "note" }, "A group’s loss was to count per head. That is worked out for up to 8 players, ",
-    `and here are ${countText(players)}. By the group as a whole the shares are others. `,
-    button("Count it as a whole", () => setMeasure("plain"), { class: "quiet" }));
-}
-
-/** Asks how many landings a number says: until that is settled there is no answer. */
-function eitherQuestion({ typed, ways: [[less, one], [more, other]] }, { setEntry }) {
-  const way = (count, mark) => button(`${count} ${count === "1" ? "landing" : "landings"}`, () => setEntry(mark), {
-    class: "quiet",
-  });
-  return el("p", { class: "note" }, `“${withEscapes(typed.trim())}” can be read as ${less} or as ${more}, and no `,
-    "other number here shows which. Which is it? ", way(less, one), way(more, other));
-}
-
-/** Asks whether numbers as 90,000 have decimals, though another number shows that they would: until that is settled
- * there is no answer. */
-function mixedQuestion({ typed, value, whole, proof, count }, { settled, mark }, { setEntry }) {
-  const quoted = (text) => `“${withEscapes(text.trim())}”`, more = count > 1 ? ` and ${count - 1} like it` : "";
-  const way = (text, by) => button(text, () => setEntry(by), { class: "quiet" });
-  const shown = quotedText(Rational.of(value), mark);
-  return el("p", { class: "note" },
-    `${quoted(proof)} shows which mark comes before decimals. So ${quoted(typed)}${more} `,
-    `would be ${shown}, with decimals. Or are these whole numbers, as ${countText(whole)}? `,
-    way(`${countText(whole)}, whole`, WHOLE), way(`${shown}, with decimals`, settled ?? DECIMALS));
 }
 
 /** A vote by two quotas stays one. */

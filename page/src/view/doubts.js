@@ -1,6 +1,6 @@
 // What is said where numbers can be read in two ways, or show two marks, and the buttons that read them otherwise.
 import { Rational } from "../exact/rational.js";
-import { quotedText, readNumber } from "../exact/decimals.js";
+import { cellNumber, quotedText } from "../exact/decimals.js";
 import { DECIMALS, isMark, nameOfMark, otherMark, WHOLE } from "../exact/marks.js";
 import { withEscapes } from "../game/names.js";
 import { listed } from "../game/words.js";
@@ -43,7 +43,7 @@ function waysOut({ doubts, mark, proof, isChosen }, setEntry) {
   const way = (title, by) => button(title, () => setEntry(by), { class: "quiet" });
   if (isChosen) return [way("Read them by one mark again", mark)];
   const [odd] = doubts, how = odd.how === "decimals" ? "whole" : "decimals";
-  const { value } = readNumber(odd.typed, BY[how]);
+  const { value } = cellNumber(odd.typed, BY[how]);
   const others = odd.count > 1 ? ", and all like it" : "";
   return [
     !proof && way(`No, the ${nameOfMark(otherMark(mark))}`, otherMark(mark)),

@@ -1,5 +1,6 @@
 // The grid of a list: a runway, an estate, a vote. A row is added while the last one is filled.
-import { columnsFor, headingsOf, pastedText, ROW_NUMBERS, withoutRowNumbers } from "../cases/pasting.js";
+import { columnsFor, headingsOf, partedLines, pastedText, ROW_NUMBERS, withoutRowNumbers } from "../cases/pasting.js";
+import { unitsText, withoutUnits } from "../cases/units.js";
 import { withEscapes } from "../game/names.js";
 import { cellInput, moveByKeys, pasteCells, removal } from "./cells.js";
 import { button, el, refill } from "./dom.js";
@@ -119,8 +120,11 @@ class ListGrid {
   fill(cell, pasted) {
     const [, r, key] = cell.split("."), columns = this.columns(), first = columns.findIndex((one) => one.key === key);
     if (first < 0) return;
+    const lines = pasted.filter((row) => row.some(Boolean));
+    const { rows: all, units = [], fault } = withoutUnits(first ? lines : partedLines(lines), 1);
+    if (fault) return void (this.said.textContent = `${fault} Nothing was taken.`);
     this.remember("Paste");
-    const all = pasted.filter((row) => row.some(Boolean)), rows = withoutRowNumbers(all);
+    const rows = withoutRowNumbers(all);
     const own = first ? columns.slice(first) : this.allColumns(), isNumbered = rows !== all && ROW_NUMBERS;
     const from = own.filter(({ optional }) => !optional).findIndex(({ number }) => number);
     const headings = headingsOf(rows, Math.max(0, from), this.mark());
@@ -138,7 +142,7 @@ class ListGrid {
       return target;
     });
     const taken = pastedText(rows, headings, targets, columns.slice(first));
-    const said = [isNumbered, taken, isCut, ...this.complete(filled, targets)];
+    const said = [isNumbered, taken, unitsText(units), isCut, ...this.complete(filled, targets)];
     this.said.textContent = withEscapes(said.filter(Boolean).join(" "));
     this.said.classList.toggle("warn", /left out|first \d+ (cells )?were taken/.test(this.said.textContent));
     this.show();

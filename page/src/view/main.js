@@ -137,7 +137,7 @@ function nowTyped() {
 /** Shows a part of the page; a case as it was left. What was typed is the game that a line is checked by at first. */
 function show(name) {
   const kind = caseNamed(name), { isTyped, reading } = session;
-  if (name === "verify") verify.fromCase(isTyped && reading?.text ? { ...reading, title: session.kind.title } : null);
+  if (name === "verify") verify.fromCase(reading?.text ? { ...reading, title: session.kind.title, isTyped } : null);
   if (kind && session.kind !== kind) openCase(kind, kept.get(kind)?.typed ?? kind.example(), kept.get(kind));
   else showView(name);
 }

@@ -8,6 +8,10 @@ import { tabbed } from "./table-lines.js";
 
 const MOST_NAMED = 8; // groups in a sentence
 const HUNDRED = Rational.of(100);
+const ELSEWHERE = "Which numbers matter is worked out here for tables of groups. For landings, links and claims "
+  + "the project’s Python package finds it (coop.sensitivity.ranges).";
+const TIES = "Some of the others have no room at all: there are ties. Then other evidence may show the same shares, "
+  + "and rest on other numbers than these.";
 
 /** What a worker found, with its bounds by their masks: {decide, free, boundOf(mask)}; null before. */
 export function marginsOf({ margins, game }) {
@@ -31,7 +35,7 @@ export function isDeciding(mask, { decide, of }) {
 
 /** What is said of a number in the grid. */
 export function tipOf(mask, found, format) {
-  if (isDeciding(mask, found)) return "The shares rest on this number as it is.";
+  if (isDeciding(mask, found)) return "The answer rests on this number as it is, by this evidence.";
   const bound = found.boundOf(mask), verb = found.costs ? "may cost anything" : "may gain anything";
   return bound && `It ${verb} ${rangeText(bound, found, format)}, and the shares stay: all such numbers at once.`;
 }
@@ -39,6 +43,8 @@ export function tipOf(mask, found, format) {
 /** The part below “What if”. `session` has the names, and which numbers the page filled in. */
 export function marginsPart(result, { session, format }) {
   const found = marginsOf(result), { typed, kind } = session;
+  const isOther = result.line && !kind.isTable && !kind.isMarket && !result.game.ballots;
+  if (isOther) return el("p", { class: "hint screen" }, ELSEWHERE);
   if (!found || !kind.isTable) return null;
   const name = (mask) => groupLabel(typed.names, mask), order = masksBySize(typed.names.length).slice(0, -1);
   const rests = order.filter((mask) => found.decide.has(mask)), [verb, way] = found.costs ? ["cost", "less"]
@@ -46,10 +52,12 @@ export function marginsPart(result, { session, format }) {
   const named = rests.length > MOST_NAMED ? "" : `: ${listed([...rests.map(name), "all together"])}`;
   const copied = (event) => copy(tabbed(boundLines(order, found, { name, format })), event.target);
   return el("section", { class: "margins" }, el("h3", {}, "Which numbers matter?"),
-    el("p", {}, `The shares rest on ${rests.length + 1} of the ${found.of + 1} numbers as they are${named}. `,
+    el("p", {}, `By this evidence, the shares rest on ${rests.length + 1} of the ${found.of + 1} numbers as they `,
+      `are${named}. `,
       found.free > 0 && `${found.free > 1 ? `Each of the other ${found.free} may be off, all at once` : "The other one "
         + "may be off"}: as long as ${found.free > 1 ? "none" : "it doesn’t"} ${found.free > 1 ? verb + "s" : verb} `
         + `${way} than its bound, the shares stay as they are, and the same line proves it.`),
+    found.isTied && el("p", { class: "hint" }, TIES),
     filledSaid(typed, found, name),
     found.free > 0 && closestTable(found, { name, format, verb }),
     found.free > 0 && el("p", { class: "tools" }, button("Copy all bounds", copied, { class: "quiet" })));

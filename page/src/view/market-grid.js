@@ -1,5 +1,6 @@
 // The grid of a market: what each buyer gains with each seller.
 import { readNumber } from "../exact/decimals.js";
+import { unitsText, withoutUnits } from "../cases/units.js";
 import { withEscapes } from "../game/names.js";
 import { cellInput, moveByKeys, pasteCells, removal } from "./cells.js";
 import { button, el, refill } from "./dom.js";
@@ -19,14 +20,18 @@ class MarketGrid {
     Object.assign(this, { kind, typed, onChange, remember });
     this.holder = el("div", { class: "scroll" });
     this.tools = el("p", { class: "tools" });
-    const more = el("details", { class: "inline" }, el("summary", {}, "Add or remove traders"), this.tools);
+    const more = el("details", { class: "inline traders" }, el("summary", {}, "Add or remove traders"), this.tools);
     this.none = el("p", { class: "tools" });
-    this.element = el("div", {}, this.holder, more, this.none);
+    this.said = el("p", { class: "hint", role: "status" });
+    this.element = el("div", {}, this.holder, this.said, more, this.none);
     moveByKeys(this.holder, (cell, step) => {
       const [what, a, b] = cell.split(".");
       return what === "values" ? `values.${Number(a) + step}.${b}` : `${what}.${Number(a) + step}`;
     });
-    pasteCells(this.holder, (cell, rows) => {
+    pasteCells(this.holder, (cell, pasted) => {
+      const { rows, units, fault } = withoutUnits(pasted, 1);
+      refill(this.said, fault ? `${fault} Nothing was taken.` : unitsText(units));
+      if (fault) return;
       remember("Paste");
       this.change(() => this.fill(cell, rows));
     }, readCells);

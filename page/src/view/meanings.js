@@ -35,8 +35,8 @@ const MEANINGS = {
     + "nothing about who deserves what.",
   bird: "Bird’s shares let each place pay the link by which the cheapest network reaches it (Bird 1976).",
   agencies: "The agencies’ rule, separable costs and remaining benefits, comes from the Tennessee Valley: each pays "
-    + "what it adds to the cost of all others, and of the rest by what it would still save against going alone. The page "
-    + "itself calculates this column. Whether a group could leave is the program’s word.",
+    + "what it adds to the cost of all others, and of the rest by what it would still save against going alone. The "
+    + "page itself calculates this column. Whether a group could leave is the program’s word.",
   buyers: "The two ends of the market: the lowest and the highest prices by which no buyer and seller do better "
     + "together (Shapley and Shubik 1971).",
 };

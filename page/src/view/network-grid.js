@@ -128,12 +128,13 @@ class NetworkGrid {
   }
 
   /** A whole network takes the place of all cells; a block of numbers goes where it was pasted. */
-  pasted(cell, rows) {
+  pasted(cell, rows, isTimes) {
     const { typed } = this, isFirst = ["source", "names.0", "links.0-1"].includes(cell);
-    const found = networkOf(rows, { mark: this.mark(), source: typed.source });
+    const found = networkOf(rows, { mark: this.mark(), source: typed.source, isTimes });
+    if (found?.product) return this.productQuestion(found.product, (isIt) => this.pasted(cell, rows, isIt));
     const isWhole = found && (isFirst || found.fault || found.shape.includes("list") || found.shape.includes("names"));
     refill(this.said, isWhole && found.fault && `${found.fault} Nothing was taken.`);
-    if (isWhole && found.fault) return;
+    if (isWhole && found.fault) return undefined;
     this.remember("Paste");
     if (isWhole) {
       const cells = cellsOfNetwork(found), isSourceOpen = !found.isSure && found.points.some(Boolean);
@@ -144,6 +145,15 @@ class NetworkGrid {
     } else this.change(() => pasteLinks(this.kind, typed, cell, rows));
     this.help.openIfEmpty();
     if (Object.values(this.typed.filled ?? {}).includes("way")) this.help.again();
+    return undefined;
+  }
+
+  /** Asked before anything is taken: a column is a price for each of another. */
+  productQuestion({ price, size }, take) {
+    const [one, other] = [price, size].map((text) => `“${withEscapes(text)}”`);
+    refill(this.said, `${one} looks like a price for each. Does a link cost ${one} times ${other}? `,
+      button(`Yes, multiply by ${other}`, () => take(true), { class: "quiet" }), " ",
+      button(`No, it costs ${one}`, () => take(false), { class: "quiet" }));
   }
 
   /** Asked before there is an answer: nothing that was pasted says which point is the source. */

@@ -1,6 +1,6 @@
 // The table of the answer: a row for each who pays or gets, a column for each division, and what is asked of them.
 import { Rational } from "../exact/rational.js";
-import { fractionText } from "../exact/decimals.js";
+import { decimal, fractionText } from "../exact/decimals.js";
 import { votesText } from "../draw/ranges.js";
 import { plainNames } from "../tell/rule-names.js";
 import { Namer } from "../tell/words.js";
@@ -19,7 +19,7 @@ const BRIEF = 8; // rows that are kept on one printed page
 const NARROW = 520;
 const FEW = 3; // landings that are named one by one
 const MOST_DIGITS = 12; // of a fraction that is shown unfolded
-const BY_PAGE = "calculated by the page";
+const BY_PAGE = "by the page itself";
 
 export function sharesTable(result, settings) {
   const { game, points } = result, { rows, format, proposal } = settings;
@@ -124,13 +124,19 @@ function shareRow({ row, r }, view) {
     columns.map(({ key, texts, steps, shares, totals }, k) => {
       const since = sinceKept(steps[r], totals[r], view.kept.get(key), r, format, k === 0);
       const changes = [changeOf(steps[r], r, today, format), since];
-      const each = !k && count > 1 && el("small", { class: "each" }, `${format.show(shares[row.players[0]])} each`);
-      return shareCell(texts[r], shares[row.players[0]], count, format, [each, ...changes], kindOf(k));
+      const share = shares[row.players[0]];
+      const each = !k && count > 1 && el("small", {}, `${eachText(share, format)} each`);
+      return shareCell(texts[r], share, count, format, [each, ...changes], kindOf(k));
     }),
     proposal.canBe && el("td", { class: "number proposed" },
       ownInput(row, r, proposal, "proposal", "Your proposal")),
     against && el("td", { class: "number against" }, against.texts[r]),
   ]);
+}
+
+/** What one of several pays, with a decimal more where it isn't exact, so that times their number it is the share. */
+function eachText(share, { places, mark, thousands, isExact }) {
+  return decimal(share, isExact(share) ? places : places + 1, { mark, thousands });
 }
 
 /** Who was there when the answer was kept, and isn't any more: so that the kept column adds up. */

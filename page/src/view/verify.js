@@ -55,16 +55,22 @@ class VerifyPanel {
       hint: "The file that everybody agreed on before anyone knew an answer. You may leave it out.",
       onText: (text, from) => this.check({ agreed: text, from: { ...this.from, ofGame: from } }),
     });
+    this.offer = el("p", { class: "tools" });
+    this.ofGame.append(this.offer);
     const places = el("div", { class: "places screen" }, this.ofLine, this.ofGame);
     this.element = el("div", {}, places, this.apart, this.answers, this.means, words());
   }
 
-  /** Puts the game of the case that was typed, {text, title}, into the place of the agreed one, as long as no other was
-   * given. */
+  /** Puts the game of a case that was typed, {text, title}, into the place of the agreed one, as long as no other was
+   * given. That of a worked example, or beside another file, is offered. */
   fromCase(own) {
     const { agreed, from: { ofGame } } = this, text = own ? `${own.text}\n` : "";
-    if ((agreed.trim() && !ofGame.ofCase) || ofGame.fault || text === agreed) return;
-    this.ofGame.setText(text, own ? { ofCase: own.title } : {});
+    const take = () => (refill(this.offer), this.ofGame.setText(text, { ofCase: own.title }));
+    const isOther = (agreed.trim() && !ofGame.ofCase) || ofGame.fault;
+    refill(this.offer, own && text !== agreed && (isOther || !own.isTyped)
+      && button(`The game of my case, “${own.title}”`, take, { class: "quiet" }));
+    if (isOther || text === agreed) return;
+    this.ofGame.setText(own?.isTyped ? text : "", own?.isTyped ? { ofCase: own.title } : {});
   }
 
   /** Says where what was checked isn't the game of the case above, whose document is `text` (null where it has none).

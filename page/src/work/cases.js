@@ -19,20 +19,23 @@ const MOST_PER_HEAD = 8;
 const TOO_MANY = "With so many different second votes the page counts the power of up to 16 voters only.";
 const ANSWERS = ["nucleolus", "prenucleolus", "shapley"];
 const MOST_BYTES = 2097152;
+const QUESTIONS = ["asked", "either", "mixed", "unsure", "swap", "part"]; // of a reading, which the user answers
 
 /** What the cells say: the rows of the answer, what is wrong, and, if nothing is, the document, its facts and game. */
 export function readCase({ id, typed, mark, measure, isMarked = typed.isMarked }) {
   const { reading, rows, tree, ballots, landings, isBeyond } = readByOneMark(caseNamed(id), typed, mark);
   reading.askOfMixed(isMarked);
+  reading.askOfUnsure(isMarked);
   const power = isBeyond && reading.isRight() ? powerBeyond(ballots, rows) : null;
   if (isBeyond && !power) reading.pause(TOO_MANY);
   const perHead = measure === "per-head" && tooManyPerHead(tree ? rows : landings ?? rows, tree);
   if (perHead) reading.isOpen = true;
-  const { faults, count, empty, notes, asked, either, mixed, swap, isTooFine = false, odds = [] } = reading;
+  const { faults, count, empty, notes, isTooFine = false, odds = [], isOpen, isPaused = false } = reading;
+  const questions = Object.fromEntries(QUESTIONS.map((key) => [key, reading[key]]));
+  const isAsking = isOpen || Object.values(questions).some(Boolean), isRight = reading.isRight();
   const read = {
-    rows, faults, count, empty, notes, asked, either, mixed, swap, perHead, isTooFine,
-    isAsking: Boolean(asked || either || mixed || swap || reading.isOpen), odds, isPaused: Boolean(reading.isPaused),
-    isRight: reading.isRight(), ...marksOf(reading),
+    rows, faults, count, empty, notes, ...questions, perHead, isTooFine, isAsking, odds, isPaused, isRight,
+    ...marksOf(reading),
   };
   if (!read.isRight) return read;
   if (landings) read.beyond = beyondProgram(landings, rows);

@@ -12,7 +12,8 @@ const MOST_CLOSEST = 3;
 
 /** Of the line of an answer about a table: the masks of the groups whose numbers count as they are (`decide`, without
  * that of all), the `bounds` of the others by their masks, in lines, over the `unit`, and those who have least room for
- * their size, as {mask, number}. Costs may be anything from the bound up, gains anything up to it. */
+ * their size, as {mask, number}; `isTied` says that some of them have no room. Costs may be anything from the bound up,
+ * gains anything up to it. */
 export function margins({ answer, certificate, shares }, game) {
   const { n, costs } = game, sign = costs ? -1n : 1n, paid = shares.map(Rational.of);
   const levels = certificate.levels.map(levelOf), numbers = [...paid, ...levels.map(({ excess }) => excess)];
@@ -29,7 +30,8 @@ export function margins({ answer, certificate, shares }, game) {
   const worths = game.amounts.map((amount) => sign * over(amount));
   const least = closest(most, worths).map((mask) => ({ mask, number: String(game.amounts[mask]) }));
   const told = most.map((bound) => (bound === undefined ? "" : String(sign * bound)));
-  return { unit: String(unit), decide, bounds: told.join("\n"), closest: least, of: 2 ** n - 2 };
+  const isTied = most.some((bound, mask) => bound !== undefined && bound === worths[mask]);
+  return { unit: String(unit), decide, bounds: told.join("\n"), closest: least, isTied, of: 2 ** n - 2 };
 }
 
 /** What a group may be worth at most, by its mask, for no level to be wrong: undefined for none and for all. */

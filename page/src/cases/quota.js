@@ -1,0 +1,74 @@
+// A quota as people say it: a part of all votes, in per cent, as a fraction, or in words.
+import { readNumber } from "../exact/decimals.js";
+import { lcm, Rational } from "../exact/rational.js";
+
+const MORE = /^(more than|over|above|mehr als|über|plus de|>(?!=))\s*/;
+const LEAST = /^(at least|mindestens|au moins|>=|≥)\s*/;
+const BEHIND = /\s*(of (all|the)( votes| seats)?|(aller|der) stimmen|des voix)$/;
+const MAJORITY = /^((simple|absolute|einfache) )?(majority|mehrheit|majorité( simple| absolue)?)$/;
+const UNANIMOUS = /^(all|everybody|unanim(ity|ous)|alle|einstimmig|unanimité)$/;
+const SIGNS = { "½": "1/2", "⅓": "1/3", "⅔": "2/3", "¼": "1/4", "¾": "3/4", "⅗": "3/5", "⅘": "4/5" };
+const COUNTS = { one: 1, two: 2, three: 3, four: 4, ein: 1, zwei: 2, drei: 3, un: 1, deux: 2, trois: 3, a: 1 };
+const PARTS = [/^(half|hälfte|moitié)$/, /^(thirds?|drittel|tiers)$/, /^(quarters?|viertel|quarts?)$/,
+  /^(fifths?|fünftel)$/];
+const PER_CENT = /^(.*?)\s*(?:%|per ?cent|prozent|pour cent)$/;
+const FRACTIONS = [3, 6, 7].flatMap((den) => Array.from({ length: den - 1 }, (_, k) => [k + 1, den]));
+
+/** What part of all votes a text says: {part, isMore}; null for another text, such as a number of votes. */
+function partIn(typed, mark) {
+  const text = typed.trim().toLowerCase().replace(/\s+/g, " ").replace(BEHIND, "");
+  const isOneMore = /\S ?(\+ ?1|plus one|plus eins|plus un)$/.test(text), isMore = MORE.test(text) || isOneMore;
+  const bare = text.replace(MORE, "").replace(LEAST, "").replace(/ ?(\+ ?1|plus one|plus eins|plus un)$/, "");
+  if (MAJORITY.test(bare)) return { part: Rational.of("1/2"), isMore: true };
+  if (UNANIMOUS.test(bare)) return { part: Rational.of(1), isMore: false };
+  const short = bare.replace(/[ -]*(majority|mehrheit)$/, ""), part = ofWords(short) ?? ofNumbers(short, mark);
+  return part && { part, isMore };
+}
+
+/** "Two thirds", "zweidrittel", "¾". */
+function ofWords(text) {
+  if (SIGNS[text]) return Rational.of(SIGNS[text]);
+  const count = Object.keys(COUNTS).find((word) => text.startsWith(word)) ?? /^\d+(?=[ -]\p{L})/u.exec(text)?.[0];
+  const rest = text.slice(count?.length ?? 0).replace(/^[ -]+|^(die|la) /, "");
+  const den = PARTS.findIndex((one) => one.test(rest)) + 2;
+  return den > 1 ? Rational.of(`${COUNTS[count] ?? count ?? 1}/${den}`) : null;
+}
+
+/** "60 %", "66 2/3 %", "2/3": a fraction below 1 is a part. */
+function ofNumbers(text, mark) {
+  const [, percent] = PER_CENT.exec(text) ?? [], isFraction = /^\d+ ?\/ ?\d+$/.test(text);
+  if (percent === undefined && !isFraction) return null;
+  const [, whole = "0", rest = percent ?? text] = /^(\d+) (\d+ ?\/ ?\d+)$/.exec(percent ?? "") ?? [];
+  const sign = SIGNS[rest.at(-1)], { value } = readNumber(sign ? rest.slice(0, -1).trim() || "0" : rest, mark);
+  if (!value) return null;
+  const all = value.plus(Rational.of(whole)).plus(Rational.of(sign ?? 0));
+  if (isFraction) return all.less(Rational.of(1)) ? all : null;
+  return all.over(Rational.of(100));
+}
+
+/** The least number of votes that reaches the part of all that a text says; null for another text. What is more than a
+ * part is the next sum that votes can have. */
+export function leastOf(typed, votes, mark) {
+  const said = partIn(typed ?? "", mark);
+  if (!said) return null;
+  const least = Rational.sum(votes).times(said.part), den = votes.reduce((all, one) => lcm(all, one.den), 1n);
+  const unit = Rational.of(den), steps = least.times(unit);
+  if (said.isMore) return Rational.of(steps.floor() + 1n).over(unit);
+  return den === 1n ? Rational.of(-steps.negated().floor()) : least;
+}
+
+/** 66.67 % of 90 votes is a little more than 60, and two thirds are 60. If a rounded fraction asks for another number
+ * of votes: {text, ways}, the fraction and the two numbers; else null. */
+export function roundedPart(typed, votes, mark) {
+  const [, whole, decimals] = /(\d+)[.,](\d+) ?%/.exec(typed) ?? [];
+  if (!decimals) return null;
+  const unit = Rational.of(10n ** BigInt(decimals.length)), given = Rational.of(BigInt(whole + decimals));
+  const isNear = ([num, den]) => {
+    const off = Rational.of(100 * num).over(Rational.of(den)).times(unit).minus(given);
+    return off.abs().less(Rational.of(1));
+  };
+  const found = FRACTIONS.find(isNear);
+  const text = found && typed.replace(/\d+[.,]\d+ ?%/, found.join("/"));
+  const ways = text ? [typed, text].map((one) => leastOf(one, votes, mark)) : [];
+  return text && !ways[0].equals(ways[1]) ? { text, ways: ways.map(String) } : null;
+}

@@ -1,0 +1,32 @@
+// Units behind pasted numbers, as in "12 km": one that a column has throughout is left out, and told.
+import { readNumber } from "../exact/decimals.js";
+
+const WITH_UNIT = /^([-−]?\d[\d.,'’\s\u202f]*?)\s*([kKM]?\p{Sc}|%|\p{L}[\p{L}.²³]{0,11})$/u;
+
+/** The number and the unit of a text; null for another text, and for one that is a number as it stands. */
+function parted(text) {
+  const [, number, unit] = WITH_UNIT.exec(text) ?? [];
+  return number && readNumber(text).fault ? { number, unit } : null;
+}
+
+/** Rows without units: {rows, units}, or {fault} in words where the numbers of a column have several. The first `from`
+ * columns are names. A number without a unit beside such with one may only be 0. */
+export function withoutUnits(rows, from = 0) {
+  const wide = Math.max(0, ...rows.map(({ length }) => length)), found = new Map();
+  for (let c = from; c < wide; c++) {
+    const texts = rows.map((row) => row[c] ?? "").filter(Boolean), own = texts.map(parted).filter(Boolean);
+    const [unit, other] = new Set(own.map((one) => one.unit)), isBare = (text) => /[1-9]/.test(text) && !parted(text);
+    const isNumber = (text) => !readNumber(text).fault, isMixed = texts.some((text) => isBare(text) && isNumber(text));
+    if (!unit || isMixed || own.length * 2 < texts.length - 1) continue;
+    if (other) return { fault: `The numbers have several units: “${unit}” and “${other}”. Give all in one.` };
+    found.set(c, unit);
+  }
+  const bare = (text, c) => (found.has(c) ? parted(text ?? "")?.number ?? text : text);
+  return { rows: found.size ? rows.map((row) => row.map(bare)) : rows, units: [...new Set(found.values())] };
+}
+
+/** What is told of units that were left out. */
+export function unitsText(units) {
+  return units.length > 0 && `${units.map((unit) => `“${unit}”`).join(" and ")} behind the numbers was left out, as `
+    + "their unit.";
+}

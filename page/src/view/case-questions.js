@@ -1,0 +1,96 @@
+// What has to be settled before there is an answer: questions beside the cells, each with its ways out.
+import { countText, quotedText } from "../exact/decimals.js";
+import { DECIMALS, WHOLE } from "../exact/marks.js";
+import { Rational } from "../exact/rational.js";
+import { withEscapes } from "../game/names.js";
+import { button, el } from "./dom.js";
+import { doubtNotes } from "./doubts.js";
+
+/** What has to be settled before there is an answer, and how numbers were read. */
+export function questions(reading, typed, settings) {
+  const { asked, swap, perHead, mixed, unsure, part, either } = reading;
+  return [
+    asked && sumQuestion(asked, typed, settings), swap && swapQuestion(swap, typed, settings),
+    perHead && perHeadQuestion(perHead, settings), mixed && mixedQuestion(mixed, reading, settings),
+    part && partQuestion(part, typed, settings), unsure && unsureQuestion(unsure, reading, settings),
+    either ? eitherQuestion(either, settings) : !mixed && !unsure && doubtNotes(reading, settings),
+  ];
+}
+
+/** Asks whether a row is the sum of the others: until that is settled there is no answer. */
+function sumQuestion({ r, name, isLast }, typed, { onReset, onChange }) {
+  const without = () => onReset({ ...typed, rows: typed.rows.filter((_, k) => k !== r) }, "Remove the sum", true);
+  const keep = () => {
+    typed.notSums = [...(typed.notSums ?? []), name];
+    onChange(0);
+  };
+  const [which, rest] = name ? [`, “${withEscapes(name)}”.`, " "] : [" has no name.", " If not, give it a name. "];
+  const row = isLast ? "The last row" : `Row ${r + 1}`, others = isLast ? "the others" : "others";
+  const asked = `${row}${which} Is it the sum of ${others}? It would count as one more.${rest}`;
+  return el("p", { class: "note" }, asked,
+    button("Yes, remove it", without, { class: "quiet" }), name && button("No, it counts", keep, { class: "quiet" }));
+}
+
+/** Asks whether costs stand where landings belong: until that is settled there is no answer. */
+function swapQuestion({ count, cost, name }, typed, { onReset, onChange }) {
+  const rows = typed.rows.map((row) => ({ ...row, cost: row.count, count: row.cost }));
+  const swapped = () => onReset({ ...typed, rows, isUnordered: false }, "Swap the columns", true);
+  const keep = () => {
+    typed.isUnordered = false;
+    onChange(0);
+  };
+  const shown = (text) => `“${withEscapes(text.trim())}”`;
+  return el("p", { class: "note" }, `Are ${shown(count)} the landings of ${name}, and does one need ${shown(cost)}? `,
+    button("No, swap the columns", swapped, { class: "quiet" }), button("Yes, so it is", keep, { class: "quiet" }));
+}
+
+/** Per head is another rule, so nobody gets other shares without a word. */
+function perHeadQuestion(players, { setMeasure }) {
+  return el("p", { class: "note" }, "A group’s loss was to count per head. That is worked out for up to 8 players, ",
+    `and here are ${countText(players)}. By the group as a whole the shares are others. `,
+    button("Count it as a whole", () => setMeasure("plain"), { class: "quiet" }));
+}
+
+/** Asks how many landings a number says: until that is settled there is no answer. */
+function eitherQuestion({ typed, ways: [[less, one], [more, other]] }, { setEntry }) {
+  const way = (count, mark) => button(`${count} ${count === "1" ? "landing" : "landings"}`, () => setEntry(mark), {
+    class: "quiet",
+  });
+  return el("p", { class: "note" }, `“${withEscapes(typed.trim())}” can be read as ${less} or as ${more}, and no `,
+    "other number here shows which. Which is it? ", way(less, one), way(more, other));
+}
+
+/** Asks whether numbers as 90,000 have decimals, though another number shows that they would: until that is settled
+ * there is no answer. */
+function mixedQuestion({ typed, value, whole, proof, count }, { settled, mark }, { setEntry }) {
+  const quoted = (text) => `“${withEscapes(text.trim())}”`, more = count > 1 ? ` and ${count - 1} like it` : "";
+  const way = (text, by) => button(text, () => setEntry(by), { class: "quiet" });
+  const shown = quotedText(Rational.of(value), mark);
+  return el("p", { class: "note" },
+    `${quoted(proof)} shows which mark comes before decimals. So ${quoted(typed)}${more} `,
+    `would be ${shown}, with decimals. Or are these whole numbers, as ${countText(whole)}? `,
+    way(`${countText(whole)}, whole`, WHOLE), way(`${shown}, with decimals`, settled ?? DECIMALS));
+}
+
+/** Asks what numbers as 1.200 are, where nothing shows it: until that is settled there is no answer. */
+function unsureQuestion({ typed, count, ways: [[more, one], [less, other]] }, { mark }, { setEntry }) {
+  const shown = (text) => quotedText(Rational.of(text), mark), quoted = `“${withEscapes(typed.trim())}”`;
+  const way = (text, by, how) => button(`${shown(text)}, ${how}`, () => setEntry(by), { class: "quiet" });
+  const like = count > 1 ? ` So can the ${count} numbers like it.` : "";
+  return el("p", { class: "note" }, `${quoted} can be read as ${shown(more)} or as ${shown(less)}, and no other `,
+    `number here shows which.${like} Which is it? `, way(more, one, "whole"), " ", way(less, other, "with decimals"));
+}
+
+/** Asks whether a quota in per cent is a rounded fraction: until that is settled there is no answer. */
+function partQuestion({ cell, typed, text, ways: [exact, rounded] }, state, { onReset, onChange }) {
+  const keep = () => {
+    state.exactParts = [...(state.exactParts ?? []), typed];
+    onChange(0);
+  };
+  const votes = (count) => `${countText(count)} votes`;
+  return el("p", { class: "note" }, `“${withEscapes(typed.trim())}” asks for ${votes(exact)}, and ${text} for `,
+    `${votes(rounded)}. Which is meant? `,
+    button(`${text}, ${votes(rounded)}`, () => onReset({ ...state, [cell]: text }, `Take ${text}`, true), {
+      class: "quiet",
+    }), " ", button(`Exactly that, ${votes(exact)}`, keep, { class: "quiet" }));
+}

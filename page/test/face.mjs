@@ -1,0 +1,166 @@
+// Scenarios: what the answer shows at first, what it says of itself, and no more than was found; which numbers matter;
+// the start's example.
+import { giveLine, READY, settle, told } from "./harness.mjs";
+
+const sheetOf = (page) => page.run(`(dispatchEvent(new Event("beforeprint")),
+  document.getElementById("sheet").textContent)`);
+const seals = "#answer .seals";
+
+/** Pastes into the first cell of a list. */
+const pasted = (page, rows) => page.paste('[data-cell="rows.0.name"]', rows.map((row) => row.join("\t")).join("\n"));
+
+const answers = [
+  ["face: the seals say what was found", "gains", async (page, expect) => {
+    expect("both", await page.text(seals), /No group would do better alone\s+Two checkers agree/);
+    expect("no line of it", /Fairest/.test(await page.text("#answer .leaving")), false);
+    await page.type("numbers.7", "90"); // less than the pairs want
+    await told(page, seals, /A group would do better alone: \w+ and \w+, by \d/);
+    expect("in red", await page.run("document.querySelector('#answer .seal').className"), "seal bad");
+    expect("and a line", await page.text("#answer .leaving"), /Fairest to those who gain least: .* could leave/);
+  }],
+  ["face: a checker’s no is no seal of two", "costs", async (page, expect) => {
+    await page.run(`(() => {
+      const post = Worker.prototype.postMessage;
+      Worker.prototype.postMessage = function (message) {
+        const isIt = message.task === "checkLine" && { task: "checkAnew", what: { document: "{}" } };
+        return post.call(this, isIt ? { ...message, ...isIt } : message);
+      };
+    })()`);
+    await page.type("numbers.3", "10.5");
+    await told(page, seals, /A checker says no/);
+    expect("in red", await page.run("document.querySelectorAll('#answer .seal')[1].className"), "seal bad");
+    await settle(page);
+    expect("and so it stays", await page.text(seals), /A checker says no/);
+  }],
+  ["face: fractions and per head are options", "costs", async (page, expect) => {
+    const exact = "document.querySelector('#answer-body .exact').checkVisibility()";
+    expect("not at first", await page.run(exact), false);
+    expect("nor per head", await page.run("document.querySelector('#answer-measure select')"), null);
+    await page.click("Options");
+    await page.run("document.querySelector('[data-cell=\"exact\"]').click()");
+    expect("then", await page.run(exact), true);
+    await page.choose("measure", "per-head");
+    await settle(page);
+    expect("beside the heading", await page.run("document.querySelector('#answer-measure select').value"), "per-head");
+  }],
+  ["face: the parts stand there once", "costs", async (page, expect) => {
+    await page.run("for (const part of document.querySelectorAll('.part')) part.open = false");
+    const seen = "[...document.querySelectorAll('.part')].filter((one) => one.checkVisibility())"
+      + ".map(({ id }) => id).join()";
+    expect("none", await page.run(seen), "");
+    for (const [title, id] of [["Why these shares?", "why"], ["What if", "what-if"], ["Evidence", "evidence"],
+      ["On paper", "paper"], ["Files", "files"]]) {
+      await page.click(title, "document.getElementById('next')");
+      expect(title, await page.run(seen), id);
+      await page.until(`document.querySelector('#next [data-part="${id}"]').ariaExpanded === "true"`);
+    }
+  }],
+  ["face: the example says that it is one, until somebody types", "runway", async (page, expect) => {
+    expect("at first", await page.text("#case .sample"), /^Worked example\. Type over it, paste your own table into/);
+    await page.click("start empty");
+    await told(page, "#case .sample", /^Fill in the cells, or paste a table/);
+    await page.type("rows.0.name", "Aer");
+    expect("gone", await page.text("#case .sample"), "");
+    await page.click("Fill in the worked example");
+    await told(page, "#case .sample", /Worked example/);
+    await pasted(page, [["North", 30], ["South", 50]]);
+    expect("gone by a paste", await page.text("#case .sample"), "");
+  }],
+  ["face: a wrong game is a no", "verify", async (page, expect) => {
+    const agreed = '{"game":{"class":"bankruptcy","estate":200,"claims":[100,200,300]}}';
+    const line = '{"answer":"nucleolus","certificate":{"levels":[],"mode":"players"},"game":{"claims":[100],'
+      + '"class":"bankruptcy","estate":90},"shares":[90]}';
+    await giveLine(page, line, agreed);
+    const found = await told(page, "#verify .answers", /says yes[\s\S]*says yes/);
+    expect("first of all", found, /^No: it answers another game\. /);
+  }],
+];
+
+const rules = [
+  ["face: rules of practice stand beside the others, and the program judges them", "costs", async (page, expect) => {
+    const found = await page.text("#answer .shares");
+    expect("as many heads", found, /Fairest to those who gain[\s\S]*In proportion\s+to costs alone, by the page/);
+    expect("in proportion", found, /Sales\s+8\.00\s+3\.88\s+4\.33\s+4\.46\s+4\.23/);
+    expect("nobody leaves", await page.text("#answer .leaving"), "");
+    await page.type("numbers.7", "15"); // what pairs cost binds more
+    await settle(page);
+    await told(page, "#answer .leaving", /In proportion to costs alone: Sales and \w+ could leave, by \d\.\d\d/);
+    expect("in the picture", await page.text("#answer .bars, #answer figure"), /The agencies’ rule/);
+    expect("in the evidence", await page.text("#evidence"), /page itself calculates “In proportion” and “Separable/);
+  }],
+  ["face: a core point, fractions and the field’s names are on request", "costs", async (page, expect) => {
+    const heads = () => page.text("#answer .shares thead");
+    expect("plain names alone", /nucleolus|Shapley|core point/i.test(await heads()), false);
+    await page.run(`document.querySelector('[data-cell="exact"]').click()`);
+    expect("names", await heads(), /nucleolus[\s\S]*Shapley shares[\s\S]*separable costs, remaining benefits/);
+    await page.run(`document.querySelector('[data-cell="core"]').click()`);
+    await told(page, "#answer .shares thead", /A core point/);
+    await page.run(`document.querySelector('[data-cell="core"]').click()`);
+    await page.until("!/core point/.test(document.querySelector('#answer .shares thead').innerText)");
+  }],
+  ["face: at first everything is seen, with twelve buttons and 250 words at most", "runway", async (page, expect) => {
+    await page.run("for (const part of document.querySelectorAll('.part')) part.open = false");
+    const seen = `(one) => one.checkVisibility({ opacityProperty: true }) && !one.closest(".skip, .remove")
+      && one.getBoundingClientRect().top < innerHeight`;
+    for (const id of ["runway", "estate", "costs", "gains", "network", "market", "votes"]) {
+      await page.run(`location.hash = "#${id}"`);
+      await page.until(`document.body.dataset.view === "case" && ${READY}`);
+      await settle(page);
+      const buttons = await page.run(`[...document.querySelectorAll("button, summary, a")].filter(${seen}).length`);
+      expect(`${id}: buttons but those of the foot, ${buttons}`, buttons <= 13, true); // with “About this page”
+      const words = await page.run("document.querySelector('main').innerText.match(/[\\p{L}\\p{N}][^\\s]*/gu).length");
+      expect(`${id}: words, ${words}`, words <= 250, true);
+      const low = await page.run("document.getElementById('next').getBoundingClientRect().bottom");
+      expect(`${id}: the lowest edge, ${low}`, low <= 900, true);
+      const hides = "document.getElementById('answer').scrollHeight - document.getElementById('answer').clientHeight";
+      expect(`${id}: nothing scrolls inside`, (await page.run(hides)) <= 1, true);
+    }
+  }],
+  ["face: above 64 landings the result comes first, and laws are a click away", "runway", async (page, expect) => {
+    await page.click("Clear all");
+    await pasted(page, [["Airline", "Cost", "Landings"], ["North", "1200", 40], ["South", "2500", 30]]);
+    await told(page, "#answer-body .lead", /South pays most/);
+    expect("no name of a law", /payments_are/.test(await page.run(
+      "document.querySelector('#answer-body .notice').innerText")), false);
+    await page.click("Why the formula is right");
+    expect("then", await page.text("#answer-body .notice"), /payments_are_the_nucleolus/);
+    expect("the sheet begins with it", await sheetOf(page), /^A runway.*South pays most/s);
+  }],
+];
+
+const numbers = [
+  ["face: which numbers matter", "costs", async (page, expect) => {
+    await page.until("document.querySelectorAll('#case .decides').length === 5");
+    const marked = "[...document.querySelectorAll('#case .decides .group')].map((one) => one.textContent).join()";
+    expect("marked", await page.run(marked), "Legal,Sales + Ops,Sales + Legal,Ops + Legal,Sales + Ops + Legal");
+    const tip = (mask) => page.run(`document.querySelector('[data-cell="numbers.${mask}"]').parentElement.title`);
+    expect("one that decides", await tip(3), "The answer rests on this number as it is, by this evidence.");
+    expect("one that doesn’t", await tip(1), /^It may cost anything from 6\.00 up, and the shares stay/);
+    const before = await page.text("#answer .lead");
+    await page.type("numbers.1", "6");
+    await settle(page);
+    expect("at its bound", await page.text("#answer .lead"), before);
+    await page.type("numbers.1", "5.5");
+    await settle(page);
+    expect("beyond it", (await page.text("#answer .lead")) === before, false);
+    await page.type("numbers.1", "8");
+    await told(page, ".margins", /rest on 5 of the 7 numbers as they are: Legal, [\s\S]*Ops\s+7\.50\s+from 6\.25 up/);
+  }],
+];
+
+const demos = [
+  ["face: the start’s example lives", "", async (page, expect) => {
+    await told(page, ".demo", /Sales\s+3\.88[\s\S]*No group would do better alone\s+Two checkers agree/);
+    const move = (value) => page.run(`(() => {
+      const slider = document.querySelector(".demo input");
+      slider.value = "${value}"; slider.dispatchEvent(new Event("input"));
+    })()`);
+    await move(16);
+    await told(page, ".demo", /16\.00[\s\S]*A group would do better alone: [\w ]+, by 0\.\d\d\s+Two checkers agree/);
+    await page.click("Open this example");
+    await page.until(READY);
+    expect("as it was left", await page.run(`document.querySelector('[data-cell="numbers.7"]').value`), "16");
+  }],
+];
+
+export const face = [...answers, ...rules, ...numbers, ...demos];
