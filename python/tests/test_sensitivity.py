@@ -2,13 +2,14 @@
 import random
 import unittest
 from fractions import Fraction
-from typing import Any, Optional
+from typing import Any, Optional, Sequence
 
 import coop
 from coop import sensitivity
 from coop.amounts import Amount
+from coop.answers import answer_of
 from coop.calls import check
-from coop.errors import BadInput
+from coop.errors import BadInput, Fault
 from coop.games import made
 from coop.desk.grounds import told
 from coop.moving import Moving, what_moves
@@ -66,6 +67,16 @@ class Worths(unittest.TestCase):
                 step = Fraction(1, 10**6)
                 near = (moving.worth(t + step, group) - moving.worth(t, group)) / step
                 self.assertEqual(moving.slope(t, group, 1), near, game)
+
+
+class Refusing:
+    """The program, but `check` says no to everything."""
+
+    def run(self, words: Sequence[str], document: bytes) -> "tuple[int, bytes]":
+        """Answers as the program, or no."""
+        if list(words) == ["check"]:
+            return 1, b'{"answer":"no","reason":3}\n'
+        return coop.find().run(words, document)
 
 
 @needs_program
@@ -198,6 +209,18 @@ class Paths(unittest.TestCase):
             spoilt = sensitivity.Path([wrong], path.rule, path.moving)
             self.assertFalse(spoilt.check() and spoilt.is_proved)
 
+    def test_nothing_is_told_of_a_line_that_is_not_taken(self) -> None:
+        """A program that takes no line; and a line with other shares."""
+        for ask in (lambda: along(ESTATE, "estate", -40, 40, program=Refusing()),
+                    lambda: ranges(ESTATE, ["estate"], program=Refusing())):
+            with self.assertRaisesRegex(Fault, "the program doesn't take the line"):
+                ask()
+        answer = nucleolus(ESTATE)
+        spoilt = answer_of(answer.line.replace('"75"', '"74"', 1).replace('"75"', '"76"', 1), 0, ESTATE)
+        assert isinstance(spoilt, coop.Nucleolus)
+        with self.assertRaisesRegex(BadInput, "doesn't show these shares"):
+            margins(spoilt)
+
     def test_an_end_that_no_document_has(self) -> None:
         """Numbers so large that a bend's denominator makes them too large: the lines stand beside it, and say so."""
         a, b, c = 10**11 + 1, 10**11 + 7, 10**11 + 11
@@ -209,6 +232,11 @@ class Paths(unittest.TestCase):
         for piece in path.pieces:
             self.assertTrue(piece.low <= piece.proved[0] < piece.proved[1] <= piece.high)
         self.assertEqual(path.at(0), nucleolus(game).shares)
+
+    def test_floats_are_refused(self) -> None:
+        for what, low, high in (("estate", -0.5, 1), ("estate", 0, 1.5), ({"estate": 0.5}, 0, 1)):
+            with self.assertRaises(BadInput):
+                along(ESTATE, what, low, high)  # type: ignore[arg-type]
 
     def test_what_is_refused(self) -> None:
         cases: list[tuple[str, coop.Game, Any, Amount, Amount, str]] = [
