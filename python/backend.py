@@ -33,7 +33,7 @@ DATA = {
         "coop.mjs", "serve.mjs", "telling.mjs", "usage.txt", "package.json", "engine/host.js", "engine/inside.js",
         "engine/ports.js",
     ),
-    "page": ("coop.html", "package.json"),
+    "page": ("coop.html", "package.json", "src/palette.css", "src/picture.css"),
     "scripts": ("check-anew",),
     "examples": ("literature.jsonl",),
 }
@@ -115,8 +115,11 @@ def data() -> dict[str, list[str]]:
         with open(path_of(part, name), encoding="utf-8") as file:
             others = {posixpath.normpath(f"{posixpath.dirname(path)}/{other}") for other in IMPORT.findall(file.read())}
         paths += sorted(others - set(paths))
-    imported = [path[len("page/") :] for path in paths if path.startswith("page/")]
-    return {part: [*names, *(imported if part == "page" else ())] for part, names in DATA.items()}
+    imported = [path.split("/", 1) for path in paths]
+    return {
+        part: [*names, *(name for other, name in imported if other == part and name not in names)]
+        for part, names in DATA.items()
+    }
 
 
 def sources() -> dict[str, str]:

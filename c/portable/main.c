@@ -1,4 +1,5 @@
 /* The program by coop_run, as crates/coop_program is: coop COMMAND < DOCUMENT. */
+#include <signal.h>
 #include <stdio.h>
 #include <stdlib.h>
 #include <string.h>
@@ -53,11 +54,34 @@ static uint8_t *answer(const uint8_t *typed, size_t length, const uint8_t *docum
     }
 }
 
+/* As the program does, so that a write that fails is told by the status, and by no signal. */
+static void ignore_signals(void)
+{
+#if defined(SIGPIPE)
+    signal(SIGPIPE, SIG_IGN);
+#endif
+#if defined(SIGXFSZ)
+    signal(SIGXFSZ, SIG_IGN);
+#endif
+}
+
+/* Writes a line: the status of the program. */
+static int ended(const uint8_t *line, size_t written, uint32_t status)
+{
+    if (fwrite(line, 1, written, stdout) != written || fflush(stdout))
+        return WRITE_FAULT;
+    if (status == NO_ANSWER)
+        fputs("coop: no answer: the module stopped\n", stderr);
+    return (int)status;
+}
+
 int main(int count, char **words)
 {
     size_t length, size, written;
-    uint8_t *typed = joined(count, words, &length), *document, *line;
+    uint8_t *typed = joined(count, words, &length), *document = NULL, *line;
     uint32_t status;
+    int end;
+    ignore_signals();
 #if defined(_WIN32)
     _setmode(_fileno(stdin), _O_BINARY);
     _setmode(_fileno(stdout), _O_BINARY);
@@ -75,9 +99,9 @@ int main(int count, char **words)
         if (!(line = answer(typed, length, document, size, &status, &written)))
             return OUT_OF_MEMORY;
     }
-    if (fwrite(line, 1, written, stdout) != written || fflush(stdout))
-        return WRITE_FAULT;
-    if (status == NO_ANSWER)
-        fputs("coop: no answer: the module stopped\n", stderr);
-    return (int)status;
+    end = ended(line, written, status);
+    free(line);
+    free(document);
+    free(typed);
+    return end;
 }

@@ -40,7 +40,7 @@ export const casesTyped = [
     expect("lead", await page.text(".lead"), "Aer pays 45.83 for 6 landings and Bee pays 14.17: together 60.00.");
     for (const [r, text] of ["30", "30", "0", "0"].entries()) await page.type(`proposal.${r}`, text);
     await settle(page);
-    const verdict = /Yes: all landings that need at most 40.00, by 20.00/;
+    const verdict = /all landings that need at most 40.00 could leave, by 20.00/;
     expect("a group by what it needs", await page.text(".shares tfoot"), verdict);
   }],
 
@@ -53,7 +53,7 @@ export const casesTyped = [
     await page.until("document.querySelector('.comparison')");
     expect("table", await page.text(".shares tbody"), /Aer needing 10\s+2 landings[\s\S]*Aer needing 30\s+2 landings/);
     expect("reasons", await page.text("#why"), /Aer needing 10 \(2 landings\) pay/);
-    expect("a verdict", await page.text(".shares tfoot"), /Yes: Aer needing 10 \(2 landings\), by 6.00/);
+    expect("a verdict", await page.text(".shares tfoot"), /Aer needing 10 \(2 landings\) could leave, by 6.00/);
     await page.run("dispatchEvent(new Event('beforeprint'))");
     const [reasons] = (await page.run("document.getElementById('sheet').textContent")).split("What is agreed");
     expect("paper", reasons, /Why: the nucleolus[\s\S]*Aer needing 10 \(2 landings\) pay/);
@@ -84,7 +84,7 @@ export const casesTyped = [
     await typeAll(page, { "rows.0.count": "59", "rows.1.count": "4" });
     await settle(page);
     expect("lead", await page.text(".lead"), /Aer pays .* for 59 landings/);
-    expect("no Shapley shares above 32", await page.text(".shares thead"), /^(?![\s\S]*Shapley)/);
+    expect("no Shapley shares above 32", await page.text(".shares thead"), /^(?![\s\S]*By what each adds)/);
     const missing = /shares per head up to 8; an overrun, .* up to 12.$/;
     expect("and it is told", await page.text(".missing"), missing);
     expect("words", await page.text(".words"), WORDS);
@@ -135,7 +135,7 @@ export const tables = [
     expect("in the core", await page.text(verdict), /No/);
     await typeAll(page, { "proposal.0": "9", "proposal.2": "1" });
     await settle(page);
-    expect("blocked", await page.text(verdict), /Yes: (Sales|Sales and Ops), by 1.00/);
+    expect("blocked", await page.text(verdict), /(Sales|Sales and Ops) could leave, by 1.00/);
     await page.until("document.querySelector('.comparison')");
     await page.click("Your proposal beside the nucleolus");
     expect("compared", await page.text(".comparison"), /At place 1 of 6 they differ[\s\S]*treats that group worse/);
@@ -172,6 +172,7 @@ export const tables = [
     await settle(page);
     const notice = /there is no nucleolus[\s\S]*some group could do better by itself/;
     expect("notice", await page.text("#answer .notice"), notice);
+    await showExact(page);
     expect("column", await page.text(".shares thead"), /prenucleolus/);
   }],
 

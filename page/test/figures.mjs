@@ -1,6 +1,6 @@
 // Scenarios: what a person meets first, in figures. Each case at 1280 by 900, the answer in the first view, few buttons
 // and words, and no more to scroll than needed; and cells that aren't cut.
-import { noted, READY, settle, told } from "./harness.mjs";
+import { noted, READY, settle, showExact, told } from "./harness.mjs";
 
 const CASES = ["runway", "estate", "costs", "gains", "network", "market", "votes"];
 const MOST_BUTTONS = 15, MOST_WORDS = 350, MOST_HIGH = 2200;
@@ -112,6 +112,7 @@ async function twentyVoters(page, expect) {
   await told(page, "#answer .lead", /^S20 has most power, 9\.8/);
   expect("the page's own", await page.text("#answer .notice"),
     /the page itself counted[\s\S]*does NOT come from the proved/i);
+  await showExact(page);
   expect("what isn’t there", await page.text("#answer-body"), /no Banzhaf index, and no third condition/);
   await page.click("Keep this answer to compare");
   await told(page, ".beyond .pinned", /The shares are those of the kept answer/);
@@ -122,6 +123,7 @@ async function twentyVoters(page, expect) {
 }
 
 async function estates(page, expect) {
+  await showExact(page);
   expect("the Talmud’s name", await page.text(".shares thead"), /nucleolus, the Talmud’s rule[\s\S]*In proportion/);
   await page.paste('[data-cell="rows.0.name"]', `Bank\t1000\nBank\t2000\n${"Long ".repeat(16)}AG\t3000`);
   await page.type("estate", "2000"); // that of the example isn't theirs

@@ -28,6 +28,8 @@ export const lecture = [
     await type(page, { "numbers.5": "1", "numbers.6": "1", "numbers.7": "1" });
     await page.until("/one point in grey/.test(document.querySelector('.triangle')?.innerText)");
     await settle(page);
+    await page.run(`document.querySelector('[data-cell="core"]').click()`);
+    await page.until("/core point/.test(document.querySelector('.shares thead').textContent)");
     expect("no other is promised", await page.run("document.querySelector('.shares thead').textContent"),
       /A core pointone of many; proposes nothing/);
     const why = await page.text("#why");

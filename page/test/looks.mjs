@@ -119,7 +119,7 @@ async function withColumns(page, expect) {
   await page.run(`document.querySelector('[data-cell="paper.withProposal"]').click()`);
   const pages = (await page.pdf()).toString("latin1").match(/\/Type \/Page\b/g) ?? [];
   expect("pages", pages.length, 1);
-  expect("with its columns", await page.text("#sheet thead"), /Shapley shares\s*exactly\s*Your proposal/);
+  expect("with its columns", await page.text("#sheet thead"), /Shapley shares\s*exactly\s*[\s\S]*Your proposal/);
   expect("and its picture", await page.run("document.querySelectorAll('#sheet svg').length"), 1);
 }
 

@@ -1,5 +1,5 @@
 // Scenarios: what has to be said where it counts: by which measure, how it is rounded, what a proposal is.
-import { noted, settle } from "./harness.mjs";
+import { noted, settle, showExact } from "./harness.mjs";
 
 const sheetOf = async (page) => {
   await page.run("dispatchEvent(new Event('beforeprint'))");
@@ -17,10 +17,11 @@ export const saying = [
   ["per head is said wherever the rule is named", "gains", async (page, expect) => {
     await page.choose("measure", "per-head");
     await settle(page);
-    const column = /Fairest to those who gain least\s+nucleolus per head/;
+    const column = /Fairest to those who gain least, per head\s+nucleolus per head/;
+    await showExact(page);
     expect("column", await page.text(".shares thead"), column);
-    expect("pictures", await page.run("document.querySelector('.bars svg').textContent"), /Nucleolus per head/);
-    expect("triangle", await page.run("document.querySelector('.triangle svg').textContent"), /Nucleolus per head/);
+    expect("pictures", await page.run("document.querySelector('.bars svg').textContent"), /gain least, per head/);
+    expect("triangle", await page.run("document.querySelector('.triangle svg').textContent"), /gain least, per head/);
     expect("files", await savedNames(page), /gains-nucleolus-per-head\.json/);
     expect("in a sentence", await page.text(".lead"), /By the nucleolus per head/);
     await page.run("document.querySelector('#why .meanings').open = true");
@@ -177,12 +178,13 @@ saying.push(
   ["the prenucleolus, where it is another than the nucleolus", "document", async (page, expect) => {
     await page.fill("#document textarea", game([0, 0, 8, 0, 8, 0, 9]));
     await settle(page);
-    expect("the same is not told twice", /Prenucleolus/.test(await page.text(".shares thead")), false);
+    await showExact(page);
+    expect("the same is not told twice", /prenucleolus/i.test(await page.text(".shares thead")), false);
     await page.run("location.hash = '#document'");
     await page.fill("#document textarea", game([0, 0, 10, 0, 10, 10, 1]));
     await page.until("document.querySelector('[data-cell=\"numbers.7\"]')?.value === '1'");
     await settle(page);
-    expect("symmetric", /Prenucleolus/.test(await page.text(".shares thead")), false);
+    expect("symmetric", /prenucleolus/i.test(await page.text(".shares thead")), false);
     await page.run("location.hash = '#document'");
     await page.fill("#document textarea", game([0, 0, 20, 0, 0, 0, 1]));
     await page.until("document.querySelector('[data-cell=\"numbers.3\"]')?.value === '20'");

@@ -26,6 +26,7 @@ KINDS = {
 }
 LISTS, SINGLE = keys_of("list"), keys_of("single")
 MOST_IN_A_TABLE: int = CLASSES["table"]["players"][1]
+LEAST = 2**63  # of integers; minus it is the least one
 FRACTION = re.compile("-?[0-9]{1,39}(/[1-9][0-9]{0,38})?")
 WRITER = json.JSONEncoder(ensure_ascii=False, separators=(",", ":"))
 
@@ -40,6 +41,8 @@ def encoded(text: str, what: str) -> bytes:
 
 def number(tree: Any, what: str) -> Fraction:
     """The value of an integer or a fraction text."""
+    if type(tree) is int and not -LEAST <= tree < LEAST:
+        raise BadInput(f"{what}: an integer has more than 64 bits")
     if type(tree) is int or type(tree) is str and FRACTION.fullmatch(tree):
         return Fraction(tree)
     raise BadInput(f'{what}: {json.dumps(tree)[:40]} is no integer, nor, with "version":2, a fraction text')

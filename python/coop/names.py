@@ -11,24 +11,9 @@ import unicodedata
 from typing import Callable, Iterable, Optional, Sequence
 
 # Letters and marks that take no room, beside those of the categories Cc and Cf.
-UNSEEN = frozenset(
-    [
-        0x034F,
-        0x115F,
-        0x1160,
-        0x17B4,
-        0x17B5,
-        0x2028,
-        0x2029,
-        0x3164,
-        0xFFA0,
-        0x2065,
-        0x2800,  # a blank of Braille
-        *range(0x180B, 0x1810),
-        *range(0xFE00, 0xFE10),
-        *range(0xFFF0, 0xFFF9),
-    ]
-    + list(range(0xE0000, 0xE1000))
+UNSEEN = frozenset(  # 0x2800 is a blank of Braille
+    [0x034F, 0x115F, 0x1160, 0x17B4, 0x17B5, 0x2028, 0x2029, 0x3164, 0xFFA0, 0x2065, 0x2800]
+    + [*range(0x180B, 0x1810), *range(0xFE00, 0xFE10), *range(0xFFF0, 0xFFF9), *range(0xE0000, 0xE1000)]
 )
 ISOLATE, END_OF_ISOLATE = "\u2068", "\u2069"
 

@@ -40,7 +40,6 @@ class Style:
         """Whether the number shown isn't the exact one."""
         return self.places is not None and (value * 10**self.places).denominator > 1
 
-
     def spelling(self) -> dict[str, Any]:
         """The same as the page's modules are told it."""
         return {"places": self.places, "unit": self.unit, "mark": self.mark, "thousands": MARKS[self.mark]}

@@ -13,7 +13,7 @@ from .errors import BadInput, Fault, NotFound, Slip
 from .program import page_server
 
 MOST = 32 * 1024 * 1024  # bytes of what is asked at once
-SECONDS = 120.0  # for one question; a document of 8 MB takes some ten
+SECONDS = 300.0  # for one question; a document of 8 MB takes some ten, and more on a busy machine
 TOO_LATE = 124
 UNTOLD = 2
 NEEDLESS = "answers don't need it where another program is there"

@@ -5,6 +5,8 @@ from coop import runways
 from coop.airlines import landings_in
 from coop.styles import Style, each
 
+if sys.stdin.isatty():
+    sys.exit("give the list on standard input: runway_list.py < LANDINGS.csv")
 paid = runways.nucleolus((row.airline, row.need, row.landings) for row in landings_in(sys.stdin.read()))
 for name, share in zip(paid, each(list(paid.values()), Style(2))):
     print(name, share)

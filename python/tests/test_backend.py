@@ -18,6 +18,7 @@ import coop
 print(coop.airport([1, 2]).worth(3), coop.__file__)
 print(coop.checking.verdict(coop.nucleolus(coop.airport([2, 4, 6])).line.encode()))
 print(coop.telling.same(*(coop.airport([cost]).document().decode() for cost in (1, 2))).outcome)
+print(coop.nucleolus(coop.airport([2, 4, 6]))._repr_html_().count("<svg"))
 """
 
 
@@ -40,7 +41,7 @@ class Built(unittest.TestCase):
             names.append(os.path.join(self.folder, part, backend.build_wheel(os.path.join(self.folder, part))))
         self.assertEqual([os.path.basename(name) for name in names], [f"coop-{VERSION}-py3-none-any.whl"] * 2)
         self.assertEqual(bytes_of(names[0]), bytes_of(names[1]))
-        self.assertLess(os.path.getsize(names[0]), 600_000)  # packed
+        self.assertLess(os.path.getsize(names[0]), 700_000)  # packed
         with zipfile.ZipFile(names[0]) as archive:
             found = {name: archive.read(name) for name in archive.namelist()}
         record = found[f"{info}/RECORD"].decode().splitlines()
@@ -104,7 +105,7 @@ class Built(unittest.TestCase):
         found = self.asked(python, tools)
         self.assertIn(b"NotFound: no program found: put Node 18 or later on the path", found[1])
         os.symlink(NODE or "", os.path.join(tools, "nodejs"))
-        said = f"-2 {os.path.join(site, 'coop', '__init__.py')}\n{{'answer': 'yes'}}\nanother\n"
+        said = f"-2 {os.path.join(site, 'coop', '__init__.py')}\n{{'answer': 'yes'}}\nanother\n1\n"
         self.assertEqual(self.asked(python, tools), (said.encode(), b""))
 
     def asked(self, python: str, path: str) -> tuple[bytes, bytes]:

@@ -54,6 +54,19 @@ class Scripts(unittest.TestCase):
             ):
                 self.refused(script(name, *words, output=full), f"{name}: ")
 
+    def test_what_is_too_large(self) -> None:
+        """Of numbers and units, in a sentence."""
+        game = '{"class":"airport","costs":[2]}'
+        line = f'{{"answer":"nucleolus","game":{game},"shares":["%s"],"certificate":{{"levels":[]}}}}'
+        for share in ("1" * 4301, "1" * 401):
+            for text in (line % share, (line % share).replace(f'"{share}"', share)):
+                for words in (["shares"], ["picture"], ["shares", "--csv"]):
+                    self.refused(script(*words, text=text), f"{words[0]}: ")
+        solved = os.path.join("examples", "airport-solved.json")
+        for words in (["shares", solved], ["report", solved], ["shares", "--csv", solved]):
+            self.refused(script(*words, "--unit", "\udcff"), "the unit has half of a character")
+        self.assertNotIn("\x1b", script("shares", solved, "--unit", "\x1b[31m")[1])
+
     def test_from_vector(self) -> None:
         status, text, errors = script("from-vector", "--order", "size", "--names", "a,b,c", text="0,0,0,6,2,2,12\n")
         self.assertEqual((status, errors), (0, ""))
@@ -369,11 +382,11 @@ class Scripts(unittest.TestCase):
         table = '{"game":{"class":"cost-table","players":4,"worths":[8,7,10,6,10,10,10,5,10,10,10,10,10,10,13]}}'
         shares = table[:-1] + ',"shares":[4,3,3,3]}'
         status, text, errors = script("picture", text=shares)
-        self.assertEqual((status, errors, text.count("adds to the cost"), text.count("filled ones")), (0, "", 1, 1))
-        marks = text.count('stroke-width="2.4"')
+        self.assertEqual((status, errors, text.count(">adds to the cost"), text.count("filled ones")), (0, "", 1, 1))
+        marks = text.count('class="adds"')
         status, text, errors = script("picture", "--no-added", text=shares)
-        self.assertEqual((status, errors, text.count("adds to the cost"), text.count("filled ones")), (0, "", 0, 0))
-        self.assertEqual((marks, text.count('stroke-width="2.4"'), text.count("costs alone")), (5, 0, 1))
+        self.assertEqual((status, errors, text.count(">adds to the cost"), text.count("filled ones")), (0, "", 0, 0))
+        self.assertEqual((marks, text.count('class="adds"'), text.count(">costs alone<")), (5, 0, 1))
         self.assertNotIn("filled ones", script("picture", "--bars", text=json.dumps(solved()))[1])
         levels = [{"excess": "-1/2", "coalitions": [[[1], 1], [[2], 1]], "earlier": [], "bounds": [], "total": 1}]
         two = {
@@ -382,8 +395,8 @@ class Scripts(unittest.TestCase):
             "game": {"class": "airport", "costs": [1, 1]},
             "shares": ["1/2", "1/2"],
         }
-        self.assertEqual(script("report", text=json.dumps(two))[1].count("adds to the cost"), 1)
-        self.assertEqual(script("report", "--no-added", text=json.dumps(two))[1].count("adds to the cost"), 0)
+        self.assertEqual(script("report", text=json.dumps(two))[1].count(">adds to the cost"), 1)
+        self.assertEqual(script("report", "--no-added", text=json.dumps(two))[1].count(">adds to the cost"), 0)
 
     def test_report(self) -> None:
         status, text, errors = script("report", "--title", "A runway", text=json.dumps(solved()))
@@ -417,7 +430,7 @@ class Scripts(unittest.TestCase):
         self.assertIn("&quot;costs&quot;:[20,40,60]", paper)
         self.assertNotIn("so many times", plain)
         false = great.replace('"-10"', '"-20"')
-        self.assertIn("the excess -2, and light alone has\n-1.", script("explain", "--over", "10", text=false)[1])
+        self.assertIn("the excess −2, and it is −1.", script("explain", "--over", "10", text=false)[1])
         vote = '{"answer":"shapley","shares":["1"],"game":{"class":"voting","quota":1,"weights":[1]}}'
         self.refused(script("explain", "--over", "10", text=vote), "a vote has no amounts")
         self.refused(script("picture", "--over", "10", text='{"shares":[1],"game":{"class":"table"}}'), "1 to 64")

@@ -104,13 +104,14 @@ class Pictures(Files):
 
     def test_many_divisions(self) -> None:
         """Each has a mark of its own, up to eight; a sum that is another has no place in a triangle."""
-        points = [Point(f"proposal {k}", [Fraction(1), Fraction(k), Fraction(5 - k)], coop.airport([2, 4, 6])) for k in range(8)]
+        game = coop.airport([2, 4, 6])
+        points = [Point(f"proposal {k}", [Fraction(1), Fraction(k), Fraction(5 - k)], game) for k in range(8)]
         marks = re.findall('class="own mark" data-point="([a-z]+)"', picture(points))
         self.assertEqual(len(set(marks)), 8)
         self.assertEqual(len(set(re.findall('data-point="([a-z]+)"', picture(points, wants_bars=True)))), 8)
         with self.assertRaisesRegex(BadInput, "9 divisions: a picture shows at most 8"):
             picture([*points, points[0]])
-        wrong = Point("proposal", [Fraction(3), Fraction(1), Fraction(3)], coop.airport([2, 4, 6]))
+        wrong = Point("proposal", [Fraction(3), Fraction(1), Fraction(3)], game)
         with self.assertRaisesRegex(BadInput, "the shares of proposal add to 7"):
             picture([wrong])
 
@@ -118,7 +119,8 @@ class Pictures(Files):
         """Decimals add up, and their sums are there; on the axis numbers have the mark of the style."""
         points = [Point("nucleolus", [Fraction(1, 3)] * 3, coop.airport([1, 1, 1]))]
         texts = [row.text for row in texts_of(picture(points, wants_bars=True, style=Style(2, "kr", ",")))]
-        self.assertEqual([text for text in texts if text and text.endswith(" kr")][-4:], ["0,34 kr", "0,33 kr", "0,33 kr", "1,00 kr"])
+        shown = [text for text in texts if text and text.endswith(" kr")]
+        self.assertEqual(shown[-4:], ["0,34 kr", "0,33 kr", "0,33 kr", "1,00 kr"])
         self.assertIn("0,2", texts)
 
     def test_the_core_alone(self) -> None:

@@ -117,7 +117,8 @@ class Labels(unittest.TestCase):
     def test_a_frame_is_refused(self) -> None:
         frame: Any = Frame({"0": [1, 4], "1": [2, 5], "2": [3, 9]})
         ways: list[Callable[[Any], Any]] = [coop.table, coop.cost_table, coop.airport]
-        for way in (*ways, lambda it: coop.bankruptcy(1, it)):
+        ways.append(lambda it: coop.bankruptcy(1, it))
+        for way in ways:
             with self.assertRaisesRegex(coop.BadInput, "a Frame of 2 x 3 .*: one row is one game"):
                 way(frame)
         with self.assertRaisesRegex(coop.BadInput, "one row is one game"):

@@ -196,13 +196,16 @@ SENTENCES: list[tuple[Any, Any, str]] = [
 
 # Each condition, by a document that fails it.
 FAILURES: list[tuple[dict[str, Any], str]] = [
-    (solved(shares=[1, 2, 4]), "condition 1. The payments don’t add to what all together cost. They add to 7, and all together cost 6."),
+    (
+        solved(shares=[1, 2, 4]),
+        "condition 1. The payments don’t add to what all together cost. They add to 7, and all together cost 6.",
+    ),
     (solved(shares=[3, 1, 2]), "condition 2. light pays more than alone. light pays 3, and costs 2 alone."),
     (
         spoilt(0, excess="-2"),
         (
-            "condition 3. At level 1: by these shares what light alone would gain or lose by leaving (its excess) isn’t "
-            "what the line states. The level has the excess −2, and it is −1."
+            "condition 3. At level 1: by these shares what light alone would gain or lose by leaving (its excess) "
+            "isn’t what the line states. The level has the excess −2, and it is −1."
         ),
     ),
     (
@@ -213,8 +216,8 @@ FAILURES: list[tuple[dict[str, Any], str]] = [
     (
         spoilt(1, total=2),
         (
-            "condition 5. At level 2: the weights at light don’t add to the level’s total. They add to 1, and the total "
-            "is 2."
+            "condition 5. At level 2: the weights at light don’t add to the level’s total. They add to 1, and the "
+            "total is 2."
         ),
     ),
     (
@@ -227,8 +230,8 @@ FAILURES: list[tuple[dict[str, Any], str]] = [
     (
         {**FOUR, "certificate": {**FOUR["certificate"], "mode": "players"}},
         (
-            "condition 7. At level 2: a group that is still open is worse off than the level says; its excess is −2. The "
-            "level has the excess −2.50. It is player 1 and player 2 together."
+            "condition 7. At level 2: a group that is still open is worse off than the level says; its excess is −2. "
+            "The level has the excess −2.50. It is player 1 and player 2 together."
         ),
     ),
     (THIRDS, "its excess is −1. The level has the excess −2. It is player 1 alone."),

@@ -109,7 +109,7 @@ class Answers(unittest.TestCase):
         self.assertEqual(self.server.run(["core"], AIRPORT), (0, CORE))
 
     def test_all_killed_before(self) -> None:
-        self.server.free += [self.server.begun() for _ in range(3)]
+        self.server.free += [self.server.begun(None) for _ in range(3)]
         for worker in self.server.free:
             os.kill(worker.process.pid, signal.SIGKILL)
         for _ in range(4):
@@ -161,6 +161,17 @@ class Answers(unittest.TestCase):
         self.assertTrue(is_gone(process))
         self.assertEqual(self.server.run(["core"], AIRPORT), (0, CORE))
 
+    @unittest.skipUnless(hasattr(os, "fork"), "there is no fork")
+    def test_a_fork_while_a_call_waits(self) -> None:
+        """The child has no process and all places at once, before it asks by several threads."""
+        server = Server(COMMAND, 1)
+        with server.places:
+            child = os.fork()
+            if not child:
+                has_all = server.owner == os.getpid() and not server.free and server.places.acquire(blocking=False)
+                os._exit(0 if has_all else 1)
+            self.assertEqual(os.waitstatus_to_exitcode(os.waitpid(child, 0)[1]), 0)
+
     def test_exceptions_are_pickled(self) -> None:
         negative = coop.Game({"class": "airport", "costs": [-1]})
         for command, game in ((coop.bird, coop.airport([1, 2])), (coop.core, negative)):
@@ -174,7 +185,7 @@ class Answers(unittest.TestCase):
 @needs_node
 class Ends(unittest.TestCase):
     def test_time(self) -> None:
-        server = Server(COMMAND, 1, seconds=5)
+        server = Server(COMMAND, 1, seconds=60)
         server.run(["core"], AIRPORT)
         process, server.seconds = server.free[0].process.pid, 0.3
         os.kill(process, signal.SIGSTOP)
@@ -183,7 +194,7 @@ class Ends(unittest.TestCase):
         self.assertEqual(server.run(["core"], AIRPORT), (124, b""))
         late.cancel()
         self.assertTrue(is_gone(process))
-        server.seconds = 30
+        server.seconds = 60
         self.assertEqual(server.run(["core"], AIRPORT), (0, CORE))
         server.close()
 
@@ -210,7 +221,7 @@ class Ends(unittest.TestCase):
     def test_killed_while_it_begins(self) -> None:
         """It is begun again, unless it happens each time."""
         with tempfile.TemporaryDirectory() as folder:
-            once = f"mkdir {folder}/once && kill -9 $$; exec {COMMAND[0]} {COMMAND[1]}"
+            once = f"mkdir {folder}/once 2>/dev/null && kill -9 $$; exec {COMMAND[0]} {COMMAND[1]}"
             server = Server(["sh", "-c", once], 1)
             self.assertEqual(server.run(["core"], AIRPORT), (0, CORE))
             server.close()
@@ -326,8 +337,18 @@ class Frames(unittest.TestCase):
         long = b'3 {"number":1,"refused":"TooLong"}\n'
         wide = b"x" * (9 << 20) + b"\n" + b" " * (3 << 20) + b"\n" + AIRPORT
         self.assertEqual(ended(wide, ["--lines", "core"]), (0, long * 2 + core))
-        for wrong in (["--lines"], ["core"]):
+        for wrong in (["--lines"], ["core"], ["--lines", "coer"], ["--lines", "core, shapley"], ["--lines", "gen"]):
             self.assertEqual(ended(AIRPORT, wrong), (2, b""))
+
+    def test_output_that_is_thrown_away(self) -> None:
+        """It is open for reading, too, as Python and Node open the null device; and that is no fault."""
+        line = AIRPORT + b"\n"
+        with open(os.devnull, "r+b") as null:
+            for script, words in (("serve.mjs", ["--lines", "core"]), ("coop.mjs", ["core"])):
+                command = [COMMAND[0], os.path.join(os.path.dirname(COMMAND[1]), script), *words]
+                self.assertEqual(subprocess.run(command, input=line, stdout=null).returncode, 0)
+            empty = subprocess.run([*command], stdin=null, stdout=subprocess.PIPE)
+            self.assertEqual((empty.returncode, empty.stdout), (3, b'{"number":2,"refused":"NotJson"}\n'))
 
 
 if __name__ == "__main__":

@@ -77,7 +77,8 @@ def with_little_stack(check: str, texts: list[bytes]) -> Iterator[str]:
     for text in texts:
         for size in (4096, 512, 64):
             found, printed, errors = run(["sh", "-c", f"ulimit -s {size}; exec {check}"], text)
-            is_answer = found in (0, 1) and printed.startswith(b'{"answer":') and not errors
-            is_refusal = found == 2 and not printed and errors.startswith(b"check: ") and errors.count(b"\n") == 1
+            said = [line for line in errors.splitlines() if not line.startswith(b"check: warning: ")]
+            is_answer = found in (0, 1) and printed.startswith(b'{"answer":') and not said
+            is_refusal = found == 2 and not printed and len(said) == 1 and said[0].startswith(b"check: ")
             if not is_answer and not is_refusal:
                 yield f"{text[:99]!r} with a stack of {size} KB ends with {found}, {errors[:99]!r}"

@@ -118,7 +118,11 @@ def hardest_table() -> Game:
     """A table near a concave function of the sizes, whose many levels are told by small numbers and by coins. A single
     player has nothing."""
     draw, players = random.Random(1), len(HARD_PLAYERS)
-    pairs = [(1 << ord(a) - 97 | 1 << ord(b) - 97, more) for more, words in HARD_PAIRS.items() for a, b in words.split()]
+
+    def mask_of(letters: str) -> int:
+        return sum(1 << ord(letter) - ord("a") for letter in letters)
+
+    pairs = [(mask_of(pair), more) for more, words in HARD_PAIRS.items() for pair in words.split()]
 
     def worth(mask: int) -> int:
         size = size_of(mask)

@@ -67,4 +67,4 @@ def with_turns(text: str) -> str:
     found, count = LOOP.subn(r"\1 TURN", text)
     if not count or len(HEAD_OF_LOOP.findall(text)) != count or "goto w2c_L" not in text:
         raise NotMade(f"{count} loops are known in what wasm2c wrote")
-    return f"#define NDEBUG\n{found}"
+    return f"#ifndef NDEBUG\n#define NDEBUG\n#endif\n{found}"

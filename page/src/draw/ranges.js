@@ -56,7 +56,8 @@ export function trades(game, matching, { solution, wide, ...format }) {
     "not that each can be chosen by itself: one holds the others. Below its range a buyer would be outbid, or ",
     "the seller rather keep it; above it the seller would be undercut, or the buyer rather not buy.",
     idle.length > 0 && ` Without a trade: ${idle.join(", ")}.`)];
-  const drawn = deals.length > 0 && pricesPicture(deals, priceOf(format), format.show, wide);
+  const plain = deals.map((deal) => ({ ...deal, rule: "first column" })); // the table there has the rule's name
+  const drawn = deals.length > 0 && pricesPicture(plain, priceOf(format), format.show, wide);
   return { said, table, picture: drawn && figure("ranges", "prices", drawn) };
 }
 
@@ -117,8 +118,9 @@ export function power(game, shares, { mark, wide, kept }) {
   const reaches = isDouble ? "reaches both quotas" : "reaches the quota";
   return el("div", {}, tableOf("power", heads, rows),
     el("p", { class: "hint" },
-      `Power: in what part of all orders of joining a voter is the one who ${reaches} (Shapley and Shubik 1954). `,
-      "This page has no Banzhaf index, and no third condition such as a blocking minority."),
+      `Power: in what part of all orders of joining a voter is the one who ${reaches}.`,
+      el("span", { class: "field-name" }, " (Shapley and Shubik 1954. This page has no Banzhaf index, and no third ",
+        "condition such as a blocking minority.)")),
     figure("powers", "power", powerPicture(game, shares, parts, percent, wide)));
 }
 

@@ -199,7 +199,7 @@ export class AnswerView {
   /** What the page calculates by itself has no reasons and no evidence. */
   showBeyond({ beyond }) {
     for (const id of ["why", "evidence", "what-if"]) at(id).hidden = true;
-    refill(at("answer-settings"), this.formats(), this.hiding());
+    refill(at("answer-settings"), this.formats(), this.fractions(), this.hiding());
     refill(at("answer-measure"));
     const view = this.viewOf(this.session.result);
     refill(at("answer-body"), beyond.game ? beyondPower(beyond, view) : beyondParts(beyond, view));

@@ -3,6 +3,7 @@ import { Rational } from "../exact/rational.js";
 import { countText, fractionText } from "../exact/decimals.js";
 import { listed } from "../game/words.js";
 import { button, copy, el, refill } from "./dom.js";
+import { CALCULATED } from "./questions.js";
 
 const FEW = 8; // places that are shown at first
 const MOST = 1022, MOST_COPIED = 4094; // that are shown at all, and copied: those of ten and of twelve players
@@ -11,7 +12,7 @@ const MOST_PLAYERS = 12; // of other games than tables
 /** The part that opens; `typed` keeps what was opened and found of this case, `ask(task, what)` goes to a worker. */
 export function excessesPart({ game, text, points: solved }, { rows, format, typed, ask, proposal }) {
   const canBe = game.n > 1 && (game.isTable() || game.n <= MOST_PLAYERS) && !game.ballots && !game.isMarket();
-  const points = [...solved, ...ownPoint(game, proposal)];
+  const points = [...solved.filter(({ key }) => !CALCULATED.includes(key)), ...ownPoint(game, proposal)];
   if (!canBe || points.length < 2) return null;
   const memory = (typed.excesses ??= { most: FEW }), found = el("div"), divisions = points.map(sharesOf);
   const asked = (most) => ask("excessLists", { divisions, most });

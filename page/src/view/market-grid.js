@@ -20,7 +20,7 @@ class MarketGrid {
     Object.assign(this, { kind, typed, onChange, remember });
     this.holder = el("div", { class: "scroll" });
     this.tools = el("p", { class: "tools" });
-    const more = el("details", { class: "inline" }, el("summary", {}, "Add or remove traders"), this.tools);
+    const more = el("details", { class: "inline traders" }, el("summary", {}, "Add or remove traders"), this.tools);
     this.none = el("p", { class: "tools" });
     this.said = el("p", { class: "hint", role: "status" });
     this.element = el("div", {}, this.holder, this.said, more, this.none);

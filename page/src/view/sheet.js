@@ -21,6 +21,7 @@ import { filledLines, filledText, givenText } from "./filled.js";
 import { movedText, totalsOf, withSum } from "./format.js";
 import { labelOfCell } from "./cell-names.js";
 import { pinnedOf, pinnedText } from "./pinned.js";
+import { CALCULATED } from "./questions.js";
 import { contextOf, ownSum, sameText } from "./shares-table.js";
 import { airlineLines } from "./table-lines.js";
 import { changeText, todayOf, todayTitle } from "./today.js";
@@ -194,7 +195,7 @@ function othersOf({ result, rows, format, withProposal, proposal, judged }, show
   const { game, points } = result, own = proposal?.totals && { title: "Your proposal", ...proposal, ...judged };
   return [...points.filter((point) => point !== shown), own].filter(Boolean).map((point) => {
     const totals = point.totals ?? totalsOf(rows, point.shares), texts = format.column(totals, rows);
-    const hasExact = totals.some((total) => !format.isExact(total));
+    const hasExact = !CALCULATED.includes(point.key) && totals.some((total) => !format.isExact(total));
     const exact = (r) => el("td", { class: "number exact" }, format.isExact(totals[r]) ? "" : fractionText(totals[r]));
     return { title: point.title, texts, totals, exact: hasExact ? exact : null, said: saidOf(game, point, format) };
   });

@@ -10,8 +10,8 @@ from typing import Any, Callable, Iterable, NoReturn, Optional, Sequence, Union
 from ..amounts import MOST_SCALE
 from .cells import Cells, cells_named
 from ..errors import BadInput, CoopError
-from ..game import Game
-from ..names import visible, warning
+from ..game import Game, encoded
+from ..names import apart, visible, warning
 from ..sheets import MARKS, SEPARATORS, Cell, Layout, notes
 from ..styles import MOST_PLACES, Style
 
@@ -131,7 +131,8 @@ def factor(text: str) -> int:
 
 def style_of(chosen: Any) -> Style:
     """The style that the words name."""
-    return Style(chosen.places, chosen.unit, MARKS[getattr(chosen, "mark", "point")])
+    encoded(chosen.unit, "the unit")
+    return Style(chosen.places, apart(chosen.unit), MARKS[getattr(chosen, "mark", "point")])
 
 
 def run(main: Callable[[Sequence[str]], Output]) -> None:
@@ -145,6 +146,9 @@ def run(main: Callable[[Sequence[str]], Output]) -> None:
             output.write(text)
     except (CoopError, OSError) as fault:
         say(str(fault))
+        sys.exit(2)
+    except (ValueError, OverflowError) as fault:  # Python's own limits, as of 4,300 digits
+        say(f"a number is too large to read or to show: {fault}")
         sys.exit(2)
     sys.exit(status)
 

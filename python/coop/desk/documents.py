@@ -109,8 +109,8 @@ def mailed(text: str) -> str:
     if not re.search(r"(?m)^>|=3D|=22|=\r?$", text) and not any(map(is_object, ("".join(lines), " ".join(lines)))):
         return ""
     return (
-        "; mail has changed it: ask for it as a file, or paste it into Check of page/coop.html, which has a button that "
-        "undoes this"
+        "; mail has changed it: ask for it as a file, or paste it into Check of page/coop.html, which has a button "
+        "that undoes this"
     )
 
 

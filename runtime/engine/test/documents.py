@@ -116,30 +116,6 @@ def even_games() -> Iterator[Game]:
             yield {"class": "bankruptcy", "claims": numbers, "estate": sum(numbers) * part // 4}
 
 
-def small_games(draw: random.Random, count: int) -> Iterator[Game]:
-    """Games of a few players of each class, each with whole numbers, or with fractions in version 2."""
-    for number in range(count):
-        players, halves = draw.randint(1, 6), number % 3 == 2
-
-        def worth() -> Any:
-            return f"{2 * draw.randint(-30, 60) + 1}/{draw.choice([2, 4])}" if halves else draw.randint(-9, 60)
-
-        def amount() -> Any:
-            return f"{2 * draw.randint(0, 60) + 1}/{draw.choice([2, 4])}" if halves else draw.randint(0, 60)
-
-        worths = [worth() for _ in range(2**players - 1)]
-        tables: list[Game] = [{"class": name, "players": players, "worths": worths} for name in ("table", "cost-table")]
-        rows = [[amount() for _ in range(draw.randint(1, 4))]] * draw.randint(1, 4)
-        game: Game = draw.choice([
-            *tables, {"class": "airport", "costs": [amount() for _ in range(players)]},
-            {"class": "bankruptcy", "claims": [amount() for _ in range(players)], "estate": draw.randint(0, 40)},
-            {"class": "assignment", "matrix": rows}, {"class": "market", "matrix": rows},
-            {"class": "tree", "matrix": matrix(players + 1, draw, 30)},
-            {"class": "voting", "quota": draw.randint(1, 12), "weights": [draw.randint(0, 6) for _ in range(players)]},
-        ])
-        yield {**game, **({"version": 2} if halves else {}), **({"excess": "per-head"} if number % 4 == 3 else {})}
-
-
 def on_game(program: str, game: Game) -> Iterator[Run]:
     """Each command on a game: shares are those of the nucleolus, where it has one, and such as few would agree on."""
     text = text_of(game=game)
@@ -257,13 +233,20 @@ def words_alone() -> Iterator[Run]:
 
 def runs(program: str) -> Iterator[Run]:
     """All runs."""
-    from_checks = tool("try-check-anew")
-    yield from (Run(["check"], text) for text in from_checks.texts(program))
-    known = [dict(game, excess=measure) for game in from_checks.GAMES for measure in ("plain", "per-head")]
-    games = [*known, *map(from_checks.halved, known), *small_games(random.Random(53), 90)]
-    for game in [*games, *(game for game, _ in from_checks.LIMITS), *even_games(), *largest_games()]:
+    import lines
+    from games import game_of, halved, some_game
+    from spoils import anything, spoilt_in_turn
+
+    yield from (Run(["check"], text) for text in lines.texts(program))
+    printed = [*lines.printed_lines(program), *lines.large_votes(), *lines.large_losses()]
+    yield from (Run(["check"], json.dumps(line).encode()) for line in spoilt_in_turn(printed, 8))
+    known = [dict(game, excess=measure) for game in lines.GAMES for measure in ("plain", "per-head")]
+    draw = random.Random(53)
+    markets = (game_of("market", players, draw) for players in (2, 3, 5, 8))
+    games = [*known, *map(halved, known), *(some_game(draw) for _ in range(90)), *markets]
+    for game in [*games, *(game for game, _ in lines.LIMITS), *even_games(), *largest_games()]:
         yield from on_game(program, game)
-    yield from spoilt_texts(games, from_checks.change_anything, 500)
+    yield from spoilt_texts(games, anything, 500)
     for source in (odd_texts(), with_faults(), at_lengths(), long_texts(), words_alone()):
         yield from source
 

@@ -1,15 +1,16 @@
-"""Ways to spoil a line: by its numbers, by its structure, and as bytes. For tools/gate/fuzz-checkers."""
+"""Ways to spoil a line: by its numbers, by its structure, and as bytes. For the tools that try checkers."""
 from __future__ import annotations
 
 import copy
 import json
 import re
-from collections.abc import Callable, Iterator
+from collections.abc import Callable, Iterator, Sequence
+from contextlib import suppress
 from fractions import Fraction
 from random import Random
 from typing import Any
 
-from fuzz_games import CLASSES, NAMES, Tree
+from games import MAKERS, NAMES, Tree
 
 
 class Raw(str):
@@ -244,6 +245,32 @@ def complement(tree: Tree, draw: Random) -> None:
     one["coalitions"] = [have[m] for m in sorted(have)]
 
 
+def turn_groups(tree: Tree, draw: Random) -> None:
+    """The coalitions of a level in the other order."""
+    level(tree, draw)["coalitions"].reverse()
+
+
+def lose_group(tree: Tree, draw: Random) -> None:
+    """A coalition that is gone."""
+    groups = level(tree, draw)["coalitions"]
+    del groups[draw.randrange(len(groups))]
+
+
+def member(tree: Tree, draw: Random) -> None:
+    """Another member of a coalition."""
+    group = draw.choice(level(tree, draw)["coalitions"])[0]
+    group[draw.randrange(len(group))] = draw.randint(1, len(tree["shares"]))
+
+
+def weight(tree: Tree, draw: Random) -> None:
+    """Another weight of a coalition, or another total."""
+    one, by = level(tree, draw), draw.choice([-1, 1, 2])
+    if draw.random() < 0.5:
+        draw.choice(one["coalitions"])[1] += by
+    else:
+        one["total"] += by
+
+
 def mode(tree: Tree, draw: Random) -> None:
     """The other mode."""
     certificate = tree["certificate"]
@@ -268,7 +295,7 @@ def excess(tree: Tree, draw: Random) -> None:
 
 def kind(tree: Tree, draw: Random) -> None:
     """Another class."""
-    tree["game"]["class"] = draw.choice([*CLASSES, "market", "Table", "constructor"])
+    tree["game"]["class"] = draw.choice([*MAKERS, "Table", "constructor"])
 
 
 def version(tree: Tree, draw: Random) -> None:
@@ -334,27 +361,50 @@ def sizes(tree: Tree, draw: Random) -> None:
         game[key].pop()
 
 
+def add_to_a_share(tree: Tree, draw: Random) -> None:
+    """One gets more, and nobody less."""
+    i = draw.randrange(len(tree["shares"]))
+    tree["shares"][i] = str(exact(tree["shares"][i]) + 1)
+
+
 def reshare(tree: Tree, draw: Random) -> None:
     """A share of any kind."""
     tree["shares"][draw.randrange(len(tree["shares"]))] = draw.choice(VALUES)
 
 
-SPOILS: list[Callable[[Tree, Random], None]] = [
-    *[anything] * 4, *[move] * 3, scale_weights, wrap_weights, wrap_weights, copy_level, lose_level, swap_levels,
-    add_earlier, add_earlier, bound, bound, bound_all, more_groups, more_groups, complement, mode, mode, answer,
-    measure, excess, excess, kind, version, names, numbers, numbers, twice, twice, sizes, reshare, reshare,
+Way = Callable[[Tree, Random], None]
+ONCE: list[Way] = [
+    move, add_to_a_share, excess, weight, scale_weights, wrap_weights, bound, bound_all, turn_groups, lose_group,
+    member, copy_level, lose_level, swap_levels, add_earlier, more_groups, complement, mode, answer, measure, kind,
+    version, names, numbers, sizes, reshare, anything,
 ]
+SPOILS = [
+    *ONCE, *[anything] * 4, move, move, wrap_weights, add_earlier, bound, more_groups, mode, excess, numbers,
+    twice, twice, reshare,
+]
+# What a way ends by where a line has nothing of its kind any more.
+NOTHING = (IndexError, KeyError, TypeError, ValueError, AttributeError, ZeroDivisionError)
 
 
 def spoilt(base: Tree, draw: Random) -> Any:
     """A copy of a line, spoilt in some ways; some stay as they are."""
     tree = copy.deepcopy(base)
     for _ in range(draw.choice([0, 1, 1, 1, 1, 2, 2, 3])):
-        try:
+        with suppress(*NOTHING):
             draw.choice(SPOILS)(tree, draw)
-        except (IndexError, KeyError, TypeError, ValueError, AttributeError, ZeroDivisionError):
-            pass  # it has nothing of that kind any more
     return tree["\0"] if list(tree) == ["\0"] else tree
+
+
+def spoilt_in_turn(lines: Sequence[Tree], count: int) -> Iterator[Tree]:
+    """Of each line as many copies that are spoilt once, by each way in turn."""
+    ways = 0
+    for number, line in enumerate(lines):
+        for _ in range(count):
+            tree = copy.deepcopy(line)
+            with suppress(*NOTHING):
+                ONCE[ways % len(ONCE)](tree, Random(number))
+            ways += 1
+            yield tree
 
 
 # ---- Ways to spoil bytes

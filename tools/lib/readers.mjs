@@ -1,6 +1,6 @@
-// What the readers in JavaScript say of documents: for tools/gate/fuzz-checkers and tools/gate/fuzz-same-game.
+// What the readers in JavaScript say of documents: for tools/gate/try-checkers and tools/gate/fuzz-same-game.
 //
-//     node tools/lib/fuzz_readers.mjs TOP
+//     node tools/lib/readers.mjs TOP
 //
 // A request is a line {"command", "bytes" in base64, "agreed"}; so is the answer: what the module of the page says
 // (status and line), the page's checker, the number of the first slip that the page finds, whether its look at lines ends
@@ -18,7 +18,7 @@ const { moduleIn } = await load("runtime/engine/inside.js");
 const { parseJson } = await load("page/src/exact/json.js");
 const { checkAnew } = await load("page/src/check/check-anew.js");
 const { slipsOf } = await load("page/src/tell/slips.js");
-const { compared, lookAtLine } = await load("page/src/work/lines.js");
+const { lookAtLine } = await load("page/src/work/lines.js");
 const page = fs.readFileSync(join(top, "page", "coop.html"), "latin1");
 const engine = new Engine(new WebAssembly.Module(moduleIn(page)));
 const strict = new TextDecoder("utf-8", { fatal: true, ignoreBOM: true });
@@ -59,7 +59,7 @@ function answer({ command, bytes, agreed }) {
   if (text === null) return found;
   if (agreed === undefined) {
     found.look = tried(() => (lookAtLine({ line: text, agreed: "" }, ask), {}));
-  } else found.same = tried(() => ({ outcome: compared(text, agreed, ask).outcome }));
+  } else found.same = tried(() => ({ outcome: lookAtLine({ line: text, agreed }, ask).same.outcome }));
   return found;
 }
 

@@ -1,4 +1,4 @@
-"""The readers that the fuzzers compare: those in JavaScript, by a process of Node, and the scripts' own."""
+"""The readers that tools compare: those in JavaScript, by a process of Node, and the scripts' own."""
 from __future__ import annotations
 
 import base64
@@ -18,10 +18,10 @@ MOST_SHOWN = 3  # examples of each kind of difference
 
 
 class Node:
-    """A process of fuzz_readers.mjs."""
+    """A process of readers.mjs."""
 
     def __init__(self) -> None:
-        words = ["node", os.path.join(TOP, "tools", "lib", "fuzz_readers.mjs"), TOP]
+        words = ["node", os.path.join(TOP, "tools", "lib", "readers.mjs"), TOP]
         self.process = subprocess.Popen(words, stdin=subprocess.PIPE, stdout=subprocess.PIPE)
 
     def ask(self, command: str, data: bytes, agreed: Optional[str] = None) -> dict[str, Any]:
