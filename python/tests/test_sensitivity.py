@@ -23,6 +23,7 @@ RUNWAY = coop.airport({"light": 2, "medium": 4, "heavy": 6})
 ESTATE = coop.bankruptcy(200, {"Anna": 100, "Bert": 200, "Cleo": 300})
 NETWORK = coop.tree([[0, 10, 10], [10, 0, 1], [10, 1, 0]], ["harbour", "mill"])
 MARKET = coop.assignment([[8, 5], [7, 6]], ["Ann", "Ben", "house", "flat"])
+VOTE = coop.voting(3, {"a": 2, "b": 1, "c": 1})
 VALLEY = coop.cost_table(
     {"n": 163520, "f": 140826, "p": 250096, "n+f": 301607, "n+p": 378821, "f+p": 367370, "n+f+p": 412584}
 )
@@ -152,6 +153,7 @@ class Paths(unittest.TestCase):
             "50 75 75", "50 301/4 301/4", "100 200 300"
         ))
         self.assertTrue(path.is_proved and path.check() and path.check(anew=True))
+        self.assertEqual(words(along(VOTE, "b+c", 0, 1).at("1/2")), "2/3 1/6 1/6")  # a sixth each, of what b+c may win
         for t in (-201, 401):
             with self.assertRaisesRegex(BadInput, "isn't between"):
                 path.at(t)
@@ -164,7 +166,7 @@ class Paths(unittest.TestCase):
             (NETWORK, ("link", "source", "mill"), -10, 5, "0"),
             (MARKET, ("pair", "Ann", "flat"), -5, 10, "-8/3 0 2 4"),
             (VALLEY, "n+p", -20000, 5, "-12491"),
-            (coop.voting(3, {"a": 2, "b": 1, "c": 1}), "b+c", 0, 1, "VOTES"),
+            (VOTE, "b+c", 0, 1, ""),
             (coop.landings([("Aer", 2, 3), ("Bee", 4, 1)]), ("cost", "Aer"), -1, 1, ""),
         ]
         for game, what, low, high, bends in cases:
