@@ -40,7 +40,7 @@ module _ (n : ℕ) (c : ℕ → ℕ) (pay more : ℕ → ℤ) (p q : ℤ) (h : I
   with_own : (k : ℕ) → k < n → p *ℤ (sum_below (suc k) more +ℤ more k) ≡ q *ℤ (sum_below (suc k) pay +ℤ pay k)
   with_own k lt = omega (products, sums (suc k) lt, same k lt)
 
-  scheme_over : IsScheme n c more q
+  pub scheme_over : IsScheme n c more q
   scheme_over = record {
     positive = one;
     least = λ k lt.

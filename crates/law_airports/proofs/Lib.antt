@@ -4,6 +4,8 @@ pub mod PaymentsExist
 pub mod PaymentLevels
 pub mod PaymentsAreTheNucleolus
 pub mod EveryNucleolusIsPaid
+pub mod NewcomersPay
+mod NewcomersOneByOne
 pub mod AirportsAreConvex
 pub mod ThreeAirlinesByStep
 pub mod UnitsByPlace

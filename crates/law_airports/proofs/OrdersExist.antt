@@ -9,7 +9,7 @@ use Rattle.orders.specs.Orders.{front, IsOrder}
 
 -- ---- the place of the last player
 
-gap_up_to : (n : ℕ) (number at : ℕ → ℕ) (c : ℕ) → IsOrder n number at → (m : ℕ) → m ≤ n
+pub gap_up_to : (n : ℕ) (number at : ℕ → ℕ) (c : ℕ) → IsOrder n number at → (m : ℕ) → m ≤ n
     → (p : ℕ) × (p ≤ m) × ((k : ℕ) → k < p → number (at k) ≤ c)
     × ((k : ℕ) → p ≤ k → k < m → c ≤ number (at k))
 gap_up_to n number at c o zero le = (0, omega arith, λ k lt. absurd (omega arith), λ k ge lt. absurd (omega arith))
@@ -38,10 +38,10 @@ gap_up_to n number at c o (suc m) le =
 
 -- ---- with the last player put in at place p
 
-put : (ℕ → ℕ) → ℕ → ℕ → ℕ → ℕ
+pub put : (ℕ → ℕ) → ℕ → ℕ → ℕ → ℕ
 put at new p k = cond (nat_lt k p) (at k) (cond (nat_eq k p) new (at (k - 1)))
 
-put-before : (at : ℕ → ℕ) (new p k : ℕ) → k < p → put at new p k ≡ at k
+pub put-before : (at : ℕ → ℕ) (new p k : ℕ) → k < p → put at new p k ≡ at k
 unfolding put
 put-before at new p k lt = rw (nat_lt-less k p lt) refl
 
@@ -49,7 +49,7 @@ put-here : (at : ℕ → ℕ) (new p k : ℕ) → k ≡ p → put at new p k ≡
 unfolding put
 put-here at new p k e = rw (e, nat_lt-past p p (omega arith), nat_eq-same p) refl
 
-put-behind : (at : ℕ → ℕ) (new p k : ℕ) → p ≤ k → put at new p (suc k) ≡ at k
+pub put-behind : (at : ℕ → ℕ) (new p k : ℕ) → p ≤ k → put at new p (suc k) ≡ at k
 unfolding put
 put-behind at new p k le =
     rw (nat_lt-past (suc k) p (omega arith), nat_eq-other (suc k) p (λ e. omega arith), suc-less_one k) refl
@@ -141,7 +141,7 @@ module _ (n : ℕ) (number at : ℕ → ℕ) (o : IsOrder n number at) (p : ℕ)
       let double : 2 ^ suc n ≡ 2 * 2 ^ n = pow-suc 2 n ∙ mul_comm (2 ^ n) 2 in
       omega (arith, sum, o.full, double, pow_pos n)
 
-  one_more : IsOrder (suc n) number to
+  pub one_more : IsOrder (suc n) number to
   one_more = record { below = to_below; apart = to_apart; rising = to_rising; full = to_full }
 
 pub order_exists : (n : ℕ) (number : ℕ → ℕ) → (at : ℕ → ℕ) × IsOrder n number at

@@ -10,8 +10,9 @@
 --   NobodyPaysMoreThanAloneByNucleolus      nobody pays more than the cost alone, nor less than nothing
 --   NoGroupPaysMoreThanItsCostByNucleolus   no group pays more together than its greatest cost
 --   AllPayTheGreatestCostByNucleolus        all together pay exactly the greatest cost
+--   NewcomersMakeNobodyPayMore              if others join, nobody pays more
 use Rattle.std.specs.Prelude.{◌≡◌, ℕ, ◌^◌, ◌<◌, List, length, ℤ, pos}
-use Rattle.std.specs.Prelude.{◌*ℤ◌, ◌≤ℤ◌, slice_index}
+use Rattle.std.specs.Prelude.{◌++◌, ◌*ℤ◌, ◌≤ℤ◌, slice_index}
 use Rattle.definitions.specs.Sums.{sum_below}
 use Rattle.definitions.specs.Coalitions.{grand_coalition, sum_over}
 use Rattle.definitions.specs.Classes.{greatest_cost}
@@ -76,3 +77,12 @@ AllPayTheGreatestCostByNucleolus =
     IsNucleolus family Plain (airport_game costs) x →
     sum_below (length costs) (pays x)
     ≡ x.den *ℤ pos (greatest_cost (length costs) (slice_index costs) (grand_coalition (length costs)))
+
+-- ---- newcomers
+
+-- whoever else comes to use the runway, shorter or longer, nobody pays more than without them
+abbrev pub NewcomersMakeNobodyPayMore : Type 0
+NewcomersMakeNobodyPayMore =
+    (family : Family) (costs further : List ℕ) (x y : Allocation) (i : ℕ) →
+    IsNucleolus family Plain (airport_game costs) x → IsNucleolus family Plain (airport_game (costs ++ further)) y →
+    i < length costs → (pays y i *ℤ x.den) ≤ℤ (pays x i *ℤ y.den)

@@ -4,6 +4,7 @@
 ghost use Rattle.law_airports.specs.Payments.{OrdersExist, PaymentsExist, PaymentsAreTheNucleolus, PaymentsAreOne};
 ghost use Rattle.law_airports.specs.Payments.{EveryNucleolusIsPaid, NobodyPaysMoreThanAloneByNucleolus};
 ghost use Rattle.law_airports.specs.Payments.{NoGroupPaysMoreThanItsCostByNucleolus, AllPayTheGreatestCostByNucleolus};
+ghost use Rattle.law_airports.specs.Payments.{NewcomersMakeNobodyPayMore};
 
 /// Any players have an order by their costs.
 pub fn orders_exist()
@@ -43,4 +44,9 @@ pub fn no_group_pays_more_than_its_cost_by_nucleolus()
 /// By the nucleolus and the prenucleolus all together pay exactly the greatest cost.
 pub fn all_pay_the_greatest_cost_by_nucleolus()
     ensures { AllPayTheGreatestCostByNucleolus }
+{}
+
+/// By the nucleolus and the prenucleolus newcomers make nobody pay more, whatever they need.
+pub fn newcomers_make_nobody_pay_more()
+    ensures { NewcomersMakeNobodyPayMore }
 {}

@@ -110,6 +110,15 @@ module _ (g : Game) (i j : ℕ) (hi : i < g.players) (hj : j < g.players) (ne : 
       let sum = sum_below-add (2 ^ n) (pair_term w n i j) (cross v n i j) in
       omega (arith, linear, a, b, parts, sum)
 
+-- the total of j falls by as much if i adds nothing
+pub totals-fall_alike : (g : Game) (i j : ℕ) → i < g.players → j < g.players → i ≢ j
+    → shapley_total g i -ℤ shapley_total (without_player j g) i
+    ≡ shapley_total g j -ℤ shapley_total (without_player i g) j
+totals-fall_alike g i j hi hj ne =
+    let turned = sum_below-same (2 ^ g.players) (cross g.worth g.players j i) (cross g.worth g.players i j)
+    (λ s lt. cross-turned g.worth g.players j i s) in
+    omega (arith, linear, total_falls g i j hi hj ne, total_falls g j i hj hi (λ e. ne (sym e)), turned)
+
 -- shares a over p and b over q of totals t and s, of which the first is more by d
 lost : (a p b q f t s d : ℤ) → a *ℤ f ≡ p *ℤ t → b *ℤ f ≡ q *ℤ s → t ≡ s +ℤ d
     → f *ℤ (a *ℤ q -ℤ b *ℤ p) ≡ p *ℤ (q *ℤ d)

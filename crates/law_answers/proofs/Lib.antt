@@ -51,5 +51,6 @@ mod MixedPairs
 mod ShapleyIsReasonable
 mod PerHeadMayGiveLess
 mod OneMorePlayer
-mod BalancedContributions
+pub mod BalancedContributions
+mod BalancedShares
 mod ScalesKeepBalance

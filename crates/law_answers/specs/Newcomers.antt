@@ -8,11 +8,16 @@
 --                                  worths are minus costs, nobody pays more
 --   WhoAddNothingCanGo             if the others add nothing, the first players get the same without them
 --   without_player j g             the game in which player j adds nothing
+--   LoseAlike x y z i j            what i has less at y than at x is what j has less at z
 --   ContributionsAreBalanced       what i has less if j never came is what j has less if i never came
-use Rattle.std.specs.Prelude.{◌≡◌, ◌≢◌, ℕ, ◌-◌, ◌<◌, ◌≤◌, ◌-ℤ◌, ◌*ℤ◌, ◌≤ℤ◌, if◌then◌else◌}
-use Rattle.definitions.specs.Coalitions.{has_player, singleton}
+--   AreBalancedShares g x          shares for each coalition: its members share what it is worth, and any two lose
+--                                  alike if the other leaves
+--   BalancedSharesAreShapley       then the shares of all players are the Shapley value
+--   BalancedSharesExist            each game has such shares
+use Rattle.std.specs.Prelude.{◌≡◌, ◌≢◌, ℕ, ◌-◌, ◌^◌, ◌<◌, ◌≤◌, true, pos, ◌-ℤ◌, ◌*ℤ◌, ◌≤ℤ◌, if◌then◌else◌}
+use Rattle.definitions.specs.Coalitions.{has_player, singleton, grand_coalition}
 use Rattle.definitions.specs.Convexity.{IsConvex}
-use Rattle.definitions.specs.Games.{Game, Allocation, share}
+use Rattle.definitions.specs.Games.{Game, Allocation, share, amount, IsAllocation}
 use Rattle.definitions.specs.Players.{AddsNothing}
 use Rattle.definitions.specs.Shapley.{IsShapley}
 
@@ -40,9 +45,30 @@ without_player j g = record {
   worth = λ s. if has_player s j then g.worth (s - singleton j) else g.worth s;
 }
 
--- over the denominators of all three (Myerson 1980)
+-- over the denominators of all three
+abbrev pub LoseAlike : Allocation → Allocation → Allocation → ℕ → ℕ → Type 0
+LoseAlike x y z i j =
+    (share x i *ℤ y.den -ℤ share y i *ℤ x.den) *ℤ z.den ≡ (share x j *ℤ z.den -ℤ share z j *ℤ x.den) *ℤ y.den
+
+-- Myerson 1980
 abbrev pub ContributionsAreBalanced : Type 0
 ContributionsAreBalanced =
     (g : Game) (x y z : Allocation) (i j : ℕ) → i < g.players → j < g.players → i ≢ j → IsShapley g x →
-    IsShapley (without_player j g) y → IsShapley (without_player i g) z →
-    (share x i *ℤ y.den -ℤ share y i *ℤ x.den) *ℤ z.den ≡ (share x j *ℤ z.den -ℤ share z j *ℤ x.den) *ℤ y.den
+    IsShapley (without_player j g) y → IsShapley (without_player i g) z → LoseAlike x y z i j
+
+-- ---- and only Shapley's are so
+
+-- x(s) are the shares if only the members of s have come, of which those of the members count
+pub record AreBalancedShares (g : Game) (x : ℕ → Allocation) : Type 0 where
+  pub shares : (s : ℕ) → s < 2 ^ g.players → IsAllocation g (x s)
+  pub efficient : (s : ℕ) → s < 2 ^ g.players → amount (x s) s ≡ (x s).den *ℤ g.worth s
+  pub balanced : (s i j : ℕ) → s < 2 ^ g.players → has_player s i ≡ true → has_player s j ≡ true → i ≢ j
+      → LoseAlike (x s) (x (s - singleton j)) (x (s - singleton i)) i j
+
+abbrev pub BalancedSharesAreShapley : Type 0
+BalancedSharesAreShapley =
+    (g : Game) (x : ℕ → Allocation) → AreBalancedShares g x → IsShapley g (x (grand_coalition g.players))
+
+-- if the empty coalition is worth nothing
+abbrev pub BalancedSharesExist : Type 0
+BalancedSharesExist = (g : Game) → g.worth 0 ≡ pos 0 → (x : ℕ → Allocation) × AreBalancedShares g x

@@ -1,6 +1,7 @@
 //! Shapley shares if others join the players of a game. Each function's contract is a theorem, and its body is empty.
 
 ghost use Rattle.law_answers.specs.Newcomers.{NewcomersGiveNobodyLess, WhoAddNothingCanGo, ContributionsAreBalanced};
+ghost use Rattle.law_answers.specs.Newcomers.{BalancedSharesAreShapley, BalancedSharesExist};
 
 /// If a game is convex, Shapley shares give none of the first players less than in the game of these players alone:
 /// newcomers make nobody pay more (Sprumont 1990).
@@ -18,4 +19,15 @@ pub fn who_add_nothing_can_go()
 /// (Myerson 1980).
 pub fn contributions_are_balanced()
     ensures { ContributionsAreBalanced }
+{}
+
+/// If shares for each coalition of a game give its members together what it is worth, and any two members of it lose
+/// alike if the other leaves, then all players get their Shapley shares (Myerson 1980).
+pub fn balanced_shares_are_shapley()
+    ensures { BalancedSharesAreShapley }
+{}
+
+/// Each game in which the empty coalition is worth nothing has such shares.
+pub fn balanced_shares_exist()
+    ensures { BalancedSharesExist }
 {}
