@@ -12,8 +12,10 @@ from coop.calls import check
 from coop.errors import BadInput, Fault
 from coop.games import made
 from coop.desk.grounds import told
+from coop.masks import members
 from coop.moving import Moving, what_moves
 from coop.sensitivity import along, margins, ranges
+from coop.widest import Many
 from coop.worths import worths_of
 
 from .asking import needs_program
@@ -68,6 +70,39 @@ class Worths(unittest.TestCase):
                 step = Fraction(1, 10**6)
                 near = (moving.worth(t + step, group) - moving.worth(t, group)) / step
                 self.assertEqual(moving.slope(t, group, 1), near, game)
+
+
+class OfMany(unittest.TestCase):
+    def test_the_worst_group(self) -> None:
+        """The groups that are found by sorting, against a list of all, of some players."""
+        draw = random.Random(64)
+        for _ in range(200):
+            n = draw.randint(2, 6)
+            numbers, gets = ([draw.randint(least, 9) for _ in range(n)] for least in (0, -4))
+            game = coop.bankruptcy(draw.randint(0, sum(numbers)), numbers)
+            if draw.random() < 0.5:
+                game, gets = coop.airport(numbers), [-share for share in gets]
+            many, rest = Many(game, 6, [6 * share for share in gets]), draw.randint(1, 2**n - 1)
+
+            def left(group: int) -> Fraction:
+                return 6 * (sum(gets[i] for i in members(group)) - game.worth(group))
+
+            is_open = [group for group in range(1, 2**n - 1) if 0 != group & rest != rest]
+            found = list(many.widest(rest))
+            self.assertTrue(set(found) <= {*is_open, game.everyone}, (game, rest))
+            self.assertEqual([many.left(group) for group in found], list(map(left, found)))
+            self.assertEqual(min(map(left, found), default=None), min(map(left, is_open), default=None), (game, gets))
+
+    @needs_program
+    def test_a_path_of_many(self) -> None:
+        """A runway of 20, past six other costs; by hand the cost of the longest is borne by its owner."""
+        game = coop.airport({f"p{k}": 10 * (k + 1) for k in range(20)})
+        path = along(game, ("cost", "p19"), -61, 5)
+        self.assertTrue(path.is_proved and path.check())
+        self.assertEqual((path.pieces[-1].slopes["p19"], set(list(path.pieces[-1].slopes.values())[:-1])), (1, {0}))
+        for t in (Fraction(-45), Fraction(-123, 4)):
+            tree, factor = path.moving.tree_at(t)
+            self.assertEqual(nucleolus(coop.Game(tree, factor)).shares, path.at(t))
 
 
 class Refusing:
@@ -213,10 +248,10 @@ class Paths(unittest.TestCase):
 
     def test_nothing_is_told_of_a_line_that_is_not_taken(self) -> None:
         """A program that takes no line; and a line with other shares."""
-        for ask in (lambda: along(ESTATE, "estate", -40, 40, program=Refusing()),
-                    lambda: ranges(ESTATE, ["estate"], program=Refusing())):
-            with self.assertRaisesRegex(Fault, "the program doesn't take the line"):
-                ask()
+        with self.assertRaisesRegex(Fault, "the program doesn't take the line"):
+            along(ESTATE, "estate", -40, 40, program=Refusing())
+        with self.assertRaisesRegex(Fault, "the program doesn't take the line"):
+            ranges(ESTATE, ["estate"], program=Refusing())
         answer = nucleolus(ESTATE)
         spoilt = answer_of(answer.line.replace('"75"', '"74"', 1).replace('"75"', '"76"', 1), 0, ESTATE)
         assert isinstance(spoilt, coop.Nucleolus)
