@@ -4,10 +4,12 @@ import os
 import tempfile
 import unittest
 from fractions import Fraction
+from typing import Any, Union
 
 import coop
 from coop import solved
 from coop.errors import BadInput
+from coop.program import TOP
 
 
 class Solved(unittest.TestCase):
@@ -21,7 +23,7 @@ class Solved(unittest.TestCase):
     def test_differences(self) -> None:
         lund = solved.example("lund-nucleolus")
         self.assertEqual((lund.command, lund.game.names[:2], lund.unit), ("nucleolus", ["A", "H"], 100))
-        line = {**lund.expected, "certificate": {}}
+        line: dict[str, Any] = {**lund.expected, "certificate": {}}
         self.assertEqual((lund.differences(json.dumps(line)), lund.misprints(json.dumps(line))), ([], []))
         shares = line["shares"]
         self.assertEqual(round(Fraction(shares[0]) / 100, 2), Fraction("20.35"))
@@ -29,7 +31,8 @@ class Solved(unittest.TestCase):
         self.assertRegex(lund.differences(wrong)[0], r"^shares: expected \['2035', .* and not \['2036', ")
         self.assertEqual(lund.misprints(wrong), ["published 20.35, and 509/25 is exact"])
         self.assertEqual(lund.misprints("{}"), ["6 published numbers for 0"])
-        for line_of_none in ("", "[]", b"\xff", "[" * 100000):
+        none: list[Union[str, bytes]] = ["", "[]", b"\xff", "[" * 100000]
+        for line_of_none in none:
             self.assertEqual(lund.differences(line_of_none), ["it isn't an object of JSON"])
         horses = solved.example("boehm-bawerk")
         self.assertEqual(len(horses.differences('{"buyers best":7}')), len(horses.expected))
@@ -39,7 +42,8 @@ class Solved(unittest.TestCase):
             solved.example("lund")
         first = open_first()
         with tempfile.TemporaryDirectory() as folder:
-            for changes in ({"numbers": "seen"}, {"source": ""}, {"published": None}, {"other": 1}):
+            spoilt: list[dict[str, object]] = [{"numbers": "seen"}, {"source": ""}, {"published": None}, {"other": 1}]
+            for changes in spoilt:
                 row = {key: part for key, part in {**first, **changes}.items() if part is not None}
                 path = os.path.join(folder, "some.jsonl")
                 with open(path, "w", encoding="utf-8") as file:
@@ -50,9 +54,8 @@ class Solved(unittest.TestCase):
 
 def open_first() -> "dict[str, object]":
     """The first row of the file."""
-    with open(solved.INSIDE if os.path.exists(solved.INSIDE) else os.path.join(
-        solved.TOP, solved.FILE
-    ), encoding="utf-8") as file:
+    path = solved.INSIDE if os.path.exists(solved.INSIDE) else os.path.join(TOP, solved.FILE)
+    with open(path, encoding="utf-8") as file:
         row: dict[str, object] = json.loads(next(file))
     return row
 
