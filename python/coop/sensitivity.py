@@ -28,7 +28,7 @@ from typing import Any, Iterable, Iterator, Optional, Sequence, Union, overload
 from . import calls, checking
 from .amounts import Amount, fraction_of
 from .answers import Names, Nucleolus, Shares
-from .errors import BadInput
+from .errors import BadInput, Fault
 from .game import MOST_IN_A_TABLE, Game
 from .frames import Frame
 from .levels import Level, by_last_level, level_of, open_tests
@@ -101,12 +101,15 @@ class Margins(Sequence[Margin]):
         return [self.at(group) for group in near]
 
 
-def margins(answer: Nucleolus) -> Margins:
+def margins(answer: Nucleolus, program: calls.Chosen = None) -> Margins:
     """The margins of the groups of an answer: which numbers its certificate rests on, and how far off the others are.
-    Of a class of at most 16 players they are those of what the class says that each group is worth or costs."""
+    Of a class of at most 16 players they are those of what the class says that each group is worth or costs. A line
+    that the program's check doesn't take is BadInput."""
     game = answer.game
     if game.n > MOST_IN_A_TABLE:
         raise BadInput(f"{game.n} players: margins of groups are for at most {MOST_IN_A_TABLE}; `ranges` takes more")
+    if not calls.check(answer, program):
+        raise BadInput("the certificate doesn't show these shares (scripts/explain says why)")
     sign, levels = -1 if game.costs else 1, levels_of(answer)
     shares = [answer.shares[name] * sign for name in game.names]
     scale, worths = worths_of(game)
@@ -219,6 +222,8 @@ def along(
     A number is a group of a table, "Sales+Ops"; ("cost", "light") of an airport, where an airline's or a type's name is
     all its landings; "estate" or ("claim", "Anna"); ("link", "source", "Anna"); ("pair", "Anna", "house"). Several are
     a mapping from these to rates. Of a vote it is a group of the table of who wins, which its lines have as their game.
+
+    The program has taken all lines before anything is told; `Path.check` lets others ask again.
     """
     run = Run(game, what, rule, program)
     first, last = fraction_of(low), fraction_of(high)
@@ -343,7 +348,15 @@ class Run:
             return None
         between = [] if self.moving.is_linear else [frame.t if first < frame.t < last else (first + last) / 2]
         lines = [(near, frame.line(near)), *((t, frame.line(t)) for t in between), (far, frame.line(far))]
+        self.require_taken(lines)
         return Piece(first, last, frame.shares(first), frame.shares(last), frame.named(), tuple(lines))
+
+    def require_taken(self, lines: Sequence[tuple[Fraction, bytes]]) -> None:
+        """Refuses to tell anything of a piece, unless the program takes each of its lines."""
+        for t, line in lines:
+            said = calls.check(line, self.program)
+            if not said:
+                raise Fault(f"after a change of {t} the program doesn't take the line", said.status, said.line)
 
     def reach(self, frame: Frame, end: Fraction) -> tuple[Fraction, Fraction]:
         """How far towards a change a frame holds, and the last place on the way there that a line shows. They differ

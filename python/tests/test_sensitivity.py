@@ -2,17 +2,20 @@
 import random
 import unittest
 from fractions import Fraction
-from typing import Any, Optional
+from typing import Any, Optional, Sequence
 
 import coop
 from coop import sensitivity
 from coop.amounts import Amount
+from coop.answers import answer_of
 from coop.calls import check
-from coop.errors import BadInput
+from coop.errors import BadInput, Fault
 from coop.games import made
 from coop.desk.grounds import told
+from coop.masks import members
 from coop.moving import Moving, what_moves
 from coop.sensitivity import along, margins, ranges
+from coop.widest import Many
 from coop.worths import worths_of
 
 from .asking import needs_program
@@ -22,6 +25,7 @@ RUNWAY = coop.airport({"light": 2, "medium": 4, "heavy": 6})
 ESTATE = coop.bankruptcy(200, {"Anna": 100, "Bert": 200, "Cleo": 300})
 NETWORK = coop.tree([[0, 10, 10], [10, 0, 1], [10, 1, 0]], ["harbour", "mill"])
 MARKET = coop.assignment([[8, 5], [7, 6]], ["Ann", "Ben", "house", "flat"])
+VOTE = coop.voting(3, {"a": 2, "b": 1, "c": 1})
 VALLEY = coop.cost_table(
     {"n": 163520, "f": 140826, "p": 250096, "n+f": 301607, "n+p": 378821, "f+p": 367370, "n+f+p": 412584}
 )
@@ -66,6 +70,49 @@ class Worths(unittest.TestCase):
                 step = Fraction(1, 10**6)
                 near = (moving.worth(t + step, group) - moving.worth(t, group)) / step
                 self.assertEqual(moving.slope(t, group, 1), near, game)
+
+
+class OfMany(unittest.TestCase):
+    def test_the_worst_group(self) -> None:
+        """The groups that are found by sorting, against a list of all, of some players."""
+        draw = random.Random(64)
+        for _ in range(200):
+            n = draw.randint(2, 6)
+            numbers, gets = ([draw.randint(least, 9) for _ in range(n)] for least in (0, -4))
+            game = coop.bankruptcy(draw.randint(0, sum(numbers)), numbers)
+            if draw.random() < 0.5:
+                game, gets = coop.airport(numbers), [-share for share in gets]
+            many, rest = Many(game, 6, [6 * share for share in gets]), draw.randint(1, 2**n - 1)
+
+            def left(group: int) -> Fraction:
+                return 6 * (sum(gets[i] for i in members(group)) - game.worth(group))
+
+            is_open = [group for group in range(1, 2**n - 1) if 0 != group & rest != rest]
+            found = list(many.widest(rest))
+            self.assertTrue(set(found) <= {*is_open, game.everyone}, (game, rest))
+            self.assertEqual([many.left(group) for group in found], list(map(left, found)))
+            self.assertEqual(min(map(left, found), default=None), min(map(left, is_open), default=None), (game, gets))
+
+    @needs_program
+    def test_a_path_of_many(self) -> None:
+        """A runway of 20, past six other costs; by hand the cost of the longest is borne by its owner."""
+        game = coop.airport({f"p{k}": 10 * (k + 1) for k in range(20)})
+        path = along(game, ("cost", "p19"), -61, 5)
+        self.assertTrue(path.is_proved and path.check())
+        self.assertEqual((path.pieces[-1].slopes["p19"], set(list(path.pieces[-1].slopes.values())[:-1])), (1, {0}))
+        for t in (Fraction(-45), Fraction(-123, 4)):
+            tree, factor = path.moving.tree_at(t)
+            self.assertEqual(nucleolus(coop.Game(tree, factor)).shares, path.at(t))
+
+
+class Refusing:
+    """The program, but `check` says no to everything."""
+
+    def run(self, words: Sequence[str], document: bytes) -> "tuple[int, bytes]":
+        """Answers as the program, or no."""
+        if list(words) == ["check"]:
+            return 1, b'{"answer":"no","reason":3}\n'
+        return coop.find().run(words, document)
 
 
 @needs_program
@@ -141,6 +188,7 @@ class Paths(unittest.TestCase):
             "50 75 75", "50 301/4 301/4", "100 200 300"
         ))
         self.assertTrue(path.is_proved and path.check() and path.check(anew=True))
+        self.assertEqual(words(along(VOTE, "b+c", 0, 1).at("1/2")), "2/3 1/6 1/6")  # a sixth each, of what b+c may win
         for t in (-201, 401):
             with self.assertRaisesRegex(BadInput, "isn't between"):
                 path.at(t)
@@ -153,7 +201,7 @@ class Paths(unittest.TestCase):
             (NETWORK, ("link", "source", "mill"), -10, 5, "0"),
             (MARKET, ("pair", "Ann", "flat"), -5, 10, "-8/3 0 2 4"),
             (VALLEY, "n+p", -20000, 5, "-12491"),
-            (coop.voting(3, {"a": 2, "b": 1, "c": 1}), "b+c", 0, 1, "VOTES"),
+            (VOTE, "b+c", 0, 1, ""),
             (coop.landings([("Aer", 2, 3), ("Bee", 4, 1)]), ("cost", "Aer"), -1, 1, ""),
         ]
         for game, what, low, high, bends in cases:
@@ -198,6 +246,18 @@ class Paths(unittest.TestCase):
             spoilt = sensitivity.Path([wrong], path.rule, path.moving)
             self.assertFalse(spoilt.check() and spoilt.is_proved)
 
+    def test_nothing_is_told_of_a_line_that_is_not_taken(self) -> None:
+        """A program that takes no line; and a line with other shares."""
+        with self.assertRaisesRegex(Fault, "the program doesn't take the line"):
+            along(ESTATE, "estate", -40, 40, program=Refusing())
+        with self.assertRaisesRegex(Fault, "the program doesn't take the line"):
+            ranges(ESTATE, ["estate"], program=Refusing())
+        answer = nucleolus(ESTATE)
+        spoilt = answer_of(answer.line.replace('"75"', '"74"', 1).replace('"75"', '"76"', 1), 0, ESTATE)
+        assert isinstance(spoilt, coop.Nucleolus)
+        with self.assertRaisesRegex(BadInput, "doesn't show these shares"):
+            margins(spoilt)
+
     def test_an_end_that_no_document_has(self) -> None:
         """Numbers so large that a bend's denominator makes them too large: the lines stand beside it, and say so."""
         a, b, c = 10**11 + 1, 10**11 + 7, 10**11 + 11
@@ -209,6 +269,11 @@ class Paths(unittest.TestCase):
         for piece in path.pieces:
             self.assertTrue(piece.low <= piece.proved[0] < piece.proved[1] <= piece.high)
         self.assertEqual(path.at(0), nucleolus(game).shares)
+
+    def test_floats_are_refused(self) -> None:
+        for what, low, high in (("estate", -0.5, 1), ("estate", 0, 1.5), ({"estate": 0.5}, 0, 1)):
+            with self.assertRaises(BadInput):
+                along(ESTATE, what, low, high)  # type: ignore[arg-type]
 
     def test_what_is_refused(self) -> None:
         cases: list[tuple[str, coop.Game, Any, Amount, Amount, str]] = [

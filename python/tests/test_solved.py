@@ -31,8 +31,8 @@ class Solved(unittest.TestCase):
         self.assertRegex(lund.differences(wrong)[0], r"^shares: expected \['2035', .* and not \['2036', ")
         self.assertEqual(lund.misprints(wrong), ["published 20.35, and 509/25 is exact"])
         self.assertEqual(lund.misprints("{}"), ["6 published numbers for 0"])
-        none: list[Union[str, bytes]] = ["", "[]", b"\xff", "[" * 100000]
-        for line_of_none in none:
+        lines_of_none: list[Union[str, bytes]] = ["", "[]", b"\xff", "[" * 100000]
+        for line_of_none in lines_of_none:
             self.assertEqual(lund.differences(line_of_none), ["it isn't an object of JSON"])
         horses = solved.example("boehm-bawerk")
         self.assertEqual(len(horses.differences('{"buyers best":7}')), len(horses.expected))
@@ -42,8 +42,8 @@ class Solved(unittest.TestCase):
             solved.example("lund")
         first = open_first()
         with tempfile.TemporaryDirectory() as folder:
-            spoilt: list[dict[str, object]] = [{"numbers": "seen"}, {"source": ""}, {"published": None}, {"other": 1}]
-            for changes in spoilt:
+            some: list[dict[str, Any]] = [{"numbers": "seen"}, {"source": ""}, {"published": None}, {"other": 1}]
+            for changes in some:
                 row = {key: part for key, part in {**first, **changes}.items() if part is not None}
                 path = os.path.join(folder, "some.jsonl")
                 with open(path, "w", encoding="utf-8") as file:
@@ -54,8 +54,7 @@ class Solved(unittest.TestCase):
 
 def open_first() -> "dict[str, object]":
     """The first row of the file."""
-    path = solved.INSIDE if os.path.exists(solved.INSIDE) else os.path.join(TOP, solved.FILE)
-    with open(path, encoding="utf-8") as file:
+    with open(os.path.join(TOP, solved.FILE), encoding="utf-8") as file:
         row: dict[str, object] = json.loads(next(file))
     return row
 

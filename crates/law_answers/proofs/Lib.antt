@@ -53,4 +53,5 @@ mod PerHeadMayGiveLess
 mod OneMorePlayer
 pub mod BalancedContributions
 mod BalancedShares
+mod TwoWhoAgree
 mod ScalesKeepBalance

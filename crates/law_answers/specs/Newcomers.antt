@@ -14,7 +14,13 @@
 --                                  alike if the other leaves
 --   BalancedSharesAreShapley       then the shares of all players are the Shapley value
 --   BalancedSharesExist            each game has such shares
-use Rattle.std.specs.Prelude.{◌≡◌, ◌≢◌, ℕ, ◌-◌, ◌^◌, ◌<◌, ◌≤◌, true, pos, ◌-ℤ◌, ◌*ℤ◌, ◌≤ℤ◌, if◌then◌else◌}
+--   agreement                      two who have to agree, about 2
+--   halves, all_to_one             shares of 1 and 1, and of 2 and 0
+--   nothing_each                   shares of 0 and 0
+--   TwoWhoAgree                    with halves both lose alike; if one takes all, they don't
+use Rattle.std.specs.Prelude.{◌≡◌, ◌≢◌, ℕ, ◌-◌, ◌^◌, ◌<◌, ◌≤◌, true, nat_eq, [], ◌∷◌, pos, ◌-ℤ◌, ◌*ℤ◌, ◌≤ℤ◌}
+use Rattle.std.specs.Prelude.{if◌then◌else◌}
+use Rattle.definitions.specs.Classes.{table_worth}
 use Rattle.definitions.specs.Coalitions.{has_player, singleton, grand_coalition}
 use Rattle.definitions.specs.Convexity.{IsConvex}
 use Rattle.definitions.specs.Games.{Game, Allocation, share, amount, IsAllocation}
@@ -72,3 +78,28 @@ BalancedSharesAreShapley =
 -- if the empty coalition is worth nothing
 abbrev pub BalancedSharesExist : Type 0
 BalancedSharesExist = (g : Game) → g.worth 0 ≡ pos 0 → (x : ℕ → Allocation) × AreBalancedShares g x
+
+-- ---- two players
+
+-- alone each is worth nothing
+abbrev pub agreement : Game
+agreement = record { players = 2; worth = table_worth (pos 0 ∷ (pos 0 ∷ (pos 2 ∷ []))) }
+
+abbrev pub halves : Allocation
+halves = record { shares = pos 1 ∷ (pos 1 ∷ []); den = pos 1 }
+
+abbrev pub all_to_one : Allocation
+all_to_one = record { shares = pos 2 ∷ (pos 0 ∷ []); den = pos 1 }
+
+abbrev pub nothing_each : Allocation
+nothing_each = record { shares = pos 0 ∷ (pos 0 ∷ []); den = pos 1 }
+
+-- without the second both are worth nothing, and so is the first alone; with halves each loses 1 if the other leaves,
+-- but who has all loses 2 and the other nothing
+abbrev pub TwoWhoAgree : Type 0
+TwoWhoAgree =
+    ((without_player 1 agreement).worth 3 ≡ pos 0)
+    × ((first_players 1 agreement).worth 1 ≡ pos 0)
+    × LoseAlike halves nothing_each nothing_each 0 1
+    × (¬ LoseAlike all_to_one nothing_each nothing_each 0 1)
+    × (¬ AreBalancedShares agreement (λ s. if nat_eq s 3 then all_to_one else nothing_each))

@@ -1,7 +1,7 @@
 //! Shapley shares if others join the players of a game. Each function's contract is a theorem, and its body is empty.
 
 ghost use Rattle.law_answers.specs.Newcomers.{NewcomersGiveNobodyLess, WhoAddNothingCanGo, ContributionsAreBalanced};
-ghost use Rattle.law_answers.specs.Newcomers.{BalancedSharesAreShapley, BalancedSharesExist};
+ghost use Rattle.law_answers.specs.Newcomers.{BalancedSharesAreShapley, BalancedSharesExist, TwoWhoAgree};
 
 /// If a game is convex, Shapley shares give none of the first players less than in the game of these players alone:
 /// newcomers make nobody pay more (Sprumont 1990).
@@ -30,4 +30,9 @@ pub fn balanced_shares_are_shapley()
 /// Each game in which the empty coalition is worth nothing has such shares.
 pub fn balanced_shares_exist()
     ensures { BalancedSharesExist }
+{}
+
+/// Two who have to agree lose alike with halves, and not if one takes all.
+pub fn two_who_agree()
+    ensures { TwoWhoAgree }
 {}

@@ -25,7 +25,7 @@ def told(answer: Nucleolus, say: Style = EXACT, most: int = 10, program: calls.C
     """Which numbers matter: of a table or a vote the groups that count, and those that are near to it; of another class
     how far each number may go alone."""
     if answer.game.is_table or answer.game.kind == "voting":
-        return by_groups(answer, margins(answer), say, most)
+        return by_groups(answer, margins(answer, program), say, most)
     most_players = MOST_TO_MOVE.get(answer.game.kind, MOST_LISTS)
     if answer.game.n > most_players:
         told = "`coop.sensitivity.ranges` moves those that you name"
