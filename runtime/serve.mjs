@@ -15,10 +15,10 @@
 // line says why. The first answer comes before any request, has the status 0 and no line, and says that the module is
 // there.
 //
-// The process ends with 0 if the input ends between two requests, 2 if the options are none of the above or a word after
-// --lines is no command on a document, 5 if the input ends within a request, has one that is too long, or can't be read, 6
-// if an answer can't be written, and 70 if a file of the page is missing or the module can't be compiled. SIGINT doesn't
-// end it, unless --lines is there.
+// The process ends with 0 if the input ends between two requests, 2 if the options are none of the above or a word
+// after --lines is no command on a document, 5 if the input ends within a request, has one that is too long, or can't
+// be read, 6 if an answer can't be written, and 70 if a file of the page is missing or the module can't be compiled.
+// SIGINT doesn't end it, unless --lines is there.
 const MOST_WORDS = 64 * 1024;
 const MOST_TOLD = 32 * 1024 * 1024; // bytes of a request, which may be several documents
 const CHUNK = 64 * 1024;

@@ -25,13 +25,19 @@ export class Harness {
     }
   }
 
+  /** Counts a fault, and prints it at once. */
+  fault(sentence) {
+    this.faults.push(sentence);
+    console.log(sentence);
+  }
+
   expect(name) {
     return (what, found, wanted) => {
       this.done += 1;
       const isRight = wanted instanceof RegExp ? wanted.test(found) : Object.is(found, wanted);
       if (!isRight) {
         const shown = JSON.stringify(found)?.slice(0, 500);
-        this.faults.push(`${name}: ${what}: found ${shown}, wanted ${String(wanted)}`);
+        this.fault(`${name}: ${what}: found ${shown}, wanted ${String(wanted)}`);
       }
     };
   }
@@ -44,11 +50,11 @@ export class Harness {
       if (id && !["document", "verify"].includes(id)) await page.until(READY);
       await play(page, this.expect(name));
     } catch (fault) {
-      this.faults.push(`${name}: ${fault.message.slice(0, 400)}`);
+      this.fault(`${name}: ${fault.message.slice(0, 400)}`);
     }
     const said = page.faults(), asked = page.requests();
-    if (said.length) this.faults.push(`${name}: the page reports ${said[0].slice(0, 300)}`);
-    if (asked.length) this.faults.push(`${name}: the page asks for ${asked[0]}`);
+    if (said.length) this.fault(`${name}: the page reports ${said[0].slice(0, 300)}`);
+    if (asked.length) this.fault(`${name}: the page asks for ${asked[0]}`);
     await page.close();
   }
 
@@ -57,7 +63,7 @@ export class Harness {
     try {
       return await this.browser.page(url, look);
     } catch (fault) {
-      this.faults.push(`${name}: ${fault.message.slice(0, 400)}`);
+      this.fault(`${name}: ${fault.message.slice(0, 400)}`);
       return null;
     }
   }
@@ -74,8 +80,7 @@ export class Harness {
     } finally {
       await this.browser.stop();
     }
-    if (!this.list.length) this.faults.push("there was no scenario to play");
-    for (const fault of this.faults) console.log(fault);
+    if (!this.list.length) this.fault("there was no scenario to play");
     console.log(`${this.list.length} scenarios, ${this.done} expectations, ${this.faults.length} faults`);
     return this.faults.length;
   }

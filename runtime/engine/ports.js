@@ -35,7 +35,7 @@ export function opened(name) {
   return moved(() => fs.openSync(name, "r"), READ_FAULT);
 }
 
-/** The bytes of a document: of standard input, 0, or of a file that is open. If people have to type it, they are told. */
+/** The bytes of a document: of standard input, 0, or of a file that is open. People who have to type it are told. */
 export function documentOf(port) {
   if (port === 0 && isatty(0) && isatty(2)) {
     console.error("coop: type or paste the document, then Ctrl-D; or give a file: coop COMMAND FILE");

@@ -167,7 +167,8 @@ function voteSlips({ weights, quota }, add) {
   const votes = weights.reduce((total, item) => total + item, 0n);
   if (votes > MOST_VOTES) {
     const advice = "Divide all by a common divisor.";
-    add(13, `The votes add to ${votes}, and the program takes ${LIMITS.votes.toLocaleString("en")}. ${advice}`, "game.weights");
+    const most = LIMITS.votes.toLocaleString("en");
+    add(13, `The votes add to ${votes}, and the program takes ${most}. ${advice}`, "game.weights");
   } else if (quota < 1n || quota > votes) {
     add(13, `The quota has to be from 1 to ${votes}, the votes of all.`, "game.quota");
   }

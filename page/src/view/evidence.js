@@ -30,7 +30,9 @@ export function anewWord(found, game) {
 }
 
 function wordOf(tree, game) {
-  if (tree.answer === "yes") return { isYes: true, sentence: "says yes: the form is right, and all eight conditions hold." };
+  if (tree.answer === "yes") {
+    return { isYes: true, sentence: "says yes: the form is right, and all eight conditions hold." };
+  }
   const { condition, sentence } = failureText(tree, game);
   return { isYes: false, sentence: `says no. ${sentence} (condition ${condition})` };
 }

@@ -13,11 +13,10 @@ const RULES = {
     + "possible, then the next one, and so on, among all divisions of the whole. So somebody may get less than alone.",
 };
 const PER_HEAD = "Per head is a rule of its own: what a group gains or lacks is divided by the number of its "
-  + "members. Its "
-  + "shares mostly differ from those of the plain rule.";
+  + "members. Its shares mostly differ from those of the plain rule.";
 
-const FORM = "First the form. Each group that a level lists has a member and lacks one. What a level takes from earlier "
-  + "levels is listed in one of these. There are fewer levels than players.";
+const FORM = "First the form. Each group that a level lists has a member and lacks one. What a level takes from "
+  + "earlier levels is listed in one of these. There are fewer levels than players.";
 
 /** The eight conditions, in the words of docs/certificates.md. */
 const CONDITIONS = [
@@ -47,8 +46,8 @@ export function meaning(answer = "nucleolus", isPerHead = false) {
       `the shares are the ${name} of the game in the line, and no other division is. That is a theorem (Kohlberg `
         + `1971), `,
       "proved anew for this program. ", RULES[known], isPerHead && ` ${PER_HEAD}`),
-    el("p", {}, "You can check all that by hand, too. ", FORM, " Then the conditions. Go level by level for 3 to 7. For "
-      + "costs, read “pays at most what it costs alone”."),
+    el("p", {}, "You can check all that by hand, too. ", FORM, " Then the conditions. Go level by level for 3 to 7. "
+      + "For costs, read “pays at most what it costs alone”."),
     el("ol", { class: "conditions" }, CONDITIONS.map((text) => el("li", {}, text))),
     trusted());
 }
