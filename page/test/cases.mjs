@@ -90,6 +90,7 @@ export const casesTyped = [
     expect("words", await page.text(".words"), WORDS);
     await page.type("rows.1.count", "9");
     await told(page, "#answer-body", /These are 69 landings, and the program takes 64[\s\S]*do NOT come from the/);
+    await page.click("Why the formula is right");
     expect("by theorems", await page.text(".beyond .notice"), /payments_are_the_nucleolus[\s\S]*shapley_is_by_step/);
     expect("no evidence", await page.run("document.getElementById('evidence').hidden"), true);
   }],

@@ -60,8 +60,8 @@ async function drawnOnce(page, expect) {
   await page.click("Keep this answer to compare");
   await page.until("document.querySelector('.pinned')");
   const kept = await drawnOf(page);
-  expect("a kept answer is beside the answer only", [kept["why-body"], kept["own-body"]].join(),
-    [after["why-body"], after["own-body"]].join());
+  expect("a kept answer changes no reasons", kept["why-body"], after["why-body"]);
+  expect("the button that kept it, once", kept["own-body"], after["own-body"] + 1);
 }
 
 export const parts = [

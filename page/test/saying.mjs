@@ -199,10 +199,10 @@ saying.push(
     for (const [r, text] of ["2/3", "5/3", "11/3"].entries()) await page.type(`proposal.${r}`, text);
     await settle(page);
     const drawn = await page.run("document.querySelector('.triangle svg').textContent");
-    expect("together", drawn, /Shapley shares and Your proposal: one point/);
+    expect("together", drawn, /By what each adds and Your proposal: one point/);
     expect("corners", drawn, /Aer−4; 4; 6Bee2; −2; 6/);
     const told = await page.run("document.querySelector('.triangle svg').getAttribute('aria-label')");
-    expect("told", told, /Nucleolus: Aer 1, Bee 1.50, Cargo 3.50/);
+    expect("told", told, /Fairest to those who gain least: Aer 1, Bee 1.50, Cargo 3.50/);
   }],
 
   ["eight who share, filled and on one page", "costs", async (page, expect) => {
