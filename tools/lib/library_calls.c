@@ -10,12 +10,14 @@
    first two. A length with all bits set stands for a null pointer. Words and document lie in blocks of just their length, so
    that valgrind sees a read too far; a write too far is seen by what stands behind the room. Ends with 1 where something
    isn't as it should be, and says what.
-   malloc, realloc and free of the library lead here: the linker is given --wrap for them. */
+   What takes and gives back memory for the library leads here: the linker is given --wrap for it. */
+#define _GNU_SOURCE /* mremap */
 #include <pthread.h>
 #include <stdint.h>
 #include <stdio.h>
 #include <stdlib.h>
 #include <string.h>
+#include <sys/mman.h>
 #include "coop.h"
 
 #define NULL_LENGTH UINT64_MAX
@@ -40,8 +42,12 @@ static unsigned long requests, refused;
 static long held;
 
 void *__real_malloc(size_t size);
+void *__real_calloc(size_t count, size_t size);
 void *__real_realloc(void *memory, size_t size);
 void __real_free(void *memory);
+void *__real_mmap(void *place, size_t size, int protection, int flags, int file, off_t offset);
+void *__real_mremap(void *memory, size_t before, size_t after, int flags);
+int __real_munmap(void *memory, size_t size);
 
 static int is_refused(void) { return refused && ++requests == refused; }
 
@@ -53,6 +59,8 @@ static void *counted(void *memory)
 
 void *__wrap_malloc(size_t size) { return is_refused() ? NULL : counted(__real_malloc(size)); }
 
+void *__wrap_calloc(size_t count, size_t size) { return is_refused() ? NULL : counted(__real_calloc(count, size)); }
+
 void *__wrap_realloc(void *memory, size_t size)
 {
     if (is_refused()) return NULL;
@@ -63,6 +71,24 @@ void __wrap_free(void *memory)
 {
     if (memory) __atomic_sub_fetch(&held, 1, __ATOMIC_SEQ_CST);
     __real_free(memory);
+}
+
+void *__wrap_mmap(void *place, size_t size, int protection, int flags, int file, off_t offset)
+{
+    void *memory = is_refused() ? MAP_FAILED : __real_mmap(place, size, protection, flags, file, offset);
+    if (memory != MAP_FAILED) counted(memory);
+    return memory;
+}
+
+void *__wrap_mremap(void *memory, size_t before, size_t after, int flags)
+{
+    return is_refused() ? MAP_FAILED : __real_mremap(memory, before, after, flags);
+}
+
+int __wrap_munmap(void *memory, size_t size)
+{
+    __atomic_sub_fetch(&held, 1, __ATOMIC_SEQ_CST);
+    return __real_munmap(memory, size);
 }
 
 static void fail(const char *what, size_t index)
