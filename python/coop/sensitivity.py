@@ -208,7 +208,9 @@ class Path:
             if tree["game"] != game or tree["answer"] != self.rule or list(map(Fraction, tree["shares"])) != wanted:
                 return False
             frames.append(frame_of(tree["certificate"]))
-            if not (checking.verdict(line)["answer"] == "yes" if anew else calls.check(line, program)):
+            if anew and checking.verdict(line)["answer"] != "yes":
+                return False
+            if not anew and not calls.answered("check", line, self.moving.game, program):
                 return False
         enough = 2 if self.moving.is_linear else 3
         return len(frames) >= enough and all(frame == frames[0] for frame in frames)
@@ -354,7 +356,7 @@ class Run:
     def require_taken(self, lines: Sequence[tuple[Fraction, bytes]]) -> None:
         """Refuses to tell anything of a piece, unless the program takes each of its lines."""
         for t, line in lines:
-            said = calls.check(line, self.program)
+            said = calls.answered("check", line, unscaled(self.game), self.program)
             if not said:
                 raise Fault(f"after a change of {t} the program doesn't take the line", said.status, said.line)
 

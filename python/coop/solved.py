@@ -89,7 +89,7 @@ class Example:
         if self.command != "matching":
             return [Fraction(text) for text in tree.get("shares", [])]
         ends = [text for key in ENDS for text in found(tree, key, self.expected[key])]
-        return [Fraction(text) for text in [tree["value"], *ends]]
+        return [Fraction(text) for text in [tree.get("value"), *ends] if text is not None]
 
 
 def found(tree: dict[str, Any], key: str, wanted: Any) -> Any:

@@ -278,8 +278,8 @@ class Reports(unittest.TestCase):
         document = solved()
         texts = " ".join(" ".join(Page(report(document, "", Style())).texts).split())
         self.assertIn(
-            "medium pays 1.50, 0.50 more than the earlier ones. A runway for it and the earlier one costs 4. The earlier "
-            "one pays 1, so 3 is left.",
+            "medium pays 1.50, 0.50 more than the earlier ones. A runway for it and the earlier one costs 4. The "
+            "earlier one pays 1, so 3 is left.",
             texts,
         )
 

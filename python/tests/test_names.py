@@ -1,10 +1,13 @@
 """Names that try to forge."""
+import json
 import unittest
 
 import coop
+from coop import telling
 from coop.names import alike, apart, looks, safe, visible, warning
-from coop.desk.sentences import Teller
 from coop.desk.tables import aligned
+
+from .asking import needs_node
 
 CAPITALS = "2 names differ only in capitals: HARTMANN KG, Hartmann KG"
 ZERO_WIDTH, OVERRIDE, ESCAPE = "\u200b", "\u202e", "\x1b"
@@ -65,6 +68,7 @@ class Names(unittest.TestCase):
             self.assertIn("2 names look alike", warning(["Ann", f"Ann{letter}"]) or "", hex(ord(letter)))
             self.assertIn("\\", safe(letter))
 
+    @needs_node
     def test_names_from_the_right(self) -> None:
         """Else a terminal or a browser moves the numbers beside them."""
         names = ["\u05d0\u05d1", "Ann"]
@@ -72,8 +76,9 @@ class Names(unittest.TestCase):
         self.assertEqual([apart(name) for name in names], [inside, "Ann"])
         self.assertEqual(aligned([names, ["1", "10"]]), f"{inside}    1\nAnn  10\n")
         game = coop.airport([1, 2], names)
-        line = {"answer": "blocked", "coalition": [1], "excess": "1"}
-        self.assertIn(f"{inside} alone", Teller(game).told(line))
+        line = json.dumps({"answer": "blocked", "coalition": [1], "excess": "1"})
+        told = telling.parts(line, game.document().decode(), "", {})[0]["sentences"]
+        self.assertIn(f"{inside} alone", told[0])
 
 
 if __name__ == "__main__":

@@ -9,7 +9,6 @@ from unittest.mock import patch
 
 import coop
 from coop.calls import COMMANDS
-from coop.errors import BadInput
 from coop.program import find
 from coop.telling import slips
 
@@ -31,8 +30,8 @@ SLIPS = {
     '{"game":{"class":"airport","costs":[2,0.2875775201],"version":2}}': "5 game.costs, item 2 (the cost of player 2): "
     '0.2875775201 is no whole number. Write fewer decimals, such as "719/2500"; or multiply all numbers (--scaled of '
     "scripts/from-vector).",
-    '{"game":{"class":"airport","costs":["2195/100"],"version":2,"names":["Ann"]}}': "5 game.costs, item 1 (the cost of "
-    'Ann): “2195/100” isn’t in lowest terms; write "439/20".',
+    '{"game":{"class":"airport","costs":["2195/100"],"version":2,"names":["Ann"]}}': "5 game.costs, item 1 (the cost "
+    'of Ann): “2195/100” isn’t in lowest terms; write "439/20".',
     '{"game":{"class":"airport","costs":["2e30944731"],"version":2}}': "5 game.costs, item 1 (the cost of player 1): "
     '“2e30944731” is no fraction, as "25/2". Write a fraction as a text, "25/2".',
     '{"game":{"class":"airport","costs":["1,5"],"version":2}}': "5 game.costs, item 1 (the cost of player 1): “1,5” is "
@@ -45,8 +44,8 @@ SLIPS = {
     "estate. Then each gets its claim, and no rule is needed.",
     '{"game":{"class":"tree","matrix":[[0,1],[2,0]]}}': "9 game.matrix, row 2, item 1: A link costs the same in both "
     "directions; these two differ.",
-    '{"game":{"class":"voting","quota":600,"weights":[500,300,300]}}': "13 game.weights: The votes add to 1100, and the "
-    "program takes 1,000. Divide all by a common divisor.",
+    '{"game":{"class":"voting","quota":600,"weights":[500,300,300]}}': "13 game.weights: The votes add to 1100, and "
+    "the program takes 1,000. Divide all by a common divisor.",
     "": "2 the document: It is empty.",
     '{"game":\n{"class":"airport","costs":[2,]}}': "2 line 2, column 31: It is no JSON text: a value is missing. There "
     "is a comma before ].",
@@ -55,8 +54,8 @@ SLIPS = {
     '{"game":1} {}': "2 line 1, column 12: It is no JSON text: something stands behind the document.",
     '{"game":{"class":': "2 line 1, column 18: It is no JSON text: it ends too early.",
     '{"game":{"class":"airport","costs":[NaN]}}': "2 line 1, column 37: It is no JSON text: a value is missing.",
-    '{"game":{"class":"airport","costs":[1],"names":["\\ud800"]}}': "2 line 1, column 50: It is no JSON text: a text has "
-    "half of a character.",
+    '{"game":{"class":"airport","costs":[1],"names":["\\ud800"]}}': "2 line 1, column 50: It is no JSON text: a text "
+    "has half of a character.",
 }
 
 GAMES: list[dict[str, Any]] = [
@@ -245,9 +244,9 @@ class Slips(unittest.TestCase):
             self.assertIsNone(slips(text.encode())[1])
 
     def test_large(self) -> None:
-        """What is longer than any document isn't asked; and one of millions of parts is read."""
-        with self.assertRaisesRegex(BadInput, "8,388,609 bytes"):
-            slips(b" " * 8388609)
+        """What is longer than any document is too long; and one of millions of parts is read."""
+        slip, _ = slips(b" " * 8388609, "check")
+        self.assertEqual(slip and (slip.number, slip.name), (1, "TooLong"))
         for part in (b"[]", b"{}", b'{"a":1}'):
             slip, _ = slips(b"[" + b",".join([part] * (8388608 // (len(part) + 1) - 2)) + b"]", "check")
             self.assertEqual(slip and slip.number, 3)

@@ -36,6 +36,7 @@ class Solved(unittest.TestCase):
             self.assertEqual(lund.differences(line_of_none), ["it isn't an object of JSON"])
         horses = solved.example("boehm-bawerk")
         self.assertEqual(len(horses.differences('{"buyers best":7}')), len(horses.expected))
+        self.assertRegex(horses.misprints("{}")[0], r"^\d+ published numbers for 0$")
 
     def test_what_is_refused(self) -> None:
         with self.assertRaisesRegex(BadInput, "'lund' is no example"):
