@@ -1,5 +1,5 @@
 // Scenarios: what was assumed and not given, kept in a saved case, compared, and told; and other questions of a table.
-import { settle, told } from "./harness.mjs";
+import { noted, settle, told } from "./harness.mjs";
 
 const TOWNS = "Aston;112,0\nBray;80,2\nColne;65,1\nDale;72,9\nAston+Bray;170,5\nBray+Colne;124,3\nColne+Dale;126,1\n"
   + "Aston+Bray+Colne;232,0\nAston+Bray+Dale;175,0\nAston+Bray+Colne+Dale;251,5\n";
@@ -142,6 +142,8 @@ export const assumed = [
     await page.type("source", "Reservoir");
     await settle(page);
     expect("the name of the source", await page.run("document.querySelector('.plan svg').textContent"), /Reservoir/);
+    await page.type("links.1-2", ""); // two places that each build alone
+    await noted(page, /1 cell is still empty/);
     await page.click("A link that can’t be built");
     await page.click("make a table of costs of it");
     await page.until("location.hash === '#costs' && document.querySelector('[data-cell=\"names.3\"]')");

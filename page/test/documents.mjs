@@ -15,7 +15,7 @@ const bare = '"answer":"nucleolus","certificate":{"mode":"players","levels":[]}'
 
 /** Each refusal of the program: the document, and what the page says with the place. */
 const REFUSED = [
-  ["1 too long", airport('"answer":1', `[${"1,".repeat(1100000)}1]`), /longer than the program takes: 2 MB/],
+  ["1 too long", airport('"answer":1', `[${"1,".repeat(1100000)}1]`), /It has 2\s200\s\d+ bytes, above 2\s097\s152/],
   ["2 a comma too many", game('"class":"airport",\n"costs":[2,4,]'), /a value is missing[\s\S]*line 2, column 14/],
   ["3 a misspelt key", game('"class":"airport","cost":[2]'),
     /“cost” has no place here; is it “costs”\?[\s\S]*game.cost/],

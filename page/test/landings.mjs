@@ -264,7 +264,9 @@ const beyond = [
     await showBy(",");
     const file = await saved(page, "Save the table (CSV)", "files");
     expect("semicolons", file, /^;Nucleolus[^]*\r\n"Albatros, DH8";\d+,\d\d;/);
-    expect("airlines", file, /\r\n\r\nAirline;Landings;Nucleolus;Shapley shares\r\nAlbatros;5;28,03;22,56\r\n/);
+    expect("airlines", file,
+      /\r\n\r\nAirline;Landings;Nucleolus;Shapley shares;In proportion;"?Separable costs, remaining benefits/);
+    expect("what each pays", file, /\r\nAlbatros;5;28,03;22,56;30,1\d;30,1\d\r\n/);
   }],
 ];
 

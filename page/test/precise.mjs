@@ -217,6 +217,8 @@ const kept = [
     await page.click("All times a power of ten");
     await told(page, "#case-body", /All numbers are here times 10\u202f000\u202f000/);
     await settle(page);
+    await page.type("links.1-2", ""); // two places that each build alone
+    await noted(page, /1 cell is still empty/);
     await page.click("A link that can’t be built");
     await page.click("make a table of costs of it");
     await page.until("location.hash === '#costs' && document.querySelector('[data-cell=\"numbers.7\"]')");

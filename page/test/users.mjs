@@ -109,7 +109,9 @@ async function keptAsItWas(page, expect) {
   expect("as before", await page.run("document.querySelectorAll('.shares .same').length >= 6"), true);
   const bars = await page.run("[...document.querySelectorAll('.bars title')].map((one) => one.textContent).join()");
   const cells = await page.run("[...document.querySelectorAll('.shares tbody .main')].map((td) => td.firstChild.data)");
-  for (const cell of cells) expect(`the picture says ${cell}`, bars.includes(`Fairest to those who gain least ${cell}`), true);
+  for (const cell of cells) {
+    expect(`the picture says ${cell}`, bars.includes(`Fairest to those who gain least ${cell}`), true);
+  }
 }
 
 async function unreadable(page, expect) {

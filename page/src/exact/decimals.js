@@ -176,15 +176,17 @@ export function thousandsIn(typed, { by, doubt }) {
 
 const MOST_WORKED_OUT = 200; // letters: what may be typed into a cell
 
-/** The number of a cell, in which one may add and multiply, too: "27400*1.12 + 300". `isWorkedOut` says so. */
+/** The number of a cell, in which one may add and multiply, too: "27400*1.12 + 300". `isWorkedOut` says so. All its
+ * numbers are read by the mark that some of them show. */
 export function cellNumber(typed, mark = ".") {
   if (!/[\d.,)\s][*×+]/.test(typed) || SCIENTIFIC.test(typed.trim())) return readNumber(typed, mark);
   if (typed.length > MOST_WORKED_OUT) return { fault: "is too long to be worked out" };
-  const terms = typed.trim().replace(/^=/, "").split("+").map((term) => term.split(/[*×]/));
-  const read = terms.map((factors) => factors.map((text) => readNumber(text.trim(), mark)));
-  const all = read.flat(), { fault } = all.find((one) => one.fault) ?? {};
-  if (fault) return { fault: "is no number" };
-  const products = read.map((factors) => factors.reduce((all, { value }) => all.times(value), Rational.of(1)));
+  const terms = typed.trim().replace(/^=/, "").split("+").map((term) => term.split(/[*×]/).map((text) => text.trim()));
+  const { read: all } = readTogether(terms.flat(), mark), left = [...all];
+  if (all.some(({ fault }) => fault)) return { fault: "is no number" };
+  const products = terms.map(({ length }) => left.splice(0, length).reduce((product, { value }) => {
+    return product.times(value);
+  }, Rational.of(1)));
   const { doubt } = all.find((one) => one.doubt) ?? {}, { by } = all.find((one) => one.by) ?? {};
   return { value: Rational.sum(products), doubt, by, isWorkedOut: true };
 }

@@ -96,7 +96,7 @@ export function openDocument({ text, mark }) {
   const game = new Game(tree.game), kind = caseOfClass(game.kind), typed = kind.fromGame(game);
   const isProposal = Array.isArray(tree.shares) && !("answer" in tree) && tree.shares.length === game.n;
   typed.notSums = true; // a document's players are players, whatever their names
-  if (game.named) typed.opened = namesIn(typed);
+  if (game.named) typed.opened = namesIn(typed).filter((name) => game.names.includes(name)); // others are rows
   else typed.isUnnamed = true;
   const { rows } = kind.read(typed, ".");
   return {
