@@ -4,6 +4,8 @@ import { noted, settle, told } from "./harness.mjs";
 const value = (page, cell) => page.run(`document.querySelector('[data-cell="${cell}"]').value`);
 const made = (page) => page.run("document.querySelector('.made pre').textContent");
 const notes = (page) => page.text("#case .faults");
+/** Until the page asks how a number is to be read; before that it answers nothing. */
+const asked = (page) => page.until("document.querySelector('#case .faults').textContent.includes('can be read as')");
 const MESSAGE = "#case .note[role=status]";
 const message = (page) => page.text(MESSAGE);
 
@@ -32,7 +34,7 @@ const marks = [
     const read = /^“3.922” is read as 3.922, with decimals: “0.1754” shows that the point comes before decimals/;
     expect("and said", await notes(page), read);
     await useList(page, "3.922\n1.234\n5\n6\n7\n8\n40.000");
-    await settle(page);
+    await asked(page);
     expect("asked", await notes(page), /“3.922” can be read as 3922 or as 3.922[\s\S]*So can the 3 numbers/);
     await page.click("3.922, with decimals");
     await settle(page);
@@ -65,6 +67,8 @@ const marks = [
 
   ["the decimal mark of what is shown changes no number", "gains", async (page, expect) => {
     await useList(page, "3.922\n1.234\n5\n6\n7\n8\n40");
+    await asked(page);
+    await page.click("3.922, with decimals");
     await settle(page);
     const before = await made(page);
     await chooseMark(page, ",");

@@ -12,7 +12,7 @@ function parted(text) {
 /** Rows without units: {rows, units}, or {fault} in words where the numbers of a column have several. The first `from`
  * columns are names. A number without a unit beside such with one may only be 0. */
 export function withoutUnits(rows, from = 0) {
-  const wide = Math.max(0, ...rows.map(({ length }) => length)), found = new Map();
+  const wide = rows.reduce((most, { length }) => Math.max(most, length), 0), found = new Map();
   for (let c = from; c < wide; c++) {
     const texts = rows.map((row) => row[c] ?? "").filter(Boolean), own = texts.map(parted).filter(Boolean);
     const [unit, other] = new Set(own.map((one) => one.unit)), isBare = (text) => /[1-9]/.test(text) && !parted(text);
