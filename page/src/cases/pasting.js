@@ -75,7 +75,8 @@ export function headingsOf(rows, from, mark) {
 /** The column that each pasted one is for: the one that its heading names, and of the others the next; or none. Numbers
  * are for no optional column, but where four columns stand as `ofFour` has them, by its keys. */
 export function columnsFor(columns, headings, { rows = [], mark = ".", ofFour = [] } = {}) {
-  const wide = Math.max(headings?.length ?? 0, ...rows.map(lastOf)), all = Array.from({ length: wide }, (_, c) => c);
+  const wide = rows.reduce((most, row) => Math.max(most, lastOf(row)), headings?.length ?? 0);
+  const all = Array.from({ length: wide }, (_, c) => c);
   const below = (c) => rows.slice(headings ? 1 : 0).map((row) => row[c]).filter(Boolean);
   const isTitle = (text, title) => text?.toLowerCase() === title.toLowerCase();
   const named = all.map((c) => headings && (columns.find(({ title }) => isTitle(headings[c], title))
