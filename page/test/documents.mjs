@@ -105,7 +105,7 @@ const pasted = ["runway", "costs", "network", "market", "votes"].map((id) => [`p
   }]);
 
 export function documents(top, program) {
-  const examples = readdirSync(join(top, "examples")).map((file) => {
+  const examples = readdirSync(join(top, "examples")).filter((file) => file.endsWith(".json")).map((file) => {
     return [`opened: ${file}`, "document", (page, expect) => opened(page, expect, program, top, file)];
   });
   const departments = readFileSync(join(top, "examples", "departments.json"), "utf8");
