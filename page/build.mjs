@@ -13,12 +13,11 @@ import { existsSync, readFileSync, writeFileSync } from "node:fs";
 import { dirname, join, resolve } from "node:path";
 import { fileURLToPath } from "node:url";
 import { packed, packedIn, unpacked } from "../runtime/engine/inside.js";
-import { squeeze } from "./squeeze.mjs";
+import { squeeze, withoutTexts } from "./squeeze.mjs";
 
 const TOP = dirname(fileURLToPath(import.meta.url));
 const SRC = join(TOP, "src");
 const MOST = 850_000; // bytes of the page
-const SEVERAL = /^export const \w+ = [^;([{\n]*, \w+ = /m; // of which only the first would be exported
 
 /** What stands in the place of "/* NAME *\/" in a module, as the text of a string or as code. */
 function placesOf(own) {
@@ -80,9 +79,16 @@ function moduleOf(path, places, importing) {
     return `${what} ${name}`;
   });
   if (/^(import|export)\b/m.test(code)) throw new Error(`${path} has an import or an export of another form`);
-  if (SEVERAL.test(readFileSync(path, "utf8"))) throw new Error(`${path} exports several constants at once`);
+  if (exportsSeveral(readFileSync(path, "utf8"))) throw new Error(`${path} exports several constants at once`);
   code = squeeze(code).replace(/\/\* ([A-Z]+) \*\//g, (whole, name) => places[name]?.() ?? whole);
   return `const ${nameOf(path)} = (() => {\n${code}\nreturn { ${exported.join(", ")} };\n})();`;
+}
+
+/** Whether one export has several constants, as `export const A = 1, B = 2`: only the first would be exported. */
+function exportsSeveral(code) {
+  let bare = withoutTexts(code), before;
+  do [before, bare] = [bare, bare.replace(/\([^()]*\)|\[[^[\]]*\]|\{[^{}]*\}/g, "0")]; while (bare !== before);
+  return /^export const [^;]*,/m.test(bare);
 }
 
 /** Code as the text of a script element may have it. */

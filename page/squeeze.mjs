@@ -37,8 +37,9 @@ function template(code, start) {
   return { text: `${text}\``, end: at + 1 };
 }
 
-/** A piece of code from a place on, up to its end or, inside of a template, to the brace that closes it. */
-function squeezed(code, start, isInside) {
+/** A piece of code from a place on, up to its end or, inside of a template, to the brace that closes it. Of each
+ * string, template and regular expression it has what `kept` gives. */
+function squeezed(code, start, isInside, kept = (piece) => piece) {
   let text = "", at = start, depth = 0, hasBlank = false;
   const put = (piece) => {
     const [last] = text.slice(-1), [next] = piece, isSame = last === next && "+-".includes(last);
@@ -60,11 +61,11 @@ function squeezed(code, start, isInside) {
     else if (code.startsWith("/**", at)) at = code.indexOf("*/", at) + 2;
     else if (letter === '"' || letter === "'" || (letter === "/" && isRegex(text))) {
       const end = endOf(code, at);
-      put(code.slice(at, end));
+      put(kept(code.slice(at, end)));
       at = end;
     } else if (letter === "`") {
       const inside = template(code, at);
-      put(inside.text);
+      put(kept(inside.text));
       at = inside.end;
     } else {
       if (letter === "{") depth += 1;
@@ -86,4 +87,9 @@ function isRegex(text) {
 /** All of a code. */
 export function squeeze(code) {
   return squeezed(code, 0, false).text;
+}
+
+/** All of a code but its strings, templates and regular expressions, which are all "". */
+export function withoutTexts(code) {
+  return squeezed(code, 0, false, () => '""').text;
 }

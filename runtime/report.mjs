@@ -2,7 +2,7 @@
 import { createHash } from "node:crypto";
 import { el, textOf } from "../page/src/draw/tree.js";
 import { columnTexts } from "../page/src/tell/answers.js";
-import { fractionText, shortText } from "../page/src/exact/decimals.js";
+import { countText, fractionText, shortText } from "../page/src/exact/decimals.js";
 import { spoken } from "../page/src/exact/marks.js";
 import { Rational } from "../page/src/exact/rational.js";
 import { withEscapes } from "../page/src/game/names.js";
@@ -78,7 +78,7 @@ function partOf({ title, sentences, items, last }) {
 }
 
 function checkOf(rule, over) {
-  const code = (text) => el("code", {}, text), count = over.toLocaleString("en");
+  const code = (text) => el("code", {}, text), count = countText(over);
   const divided = ` Above all amounts are divided by ${count}: in the line they are so many times as great.`;
   return el("p", {}, "The line below is the whole answer: the game, the shares as exact fractions, and a certificate ",
     `that shows that they are the ${rule}. Anyone can check it, with Python alone: take `, code("check-anew"),

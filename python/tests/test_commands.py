@@ -1,8 +1,10 @@
 """The scripts that tools/gate/try-scripts doesn't try: what they print, how they end, and what they refuse."""
 import csv
+import html
 import io
 import json
 import os
+import re
 import subprocess
 import sys
 import tempfile
@@ -404,6 +406,21 @@ class Scripts(unittest.TestCase):
         noted = script("report", "--note", "215 groups were filled in.", text=json.dumps(solved()))[1]
         self.assertEqual((noted.count("215 groups were filled in."), "215 groups" in text), (1, False))
         self.refused(script("report", text=json.dumps(solved(shares=[3, 1, 2]))), "condition 2")
+        self.refused(script("report", "--decimal", "dot", text=json.dumps(solved())), "invalid choice: 'dot'")
+
+    def test_a_decimal_comma_everywhere(self) -> None:
+        """In paper and picture no number keeps a decimal point."""
+        great, words = solved(), ["--places", "2", "--unit", "EUR", "--decimal", "comma", "--over", "1000"]
+        paper = script("report", *words, text=json.dumps(great))[1]
+        told = html.unescape(re.sub("(?s)<style>.*?</style>|<pre>.*?</pre>|<[^>]*>", " ", paper))
+        self.assertEqual(re.findall(r"[0-9]+\.[0-9]+", told), [])
+        self.assertIn("amounts are divided by 1000:", told)
+        plain = script("report", "--places", "2", "--decimal", "comma", text=json.dumps(great))[1]
+        self.assertIn("<td>1,50</td><td>3/2</td><td>4,00</td>", plain)
+        self.assertIn("medium pays 1,50, 0,50 more than", plain)
+        self.assertIn("nucleolus: 1,00; 1,50; 3,50</text>", plain)
+        drawn = script("picture", "--places", "2", "--decimal", "comma", text=json.dumps(great))[1]
+        self.assertIn("nucleolus: 1,00; 1,50; 3,50</text>", drawn)
         self.refused(script("report", text='{"answer":"core"}'), "isn't a line of nucleolus")
 
     def test_over(self) -> None:

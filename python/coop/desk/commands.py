@@ -51,8 +51,8 @@ class Options(argparse.ArgumentParser):
         self.add_argument("--unit", default="", metavar="UNIT", help="the unit after each number, such as EUR")
 
     def add_mark(self) -> None:
-        """Which mark stands in front of decimals in sentences."""
-        told = "the decimal mark of the sentences (default: point)"
+        """Which mark stands in front of decimals in what the page's modules tell and draw."""
+        told = "the decimal mark (default: point)"
         self.add_argument("--decimal", dest="mark", choices=list(MARKS), default="point", help=told)
 
     def add_no_added(self) -> None:
