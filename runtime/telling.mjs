@@ -6,10 +6,11 @@
 //                                certificate; both may be empty
 //     tell report [SETTINGS]     LINE PRINTED ABOUT, a line whose certificate was checked as a paper of HTML
 //     tell picture [SETTINGS]    GAME ABOUT, shares as an SVG
+//     tell compare [SETTINGS]    GAME ABOUT, the excesses of two divisions side by side, and which is better
 //     tell same                  LINE AGREED, what the two games are to each other
 //     tell slip COMMAND          a document, the first refusal of a command, and the first key that is given twice
 //
-// Several texts have a zero byte between each two. What ABOUT may have, report.mjs and picture.mjs say.
+// Several texts have a zero byte between each two. What ABOUT may have, report.mjs, picture.mjs and compare.mjs say.
 // SETTINGS are JSON: {"places": N, "unit": TEXT, "mark": TEXT, "thousands": TEXT}, how numbers are spelled. The answer
 // is JSON, and the status is 0; of `same` 1 for another game, 2 where nobody can say, 3 where it is worth the same; of
 // `slip` 1 where one is found; and 2 with {"fault": SENTENCE} for what can't be told.
@@ -27,12 +28,13 @@ import { slipsIn } from "../page/src/tell/slips.js";
 import { Namer } from "../page/src/tell/words.js";
 import { compared } from "../page/src/work/lines.js";
 import { entriesOf } from "../page/src/work/same-game.js";
+import { compareDivisions } from "./compare.mjs";
 import { picture } from "./picture.mjs";
 import { report } from "./report.mjs";
 
 const PLAIN = { mark: ".", thousands: ",", places: null, unit: "" };
 const STATUS = { [SAME]: 0, [ANOTHER]: 1, [UNSAID]: 2, [WORTH_THE_SAME]: 3 };
-const TASKS = { line: lineTold, report: reportTold, picture: pictureTold, same, slip };
+const TASKS = { line: lineTold, report: reportTold, picture: pictureTold, compare, same, slip };
 const CANT = 2;
 
 /** What the words after `tell` ask of the bytes of a document: a status, and the bytes of some JSON. */
@@ -84,9 +86,20 @@ function reportTold(_, data) {
 }
 
 function pictureTold(_, data) {
+  const { game, points, settings } = pointsIn(data);
+  return { svg: picture(game, points, settings) };
+}
+
+function compare(_, data) {
+  const { game, points, settings } = pointsIn(data);
+  return compareDivisions(game, points, settings);
+}
+
+/** A game, the named shares of it, and what else is said about them. */
+function pointsIn(data) {
   const [game, about] = textsOf(data), { points, ...settings } = JSON.parse(about);
   const named = points.map(([title, shares]) => ({ title, shares: shares.map(Rational.of) }));
-  return { svg: picture(new Game(parseJson(game)), named, settings) };
+  return { game: new Game(parseJson(game)), points: named, settings };
 }
 
 function same(engine, document) {

@@ -104,6 +104,12 @@ def picture(game: str, about: dict[str, Any], settings: dict[str, Any]) -> str:
     return str(asked("picture", settings, game, json.dumps(about))["svg"])
 
 
+def compared(game: str, about: dict[str, Any], settings: dict[str, Any]) -> dict[str, Any]:
+    """The excesses of divisions of a game, and which of two is better; runtime/compare.mjs has what it is told."""
+    found: dict[str, Any] = asked("compare", settings, game, json.dumps(about))
+    return found
+
+
 def report(line: str, printed: str, about: dict[str, Any], settings: dict[str, Any]) -> str:
     """A line whose certificate was checked as a paper of HTML; runtime/report.mjs has what it is told about it."""
     return str(asked("report", settings, line, printed, json.dumps(about))["html"])

@@ -374,7 +374,7 @@ class Scripts(unittest.TestCase):
         lines = json.dumps(solved()) + json.dumps({"shares": ["2/3", "5/3", "11/3"]})
         status, text, errors = script("compare", "--places", "2", "--unit", "EUR", text=lines)
         self.assertEqual((status, errors), (0, ""))
-        self.assertIn("1      light alone  -1.00 EUR  medium and heavy together  -0.67 EUR", text)
+        self.assertIn("1      light alone  −1.00 EUR  medium and heavy together  −0.67 EUR", text)
         rows = list(csv.reader(io.StringIO(script("compare", "--csv", text=lines)[1])))
         self.assertEqual((len(rows), rows[1][:3], rows[1][4]), (7, ["1", "light alone", "-1"], "-2/3"))
         self.refused(script("compare", text=json.dumps(solved())), "1 divisions")

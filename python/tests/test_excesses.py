@@ -8,9 +8,12 @@ from typing import Sequence
 import coop
 from coop.desk.cells import csv_text
 from coop.desk.documents import Point
-from coop.desk.excesses import Comparison, Entry, compare, comparisons, csv, excess, excess_list, first_difference, told
+from coop.desk.excesses import Comparison, Entry, compare, comparisons, csv, excess_list, told
 from coop.desk.tables import put_together, shares_csv
+from coop.masks import members
 from coop.styles import Style
+
+from .asking import needs_node
 
 AIRPORT = coop.airport({"light": 2, "medium": 4, "heavy": 6})
 
@@ -23,14 +26,22 @@ def point(name: str, text: str, game: coop.Game = AIRPORT) -> Point:
 NUCLEOLUS, SHAPLEY = point("nucleolus", "1 3/2 7/2"), point("Shapley shares", "2/3 5/3 11/3")
 TOLD = """\
 place  group        nucleolus  group                      Shapley shares
-1      light alone         -1  medium and heavy together            -2/3
+1      light alone         −1  medium and heavy together            −2/3
 
-Place 1 is the first that differs: -1 by nucleolus, -2/3 by Shapley shares. The lesser is better, so
+Place 1 is the first that differs: −1 by nucleolus, −2/3 by Shapley shares. The lesser is better, so
 nucleolus treats the worst-off groups better. Worse off by Shapley shares: medium and heavy
 together. They pay 16/3 there, and 5 by nucleolus; by themselves they would cost 6.
 """
 
 
+def excess(game: coop.Game, shares: Sequence[Fraction], group: int) -> Fraction:
+    """What a group is worth less what its members get, per head where the game says so."""
+    got = sum((shares[i] for i in members(group)), Fraction(0))
+    plain = game.worth(group) + (got if game.costs else -got)
+    return plain / len(members(group)) if game.per_head else plain
+
+
+@needs_node
 class Excesses(unittest.TestCase):
     def test_by_hand(self) -> None:
         excesses = [str(excess(AIRPORT, NUCLEOLUS.shares, group)) for group in range(1, 7)]
@@ -43,7 +54,7 @@ class Excesses(unittest.TestCase):
     def test_lists_are_those_of_the_groups(self) -> None:
         """Each list against the excesses of its groups, over random games of each class and both measures."""
         draw = random.Random(6)
-        for game in drawn_games(draw):
+        for game in [*drawn_games(draw), coop.airport([3]), coop.airport(range(1, 17))]:
             shares = [Fraction(draw.randint(-9, 20), draw.randint(1, 6)) for _ in range(game.n)]
             wanted = [Entry(excess(game, shares, group), group) for group in range(1, game.everyone)]
             self.assertEqual(excess_list(game, shares), sorted(wanted, key=lambda entry: (-entry.excess, entry.group)))
@@ -97,9 +108,11 @@ class Excesses(unittest.TestCase):
             first, second = (Point(name, [Fraction(x) for x in shares], game) for name, shares in (("a", a), ("b", b)))
             lists = [worst_first(game, shares) for shares in (a, b)]
             wanted = None if lists[0] == lists[1] else first if lists[0] < lists[1] else second
-            comparison = Comparison(game, first, second)
+            comparison = Comparison(game, (first, second))
             self.assertIs(comparison.better(), wanted)
-            self.assertTrue(comparison.verdict())
+            text = " ".join(comparison.told().split())
+            differs = next((k for k, pair in enumerate(zip(*lists), 1) if pair[0] != pair[1]), 0)
+            self.assertIn(f"Place {differs} is the first" if differs else "Both have the same list", text)
 
     def test_what_is_refused(self) -> None:
         other = point("proposal", "1 2 3", coop.airport([1, 2, 6], AIRPORT.names))
@@ -109,9 +122,14 @@ class Excesses(unittest.TestCase):
         with self.assertRaisesRegex(coop.BadInput, "too many to list"):
             excess_list(coop.airport([1] * 17), [Fraction(0)] * 17)
 
-    def test_first_difference(self) -> None:
-        lists = [excess_list(AIRPORT, some.shares) for some in (NUCLEOLUS, SHAPLEY)]
-        self.assertEqual((first_difference(*lists), first_difference(lists[0], lists[0])), (0, None))
+    def test_a_long_row_of_equal_places(self) -> None:
+        """Of more than sixteen the first and the last eight are shown, unless all are asked for."""
+        game = coop.airport([1] * 5)
+        equal = Point("equal", [Fraction(1, 5)] * 5, game)
+        text = compare([equal, equal]).told().splitlines()
+        self.assertEqual([text[k].split()[0] for k in (8, 9, 10, 17)], ["8", "..", "23", "30"])
+        self.assertEqual(len(compare([equal, equal]).told(True).splitlines()), 33)
+        self.assertEqual(len(compare([equal, equal]).rows()), 31)
 
 
 def drawn_games(draw: random.Random) -> list[coop.Game]:

@@ -66,10 +66,11 @@ class Processes(unittest.TestCase):
         with tempfile.TemporaryDirectory() as tools:
             line = json.dumps(solved()).encode()
             os.symlink(sys.executable, os.path.join(tools, "python3"))
-            for name in ("explain", "report", "picture", "slip", "same-game", "shares"):
+            for name in ("explain", "report", "picture", "slip", "same-game", "compare", "shares"):
                 words = [sys.executable, os.path.join(TOP, "scripts", name)]
                 words += ["-", os.path.join(TOP, "examples", "airport.json")] if name == "same-game" else []
-                done = subprocess.run(words, input=line, env={"PATH": tools}, stdout=PIPE, stderr=PIPE)
+                data = line * 2 if name == "compare" else line
+                done = subprocess.run(words, input=data, env={"PATH": tools}, stdout=PIPE, stderr=PIPE)
                 if name == "shares":
                     self.assertEqual((done.returncode, done.stderr), (0, b""))
                     continue

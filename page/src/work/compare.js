@@ -42,10 +42,10 @@ export function excessLists({ divisions, most }, game) {
   };
 }
 
-/** The excesses of all groups by each of some divisions; without `lists` where that takes too long. */
-function listsOf(game, divisions) {
+/** The excesses of all groups by each of some divisions, over a unit; without `lists` where that takes too long. */
+export function listsOf(game, divisions, most = MOST_PLAYERS) {
   const all = divisions.map((shares) => shares.map(Rational.of));
-  if (game.n < 2 || (!game.isTable() && game.n > MOST_PLAYERS)) return {};
+  if (game.n < 2 || (!game.isTable() && game.n > most)) return {};
   const unit = unitOf(game, all.flat());
   return { unit, lists: all.map((shares) => excesses(game, shares, unit)) };
 }
