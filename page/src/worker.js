@@ -4,6 +4,7 @@ import { checkAnew } from "./check/check-anew.js";
 import { spoken } from "./exact/marks.js";
 import { parseJson } from "./exact/json.js";
 import { explain } from "./tell/explain.js";
+import { along } from "./work/along.js";
 import { answer } from "./work/answers.js";
 import { Case } from "./work/case.js";
 import { openText } from "./work/case-files.js";
@@ -33,6 +34,7 @@ const TASKS = {
   compare: (what, one) => compare(what, one.named), excessLists: (what, one) => excessLists(what, one.named),
   overrun: (what, one) => overrun(what, one.named), estates: (what, one) => estates(what, one.game),
   leave: (what, one) => leave(what, one.game), pair: (what, one) => pair(what, one.game),
+  along: (what, one) => along(what, one.game),
   margins: (_, one) => margins(parseJson(one.line), one.game),
 };
 

@@ -148,6 +148,45 @@ const numbers = [
   }],
 ];
 
+/** Opens the slider of the whole, and waits until all bends are found. */
+async function openMoved(page) {
+  const parts = "[...document.querySelectorAll('#answer-more summary')]";
+  await page.run(`${parts}.find((one) => /^Move/.test(one.innerText)).click()`);
+  return told(page, ".moving", /Bends at[\s\S]*straight line/);
+}
+
+const moved = [
+  ["face: the total moves, and bends are marked", "costs", async (page, expect) => {
+    await openMoved(page);
+    await told(page, ".moving", /Bends at\s+8\.00\s+9\.50\s+12\.50\s+17\.75/);
+    expect("as many marks", await page.run("document.querySelector('.moving datalist').childElementCount"), 4);
+    const found = () => page.text(".moving .found"), value = "document.querySelector('.moving input')";
+    expect("at the case", await found(), /Sales\s+3\.88\s+\+1\/4[\s\S]*From 9\.50 to 12\.50[\s\S]*lines of both ends/);
+    await page.run(`${value}.focus()`);
+    for (let k = 0; k < 10; k++) await page.key("ArrowRight");
+    const at = await page.run(`${value}.getAttribute("aria-valuetext")`);
+    expect("by keys", await page.text(".moving output"), `All together cost ${at}`);
+    expect("beyond a bend", await found(), /From 12\.50 to 17\.75/);
+    const shares = (await found()).match(/(?<=(Sales|Ops|Legal)\s+)\d+\.\d\d/g).join();
+    await page.click("17.75", "document.querySelector('.moving')");
+    expect("at a bend", await page.text(".moving output"), "All together cost 17.75");
+    expect("no division", await found(), /some group could do better, whatever the division/);
+    await page.type("numbers.7", at);
+    await settle(page);
+    const own = (await page.text("#answer .lead")).match(/(?<=pays )\d+\.\d\d/g).join();
+    expect(`the program’s answer at ${at}`, own, shares);
+  }],
+  ["face: an estate moves from nothing to all claims, on a phone", "estate", async (page, expect) => {
+    await openMoved(page);
+    await told(page, ".moving", /Bends at\s+1200\.00\s+1600\.50\s+3399\.50\s+3800\.00/);
+    expect("three lines", await page.text(".moving .found"), /took three lines, of the ends and between/);
+    await page.run("document.querySelector('.moving input').value = 0");
+    await page.run("document.querySelector('.moving input').dispatchEvent(new Event('input'))");
+    expect("nothing to divide", await page.text(".moving .found"), /together\s+0\.00\s+\+1/);
+    expect("no wider than the page", await page.run("document.documentElement.scrollWidth"), 390);
+  }, { wide: 390, high: 844 }],
+];
+
 const demos = [
   ["face: the start’s example lives", "", async (page, expect) => {
     await told(page, ".demo", /Sales\s+3\.88[\s\S]*No group would do better alone\s+Two checkers agree/);
@@ -163,4 +202,4 @@ const demos = [
   }],
 ];
 
-export const face = [...answers, ...rules, ...numbers, ...demos];
+export const face = [...answers, ...rules, ...numbers, ...moved, ...demos];

@@ -6,18 +6,22 @@ import { listed } from "../game/words.js";
 import { changesOf, changesTable, movedHint, ruleIn } from "./changes.js";
 import { button, el, refill } from "./dom.js";
 import { totalsOf } from "./format.js";
+import { movingPart } from "./moving-whole.js";
 import { leavingPart } from "./who-leaves.js";
 
 const PER_HEAD = "Prenucleolus per head", EVEN = ["Shapley shares", PER_HEAD];
 const MOST_OVERRUN = 12; // players of other games than tables
+const MOST_MOVED = 16; // claims whose estate moves
 
 /** The parts for this game. `settings` are {rows, format, typed, mark, ask, assumed}: `ask(task, what)` goes to a
  * worker, `typed` keeps what was typed, and `assumed(groups)` says whether the page filled the number of any. */
-export function otherAmounts({ game }, settings) {
-  const view = { game, ...settings };
-  if (game.kind === "bankruptcy") return estatesPart(view);
+export function otherAmounts({ game, answer }, settings) {
+  const view = { game, answer, ...settings };
+  if (game.kind === "bankruptcy") return [game.n > 1 && game.n <= MOST_MOVED && movingPart(view), estatesPart(view)];
   const isTable = game.isTable(), isOther = ["airport", "tree"].includes(game.kind) && game.n <= MOST_OVERRUN;
-  if ((isTable || isOther) && !game.ballots && game.n > 1) return [overrunPart(view), leavingPart(view)];
+  if ((isTable || isOther) && !game.ballots && game.n > 1) {
+    return [movingPart(view), overrunPart(view), leavingPart(view)];
+  }
   const isLarge = game.kind === "tree" && game.n > MOST_OVERRUN; // of a runway the answer says it, with all it lacks
   return isLarge && el("p", { class: "hint screen" }, "If the whole costs more than planned: who bears it is worked ",
     `out for up to ${MOST_OVERRUN} players, and here are ${game.n}.`);

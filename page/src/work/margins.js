@@ -36,23 +36,28 @@ export function margins({ answer, certificate, shares }, game) {
 
 /** What a group may be worth at most, by its mask, for no level to be wrong: undefined for none and for all. */
 function leastBounds({ n, levels, mode, got, over, perHead }) {
-  const settled = mode === "span" ? new SettledSpan(n) : new SettledPlayers(n), most = Array(2 ** n).fill(undefined);
-  let open = Array.from({ length: 2 ** n - 2 }, (_, k) => ({ mask: k + 1, players: membersOf(k + 1) }));
-  for (const { excess, coalitions, bounds } of levels) {
-    const e = over(excess);
-    open = open.filter(({ players }) => settled.isOpen(players));
-    for (const { mask, players } of open) {
-      const bound = got[mask] + (perHead ? BigInt(players.length) * e : e);
-      if (most[mask] === undefined || bound < most[mask]) most[mask] = bound;
-    }
-    for (const [group] of coalitions) settled.add(group);
-    for (const [player, weight] of bounds) if (weight >= 1n) settled.add(player);
-  }
+  const excesses = levels.map(({ excess }) => over(excess)), most = Array(2 ** n).fill(undefined);
+  eachOpen({ n, levels, mode }, (mask, players, k) => {
+    const bound = got[mask] + (perHead ? BigInt(players.length) * excesses[k] : excesses[k]);
+    if (most[mask] === undefined || bound < most[mask]) most[mask] = bound;
+  });
   return most;
 }
 
+/** Visits each group that is open at a level: its mask, its members, and the level's place. */
+export function eachOpen({ n, levels, mode }, visit) {
+  const settled = mode === "span" ? new SettledSpan(n) : new SettledPlayers(n);
+  let open = Array.from({ length: 2 ** n - 2 }, (_, k) => ({ mask: k + 1, players: membersOf(k + 1) }));
+  levels.forEach(({ coalitions, bounds }, k) => {
+    open = open.filter(({ players }) => settled.isOpen(players));
+    for (const { mask, players } of open) visit(mask, players, k);
+    for (const [group] of coalitions) settled.add(group);
+    for (const [player, weight] of bounds) if (weight >= 1n) settled.add(player);
+  });
+}
+
 /** The sum of each group, by its mask. */
-function sums(items) {
+export function sums(items) {
   const all = [0n];
   for (const item of items) for (const sum of [...all]) all.push(sum + item);
   return all;
