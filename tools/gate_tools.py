@@ -39,6 +39,7 @@ TOOLS = (
     Tool("make-contracts", ("--check",), has_program=False, takes_program=False, folder="make"),
     Tool("make-classes", ("--check",), has_program=False, takes_program=False, folder="make"),
     Tool("try-folders", has_program=False, takes_program=False),
+    Tool("draw-crates", ("--check",), has_program=False, takes_program=False, folder="make"),
     Tool("try-library", needs=("cc", "ar", "ld", "nm", "objcopy", "readelf"), uses=("valgrind",), needs_kit=True),
     Tool("shown-lines", uses=("cc",), takes_program=False, needs_kit=True, after="try-library"),
     Tool("try-page", needs=("node",)),
