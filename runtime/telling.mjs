@@ -8,16 +8,20 @@
 //     tell picture [SETTINGS]    GAME ABOUT, shares as an SVG
 //     tell compare [SETTINGS]    GAME ABOUT, the excesses of two divisions side by side, and which is better
 //     tell same                  LINE AGREED, what the two games are to each other
+//     tell odds [SETTINGS]       NUMBERS of the groups of a table, {"names", "isCost", "given", "filled"}, by masks:
+//                                which of the given ones can hardly be meant, each mask with a sentence
 //     tell slip COMMAND          a document, the first refusal of a command, and the first key that is given twice
 //
 // Several texts have a zero byte between each two. What ABOUT may have, report.mjs, picture.mjs and compare.mjs say.
 // SETTINGS are JSON: {"places": N, "unit": TEXT, "mark": TEXT, "thousands": TEXT}, how numbers are spelled. The answer
 // is JSON, and the status is 0; of `same` 1 for another game, 2 where nobody can say, 3 where it is worth the same; of
 // `slip` 1 where one is found; and 2 with {"fault": SENTENCE} for what can't be told.
+import { oddsOf } from "../page/src/cases/odds.js";
 import { JsonFault, parseJson } from "../page/src/exact/json.js";
 import { spoken } from "../page/src/exact/marks.js";
 import { Rational } from "../page/src/exact/rational.js";
 import { Game } from "../page/src/game/game.js";
+import { membersOf } from "../page/src/game/groups.js";
 import { ANOTHER, SAME, UNSAID, WORTH_THE_SAME } from "../page/src/game/same-worths.js";
 import { withEscapes } from "../page/src/game/names.js";
 import { answerTold, columnTexts, sharesTold, Untold } from "../page/src/tell/answers.js";
@@ -34,7 +38,7 @@ import { report } from "./report.mjs";
 
 const PLAIN = { mark: ".", thousands: ",", places: null, unit: "" };
 const STATUS = { [SAME]: 0, [ANOTHER]: 1, [UNSAID]: 2, [WORTH_THE_SAME]: 3 };
-const TASKS = { line: lineTold, report: reportTold, picture: pictureTold, compare, same, slip };
+const TASKS = { line: lineTold, report: reportTold, picture: pictureTold, compare, same, odds, slip };
 const CANT = 2;
 
 /** What the words after `tell` ask of the bytes of a document: a status, and the bytes of some JSON. */
@@ -114,6 +118,14 @@ function answer(engine, word, document) {
   const { status, line } = engine.run([word], new TextEncoder().encode(document));
   const tree = status > 3 ? {} : parseJson(new TextDecoder().decode(line));
   return { status, tree, refusal: status > 1 ? refusalText(tree, document, word) : undefined };
+}
+
+function odds(_, data) {
+  const { names, isCost, given, filled } = JSON.parse(textsOf(data)[0]), values = Array(2 ** names.length).fill();
+  for (const [mask, number] of Object.entries({ ...filled, ...given })) values[mask] = Rational.of(number);
+  const nameOf = (mask) => membersOf(mask).map((i) => withEscapes(names[i])).join("+");
+  const isGiven = (mask) => Object.hasOwn(given, mask);
+  return { odds: oddsOf(values, names.length, { isCost, nameOf, isGiven }) };
 }
 
 function slip(_, document, command) {

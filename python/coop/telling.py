@@ -99,6 +99,12 @@ def parts(line: str, document: str, verdict: str, settings: dict[str, Any]) -> l
     return found
 
 
+def odds(table: dict[str, Any], settings: dict[str, Any]) -> list[dict[str, Any]]:
+    """Which numbers of a table can hardly be meant; runtime/telling.mjs has what it is told."""
+    found: list[dict[str, Any]] = asked("odds", settings, json.dumps(table))["odds"]
+    return found
+
+
 def picture(game: str, about: dict[str, Any], settings: dict[str, Any]) -> str:
     """Shares of a game as an SVG; runtime/picture.mjs has what it is told about them."""
     return str(asked("picture", settings, game, json.dumps(about))["svg"])

@@ -290,9 +290,13 @@ class Scripts(unittest.TestCase):
         within = script("from-costs", "--fill-within", "--places", "1", text="a,3\nb,4\nc,5\na+b+c,6\n")
         self.assertEqual([item[1] for item in json.loads(within[1])["game"]["sparse"]], [3, 4, 5, 6, 6, 6, 6])
         self.assertIn("b+c: 6.0 = a + b + c, and not 9.0 = b | c\n", within[2])
+        told = "from-costs: line 3: a+b costs 1,559.81,"
         odd = script("from-costs", text="a,9\nb,9.27\na+b,1559.81\n")
-        self.assertEqual((odd[0], odd[2]), (0, "from-costs: line 3: a+b costs 1,559.81, more than a | b, 18.27\n"))
+        self.assertEqual((odd[0], odd[2]), (0, f"{told} more than b and a cost apart: 9.27 + 9\n"))
         self.assertEqual(script("from-costs", "--gains", text="a,9\nb,9.27\na+b,1559.81\n")[2], "")
+        less = script("from-costs", "--gains", "--places", "1", text="a\x1b,9\nb,9.27\na\x1b+b,18\n")
+        hostile = "from-costs: line 3: a\\u001b+b gains 18.0, less than b and a\\u001b gain apart: 9.3 + 9.0\n"
+        self.assertEqual(less[2].splitlines(True)[1:], [hostile])
         self.assertIn("from-costs: a+c: 8 = a | c\nfrom-costs: b+c: 9 = b | c\n", errors)
         self.refused(script("from-costs", text=costs), "a+c has no line, and 1 more groups", "--fill")
         gains = json.loads(script("from-costs", "--gains", text="a,1\n")[1])["game"]

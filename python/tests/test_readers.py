@@ -4,15 +4,18 @@ from fractions import Fraction
 from itertools import combinations
 from random import Random
 from typing import Callable, Iterable
+from unittest.mock import patch
 
 from coop import BadInput
-from coop.desk.costing import doubts, remarks
-from coop.filling import above_larger, cheapest, cheapest_cover, told
+from coop.desk.costing import doubts, remarks, told
+from coop.filling import above_larger, cheapest, cheapest_cover
 from coop.desk.plainly import Plainly
 from coop.readers import claims, groups, landings, left_out, vectors
 from coop.sheets import Layout, notes
 from coop.desk.typed import number
 from coop.styles import EXACT
+
+from .asking import needs_node
 
 APART = (("a+c", "8.1 = a | c"), ("b+c", "9.1 = b | c"))
 COSTS = "a,3\nb,4\nc,5\na+b,6\na+b+c,9\n"
@@ -107,24 +110,33 @@ class Readers(unittest.TestCase):
         self.assertIn("2 of these cost less with the works of a larger group", said[4])
         self.assertEqual(said[5:], [f"{s}: 7.0 = a + b + c, and not {t}" for s, t in APART])
 
-    def test_costs_that_look_like_slips(self) -> None:
+    @needs_node
+    def test_numbers_that_look_like_slips(self) -> None:
+        """The one that is in most that don't fit is told, by its line; of groups that were filled in none is."""
         text = "a,3000.5\nb,900\nc,955.77\nb+c,15598.10\na+c,12\na+b,-4\na+b+c,3500\n"
         wanted = [
-            "line 4: b+c costs 15,598.10, more than b | c, 1,855.77",
-            "line 5: a+c costs 12, less than a alone, 3,000.50",
-            "line 6: a+b costs -4, which is negative",
-            "line 7: a+b+c costs 3,500, more than a+c | b, 912",
+            "line 6: a+b costs −4, less than b, which it holds: 900 (2 more such)",
+            "line 5: a+c costs 12, less than c, which it holds: 955.77 (2 more such)",
+            "line 4: b+c costs 15,598.10, more than c and b cost apart: 955.77 + 900 (1 more such)",
         ]
         self.assertEqual(doubts(groups(text), Plainly()), wanted)
         self.assertEqual(list(remarks(groups(text), False, Plainly())), wanted)
+        self.assertIn("costs 15,598.1, more than", doubts(groups(text), Plainly(1))[2])
+        gains = doubts(groups("a,5\nb,4\na+b,8\n", kind="table"), Plainly())
+        self.assertEqual(gains, ["line 3: a+b gains 8, less than b and a gain apart: 4 + 5"])
         filled = list(remarks(groups(COSTS, fill=True), False, Plainly()))
         self.assertEqual(filled[2:], ["a+c: 8 = a | c", "b+c: 9 = b | c"])
         names = "abcdef"
         few = "".join(f"{name},1\n" for name in names) + f"{'+'.join(names)},7\n"
-        self.assertIn("more than a | b", doubts(groups(few, fill=True), Plainly())[0])
+        self.assertRegex(doubts(groups(few, fill=True), Plainly())[0], "^line 7: a.b.c.d.e.f costs 7, more than ")
         dear = "".join(f"{'+'.join(some)},2\n" for some in combinations(names, 2))
         said = list(remarks(groups(few.replace("7", "6") + dear.replace("2", "3"), fill=True), False, Plainly()))
-        self.assertEqual(said[10], "and 5 more (--all lists them)")
+        self.assertEqual(len([sentence for sentence in said if sentence.startswith("line ")]), 4)
+        above = list(remarks(groups("a,3\nb,4\nc,5\na+b,6\na+b+c,7\n", fill=True), False, Plainly()))
+        self.assertFalse([sentence for sentence in above if sentence.startswith("line ")])
+        with patch("coop.telling.page_server", lambda: None):
+            [sentence] = doubts(groups(text), Plainly())
+            self.assertRegex(sentence, "nobody looked for numbers that may be mistakes: there is no Node")
 
     def test_vectors(self) -> None:
         games = list(vectors("0,0,0,6,2,2,12\n1,2,3,4,5,6,7\n", "size", names=["a", "b", "c"]))

@@ -2,26 +2,28 @@
 // more than a larger group that holds it. They are remarks; the answer goes by what was typed. One wrong number is in
 // many such comparisons, so of those that don't fit the group that is in most is told, and then of the rest.
 import { shortText } from "../exact/decimals.js";
-import { lcm, Rational } from "../exact/rational.js";
+import { lcm } from "../exact/rational.js";
 
 const MOST_SPLIT = 10; // players above whom a group is compared with those of one player more or less only
 const MOST_TOLD = 4;
 const MANY = 20; // misfits that no few numbers explain
 const MOST_MISFITS = 20000; // that are looked at
 
-/** The remarks on values by mask (undefined if there is none): {mask, sentence}; `nameOf(mask)` names a group. */
-export function oddsOf(values, n, { isCost, nameOf }) {
+/** The remarks on values by mask (undefined if there is none): {mask, sentence}; `nameOf(mask)` names a group, and
+ * `isGiven(mask)` says whether somebody gave its number: of no other it is told. */
+export function oddsOf(values, n, { isCost, nameOf, isGiven = () => true }) {
   if (n < 2) return [];
   const isWhole = values.every((value) => !value || value.den === 1n);
   const scale = isWhole ? 1n : values.reduce((all, value) => (value ? lcm(all, value.den) : all), 1n);
   const whole = Float64Array.from(values, (value) => {
     return value ? Number(scale === 1n ? value.num : (value.num * scale) / value.den) : NaN;
   });
-  const text = (mask) => shortText(new Rational(BigInt(whole[mask]), scale)), found = [];
-  const all = n > MOST_SPLIT ? misfitsOfOne(whole, isCost) : misfits(whole, isCost);
+  const text = (mask) => shortText(values[mask]), found = [];
+  const isTold = ([one, other, rest]) => isGiven(one) && (rest !== undefined || isGiven(other));
+  const all = (n > MOST_SPLIT ? misfitsOfOne(whole, isCost) : misfits(whole, isCost)).filter(isTold);
   let left = all;
   while (left.length && found.length < MOST_TOLD) {
-    const mask = mostOften(left), own = left.filter((groups) => groups.includes(mask));
+    const mask = mostOften(left, isGiven), own = left.filter((groups) => groups.includes(mask));
     const more = own.length > 1 ? ` (${own.length - 1} more such)` : "";
     found.push({ mask, sentence: sentenceOf(mask, own[0], { nameOf, text, isCost }) + more });
     left = left.filter((groups) => !groups.includes(mask));
@@ -68,10 +70,10 @@ function misfitsOfOne(values, isCost) {
   return found;
 }
 
-/** The group that is in most of them; among equals the one that holds the others. */
-function mostOften(misfit) {
+/** The given group that is in most of them; among equals the one that holds the others. */
+function mostOften(misfit, isGiven) {
   const counts = new Map();
-  for (const mask of misfit.flat()) counts.set(mask, (counts.get(mask) ?? 0) + 1);
+  for (const mask of misfit.flat().filter(isGiven)) counts.set(mask, (counts.get(mask) ?? 0) + 1);
   const most = Math.max(...counts.values()), often = [...counts.keys()].filter((mask) => counts.get(mask) === most);
   const [[first]] = misfit;
   return often.includes(first) ? first : often[0];

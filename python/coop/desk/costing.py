@@ -5,34 +5,46 @@ than one of its members alone.
 """
 from __future__ import annotations
 
-from fractions import Fraction
 from typing import Iterator, Sequence
 
-from .. import filling
-from ..filling import group_text
-from ..masks import is_alone, members
+from .. import filling, telling
+from ..errors import Fault, NotFound
+from ..game import Game
+from ..masks import members
 from ..readers import Costed
 from ..styles import Style
 
+WARNING = (
+    "This is an upper bound, not an estimate. Shapley shares, and all shares per head, depend on it. The nucleolus by "
+    "plain excess doesn't, as long as none of these groups could build cheaper together than apart, and the core isn't "
+    "empty; if one could, the shares change."
+)
+WARNING_WITHIN = (
+    "This is an upper bound, not an estimate, as long as they may use these works. All shares may depend on it, those "
+    "of the nucleolus too."
+)
+ON_CORES = (
+    'The answers "blocked" and "empty core" are certain, as long as the costed numbers are right; "core" and "core '
+    'point" hold only against the filled numbers: by true costs a group that was filled in may do better alone'
+)
 FIRST = 10  # so many lines of a list are told, where not all are asked for
-MOST_STEPS = 2**24  # so many steps a search for cheaper parts may take: 12 players, or 16 with 256 groups
 
 
 def remarks(costed: Costed, within: bool, say: Style, wants_all: bool = False) -> Iterator[str]:
     """The sentences, line by line; of long lists the first ten lines, or all. A list of what was filled in is whole."""
-    yield from first_of(doubts(costed, say), wants_all)
+    yield from doubts(costed, say)
     if not costed.filled:
         return
     game, factor = costed.game, costed.game.factor
-    ways = f"with the cost of their cheapest split. {filling.WARNING}"
+    ways = f"with the cost of their cheapest split. {WARNING}"
     if within:
-        ways = f"with the cost of their cheapest split, or of larger groups' works. {filling.WARNING_WITHIN}"
+        ways = f"with the cost of their cheapest split, or of larger groups' works. {WARNING_WITHIN}"
     yield f"{len(costed.filled)} groups were filled in {ways}"
-    yield f"{filling.ON_CORES}. What was filled in:"
-    yield from filling.told(game, costed.filled, say)
+    yield f"{ON_CORES}. What was filled in:"
+    yield from told(game, costed.filled, say)
     if within:
         apart = filling.cheapest(costed.given, [item.group for item in costed.filled])
-        lines = filling.told_within(game, costed.filled, apart, say)
+        lines = told_within(game, costed.filled, apart, say)
         if lines:
             yield f"{len(lines)} of these cost less with the works of a larger group than apart:"
             yield from first_of(lines, wants_all)
@@ -40,7 +52,7 @@ def remarks(costed: Costed, within: bool, say: Style, wants_all: bool = False) -
     if above:
         last = "" if within else " (then use --fill-within)"
         yield f"{len(above)} groups cost more than a larger group that contains them: may they use its works?{last}"
-        yield from first_of(filling.told_above(game, above, say), wants_all)
+        yield from first_of(told_above(game, above, say), wants_all)
 
 
 def first_of(lines: Sequence[str], wants_all: bool) -> Iterator[str]:
@@ -52,35 +64,54 @@ def first_of(lines: Sequence[str], wants_all: bool) -> Iterator[str]:
 
 
 def doubts(costed: Costed, say: Style) -> list[str]:
-    """A sentence for each costed group that may have a slip, by the lines of the file."""
-    found = []
-    cheaper = cheaper_parts(costed)
-    for group, line in sorted(costed.lines.items(), key=lambda item: item[1]):
-        amount, names = costed.given[group], costed.game.names
-        dearest = max(members(group), key=lambda i: (costed.given[1 << i], -i))
-        least = costed.given[1 << dearest]
-        start = f"line {line}: {group_text(names, group)} costs {say(amount)}, "
-        if amount < 0:
-            found.append(f"{start}which is negative")
-        elif amount < least:
-            found.append(f"{start}less than {names[dearest]} alone, {say(least)}")
-        elif group in cheaper:
-            parts = " | ".join(group_text(names, part) for part in cheaper[group].parts)
-            found.append(f"{start}more than {parts}, {say(cheaper[group].amount)}")
-    return found
+    """A sentence for each number that can hardly be meant, by the lines of the file. The page's modules find them; that
+    they can't is a sentence too."""
+    table = {
+        "names": costed.game.names,
+        "isCost": costed.game.costs,
+        "given": {group: str(amount) for group, amount in costed.given.items()},
+        "filled": {item.group: str(item.amount) for item in costed.filled},
+    }
+    try:
+        found = telling.odds(table, say.spelling())
+    except (Fault, NotFound) as fault:
+        return [f"nobody looked for numbers that may be mistakes: {fault}"]
+    return [f"line {costed.lines[item['mask']]}: {item['sentence']}" for item in found]
 
 
-def cheaper_parts(costed: Costed) -> dict[int, filling.Filled]:
-    """Of each costed group that is dearer than costed parts of it the cheapest parts; where there are too many groups
-    to try all, each member alone."""
-    given = costed.given
-    larger = [group for group in given if not is_alone(group)]
-    can_try = len(given) << costed.game.n <= MOST_STEPS
-    found = filling.cheapest_smaller(given, larger) if can_try else [alone(given, group) for group in larger]
-    return {item.group: item for item in found if item.amount < given[item.group]}
+# ---- What was filled in
 
 
-def alone(given: dict[int, Fraction], group: int) -> filling.Filled:
-    """The members of a group, each alone."""
-    parts = [1 << i for i in members(group)]
-    return filling.Filled(group, sum((given[part] for part in parts), Fraction(0)), parts)
+def told(game: Game, filled: Sequence[filling.Filled], say: Style) -> list[str]:
+    """A line for each group that was filled in: its number, and the split."""
+    return [f"{group_text(game.names, item.group)}: {amount_text(game.names, item, say)}" for item in filled]
+
+
+def told_within(game: Game, filled: Sequence[filling.Filled], apart: Sequence[filling.Filled], say: Style) -> list[str]:
+    """A line for each group that costs less by a larger one's works than apart: by these, and by its split."""
+    name = game.names
+    return [
+        f"{group_text(name, item.group)}: {amount_text(name, item, say)}, and not {amount_text(name, other, say)}"
+        for item, other in zip(filled, apart)
+        if item.amount < other.amount
+    ]
+
+
+def told_above(game: Game, above: Sequence[filling.Above], say: Style) -> list[str]:
+    """A line for each group that costs more than a larger one: both, with their numbers."""
+    name = game.names
+    return [
+        f"{group_text(name, item.group)}: {say(item.amount)}, and {group_text(name, item.larger)}: {say(item.least)}"
+        for item in above
+    ]
+
+
+def group_text(names: Sequence[str], group: int) -> str:
+    """A group as a file of costs has it."""
+    return "+".join(names[i] for i in members(group))
+
+
+def amount_text(names: Sequence[str], item: filling.Filled, say: Style) -> str:
+    """The number of a group, and the groups that make it."""
+    parts = [" + ".join(names[i] for i in members(part)) for part in item.parts]
+    return f"{say(item.amount)} = {' | '.join(parts)}"
