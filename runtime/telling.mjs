@@ -7,12 +7,15 @@
 //     tell report [SETTINGS]     LINE PRINTED ABOUT, a line whose certificate was checked as a paper of HTML
 //     tell picture [SETTINGS]    GAME ABOUT, shares as an SVG
 //     tell compare [SETTINGS]    GAME ABOUT, the excesses of two divisions side by side, and which is better
+//     tell margins [SETTINGS]    GAME ABOUT, which numbers of a table count
+//     tell rules [SETTINGS]      GAME ABOUT, by which rules which group could do better
 //     tell same                  LINE AGREED, what the two games are to each other
 //     tell odds [SETTINGS]       NUMBERS of the groups of a table, {"names", "isCost", "given", "filled"}, by masks:
 //                                which of the given ones can hardly be meant, each mask with a sentence
 //     tell slip COMMAND          a document, the first refusal of a command, and the first key that is given twice
 //
-// Several texts have a zero byte between each two. What ABOUT may have, report.mjs, picture.mjs and compare.mjs say.
+// Several texts have a zero byte between each two. What ABOUT may have, report.mjs, picture.mjs, compare.mjs
+// and rules.mjs say.
 // SETTINGS are JSON: {"places": N, "unit": TEXT, "mark": TEXT, "thousands": TEXT}, how numbers are spelled. The answer
 // is JSON, and the status is 0; of `same` 1 for another game, 2 where nobody can say, 3 where it is worth the same; of
 // `slip` 1 where one is found; and 2 with {"fault": SENTENCE} for what can't be told.
@@ -35,10 +38,14 @@ import { entriesOf } from "../page/src/work/same-game.js";
 import { compareDivisions } from "./compare.mjs";
 import { picture } from "./picture.mjs";
 import { report } from "./report.mjs";
+import { marginsTold, rulesTold } from "./rules.mjs";
 
 const PLAIN = { mark: ".", thousands: ",", places: null, unit: "" };
 const STATUS = { [SAME]: 0, [ANOTHER]: 1, [UNSAID]: 2, [WORTH_THE_SAME]: 3 };
-const TASKS = { line: lineTold, report: reportTold, picture: pictureTold, compare, same, odds, slip };
+const TASKS = {
+  line: lineTold, report: reportTold, picture: pictureTold, compare, margins: aboutGame(marginsTold),
+  rules: aboutGame(rulesTold), same, odds, slip,
+};
 const CANT = 2;
 
 /** What the words after `tell` ask of the bytes of a document: a status, and the bytes of some JSON. */
@@ -104,6 +111,14 @@ function pointsIn(data) {
   const [game, about] = textsOf(data), { points, ...settings } = JSON.parse(about);
   const named = points.map(([title, shares]) => ({ title, shares: shares.map(Rational.of) }));
   return { game: new Game(parseJson(game)), points: named, settings };
+}
+
+/** What is told of a game by what stands beside it. */
+function aboutGame(tell) {
+  return (_, data) => {
+    const [game, about] = textsOf(data);
+    return tell(new Game(parseJson(game)), JSON.parse(about));
+  };
 }
 
 function same(engine, document) {

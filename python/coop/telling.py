@@ -105,14 +105,10 @@ def odds(table: dict[str, Any], settings: dict[str, Any]) -> list[dict[str, Any]
     return found
 
 
-def picture(game: str, about: dict[str, Any], settings: dict[str, Any]) -> str:
-    """Shares of a game as an SVG; runtime/picture.mjs has what it is told about them."""
-    return str(asked("picture", settings, game, json.dumps(about))["svg"])
-
-
-def compared(game: str, about: dict[str, Any], settings: dict[str, Any]) -> dict[str, Any]:
-    """The excesses of divisions of a game, and which of two is better; runtime/compare.mjs has what it is told."""
-    found: dict[str, Any] = asked("compare", settings, game, json.dumps(about))
+def of_game(task: str, game: str, about: dict[str, Any], settings: dict[str, Any]) -> dict[str, Any]:
+    """What is told of a game by what stands beside it: a picture of shares, a comparison of divisions, margins, rules.
+    The modules of runtime/ say what each is told, and answers."""
+    found: dict[str, Any] = asked(task, settings, game, json.dumps(about))
     return found
 
 

@@ -18,7 +18,7 @@ from coop.sensitivity import along, margins, ranges
 from coop.widest import Many
 from coop.worths import worths_of
 
-from .asking import needs_program
+from .asking import needs_node, needs_program
 from .test_excesses import drawn_games
 
 RUNWAY = coop.airport({"light": 2, "medium": 4, "heavy": 6})
@@ -145,17 +145,25 @@ class SensitivityOfMargins(unittest.TestCase):
                 beyond = [one.bound + sign * Fraction(1, 7) if q is one else q.number for q in found]
                 self.assertFalse(check(with_numbers(answer, [*beyond, numbers[-1]])), answer.line)
 
+    @needs_node
     def test_told(self) -> None:
         text = " ".join(told(nucleolus(VALLEY), most=1).split())
-        self.assertIn("Of the 6 smaller groups 3 count as they are: n alone; f alone; and p alone.", text)
-        self.assertIn("Each of the other 3 may cost anything that is at least its bound, all of them at once.", text)
+        self.assertIn("rest on 4 of the 7 numbers as they are: n alone, f alone, p alone and all together.", text)
+        self.assertIn("Each of the other 3 may be off, all at once: as long as none costs less than its bound,", text)
+        self.assertIn("line proves it. Those nearest to it: group", text)
+        self.assertNotIn("there are ties", text)
         self.assertIn("n and p together 378821 366330 3.3 %", text)
         text = told(nucleolus(ESTATE))
         self.assertIn("Of 4 numbers 2 matter", text)
         self.assertIn("the estate         200   150    250     0   1/2   1/2", text)
         self.assertIn("the link source - harbour  10     0   10        1     0\n", told(nucleolus(NETWORK)))
-        text = told(nucleolus(coop.voting(2, [1, 1, 1])))
-        self.assertIn("Of the 6 smaller groups 3 count as they are", text)
+        text = " ".join(told(nucleolus(coop.voting(2, [1, 1, 1]))).split())
+        self.assertIn("rest on 4 of the 7 numbers as they are: player 1 and player 2 together; player 1 and", text)
+        self.assertIn("as long as none gains more than its bound, the shares stay as they are, and the same line", text)
+        tied = " ".join(told(nucleolus(coop.table([0, 0, 1, 0, 0, 1, 3], order="mask"))).split())
+        self.assertIn("Some of the others have no room at all: there are ties.", tied)
+        alone = told(nucleolus(coop.table([3], order="size")))
+        self.assertEqual(alone, "By this evidence, the shares rest on 1 of the 1 numbers as they are: all together.\n")
         with self.assertRaisesRegex(BadInput, "at most 10"):
             told(nucleolus(big_network()))
 

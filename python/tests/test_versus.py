@@ -8,7 +8,7 @@ from coop.errors import BadInput
 from coop.desk.rivals import csv, told
 from coop.styles import EXACT, Style
 
-from .asking import needs_program
+from .asking import needs_node, needs_program
 from .test_sensitivity import ESTATE, RUNWAY, VALLEY, words
 
 
@@ -82,13 +82,14 @@ class Judged(unittest.TestCase):
                 self.assertEqual(list(rows[rule].shares.values()), list(map(Fraction, example.expected["shares"])))
             self.assertEqual((rows["nucleolus"].leaving, rows[versus.REMAINING].leaving), (None, leaving))
 
+    @needs_node
     def test_told(self) -> None:
         game = coop.airport({"small": 1, "large": 9})
         rows = list(versus.rules(game))
         text = told(game, rows, Style(2))
         self.assertIn("small          0.50                0.50            0.50           0.90\n", text)
         self.assertIn("By equal shares: small alone could save 3.50, and no group more.\n", text)
-        self.assertIn("It didn't work out: in proportion;", " ".join(text.split()))
+        self.assertIn("It didn’t work out: in proportion;", " ".join(text.split()))
         lines = csv(game, rows, EXACT).splitlines()
         self.assertEqual(lines[:2] + lines[-1:], [
             "rule,player,share,leaving,by", "nucleolus,small,1/2,,", "equal shares,large,9/2,small,7/2"

@@ -3,6 +3,7 @@ import { groupLabel } from "../cases/tables.js";
 import { Rational } from "../exact/rational.js";
 import { masksBySize } from "../game/groups.js";
 import { listed, plural } from "../game/words.js";
+import { restsTold, TIES } from "../tell/margins.js";
 import { button, copy, el } from "./dom.js";
 import { tabbed } from "./table-lines.js";
 
@@ -10,8 +11,6 @@ const MOST_NAMED = 8; // groups in a sentence
 const HUNDRED = Rational.of(100);
 const ELSEWHERE = "Which numbers matter is worked out here for tables of groups. For landings, links and claims "
   + "the project’s Python package finds it (coop.sensitivity.ranges).";
-const TIES = "Some of the others have no room at all: there are ties. Then other evidence may show the same shares, "
-  + "and rest on other numbers than these.";
 
 /** What a worker found, with its bounds by their masks: {decide, free, boundOf(mask)}; null before. */
 export function marginsOf({ margins, game }) {
@@ -47,16 +46,10 @@ export function marginsPart(result, { session, format }) {
   if (isOther) return el("p", { class: "hint screen" }, ELSEWHERE);
   if (!found || !kind.isTable) return null;
   const name = (mask) => groupLabel(typed.names, mask), order = masksBySize(typed.names.length).slice(0, -1);
-  const rests = order.filter((mask) => found.decide.has(mask)), [verb, way] = found.costs ? ["cost", "less"]
-    : ["gain", "more"];
-  const named = rests.length > MOST_NAMED ? "" : `: ${listed([...rests.map(name), "all together"])}`;
+  const rests = order.filter((mask) => found.decide.has(mask)), verb = found.costs ? "cost" : "gain";
   const copied = (event) => copy(tabbed(boundLines(order, found, { name, format })), event.target);
   return el("section", { class: "margins" }, el("h3", {}, "Which numbers matter?"),
-    el("p", {}, `By this evidence, the shares rest on ${rests.length + 1} of the ${found.of + 1} numbers as they `,
-      `are${named}. `,
-      found.free > 0 && `${found.free > 1 ? `Each of the other ${found.free} may be off, all at once` : "The other one "
-        + "may be off"}: as long as ${found.free > 1 ? "none" : "it doesn’t"} ${found.free > 1 ? verb + "s" : verb} `
-        + `${way} than its bound, the shares stay as they are, and the same line proves it.`),
+    el("p", {}, restsTold(rests.map(name), found.free, found, MOST_NAMED).join(" ")),
     found.isTied && el("p", { class: "hint" }, TIES),
     filledSaid(typed, found, name),
     found.free > 0 && closestTable(found, { name, format, verb }),

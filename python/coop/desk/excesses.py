@@ -31,7 +31,8 @@ def excess_list(game: Game, shares: Sequence[Fraction]) -> list[Entry]:
 def asked(game: Game, points: Sequence[Point], say: Style, is_all: bool) -> dict[str, Any]:
     """What the page's modules find of one or two points."""
     named = [[point.name, [str(share) for share in point.shares]] for point in points]
-    return telling.compared(WRITER.encode(game.tree), {"points": named, "isAll": is_all}, say.spelling())
+    about = {"points": named, "isAll": is_all}
+    return telling.of_game("compare", WRITER.encode(game.tree), about, say.spelling())
 
 
 class Comparison(NamedTuple):

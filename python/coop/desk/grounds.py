@@ -4,11 +4,10 @@ from __future__ import annotations
 from fractions import Fraction
 from typing import Optional, Sequence
 
-from .. import calls
+from .. import calls, telling
 from ..answers import Nucleolus, Shares
 from ..errors import BadInput
-from ..game import Game
-from .groups import Namer, enumerated
+from ..game import WRITER, Game
 from ..masks import mask_of
 from ..names import safe
 from .prose import filled
@@ -18,7 +17,6 @@ from .tables import aligned
 
 MOST_TO_MOVE = {"tree": 10, "assignment": 10}  # players of a game of which each number is moved
 MOST_LISTS = 24  # the same of an airport or an estate
-MOST_LISTED = 40  # groups that count, in a sentence
 
 
 def told(answer: Nucleolus, say: Style = EXACT, most: int = 10, program: calls.Chosen = None) -> str:
@@ -38,38 +36,22 @@ def told(answer: Nucleolus, say: Style = EXACT, most: int = 10, program: calls.C
 
 def by_groups(answer: Nucleolus, found: Margins, say: Style, most: int) -> str:
     """The groups of a table that count, and of the others those that are nearest to it."""
-    game, namer = answer.game, Namer(answer.game)
-    counted, near = found.counted(), found.closest(most)
-    does, bound = ("cost", "at least") if game.costs else ("be worth", "at most")
-    free, names = len(found) - len(counted), [name_of(namer, game, margin) for margin in counted]
-    parts = names if len(names) <= MOST_LISTED else [*names[:MOST_LISTED], f"{len(names) - MOST_LISTED} more"]
-    sentences = ["Only all together count: there is no smaller group."]
-    if len(found):
-        sentences = [f"Of the {len(found)} smaller groups {len(counted)} count as they are: {enumerated(parts)}."]
-    if near:
-        rest = "The other one may" if free == 1 else f"Each of the other {free} may"
-        at_once = "" if free == 1 else ", all of them at once"
-        sentences.append(
-            f"{rest} {does} anything that is {bound} its bound{at_once}. The same certificate then shows the same "
-            f"shares.{' Those nearest to it:' if free > len(near) else ''}"
-        )
-    text = "\n".join(map(filled, sentences)) + "\n"
-    return text + ("\n" + margins_table(near, namer, game, say) if near else "")
+    game, near = answer.game, found.closest(most)
+    counted, closest = ([mask_of(map(game.names.index, one.group)) for one in some] for some in (found.counted(), near))
+    is_tied = bool(near) and not near[0].room
+    about = {"counted": counted, "near": closest, "free": len(found) - len(counted), "isTied": is_tied}
+    told = telling.of_game("margins", WRITER.encode(game.tree), about, say.spelling())
+    text = "\n".join(map(filled, told["sentences"])) + "\n"
+    return text + ("\n" + margins_table(told["names"], near, game, say) if near else "")
 
 
-def name_of(namer: Namer, game: Game, margin: Margin) -> str:
-    """The group of a margin."""
-    return namer.group(mask_of(game.names.index(name) for name in margin.group))
-
-
-def margins_table(some: Sequence[Margin], namer: Namer, game: Game, say: Style) -> str:
+def margins_table(names: Sequence[str], some: Sequence[Margin], game: Game, say: Style) -> str:
     """Groups with their bounds, and how far off these are."""
     head = ("costs", "at least", "less by") if game.costs else ("is worth", "at most", "more by")
-    columns = [["group"], *([title] for title in head)]
+    columns = [["group", *names], *([title] for title in head)]
     for margin in some:
-        assert margin.bound is not None and margin.room is not None
-        cells = [name_of(namer, game, margin), say(margin.number), say(margin.bound), part_of(margin)]
-        for column, cell in zip(columns, cells):
+        assert margin.bound is not None
+        for column, cell in zip(columns[1:], [say(margin.number), say(margin.bound), part_of(margin)]):
             column.append(cell)
     return aligned(columns)
 

@@ -53,4 +53,4 @@ def drawn(
         "wantsBars": wants_bars,
         "hasAdded": with_added,
     }
-    return telling.picture(WRITER.encode(game.tree), about, style.spelling())
+    return str(telling.of_game("picture", WRITER.encode(game.tree), about, style.spelling())["svg"])

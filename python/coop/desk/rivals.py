@@ -1,17 +1,16 @@
-"""Rules side by side, as a table with sentences, and as CSV."""
+"""Rules side by side, as a table with sentences, which the page's modules tell under Node, and as CSV."""
 from __future__ import annotations
 
 from typing import Sequence
 
-from .cells import PLAIN, Cells, csv_text
-from ..game import Game
-from .groups import Namer, enumerated
-from ..masks import mask_of
+from .. import telling
+from ..game import WRITER, Game
 from ..names import safe
-from .prose import filled
 from ..styles import Style, column
-from .tables import aligned, lines_of
 from ..versus import Row
+from .cells import PLAIN, Cells, csv_text
+from .prose import filled
+from .tables import aligned, lines_of
 
 MOST_COLUMNS = 4  # of a table on paper
 
@@ -31,17 +30,12 @@ def table(game: Game, rows: Sequence[Row], say: Style) -> str:
 
 def verdicts(game: Game, rows: Sequence[Row], say: Style) -> list[str]:
     """By which rules no group could do better by itself; and by which which group could by the most."""
-    namer, verb = Namer(game), "save" if game.costs else "gain"
-    good = [row.rule for row in rows if row.is_in_core]
-    sentences = [f"No group could do better by itself by: {enumerated(good)}."] if good else []
+    told = []
     for row in rows:
-        if row.leaving is not None and row.by is not None:
-            group = namer.group(mask_of(game.names.index(name) for name in row.leaving))
-            sentences.append(f"By {row.rule}: {group} could {verb} {say(row.by)}, and no group more.")
-    own = [row.rule for row in rows if not row.is_proved]
-    if own:
-        sentences.append(f"The program judges all of these divisions. It didn't work out: {enumerated(own)}.")
-    return sentences
+        leaving = None if row.leaving is None else [game.names.index(name) for name in row.leaving]
+        told.append({"rule": row.rule, "leaving": leaving, "by": str(row.by), "isProved": row.is_proved})
+    found = telling.of_game("rules", WRITER.encode(game.tree), {"rows": told}, say.spelling())
+    return list(found["sentences"])
 
 
 def csv(game: Game, rows: Sequence[Row], say: Style, cells: Cells = PLAIN) -> str:
