@@ -12,6 +12,7 @@
 //     tell same                  LINE AGREED, what the two games are to each other
 //     tell odds [SETTINGS]       NUMBERS of the groups of a table, {"names", "isCost", "given", "filled"}, by masks:
 //                                which of the given ones can hardly be meant, each mask with a sentence
+//     tell mail                  a text that is no line, what mail has done to it, and whether the page undoes it
 //     tell slip COMMAND          a document, the first refusal of a command, and the first key that is given twice
 //
 // Several texts have a zero byte between each two. What ABOUT may have, report.mjs, picture.mjs, compare.mjs
@@ -30,6 +31,7 @@ import { withEscapes } from "../page/src/game/names.js";
 import { answerTold, columnTexts, sharesTold, Untold } from "../page/src/tell/answers.js";
 import { failureTold } from "../page/src/tell/conditions.js";
 import { explain } from "../page/src/tell/explain.js";
+import { mended, unreadable } from "../page/src/tell/mail.js";
 import { REFUSALS, refusalText } from "../page/src/tell/refusals.js";
 import { slipsIn } from "../page/src/tell/slips.js";
 import { Namer } from "../page/src/tell/words.js";
@@ -44,7 +46,7 @@ const PLAIN = { mark: ".", thousands: ",", places: null, unit: "" };
 const STATUS = { [SAME]: 0, [ANOTHER]: 1, [UNSAID]: 2, [WORTH_THE_SAME]: 3 };
 const TASKS = {
   line: lineTold, report: reportTold, picture: pictureTold, compare, margins: aboutGame(marginsTold),
-  rules: aboutGame(rulesTold), same, odds, slip,
+  rules: aboutGame(rulesTold), same, odds, mail, slip,
 };
 const CANT = 2;
 
@@ -141,6 +143,11 @@ function odds(_, data) {
   const nameOf = (mask) => membersOf(mask).map((i) => withEscapes(names[i])).join("+");
   const isGiven = (mask) => Object.hasOwn(given, mask);
   return { odds: oddsOf(values, names.length, { isCost, nameOf, isGiven }) };
+}
+
+function mail(_, data) {
+  const [text] = textsOf(data);
+  return { done: unreadable(text).slice(0, -1), isMended: mended(text) !== null };
 }
 
 function slip(_, document, command) {

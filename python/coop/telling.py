@@ -93,6 +93,19 @@ def same(line: str, agreed: str) -> Sameness:
     return Sameness(found["outcome"], found["sentence"], found["items"], found["entries"])
 
 
+def mailed(text: str) -> str:
+    """What mail has done to a text that is no JSON, and what to do about it, to stand behind another sentence; nothing
+    if it has done nothing, or if nobody can look."""
+    try:
+        found = asked("mail", {}, text)
+    except (Fault, NotFound, BadInput):
+        return ""
+    if not found["isMended"]:
+        return ""
+    undone = "ask for it as a file, or paste it into Check of page/coop.html, which has a button that undoes this"
+    return " ".join([f"; mail has changed it: {undone}.", *found["done"]])
+
+
 def parts(line: str, document: str, verdict: str, settings: dict[str, Any]) -> list[Part]:
     """A line in sentences. The document that was asked about and the verdict on a certificate may be empty."""
     found: list[Part] = asked("line", settings, line, document, verdict)["parts"]

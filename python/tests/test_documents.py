@@ -10,6 +10,7 @@ import xml.etree.ElementTree as ElementTree
 from fractions import Fraction
 from html.parser import HTMLParser
 from typing import Any
+from unittest.mock import patch
 
 import coop
 from coop import BadInput
@@ -143,29 +144,34 @@ def high_of(picture_text: str) -> float:
     return float(ElementTree.fromstring(picture_text).attrib["height"])
 
 
+@needs_node
 class Mail(Files):
     def test_what_mail_spoils_is_told(self) -> None:
         """By the texts as they come: with > in front, broken, as quoted-printable, and below a greeting."""
         line = json.dumps(solved())
         halves = line[:60], line[60:]
-        spoilt_lines = [
-            f"> {halves[0]}\n> {halves[1]}\n",
-            f"> {line}\n",
-            quopri.encodestring(line.replace("light", "l=t").encode()).decode(),
-            line.replace("light", "li\nght"),
-            f"Dear Ann,\n{line}\nYours, Ben\n",
-        ]
-        for text in spoilt_lines:
+        spoilt_lines = {
+            f"> {halves[0]}\n> {halves[1]}\n": "Its lines begin with “>”, as in the answer to a mail.",
+            f"> {line}\n": "Its lines begin with “>”, as in the answer to a mail.",
+            quopri.encodestring(line.replace("light", "l=t").encode()).decode(): "with “=” at the ends of lines.",
+            line.replace("light", "li\nght"): "It was broken into lines in the middle of a word.",
+            f"Dear Ann,\n{line}\nYours, Ben\n": "Other words come after the last }.",
+            line.replace('"', "“"): "typographic quote marks (“ ”) where plain ones (\") belong.",
+        }
+        for text, done in spoilt_lines.items():
             for is_document in (True, False):
                 with self.assertRaisesRegex(BadInput, "isn't JSON.*mail has changed it") as caught:
                     if is_document:
                         game_in(self.file("line", text))
                     reasons(text.encode())
                 self.assertIn("button", str(caught.exception))
+                self.assertIn(done, str(caught.exception))
         for text in ("", "{", "{'game':1}", "hello\nthere"):
             with self.assertRaises(BadInput) as caught:
                 game_in(self.file("line", text))
             self.assertNotIn("mail", str(caught.exception))
+        with patch("coop.telling.page_server", lambda: None), self.assertRaisesRegex(BadInput, "[0-9]\\)$"):
+            game_in(self.file("line", f"> {line}\n"))
 
 
 @needs_node

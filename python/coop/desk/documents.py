@@ -3,7 +3,6 @@ from __future__ import annotations
 
 import json
 import os
-import re
 from codecs import BOM_UTF8
 from dataclasses import dataclass
 from fractions import Fraction
@@ -13,7 +12,7 @@ from ..errors import BadInput
 from ..game import Game, numbers
 from ..names import safe
 from ..program import find
-from ..telling import slips
+from ..telling import mailed, slips
 
 NO_SHARES = 10  # the refusal of shares that aren't one for each player
 MOST_BYTES = 1 << 26  # of a file: some documents of the 8 MB that the program takes
@@ -100,26 +99,6 @@ def parse(text: str, where: str) -> list[Any]:
         trees.append(tree)
         rest = rest[end:].strip()
     return trees
-
-
-def mailed(text: str) -> str:
-    """What to do about a text that is no JSON since mail has changed it, to stand behind another sentence; else
-    nothing."""
-    lines = text[text.find("{") : text.rfind("}") + 1].splitlines()
-    if not re.search(r"(?m)^>|=3D|=22|=\r?$", text) and not any(map(is_object, ("".join(lines), " ".join(lines)))):
-        return ""
-    return (
-        "; mail has changed it: ask for it as a file, or paste it into Check of page/coop.html, which has a button "
-        "that undoes this"
-    )
-
-
-def is_object(text: str) -> bool:
-    """Whether a text is an object of JSON."""
-    try:
-        return type(json.loads(text)) is dict
-    except (ValueError, RecursionError):
-        return False
 
 
 def read_documents(paths: Sequence[str], may_be_marked: bool = True) -> list[Document]:

@@ -10,7 +10,7 @@ from .. import checking, telling
 from ..errors import BadInput
 from ..game import WRITER, Game
 from ..styles import EXACT, Style
-from .documents import mailed, once
+from .documents import once
 from .over import divided
 from .prose import filled, with_items
 
@@ -70,7 +70,7 @@ def read(data: bytes, where: str) -> dict[str, Any]:
     except BadInput as fault:
         raise BadInput(f"{where}: {fault}") from None
     except (ValueError, RecursionError) as fault:
-        raise BadInput(f"{where} isn't JSON: {fault}{mailed(data.decode('utf-8', 'replace'))}") from None
+        raise BadInput(f"{where} isn't JSON: {fault}{telling.mailed(data.decode('utf-8', 'replace'))}") from None
     if type(tree) is not dict:
         raise BadInput(f"{where} isn't a document or a line: it isn't a JSON object")
     return tree
