@@ -18,202 +18,29 @@ pieces, which the lines then show; and margins, by no more than the certificate.
 """
 from __future__ import annotations
 
-import heapq
-import json
-from dataclasses import dataclass, field
+from dataclasses import dataclass
 from fractions import Fraction
-from math import lcm
-from typing import Any, Iterable, Iterator, Optional, Sequence, Union, overload
+from typing import Any, Iterable, Iterator, Mapping, Optional, Sequence
 
-from . import calls, checking
+from . import calls
 from .amounts import Amount, fraction_of
 from .answers import Names, Nucleolus, Shares
+from .changed import TooFine
 from .errors import BadInput, Fault
-from .game import MOST_IN_A_TABLE, Game
 from .frames import Frame
-from .levels import Level, by_last_level, level_of, open_tests
-from .linear import simplest, sums
-from .masks import members
-from .moving import Moving, TooFine, What, what_moves
-from .worths import worths_of
+from .game import Game
+from .linear import simplest
+from .margins import Margin, Margins, margins
+from .moving import Moving
+from .names import row_of
+from .paths import Path, Piece, joined
+from .places import What, names_of, what_moves
 
 __all__ = ["Margin", "Margins", "Path", "Piece", "Range", "along", "margins", "ranges"]
 
 MOST_PIECES = 1000
 RULES = ("nucleolus", "prenucleolus")
 LARGEST = 1 << 20  # parts into which the place of a bend that no document can have is cut
-
-
-# ---- Which groups count
-
-
-@dataclass(frozen=True)
-class Margin:
-    """A group, its number, and how far that is from counting: the least that it may cost, or the most that it may be
-    worth, so that the certificate still shows the same shares. A group that counts as it is has no bound."""
-
-    group: Names
-    number: Fraction
-    bound: Optional[Fraction]
-
-    @property
-    def room(self) -> Optional[Fraction]:
-        """How far the number is from its bound."""
-        return None if self.bound is None else abs(self.number - self.bound)
-
-
-class Margins(Sequence[Margin]):
-    """The margins of all groups but all together, in mask order. Whoever knows of the groups with a bound only that
-    they cost at least that much, or are worth at most that much, knows enough, of all of them at once."""
-
-    def __init__(self, game: Game, unit: int, numbers: list[int], bounds: list[int], counted: "set[int]"):
-        self.game, self.unit = game, unit
-        self.numbers, self.bounds, self.listed = numbers, bounds, counted
-
-    def __len__(self) -> int:
-        return len(self.bounds) - 2
-
-    @overload
-    def __getitem__(self, place: int) -> Margin: ...
-
-    @overload
-    def __getitem__(self, place: slice) -> list[Margin]: ...
-
-    def __getitem__(self, place: Union[int, slice]) -> Union[Margin, list[Margin]]:
-        places = range(len(self))[place]
-        return self.at(places + 1) if isinstance(places, int) else [self.at(other + 1) for other in places]
-
-    def at(self, group: int) -> Margin:
-        """The margin of a group by its mask."""
-        sign = -1 if self.game.costs else 1
-        names = tuple(self.game.names[i] for i in members(group))
-        bound = None if group in self.listed else Fraction(sign * self.bounds[group], self.unit)
-        return Margin(names, Fraction(sign * self.numbers[group], self.unit), bound)
-
-    def counted(self) -> list[Margin]:
-        """The groups whose numbers count as they are."""
-        return [self.at(group) for group in sorted(self.listed)]
-
-    def closest(self, most: int = 10) -> list[Margin]:
-        """The groups with a bound that are nearest to it, the nearest first."""
-        free = (group for group in range(1, self.game.everyone) if group not in self.listed)
-        near = heapq.nsmallest(most, free, key=lambda group: (self.bounds[group] - self.numbers[group], group))
-        return [self.at(group) for group in near]
-
-
-def margins(answer: Nucleolus, program: calls.Chosen = None) -> Margins:
-    """The margins of the groups of an answer: which numbers its certificate rests on, and how far off the others are.
-    Of a class of at most 16 players they are those of what the class says that each group is worth or costs. A line
-    that the program's check doesn't take is BadInput."""
-    game = answer.game
-    if game.n > MOST_IN_A_TABLE:
-        raise BadInput(f"{game.n} players: margins of groups are for at most {MOST_IN_A_TABLE}; `ranges` takes more")
-    if not calls.check(answer, program):
-        raise BadInput("the certificate doesn't show these shares (scripts/explain says why)")
-    sign, levels = -1 if game.costs else 1, levels_of(answer)
-    shares = [answer.shares[name] * sign for name in game.names]
-    scale, worths = worths_of(game)
-    unit = lcm(scale, *(q.denominator for q in [*shares, *(level.excess for level in levels)]))
-    numbers = worths if unit == scale else [unit // scale * worth for worth in worths]
-    gets = sums([(share * unit).numerator for share in shares])
-    bounds = list(numbers)
-    excesses = [(level.excess * unit).numerator for level in levels]
-    least = [min(excesses[: k + 1]) for k in range(len(levels))]
-    tests = open_tests(game.n, answer.certificate["mode"], levels)
-    for excess, groups in zip(least, by_last_level(game.n, tests)):
-        if game.per_head:
-            for group in groups:
-                bounds[group] = gets[group] + excess * bin(group).count("1")
-        else:
-            for group in groups:
-                bounds[group] = gets[group] + excess
-    if answer.rule == "nucleolus" and game.n > 1:
-        for i in range(game.n):
-            bounds[1 << i] = min(bounds[1 << i], gets[1 << i]) if levels else gets[1 << i]
-    listed = {group for level in levels for group, _ in [*level.coalitions, *level.bounds]}
-    return Margins(game, unit, numbers, bounds, listed - {game.everyone})
-
-
-def levels_of(answer: Nucleolus) -> list[Level]:
-    """The levels of a certificate, with excesses in the game's own unit."""
-    found = map(level_of, answer.certificate["levels"])
-    return [level._replace(excess=level.excess / answer.game.factor) for level in found]
-
-
-# ---- Along a change
-
-
-@dataclass(frozen=True)
-class Piece:
-    """A range of changes within which each share is linear: the shares at both ends, and what each pays or gets more
-    for each 1 of the change. `lines` are documents for `check`, by their changes; all have one certificate, but for its
-    excesses. Those of the first and the last are the ends, unless no document has the numbers of an end: then the
-    lines stand so near to it as `proved` tells."""
-
-    low: Fraction
-    high: Fraction
-    at_low: Shares
-    at_high: Shares
-    slopes: Shares
-    lines: tuple[tuple[Fraction, bytes], ...] = field(repr=False)
-
-    @property
-    def proved(self) -> tuple[Fraction, Fraction]:
-        """The range between the first line and the last."""
-        return self.lines[0][0], self.lines[-1][0]
-
-    def at(self, t: Amount) -> Shares:
-        """The shares after a change of the range."""
-        exact = fraction_of(t)
-        if not self.low <= exact <= self.high:
-            raise BadInput(f"{exact} isn't between {self.low} and {self.high}")
-        return {name: share + (exact - self.low) * self.slopes[name] for name, share in self.at_low.items()}
-
-
-@dataclass(frozen=True)
-class Path:
-    """The shares along a change, piece by piece."""
-
-    pieces: list[Piece]
-    rule: str
-    moving: Moving = field(repr=False, compare=False)
-
-    def at(self, t: Amount) -> Shares:
-        """The shares after a change."""
-        exact = fraction_of(t)
-        return next((piece for piece in self.pieces if exact <= piece.high), self.pieces[-1]).at(exact)
-
-    def bends(self) -> list[Fraction]:
-        """Where the slopes change."""
-        return [a.high for a, b in zip(self.pieces, self.pieces[1:]) if a.slopes != b.slopes]
-
-    @property
-    def is_proved(self) -> bool:
-        """Whether the lines reach all ends of pieces. If not, shares next to an end are right since shares never jump,
-        and nothing says that slopes don't change there."""
-        return all(piece.proved == (piece.low, piece.high) for piece in self.pieces)
-
-    def check(self, program: calls.Chosen = None, anew: bool = False) -> bool:
-        """Whether the program takes each line, or the second checker does (`anew`), and the lines show the pieces: they
-        are of the game after their changes, have the piece's shares, and one certificate but for its excesses."""
-        joined = all(a.high == b.low and a.at_high == b.at_low for a, b in zip(self.pieces, self.pieces[1:]))
-        return joined and all(self.shows(piece, program, anew) for piece in self.pieces)
-
-    def shows(self, piece: Piece, program: calls.Chosen, anew: bool) -> bool:
-        """Whether the lines of a piece show it."""
-        frames = []
-        for t, line in piece.lines:
-            tree, (game, factor) = json.loads(line), self.moving.tree_at(t)
-            wanted = [share * factor for share in piece.at(t).values()]
-            if tree["game"] != game or tree["answer"] != self.rule or list(map(Fraction, tree["shares"])) != wanted:
-                return False
-            frames.append(frame_of(tree["certificate"]))
-            if anew and checking.verdict(line)["answer"] != "yes":
-                return False
-            if not anew and not calls.answered("check", line, self.moving.game, program):
-                return False
-        enough = 2 if self.moving.is_linear else 3
-        return len(frames) >= enough and all(frame == frames[0] for frame in frames)
 
 
 def along(
@@ -261,39 +88,20 @@ def ranges(
     game: Game, some: Optional[Iterable[Any]] = None, rule: str = "nucleolus", program: calls.Chosen = None
 ) -> list[Range]:
     """The ranges of numbers, which are named as for `along`; without a list, of all numbers of the game."""
-    found = []
-    for what in what_moves(game) if some is None else some:
-        run = Run(game, what, rule, program)
-        down, below = run.side(-1)
-        up, above = run.side(1)
-        names = what if isinstance(what, tuple) else (str(what),)
-        number = next(iter(run.moving.numbers.values()))
-        found.append(Range(names, number, down, up, below, above))
-    return found
+    if some is not None and (isinstance(some, (str, Mapping)) or not isinstance(some, Iterable)):
+        raise BadInput(f"{some!r} isn't a list of numbers: write [{some!r}]")
+    return [range_of(Run(game, what, rule, program), what) for what in (what_moves(game) if some is None else some)]
 
 
-def joined(pieces: list[Piece]) -> list[Piece]:
-    """Pieces one behind the other; two next to each other with one certificate are one."""
-    found: list[Piece] = []
-    for piece in pieces:
-        last = found[-1] if found else None
-        if last and last.slopes == piece.slopes and frame_in(last) == frame_in(piece):
-            lines = (*last.lines, *piece.lines[1:])
-            piece = Piece(last.low, piece.high, last.at_low, piece.at_high, piece.slopes, lines)
-            found.pop()
-        found.append(piece)
-    return found
-
-
-def frame_of(certificate: dict[str, Any]) -> Any:
-    """All of a certificate but its excesses."""
-    levels = [{key: part for key, part in level.items() if key != "excess"} for level in certificate["levels"]]
-    return certificate["mode"], levels
-
-
-def frame_in(piece: Piece) -> Any:
-    """What the lines of a piece have in common."""
-    return frame_of(json.loads(piece.lines[0][1])["certificate"])
+def range_of(run: Run, what: Any) -> Range:
+    """The range of a number; the landings of an airline, if they cost the same, are one."""
+    (number, *unlike), (place, *others) = set(run.moving.numbers.values()), run.moving.rates
+    if unlike or isinstance(what, Mapping):
+        raise BadInput(f"{what!r} is several numbers: a range is of one")
+    names = names_of(run.game, place)
+    down, below = run.side(-1)
+    up, above = run.side(1)
+    return Range((*names[:-1], row_of(names[-1])) if others else names, number, down, up, below, above)
 
 
 class Run:
@@ -305,7 +113,6 @@ class Run:
         self.rule, self.program = rule, program
         self.moving = Moving(game, what)
         self.game = self.moving.game
-        self.low, self.high = self.moving.room(rule)
         self.known: dict[Fraction, Optional[Frame]] = {}
         self.found: list[Piece] = []
         self.pool: set[int] = set()  # groups that ended a piece: the first to be looked at
@@ -389,7 +196,8 @@ class Run:
 
     def side(self, way: int) -> tuple[Optional[Fraction], Shares]:
         """How far one may go from here one way with the slopes that hold next to it."""
-        limit = self.high if way > 0 else self.low
+        low, high = self.moving.room(self.rule)
+        limit = high if way > 0 else low
         here, slopes = Fraction(0), None
         if limit == here:
             return here, {}

@@ -2,7 +2,7 @@
 from __future__ import annotations
 
 from fractions import Fraction
-from typing import Any, Collection
+from typing import Any, Collection, Optional
 
 from .amounts import Amount, fraction_of
 from .errors import BadInput
@@ -23,7 +23,18 @@ def without(game: Game, leaving: Collection[str]) -> Game:
     if not stay:
         raise BadInput("no player stays")
     names = [game.names[i] for i in stay] if game.named else None
-    return made(game.kind, parts_of(game, stay), names, game.per_head)
+    return made_of(game, game.kind, parts_of(game, stay), names, game.per_head)
+
+
+def made_of(game: Game, kind: str, parts: dict[str, Any], names: Optional[list[str]], per_head: bool) -> Game:
+    """A game of numbers that are those of the document of another game: its own are these by its factor."""
+    own = {key: part if key == "players" else divided(part, game.factor) for key, part in parts.items()}
+    return made(kind, own, names, per_head)
+
+
+def divided(part: Any, factor: int) -> Any:
+    """A number, or a list of some, by a factor."""
+    return [divided(item, factor) for item in part] if isinstance(part, list) else part / factor
 
 
 def parts_of(game: Game, stay: list[int]) -> dict[str, Any]:
@@ -60,13 +71,13 @@ def table_of_game(game: Game) -> Game:
     sign, names = -1 if game.costs else 1, game.names if game.named else None
     worths = [sign * game.worth(group) for group in range(1, game.everyone + 1)]
     parts = {"players": game.n, "worths": worths}
-    return made("cost-table" if game.costs else "table", parts, names, game.per_head)
+    return made_of(game, "cost-table" if game.costs else "table", parts, names, game.per_head)
 
 
 def overrun(game: Game, amount: Amount, per_head: bool = False) -> Game:
     """A table of which all together cost, or are worth, so much more, and every smaller group what it was. Of another
     class it is that of its groups, of which the rule of the class says no more what all together cost."""
     table = game if game.is_table else table_of_game(game)
-    worths = [*table.amounts[1:-1], table.amounts[-1] + fraction_of(amount)]
+    worths = [*table.amounts[1:-1], table.amounts[-1] + fraction_of(amount) * table.factor]
     names = game.names if game.named else None
-    return made(table.kind, {"players": game.n, "worths": worths}, names, per_head or game.per_head)
+    return made_of(table, table.kind, {"players": game.n, "worths": worths}, names, per_head or game.per_head)

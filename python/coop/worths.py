@@ -7,7 +7,6 @@ from typing import Sequence
 
 from .game import Game
 from .linear import sums
-from .masks import members
 
 
 def worths_of(game: Game) -> tuple[int, list[int]]:
@@ -62,14 +61,13 @@ def matchings(rows: Sequence[Sequence[int]]) -> list[int]:
 Groups = int
 """A set of groups: the bit of each group's mask."""
 
-MEMBERS = [members(byte) for byte in range(256)]
-
 
 def networks(rows: Sequence[Sequence[int]]) -> list[int]:
     """Minus the least cost of a network that joins each group to the source, by Kruskal for all groups at once: a link
     is taken in the groups that have both of its ends, and in which the cheaper links don't join these yet."""
     n = len(rows) - 1
-    found, points = [0] * 2**n, range(n + 1)
+    points = range(n + 1)
+    costs = [0] * (sum(max(row) for row in rows).bit_length() + 1)
     joined = [[0] * (n + 1) for _ in points]  # the groups in which two points are joined
     for a in points:
         joined[a][a] = groups_with(a - 1, n) if a else (1 << 2**n) - 1
@@ -77,10 +75,25 @@ def networks(rows: Sequence[Sequence[int]]) -> list[int]:
         taking = joined[i][i] & joined[j][j] & ~joined[i][j]
         if taking:
             join(joined, taking, i, j)
-            for at, byte in enumerate(taking.to_bytes(2**n + 7 >> 3, "little")):
-                for k in MEMBERS[byte]:
-                    found[8 * at + k] -= cost
-    return found
+            add(costs, taking, cost)
+    return [-cost for cost in listed(costs, 2**n)]
+
+
+def add(costs: list[Groups], some: Groups, cost: int) -> None:
+    """Adds a cost to those of some groups. Of each binary digit `costs` has the groups in whose cost it is 1."""
+    carry = 0
+    for k, digit in enumerate(costs):
+        more = some if cost >> k & 1 else 0
+        costs[k], carry = digit ^ more ^ carry, digit & (more | carry) | more & carry
+
+
+def listed(costs: Sequence[Groups], count: int) -> list[int]:
+    """The costs of so many groups: four binary digits of each are a digit of a text in base 16."""
+    texts = []
+    for k in range(0, len(costs), 4):
+        four = sum(int(f"{digit:b}", 16) << place for place, digit in enumerate(costs[k : k + 4]))
+        texts.append(f"{four:0{count}x}"[::-1])
+    return [int("".join(digits), 16) for digits in zip(*texts[::-1])]
 
 
 def join(joined: list[list[Groups]], taking: Groups, i: int, j: int) -> None:

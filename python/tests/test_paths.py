@@ -1,20 +1,22 @@
-"""Random games of each class: margins by the program's check, and paths against a solver of its own.
+"""Random games of each class: margins by the program's check, paths and ranges against a solver of its own.
 
-The gate tries a few. COOP_ROUNDS=60 tries 300 answers of each class, and 700 points and more.
+The gate tries a few. COOP_ROUNDS=60 tries 300 answers of each class and 800 paths, and prints how many.
 """
 import os
 import random
 import unittest
+from collections import Counter
 from fractions import Fraction
-from typing import Any, Iterator
+from typing import Any, Iterator, Optional
 
 import coop
 from coop.calls import check
 from coop.errors import BadInput
 from coop.game import WRITER
 from coop.games import made
-from coop.moving import Moving, What, what_moves
-from coop.sensitivity import along, margins
+from coop.moving import Moving
+from coop.places import What, what_moves
+from coop.sensitivity import along, margins, ranges
 from coop.variants import table_of_game
 
 from . import exact
@@ -76,23 +78,24 @@ def with_numbers(answer: coop.Nucleolus, numbers: "list[Fraction]") -> bytes:
 class Random(unittest.TestCase):
     def test_margins(self) -> None:
         """All bounds hold at once, and none holds a seventh beyond it."""
-        draw = random.Random(300)
+        draw, tried = random.Random(300), Counter[str]()
         for game in (game for _ in range(5) for game in games(draw)):
             answer = coop.nucleolus(game) or coop.prenucleolus(game)
             assert isinstance(answer, coop.Nucleolus)
             found, sign = list(margins(answer)), -1 if game.costs else 1
-            whole = table_of_game(game).amounts[-1] / table_of_game(game).factor
+            whole = table_of_game(game).amounts[-1]
             at_once = [margin.number if margin.bound is None else margin.bound for margin in found]
             self.assertTrue(check(with_numbers(answer, [*at_once, whole])), answer.line)
-            free = [k for k, margin in enumerate(found) if margin.bound is not None]
-            if free:
-                k = draw.choice(free)
+            for k in (k for k, margin in enumerate(found) if margin.bound is not None):
                 beyond = [*at_once[:k], at_once[k] + sign * Fraction(1, 7), *at_once[k + 1 :], whole]
-                self.assertFalse(check(with_numbers(answer, beyond)), answer.line)
+                self.assertFalse(check(with_numbers(answer, beyond)), (answer.line, k))
+                tried[f"{game.kind}, bounds"] += 1
+            tried[game.kind] += 1
+        self.tell(tried, 5)
 
     def test_paths(self) -> None:
         """Shares along random changes are those of the other solver, and the lines are taken."""
-        draw, points = random.Random(700), 0
+        draw, tried = random.Random(700), Counter[str]()
         for game in (game for _ in range(2) for game in games(draw)):
             moves, rule = what_moves(game), draw.choice(RULES)
             some = draw.sample(moves, min(len(moves), draw.choice([1, 1, 2, 3])))
@@ -103,23 +106,61 @@ class Random(unittest.TestCase):
                 self.assertTrue(path.check(anew=draw.random() < 0.2), (game, what, low, high, rule))
                 self.assertEqual((path.pieces[0].low, path.pieces[-1].high), (low, high))
                 inside = [low + (high - low) * Fraction(draw.randint(0, 97), 97) for _ in range(2)]
-                for t in [*inside, *path.bends()[:1]]:
-                    points += self.compared(path, t, rule)
-        print(f"{points} points compared") if ROUNDS > 1 else None
-        self.assertGreater(points, 10 * ROUNDS)
+                for t in [low, high, *inside, *path.bends()[:1]]:
+                    wanted = shares_of(path.moving, t, rule)
+                    if wanted:
+                        self.assertEqual(list(path.at(t).values()), wanted, (game, what, rule, t))
+                        tried[f"{game.kind}, points"] += 1
+                tried[game.kind] += 1
+        self.tell(tried, 1)
 
-    def compared(self, path: coop.sensitivity.Path, t: Fraction, rule: str) -> int:
-        """Compares shares at a change; at one that no document has there is nothing to compare."""
-        try:
-            tree, factor = path.moving.tree_at(t)
-        except BadInput:
-            return 0
-        game = coop.Game(tree, factor)
-        wanted = exact.nucleolus(game.n, exact.worths(tree), rule == "nucleolus", game.per_head)
-        assert wanted is not None
-        shares = [path.moving.sign * share / factor for share in wanted]
-        self.assertEqual(list(path.at(t).values()), shares, (path.moving.game, path.moving.rates, rule, t))
-        return 1
+    def test_ranges(self) -> None:
+        """Shares are straight to the ends of a range by the other solver, and not beyond."""
+        draw, tried = random.Random(206), Counter[str]()
+        for game in games(draw):
+            what, rule = draw.choice(what_moves(game)), draw.choice(RULES)
+            moving = Moving(game, what)
+            here = shares_of(moving, Fraction(0), rule)
+            if here is None:
+                with self.assertRaisesRegex(BadInput, "there is no imputation"):
+                    ranges(game, [what], rule)
+                continue
+            found, = ranges(game, [what], rule)
+            self.assertEqual((found.what, found.number), (what, next(iter(moving.numbers.values()))))
+            for way, far, slopes in ((-1, found.down, found.below), (1, found.up, found.above)):
+                limit = abs(moving.room(rule)[way > 0])
+                self.assertEqual(slopes == {}, limit == 0, (game, what, rule))
+                end = Fraction(50) if far is None else far
+                for t in [end / 3, end] if slopes else []:
+                    self.assertEqual(shares_of(moving, way * t, rule), straight(here, slopes, way * t), (game, what, t))
+                if slopes and end < limit and far is not None:
+                    t = way * (end + min(Fraction(1, 10**6), (limit - end) / 2))
+                    self.assertNotEqual(shares_of(moving, t, rule), straight(here, slopes, t), (game, what, t))
+                    tried[f"{game.kind}, ends"] += 1
+            tried[game.kind] += 1
+        self.tell(tried, 0)
+
+    def tell(self, tried: "Counter[str]", least: int) -> None:
+        """Sees that so many of each class were tried in a round, and prints how many where these are many."""
+        self.assertTrue(all(tried[kind] >= least * ROUNDS for kind in KINDS), tried)
+        if ROUNDS > 1:
+            print(f"{self.id()}: {dict(tried)}")
+
+
+def shares_of(moving: Moving, t: Fraction, rule: str) -> "Optional[list[Fraction]]":
+    """The shares after a change, by the solver of these tests; none if there is no imputation, or no document."""
+    try:
+        tree, factor = moving.tree_at(t)
+    except BadInput:
+        return None
+    game = coop.Game(tree, factor)
+    found = exact.nucleolus(game.n, exact.worths(tree), rule == "nucleolus", game.per_head)
+    return None if found is None else [moving.sign * share / factor for share in found]
+
+
+def straight(here: "list[Fraction]", slopes: "dict[str, Fraction]", t: Fraction) -> "list[Fraction]":
+    """Shares after a change with these slopes."""
+    return [share + t * slope for share, slope in zip(here, slopes.values())]
 
 
 def reach(game: coop.Game, what: What, rule: str, draw: random.Random) -> "tuple[Fraction, Fraction]":

@@ -8,12 +8,11 @@ import coop
 from coop import sensitivity
 from coop.amounts import Amount
 from coop.answers import answer_of
-from coop.calls import check
 from coop.errors import BadInput, Fault
-from coop.games import made
 from coop.desk.grounds import told
 from coop.masks import members
-from coop.moving import Moving, what_moves
+from coop.moving import Moving
+from coop.places import what_moves
 from coop.sensitivity import along, margins, ranges
 from coop.widest import Many
 from coop.worths import worths_of
@@ -25,6 +24,8 @@ RUNWAY = coop.airport({"light": 2, "medium": 4, "heavy": 6})
 ESTATE = coop.bankruptcy(200, {"Anna": 100, "Bert": 200, "Cleo": 300})
 NETWORK = coop.tree([[0, 10, 10], [10, 0, 1], [10, 1, 0]], ["harbour", "mill"])
 MARKET = coop.assignment([[8, 5], [7, 6]], ["Ann", "Ben", "house", "flat"])
+AIRLINES = coop.landings([("Aer", 2, 3), ("Bee", 4, 1)])
+NO_DIVISION = coop.table({"a": 3, "b": 3, "a+b": 4})
 VOTE = coop.voting(3, {"a": 2, "b": 1, "c": 1})
 VALLEY = coop.cost_table(
     {"n": 163520, "f": 140826, "p": 250096, "n+f": 301607, "n+p": 378821, "f+p": 367370, "n+f+p": 412584}
@@ -126,24 +127,9 @@ class SensitivityOfMargins(unittest.TestCase):
         self.assertEqual([margin.bound for margin in margins(nucleolus(coop.airport([3])))], [])
         with self.assertRaisesRegex(BadInput, "17 players"):
             margins(nucleolus(coop.airport([1] * 17)))
-
-    def test_bounds_hold_and_are_tight(self) -> None:
-        """All bounds at once, and one beyond its own, by the program."""
-        draw = random.Random(5)
-        for _ in range(25):
-            n, costs, per_head = draw.choice([3, 4, 5]), draw.random() < 0.5, draw.random() < 0.3
-            numbers = [Fraction(draw.randint(0, 60 * bin(group).count("1"))) for group in range(1, 2**n)]
-            game = (coop.cost_table if costs else coop.table)(numbers, order="mask", per_head=per_head)
-            answer = coop.nucleolus(game) or coop.prenucleolus(game)
-            assert isinstance(answer, coop.Nucleolus)
-            found, sign = list(margins(answer)), -1 if costs else 1
-            free = [margin for margin in found if margin.bound is not None]
-            together = [q.number if q.bound is None else q.bound - sign * draw.choice([0, 0, 9]) for q in found]
-            self.assertTrue(check(with_numbers(answer, [*together, numbers[-1]])), answer.line)
-            one = draw.choice(free) if free else None
-            if one is not None and one.bound is not None:
-                beyond = [one.bound + sign * Fraction(1, 7) if q is one else q.number for q in found]
-                self.assertFalse(check(with_numbers(answer, [*beyond, numbers[-1]])), answer.line)
+        for answer in (VALLEY, coop.nucleolus(NO_DIVISION), coop.shapley(VALLEY), None):
+            with self.assertRaisesRegex(BadInput, "isn't an answer of nucleolus or prenucleolus that has shares"):
+                margins(answer)  # type: ignore[arg-type]
 
     @needs_node
     def test_told(self) -> None:
@@ -166,17 +152,6 @@ class SensitivityOfMargins(unittest.TestCase):
         self.assertEqual(alone, "By this evidence, the shares rest on 1 of the 1 numbers as they are: all together.\n")
         with self.assertRaisesRegex(BadInput, "at most 10"):
             told(nucleolus(big_network()))
-
-
-def with_numbers(answer: coop.Nucleolus, numbers: "list[Fraction]") -> bytes:
-    """The line of an answer over another table."""
-    game = made(answer.game.kind, {"players": answer.game.n, "worths": numbers}, None, answer.game.per_head)
-    factor = game.factor
-    levels = [
-        {**level, "excess": str(Fraction(level["excess"]) * factor)} for level in answer.certificate["levels"]
-    ]
-    shares = [str(share * factor) for share in answer.shares.values()]
-    return game.document(answer=answer.rule, certificate={**answer.certificate, "levels": levels}, shares=shares)
 
 
 def big_network() -> coop.Game:
@@ -208,39 +183,16 @@ class Paths(unittest.TestCase):
             (NETWORK, ("link", "mill", "harbour"), -1, 30, "9"),
             (NETWORK, ("link", "source", "mill"), -10, 5, "0"),
             (MARKET, ("pair", "Ann", "flat"), -5, 10, "-8/3 0 2 4"),
+            (coop.market([[8, 5], [7, 6]]), ("pair", "1", "4"), -5, 10, "-8/3 0 2 4"),
             (VALLEY, "n+p", -20000, 5, "-12491"),
             (VOTE, "b+c", 0, 1, ""),
-            (coop.landings([("Aer", 2, 3), ("Bee", 4, 1)]), ("cost", "Aer"), -1, 1, ""),
+            (AIRLINES, ("cost", "Aer"), -1, 1, ""),
+            (NO_DIVISION, "a", -3, -2, ""),  # after the change there is one
         ]
         for game, what, low, high, bends in cases:
             path = along(game, what, low, high)
             self.assertTrue(path.check() and path.check(anew=True), what)
             self.assertEqual(" ".join(map(str, path.bends())), bends, what)
-
-    def test_random_games(self) -> None:
-        """Shares along a path are those of the program, and the lines are taken."""
-        draw = random.Random(6)
-        for game in drawn_games(draw):
-            if game.kind == "voting" or game.per_head and game.n > 4:
-                continue
-            moves = what_moves(game)
-            rates: list[Amount] = [-1, 1, Fraction(1, 2)]
-            what: dict[Any, Amount] = {move: draw.choice(rates) for move in draw.sample(moves, min(2, len(moves)))}
-            rule = draw.choice(["nucleolus", "prenucleolus"])
-            moving = Moving(game, what)
-            try:
-                low, high = moving.room(rule)
-            except BadInput:
-                continue
-            low, high = max(low, Fraction(-5)), min(high, Fraction(17, 3))
-            if low == high:
-                continue
-            path = along(game, what, low, high, rule)
-            self.assertTrue(path.check(), game)
-            for part in range(5):
-                t = low + (high - low) * Fraction(part, 4)
-                tree, factor = moving.tree_at(t)
-                self.assertEqual(nucleolus(coop.Game(tree, factor), rule).shares, path.at(t), (game, what, t))
 
     def test_a_spoilt_path(self) -> None:
         """Lines of another game, other shares, another certificate, or one line too few show nothing."""
@@ -286,9 +238,22 @@ class Paths(unittest.TestCase):
     def test_what_is_refused(self) -> None:
         cases: list[tuple[str, coop.Game, Any, Amount, Amount, str]] = [
             ("17 players: a table has at most 16", coop.voting(2, [1] * 17), "1", 0, 1, "nucleolus"),
-            ("'quota' isn't a player", coop.voting(2, [1, 1]), "quota", 0, 1, "nucleolus"),
-            ("has no nucleolus", coop.market([[1]]), ("pair", "1", "2"), 0, 1, "nucleolus"),
+            ("'quota' isn't a player; of a vote name a group: who wins jumps", VOTE, "quota", 0, 1, "nucleolus"),
+            ("'votes' isn't a player; of a vote", VOTE, ("votes", "a"), 0, 1, "nucleolus"),
+            ("no pair of a buyer and a seller", coop.market([[1]]), ("pair", "2", "1"), 0, 1, "nucleolus"),
             ("2 isn't below 2", ESTATE, "estate", 2, 2, "nucleolus"),
+            ("2 isn't below 1", ESTATE, "estate", 2, 1, "nucleolus"),
+            ("after a change of -1 there is no imputation", NO_DIVISION, "a", -1, 0, "nucleolus"),
+            ("a member of 'n.n' is there twice", VALLEY, "n+n", 0, 1, "nucleolus"),
+            ("a member of .* is there twice", VALLEY, ("n", 1), 0, 1, "nucleolus"),
+            ("'f.n' is a number that was named before", VALLEY, {"n+f": 1, "f+n": 1}, 0, 1, "nucleolus"),
+            ("'Aer 1' is a number that was named before", AIRLINES, {"Aer": 1, "Aer 1": 1}, 0, 1, "nucleolus"),
+            ("is no number of such a game", ESTATE, (), 0, 1, "nucleolus"),
+            ("None isn't a player", ESTATE, None, 0, 1, "nucleolus"),
+            ("all rates are 0", ESTATE, {}, 0, 1, "nucleolus"),
+            ("after a change of 1099511627776 a number, .* 1, is 2.40 or more", VALLEY, "n+p", 0, 2**40, "nucleolus"),
+            ("after a change of 1/99999989 a number, .* is 2.40 or more", VALLEY, "n", 0, "1/99999989", "nucleolus"),
+            ("str isn't a game", "game", "n", 0, 1, "nucleolus"),  # type: ignore[list-item]
             ("of 401 the claims add to less than", ESTATE, "estate", 0, 401, "nucleolus"),
             ("of -201 the estate is below 0", ESTATE, "estate", -201, 0, "nucleolus"),
             ("the cost of light is below 0", RUNWAY, "light", -3, 0, "nucleolus"),
@@ -321,6 +286,29 @@ class Ranges(unittest.TestCase):
         self.assertEqual(ends(VALLEY, "n+p"), (12491, None, "0 0 0", "0 0 0"))
         whole = coop.bankruptcy(600, {"Anna": 100, "Bert": 200, "Cleo": 300})
         self.assertEqual(ends(whole, "estate"), (150, 0, "1/3 1/3 1/3", ""))
+
+    def test_names(self) -> None:
+        """However a number is asked for, it has the names of `what_moves`."""
+        asked: list[tuple[coop.Game, Any, tuple[str, ...]]] = [
+            (ESTATE, "Anna", ("claim", "Anna")), (ESTATE, ["claim", 1], ("claim", "Anna")), (VALLEY, "p+n", ("n", "p")),
+            (NETWORK, ("link", "mill", 0), ("link", "source", "mill")), (AIRLINES, "Aer", ("cost", "Aer")),
+        ]
+        for game, what, names in asked:
+            self.assertEqual([found.what for found in ranges(game, [what])], [names])
+
+    def test_what_is_refused(self) -> None:
+        unlike = coop.landings([("Aer", 2, 1), ("Aer", 3, 1)])
+        cases: list[tuple[str, coop.Game, Any]] = [
+            ("'estate' isn't a list of numbers: write ..estate", ESTATE, "estate"),
+            ("5 isn't a list of numbers", ESTATE, 5),
+            ("is several numbers", ESTATE, [{"Anna": 1, "Bert": 1}]),
+            ("'Aer' is several numbers", unlike, ["Aer"]),
+            ("before the change there is no imputation", NO_DIVISION, ["a"]),
+            ("str isn't a game", "game", None),  # type: ignore[list-item]
+        ]
+        for sentence, game, some in cases:
+            with self.assertRaisesRegex(BadInput, sentence):
+                ranges(game, some)
 
     def test_which_matter(self) -> None:
         matter = [found.what for found in ranges(ESTATE) if found.matters]

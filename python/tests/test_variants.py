@@ -52,6 +52,18 @@ class Variants(unittest.TestCase):
         with self.assertRaisesRegex(coop.BadInput, "17 players: a table has at most 16"):
             overrun(coop.airport([1] * 17), 1)
 
+    def test_numbers_that_no_document_has(self) -> None:
+        """A document has them times a factor; the games beside it have the same numbers as the game."""
+        game = coop.airport({"a": "1.0000001", "b": 2, "c": 3})
+        self.assertEqual(game.factor, 10**7)
+        for other, whole in ((table_of_game(game), 3), (overrun(game, 1), 4), (overrun(table_of_game(game), 1), 4)):
+            numbers = other.whole() / other.factor, other.alone(0) / other.factor
+            self.assertEqual(numbers, (whole, Fraction("1.0000001")))
+        left = without(game, ["c"])
+        self.assertEqual((left.whole() / left.factor, left.alone(0) / left.factor), (2, Fraction("1.0000001")))
+        links = without(coop.tree([[0, "1.0000001", 1], ["1.0000001", 0, 1], [1, 1, 0]]), ["2"])
+        self.assertEqual(links.whole() / links.factor, Fraction("1.0000001"))
+
     def test_an_amount_that_is_typed(self) -> None:
         cases = [
             ("400", "400"),
