@@ -18,11 +18,16 @@ UNSEEN = frozenset(  # 0x2800 is a blank of Braille
 ISOLATE, END_OF_ISOLATE = "\u2068", "\u2069"
 
 
-# Letters that look like Latin ones, each above its twin; of 1, I, l and | the twin is l, and of 0 it is O.
-CYRILLIC = "АВЕКМНОРСТУХІЅЈԚԜҮаеорсухіѕјԁһѵԛԝү", "ABEKMHOPCTYXISJQWYaeopcyxisjdhvqwy"
-GREEK = "ΑΒΕΖΗΙΚΜΝΟΡΤΥΧοανρικ", "ABEZHIKMNOPTYXoavpik"
-LATIN = "1I|0", "lllO"
-TWINS = str.maketrans(CYRILLIC[0] + GREEK[0] + LATIN[0], (CYRILLIC[1] + GREEK[1]).replace("I", "l") + LATIN[1])
+# Letters of other alphabets, each in front of the Latin one that it is taken for, as page/src/game/names.js has them;
+# the twin of 1, I, l and | is l, and that of 0 and O is o.
+PAIRS = (
+    "\u0430a\u0435e\u043eo\u0440p\u0441c\u0443y\u0445x\u0456i\u0458j\u0455s\u0501d\u04bbh\u051bq\u051dw\u04cfl\u0475v"
+    "\u04afy\u0410A\u0412B\u0415E\u041aK\u041cM\u041dH\u041eO\u0420P\u0421C\u0422T\u0423Y\u0425X\u0406I\u0408J\u0405S"
+    "\u051aQ\u051cW\u04aeY\u03bfo\u03bdv\u03b1a\u03b9i\u03bak\u03c1p\u03c5u\u03c7x\u03b3y\u0391A\u0392B\u0395E\u0396Z"
+    "\u0397H\u0399I\u039aK\u039cM\u039dN\u039fO\u03a1P\u03a4T\u03a5Y\u03a7X\u0131i\u0251a\u0261g\u0585o\u057du\u0570h"
+)
+LATIN = {"1": "l", "I": "l", "|": "l", "0": "o", "O": "o"}
+TWINS = str.maketrans({**LATIN, **{one: LATIN.get(other, other) for one, other in zip(PAIRS[::2], PAIRS[1::2])}})
 ALPHABETS = ("LATIN", "CYRILLIC", "GREEK")
 
 
@@ -58,10 +63,19 @@ def escape(letter: str) -> str:
     return f"\\u{ord(letter):04x}" if ord(letter) < 0x10000 else f"\\U{ord(letter):08x}"
 
 
+def plain(text: str) -> str:
+    """A name without what isn't seen, in the plainest form of each letter."""
+    return " ".join("".join(letter for letter in unicodedata.normalize("NFKC", text) if not is_unseen(letter)).split())
+
+
 def looks(text: str) -> str:
     """What a name looks like: names of the same look can't be told apart by most readers."""
-    seen = "".join(letter for letter in text if not is_unseen(letter))
-    return " ".join(unicodedata.normalize("NFKC", seen).translate(TWINS).replace("rn", "m").split())
+    return plain(text).translate(TWINS).replace("rn", "m")
+
+
+def caseless(text: str) -> str:
+    """The same of names that differ in capitals alone."""
+    return plain(text).casefold()
 
 
 def alike(names: Iterable[str], look: Callable[[str], str] = looks) -> list[list[str]]:
@@ -84,7 +98,7 @@ def warning(names: Sequence[str]) -> Optional[str]:
     """A sentence on names that look alike or that hide something, or None."""
     sentences = [f"{len(some)} names look alike: {', '.join(map(shown, some))}" for some in alike(names)]
     told = {name for some in alike(names) for name in some}
-    for some in alike([name for name in names if name not in told], str.casefold):
+    for some in alike([name for name in names if name not in told], caseless):
         sentences.append(f"{len(some)} names differ only in capitals: {', '.join(map(safe, some))}")
     hidden = [name for name in names if name not in told and any(map(is_unseen, name))]
     if hidden:

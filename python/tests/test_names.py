@@ -1,16 +1,53 @@
 """Names that try to forge."""
 import json
+import subprocess
 import unittest
+from pathlib import Path
+from string import ascii_letters
+from unicodedata import category
 
 import coop
 from coop import telling
-from coop.names import alike, apart, looks, safe, visible, warning
+from coop.names import alike, apart, caseless, is_unseen, looks, safe, visible, warning
+from coop.program import TOP
 from coop.desk.tables import aligned
 
 from .asking import needs_node
 
 CAPITALS = "2 names differ only in capitals: HARTMANN KG, Hartmann KG"
 ZERO_WIDTH, OVERRIDE, ESCAPE = "\u200b", "\u202e", "\x1b"
+
+
+ALIKE_ON_THE_PAGE = """
+import { differenceOf, withEscapes } from "FILE";
+const [names, others, codes] = JSON.parse(await new Response(process.stdin).text());
+const pairs = names.map((one) => others.map((other) => one === other || differenceOf(one, other) !== null));
+const hidden = codes.filter((k) => withEscapes(String.fromCodePoint(k)) !== String.fromCodePoint(k));
+console.log(JSON.stringify([pairs, hidden]));
+"""
+
+
+@needs_node
+class OnThePage(unittest.TestCase):
+    def test_page_and_package_find_the_same(self) -> None:
+        """Which names look alike: letters of all alphabets that have a twin, beside Latin ones, and some names; and
+        which letters aren't seen, but for those that this Python doesn't know."""
+        others = [*ascii_letters, *"01|", "rn", "é", "a ", " a  b", "a b", "a\u00a0b"]
+        others += [*(f"{one}\u200b" for one in others[:9]), "e\u0301", "\uff21", "Bern", "Bem", "Hartmann KG"]
+        names = [*others, *map(chr, range(0xC0, 0x590))]
+        codes = [code for code in [*range(0x20000), *range(0xE0000, 0xE2000)] if not 0xD800 <= code < 0xE000]
+        code = ALIKE_ON_THE_PAGE.replace("FILE", Path(TOP, "page/src/game/names.js").as_uri())
+        words = ["node", "--input-type=module", "-e", code]
+        asked = json.dumps([names, others, codes]).encode()
+        done = subprocess.run(words, input=asked, stdout=subprocess.PIPE, check=True)
+        pairs, hidden = json.loads(done.stdout)
+        for one, row in zip(names, pairs):
+            found = [looks(one) == looks(other) or caseless(one) == caseless(other) for other in others]
+            differing = [ascii(other) for other, *both in zip(others, row, found) if both[0] != both[1]]
+            self.assertEqual(differing, [], ascii(one))
+        mine = {code for code in codes if is_unseen(chr(code))}
+        differ = mine.symmetric_difference(hidden)
+        self.assertEqual({hex(code) for code in differ if category(chr(code)) != "Cn"}, set())
 
 
 class Names(unittest.TestCase):

@@ -11,6 +11,7 @@ const SUMS = new RegExp("^((all )?together|sum|((grand|sub)[ -]?)?totals?( costs
 // letters of other alphabets (Cyrillic, Greek, and some more), each in front of the Latin one that it is taken for
 const TWINS = ""
   + "\u0430a\u0435e\u043eo\u0440p\u0441c\u0443y\u0445x\u0456i\u0458j\u0455s\u0501d\u04bbh\u051bq\u051dw\u04cfl"
+  + "\u0475v\u04afy\u051aQ\u051cW\u04aeY"
   + "\u0410A\u0412B\u0415E\u041aK\u041cM\u041dH\u041eO\u0420P\u0421C\u0422T\u0423Y\u0425X\u0406I\u0408J\u0405S"
   + "\u03bfo\u03bdv\u03b1a\u03b9i\u03bak\u03c1p\u03c5u\u03c7x\u03b3y"
   + "\u0391A\u0392B\u0395E\u0396Z\u0397H\u0399I\u039aK\u039cM\u039dN\u039fO\u03a1P\u03a4T\u03a5Y\u03a7X"
@@ -40,10 +41,11 @@ function looksOf(name) {
   return name.normalize("NFKC").replace(HIDDEN, "").replace(/\s+/g, " ").trim();
 }
 
-/** The same, with one letter for all that are drawn alike: those of other alphabets, 1 and l and I, 0 and O. */
+/** The same, with one letter for all that are drawn alike: those of other alphabets, 1 and l and I, 0 and O, rn and
+ * m. */
 function drawn(name) {
   const latin = [...looksOf(name)].map((letter) => twin.get(letter) ?? letter).join("");
-  return latin.replace(/[1I|]/g, "l").replace(/[0O]/g, "o");
+  return latin.replace(/[1I|]/g, "l").replace(/[0O]/g, "o").replace(/rn/g, "m");
 }
 
 function areAlike(one, other) {
