@@ -42,12 +42,12 @@ def fraction_of(value: Amount, digits: Optional[int] = None) -> Fraction:
     if isinstance(value, Decimal) and digits is None and has_digits_of_a_float(value, exact):
         told = f"Decimal({str(value)[:24]}..) has all the digits of the float {float(value)!r}"
         raise BadInput(f"{told}: make it of a text, Decimal({str(float(value))!r}), or give a number of digits")
-    return exact if digits is None else Fraction(round(exact * 10**digits), 10**digits)
+    return exact if digits is None or exact.denominator == 1 else Fraction(round(exact * 10**digits), 10**digits)
 
 
 def plain(value: Amount) -> Amount:
     """The number, of a class that is known here. Those of NumPy are integers by their `__index__`."""
-    if isinstance(value, (str, Fraction, float)) or type(value) is int:
+    if type(value) is int or isinstance(value, (str, float, Fraction)):
         return value
     if isinstance(value, Decimal):
         exponent = value.as_tuple().exponent
@@ -94,6 +94,12 @@ def require_one_dimension(values: Any) -> None:
         raise BadInput(f"{told}: one row is one game")
 
 
+def exact(text: str) -> Fraction:
+    """The value of a fraction text of a document or a line, in a third of the time that `Fraction` takes."""
+    whole, stroke, part = text.partition("/")
+    return Fraction(int(whole), int(part)) if stroke else Fraction(int(whole))
+
+
 def written(value: Fraction) -> Union[int, str]:
     """The number as a document of version 2 has it: an integer, or a fraction in lowest terms as a text."""
     return value.numerator if value.denominator == 1 else str(value)
@@ -114,7 +120,7 @@ def factor_for(values: list[Fraction], digits: Optional[int] = None) -> int:
     common = common_denominator(values)
     if digits is not None and 10**digits > MOST_SCALE:
         common = 10**digits
-    if max((abs(value) for value in values), default=Fraction(0)) * common >= LIMIT:
+    if any(abs(value.numerator) * common >= LIMIT * value.denominator for value in values):
         told = f"a number, times the common denominator {common}, is 2^40 or more"
         raise BadInput(told + ("" if common == 1 else f": {advice_on_digits(values)}"))
     return 1 if common <= MOST_SCALE else common

@@ -11,6 +11,7 @@ from fractions import Fraction
 from typing import Any, Callable, Optional
 
 from . import shown
+from .amounts import exact
 from .game import Game
 
 Shares = dict[str, Fraction]
@@ -173,12 +174,6 @@ class Matching(Answer):
 
 
 # ---- From a line
-
-
-def exact(text: str) -> Fraction:
-    """Returns the value of a fraction text of the program, in a third of the time that `Fraction` takes to read one."""
-    whole, stroke, part = text.partition("/")
-    return Fraction(int(whole), int(part)) if stroke else Fraction(int(whole))
 
 
 class Reader:

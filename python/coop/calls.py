@@ -12,7 +12,6 @@ from .answers import Answer
 from .errors import BadInput, Failure, Fault, NoAnswer, NoMemory, Refused, Slip, Usage
 from .game import Game, encoded
 from .program import Program, find
-from .telling import slips
 
 COMMANDS = tuple(classes.COMMANDS)
 """The words of the commands on a document."""
@@ -175,4 +174,6 @@ def fault_of(command: str, status: int, line: str, document: bytes) -> NoAnswer:
 
 def slip_of(command: str, document: bytes) -> Optional[Slip]:
     """The mistake of a document that a command refused."""
+    from .telling import slips
+
     return slips(document, command)[0]

@@ -7,6 +7,7 @@ from fractions import Fraction
 from typing import Any
 
 from . import shown
+from .amounts import exact
 from .classes import CLASSES, keys_of
 from .errors import BadInput
 from .masks import mask_of, members
@@ -43,8 +44,10 @@ def number(tree: Any, what: str) -> Fraction:
     """The value of an integer or a fraction text."""
     if type(tree) is int and not -LEAST <= tree < LEAST:
         raise BadInput(f"{what}: an integer has more than 64 bits")
-    if type(tree) is int or type(tree) is str and FRACTION.fullmatch(tree):
+    if type(tree) is int:
         return Fraction(tree)
+    if type(tree) is str and FRACTION.fullmatch(tree):
+        return exact(tree)
     raise BadInput(f'{what}: {json.dumps(tree)[:40]} is no integer, nor, with "version":2, a fraction text')
 
 

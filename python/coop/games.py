@@ -257,7 +257,7 @@ def made(
     if per_head:
         tree["excess"] = "per-head"
     tree.update((key, as_json(part, factor)) for key, part in parts.items())
-    if any((amount * factor).denominator > 1 for amount in amounts):
+    if any(factor % amount.denominator for amount in amounts):
         tree["version"] = 2
     return Game(tree, factor)
 
@@ -274,7 +274,7 @@ def numbers_in(part: Any) -> Iterable[Fraction]:
 def as_json(part: Any, factor: int) -> Any:
     """A part with its numbers as a document has them."""
     if isinstance(part, Fraction):
-        return written(part * factor)
+        return written(part if factor == 1 else part * factor)
     return [as_json(item, factor) for item in part] if isinstance(part, (list, tuple)) else part
 
 

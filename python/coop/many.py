@@ -5,14 +5,17 @@ import sys
 import threading
 import time
 from collections import deque
-from typing import Any, Callable, Iterable, Iterator, Optional, Sequence, TypeVar, Union
+from typing import TYPE_CHECKING, Any, Callable, Iterable, Iterator, Optional, Sequence, TypeVar, Union
 
-from .calls import COMMANDS, ON_A_GAME, Chosen, Outcome, ask
+from .calls import COMMANDS, ON_A_GAME, Chosen, Outcome, answered, document_of
 from .errors import BadInput, Failure, NoAnswer
-from .far import Executor, many_by
 from .game import Game
-from .program import Program, end_calls, find
-from .server import processors as usable
+from .library import end_calls
+from .machine import processors as usable
+from .program import Program, find
+
+if TYPE_CHECKING:
+    from .far import Executor
 
 Item = TypeVar("Item")
 Result = TypeVar("Result")
@@ -45,10 +48,12 @@ def many(
     if faults not in ("keep", "raise"):
         raise BadInput(f"{faults!r} isn't a way to treat faults: use keep or raise")
     if executor is not None:
+        from .far import many_by
+
         rows = shown(many_by(executor, words, games, program, batch, seconds), games, progress)
     else:
         found = find(program)
-        rows = spread(lambda game: tuple(outcome(word, game, found) for word in words), games, processors, progress)
+        rows = spread(lambda game: row_of(words, game, found), games, processors, progress)
     return rows if faults == "keep" else without_faults(rows)
 
 
@@ -71,10 +76,16 @@ def without_faults(rows: Iterator[tuple[Outcome, ...]]) -> Iterator[tuple[Outcom
         yield row
 
 
-def outcome(word: str, game: Game, program: Program) -> Outcome:
+def row_of(words: Sequence[str], game: Game, program: Program) -> tuple[Outcome, ...]:
+    """What each command answers to a game, whose document is made once."""
+    document = document_of(game)
+    return tuple(outcome(word, document, game, program) for word in words)
+
+
+def outcome(word: str, document: bytes, game: Game, program: Program) -> Outcome:
     """What one command answers."""
     try:
-        return ask(word, game, program=program)
+        return answered(word, document, game, program)
     except NoAnswer as fault:
         return Failure(fault)
 

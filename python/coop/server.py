@@ -14,19 +14,13 @@ import weakref
 from typing import IO, Any, Optional, Sequence
 
 from .errors import Fault
+from .library import TOO_LATE
+from .machine import processors
 
 HEAD = struct.Struct("<II")
 """The two numbers that begin a request and an answer."""
 STOPPED = 70
-TOO_LATE = 124
 GRACE = 0.5  # seconds that a process has to end by itself
-
-
-def processors() -> int:
-    """How many processors this process may use: a container, a batch system or taskset may give it less than all."""
-    if hasattr(os, "sched_getaffinity"):
-        return len(os.sched_getaffinity(0))
-    return os.cpu_count() or 1
 
 
 class Ended(Exception):

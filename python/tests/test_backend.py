@@ -8,7 +8,8 @@ import unittest
 import zipfile
 
 import backend
-from coop.program import TOP, which
+from coop.machine import which
+from coop.program import TOP
 from coop.version import VERSION
 
 FOLDER = os.path.join(TOP, "python", "coop")

@@ -12,8 +12,9 @@ from concurrent.futures import FIRST_COMPLETED, ThreadPoolExecutor, wait
 from typing import Any
 
 from coop import Fault, NotFound
-from coop.program import TOP, Call, Command, Library, _running, end_calls, find, named, run_elsewhere, said, spawned
-from coop.program import which
+from coop.library import Call, Library, _running, end_calls
+from coop.machine import run_elsewhere, spawned, which
+from coop.program import TOP, Command, find, named, said
 from coop.version import VERSION
 
 PACKAGE = os.path.join(TOP, "python")
@@ -74,8 +75,9 @@ class Finding(unittest.TestCase):
         self.assertEqual(named("node 'a b.mjs'").command, ["node", "a b.mjs"])  # type: ignore[attr-defined]
         program = Command(["x"])
         self.assertIs(find(program), program)
-        with self.assertRaises(NotFound):
-            Library("/nowhere/libcoop.so")
+        for name in ("libcoop.so", "libcoop.so.1", "libcoop.so.1.0.0", "libcoop.dylib", "coop.dll"):
+            with self.assertRaisesRegex(NotFound, "isn't a library of coop"):
+                named(f"/nowhere/{name}")
         self.assertEqual(repr(program), "Command(['x'])")
 
     @unittest.skipUnless(which("cc"), "there is no C compiler")

@@ -14,8 +14,9 @@ from typing import Optional
 
 import coop
 from coop.errors import Fault
-from coop.program import TOP, folder_of, which
-from coop.server import HEAD, Server, processors
+from coop.machine import processors, which
+from coop.program import TOP, folder_of
+from coop.server import HEAD, Server
 
 NODE = which("node") or which("nodejs")
 COMMAND = [NODE or "", os.path.join(folder_of("runtime", "serve.mjs") or "", "serve.mjs")]
