@@ -56,6 +56,7 @@ TOOLS = (
     Tool("try-schema"),
     Tool("read-examples"),
     Tool("try-literature"),
+    Tool("time-families", ("--players", "6", "--rounds", "2"), has_folder=False, folder="make"),
     Tool("refuse-memory", uses=("cc",), has_folder=False, needs_kit=True),
     Tool("hostile-ports", uses=("cc",), needs_ports=True),
     Tool("try-page-face", needs=("node",), uses=("chromium", "firefox-esr"), is_alone=True),
