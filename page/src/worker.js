@@ -17,6 +17,7 @@ import { warmUp } from "./work/engine.js";
 import { isOfGame, lookAtLine } from "./work/lines.js";
 import { margins } from "./work/margins.js";
 import { costsOfNetwork, fillLinks } from "./work/networks.js";
+import { numberMargins } from "./work/number-margins.js";
 import { estates, overrun } from "./work/others.js";
 import { pair } from "./work/pair.js";
 import { fillSplits } from "./work/splits.js";
@@ -36,6 +37,7 @@ const TASKS = {
   leave: (what, one) => leave(what, one.game), pair: (what, one) => pair(what, one.game),
   along: (what, one) => along(what, one.game),
   margins: (_, one) => margins(parseJson(one.line), one.game),
+  numberMargins: (_, one) => numberMargins(parseJson(one.line), one.game, one.rows),
 };
 
 /** The word of the second checker: {tree} with what it says, or {refused} in words. */

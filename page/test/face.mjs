@@ -148,6 +148,43 @@ const numbers = [
   }],
 ];
 
+/** Which cells are marked, what is told of one, and whether the answer stays at a number and not at another. */
+async function tryNumbers(page, expect, { decide, cell, tip, within, beyond }) {
+  await page.until("document.querySelector('#case .decides')");
+  const marked = "[...document.querySelectorAll('#case .decides input')].map((one) => one.dataset.cell).sort().join()";
+  expect("marked", await page.run(marked), decide);
+  const told = `document.querySelector('[data-cell="${cell}"]').getAttribute("aria-description")`;
+  expect("told", await page.run(told), tip);
+  const before = await page.text("#answer .lead");
+  for (const [number, isSame] of [[within, true], [beyond, false]]) {
+    await page.type(cell, number);
+    await settle(page);
+    expect(`at ${number}`, (await page.text("#answer .lead")) === before, isSame);
+  }
+}
+
+const numbersOfClasses = [
+  ["face: which links matter", "network", (page, expect) => tryNumbers(page, expect, {
+    decide: "links.0-1,links.0-2,links.1-2,links.1-3,links.2-4,links.3-4", cell: "links.2-3",
+    tip: "It may be from 5.00 up, and the shares stay, if no other number moves.", within: "5", beyond: "4.9",
+  })],
+  ["face: which claims matter", "estate", async (page, expect) => {
+    await tryNumbers(page, expect, {
+      decide: "estate,rows.0.claim,rows.1.claim", cell: "rows.2.claim",
+      tip: "It may be from 1600.00 up, and the shares stay, if no other number moves.", within: "1600", beyond: "1590",
+    });
+  }],
+  ["face: which landings matter", "runway", async (page, expect) => {
+    await pasted(page, [["Airline", "Cost", "Landings"], ["Aer", 20, 8], ["Bee", 21, 1], ["Cargo", 60, 1]]);
+    await settle(page);
+    await told(page, ".margins", /rest on 2 of the 3 numbers as they are: Bee and Cargo\. The other one may move/);
+    await tryNumbers(page, expect, {
+      decide: "rows.1.cost,rows.2.cost", cell: "rows.0.cost",
+      within: "18.9", beyond: "22", tip: "It may be from 18.90 to 21.00, and the shares stay, if no other number moves.",
+    });
+  }],
+];
+
 /** Opens the slider of the whole, and waits until all bends are found. */
 async function openMoved(page) {
   const parts = "[...document.querySelectorAll('#answer-more summary')]";
@@ -202,4 +239,4 @@ const demos = [
   }],
 ];
 
-export const face = [...answers, ...rules, ...numbers, ...moved, ...demos];
+export const face = [...answers, ...rules, ...numbers, ...numbersOfClasses, ...moved, ...demos];

@@ -4,7 +4,7 @@ import { coarseNumbers, coarseText } from "../tell/coarse-text.js";
 import { writtenBy } from "../exact/marks.js";
 import { plural } from "../game/words.js";
 import { questions } from "./case-questions.js";
-import { markFaults, markOdds } from "./cells.js";
+import { markFaults, markOdds, showTips } from "./cells.js";
 import { button, cellOf, copy, download, el, refill } from "./dom.js";
 import { shown } from "./files.js";
 import { landingsList } from "./landings-list.js";
@@ -29,10 +29,10 @@ export function casePanel(kind, typed, settings) {
   const grid = GRIDS[kind.grid](kind, typed, { ...settings, remember });
   offer(settings.before);
   const faults = el("div", { class: "faults", role: "status" }), made = el("div", { class: "made" });
-  const coarse = el("div");
+  const coarse = el("div"), legend = el("p", { class: "hint legend screen" });
   const element = el("div", { class: "case" },
     el("p", { class: "help" }, kind.help), sample,
-    notes.map((note) => el("p", { class: "note" }, note)), coarse, grid, faults,
+    notes.map((note) => el("p", { class: "note" }, note)), coarse, grid, legend, faults,
     el("div", { class: "tools bottom" }, moreTools(kind, typed, grid.more, onReset), undo));
 
   /** Shows what the reading of the cells says. */
@@ -53,7 +53,11 @@ export function casePanel(kind, typed, settings) {
 
   return {
     element, tell, made, goTo: (cell) => goTo(grid, cell), choices: () => grid.choices?.(),
-    setTips: (tips) => grid.setTips?.(tips),
+    setTips: (tips) => {
+      (grid.setTips ?? ((some) => showTips(grid, some)))(tips);
+      refill(legend, tips && [el("span", { class: "dot", "aria-hidden": "true" }), " The answer rests on these ",
+        "numbers. How far off the others may be, “What if” says."]);
+    },
   };
 }
 

@@ -92,3 +92,14 @@ export function markOdds(element, odds) {
     else if (isMarked && !input.hasAttribute("aria-invalid")) input.removeAttribute("title");
   }
 }
+
+/** Marks the cells on whose numbers the answer rests, and says of each number how far off it may be: `tips(cell)`. */
+export function showTips(element, tips) {
+  for (const input of element.querySelectorAll("input.number")) {
+    const tip = tips?.(input.dataset.cell), place = input.parentElement;
+    place.classList.toggle("decides", Boolean(tip?.isDeciding));
+    place.title = tip?.text ?? "";
+    if (tip) input.setAttribute("aria-description", tip.text);
+    else input.removeAttribute("aria-description");
+  }
+}

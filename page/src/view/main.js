@@ -8,7 +8,7 @@ import { AnswerView } from "./answer-view.js";
 import { casePanel } from "./case-panel.js";
 import { Documents } from "./documents.js";
 import { el, measureByCanvas, refill } from "./dom.js";
-import { isDeciding, marginsOf, tipOf } from "./margins-part.js";
+import { marginsOf, tipOf } from "./margins-part.js";
 import { Paper } from "./paper.js";
 import { changedCells, keptTree, pinOfTree } from "./pinned.js";
 import { Session } from "./session.js";
@@ -43,10 +43,10 @@ const session = new Session({
 const view = new AnswerView(session);
 const paper = new Paper(session, view);
 
-/** What is said of the numbers in the cells of a table; null while nobody knows. */
+/** What is said of the numbers in the cells; null while nobody knows. */
 function tipsOf() {
-  const found = session.result && !view.isHidden ? marginsOf(session.result) : null, format = session.format();
-  return found && ((mask) => ({ isDeciding: isDeciding(mask, found), text: tipOf(mask, found, format) }));
+  const found = session.result && !view.isHidden ? marginsOf(session.result, session) : null;
+  return found && ((cell) => tipOf(cell, found, session.format()));
 }
 
 // ---- Cases

@@ -8,7 +8,7 @@ import { nameByRows } from "../tell/words.js";
 import { capital } from "../game/words.js";
 import { calculated } from "./calculated.js";
 
-const MOST_PER_HEAD = COMMANDS.nucleolus["per head"], MOST_HELD = 12;
+const MOST_PER_HEAD = COMMANDS.nucleolus["per head"], MOST_HELD = 12, MOST_LISTED = 16; // players
 /** The columns that the page itself calculates. */
 export const CALCULATED = ["proportion", "agencies"];
 
@@ -64,9 +64,17 @@ async function askBeside(result, checker, onPart) {
   onPart(result, "reasons");
   result.checks.anew = await settled(checker("checkLine"));
   onPart(result, "checks");
-  if (!result.game.isTable() || result.game.ballots || result.game.n < 2) return;
-  result.margins = await checker("margins");
+  const task = marginsTask(result.game);
+  if (!task) return;
+  result.margins = await checker(task);
   onPart(result, "margins");
+}
+
+/** What a worker is asked for the numbers that matter; undefined where nobody works that out. */
+export function marginsTask(game) {
+  if (game.n < 2 || game.n > MOST_LISTED || game.ballots) return undefined;
+  const isClass = ["airport", "bankruptcy", "tree"].includes(game.kind);
+  return game.isTable() ? "margins" : isClass ? "numberMargins" : undefined;
 }
 
 /** A checker that fails is told as a fault, and doesn't keep the other from its word. */

@@ -3,7 +3,7 @@ import { groupLabel, packed, unpacked, withoutPlayer, withPlayer } from "../case
 import { masksBySize, membersOf } from "../game/groups.js";
 import { countText } from "../exact/decimals.js";
 import { withEscapes } from "../game/names.js";
-import { cellInput, moveByKeys, pasteCells, removal, removeByKey } from "./cells.js";
+import { cellInput, moveByKeys, pasteCells, removal, removeByKey, showTips } from "./cells.js";
 import { button, cellOf, copy, el, refill } from "./dom.js";
 import { headingOf, numbersIn } from "../cases/vectors.js";
 import { plural } from "../game/words.js";
@@ -27,9 +27,8 @@ class TableGrid {
       return el("div", { class: name });
     });
     this.message = el("div", { class: "note", role: "status" });
-    this.legend = el("p", { class: "hint legend screen" });
     Object.assign(this, { players, pages, tools, list, fills, start: 0, wanted: "" });
-    this.element = el("div", {}, players, this.message, pages, list, this.legend, fills);
+    this.element = el("div", {}, players, this.message, pages, list, fills);
     this.element.more = tools;
     this.element.setTips = (tips) => this.setTips(tips);
     this.order = masksBySize(typed.names.length);
@@ -128,26 +127,12 @@ class TableGrid {
       el("ol", { class: count > 4 ? "long" : "" }, masks.map((mask) => this.groupRow(mask))),
     ]));
     this.list.classList.toggle("few", names.length <= 3);
-    this.showTips();
+    showTips(this.list, this.tips);
   }
 
-  /** `tips(mask)` says of a number whether the answer rests on it: {isDeciding, text}; null while nobody knows. */
   setTips(tips) {
     this.tips = tips;
-    this.showTips();
-  }
-
-  showTips() {
-    for (const input of this.list.querySelectorAll("input")) {
-      const tip = this.tips?.(Number(input.dataset.cell.split(".")[1])), row = input.parentElement;
-      row.classList.toggle("decides", Boolean(tip?.isDeciding));
-      row.title = tip?.text ?? "";
-      if (tip) input.setAttribute("aria-description", tip.text);
-      else input.removeAttribute("aria-description");
-    }
-    const isKnown = Boolean(this.tips && this.order.length > 1);
-    refill(this.legend, isKnown && [el("span", { class: "dot", "aria-hidden": "true" }), " The answer rests on these ",
-      "numbers. How far off the others may be, “What if” says."]);
+    showTips(this.list, tips);
   }
 
   groupRow(mask) {

@@ -11,37 +11,42 @@ import { levelOf } from "../tell/levels.js";
 const MOST_CLOSEST = 3;
 
 /** Of the line of an answer about a table: the masks of the groups whose numbers count as they are (`decide`, without
- * that of all), the `bounds` of the others by their masks, in lines, over the `unit`, and those who have least room for
- * their size, as {mask, number}; `isTied` says that some of them have no room. Costs may be anything from the bound up,
- * gains anything up to it. */
-export function margins({ answer, certificate, shares }, game) {
-  const { n, costs } = game, sign = costs ? -1n : 1n, paid = shares.map(Rational.of);
-  const levels = certificate.levels.map(levelOf), numbers = [...paid, ...levels.map(({ excess }) => excess)];
-  const unit = [...numbers, ...game.amounts].reduce((all, { den }) => (all % den ? lcm(all, den) : all), 1n);
-  const over = ({ num, den }) => num * (unit / den), got = sums(paid.map((share) => sign * over(share)));
-  const most = leastBounds({ n, levels, mode: certificate.mode, got, over, perHead: game.perHead });
-  if (answer === "nucleolus") { // nobody gets less than alone
-    for (let i = 0; i < n; i++) if (most[1 << i] > got[1 << i]) most[1 << i] = got[1 << i];
-  }
-  const decide = [...new Set(levels.flatMap(({ coalitions, bounds }) => {
-    return [...coalitions, ...bounds].map(([group]) => maskOf(group));
-  }))];
-  for (const mask of decide) most[mask] = undefined;
-  const worths = game.amounts.map((amount) => sign * over(amount));
-  const least = closest(most, worths).map((mask) => ({ mask, number: String(game.amounts[mask]) }));
-  const told = most.map((bound) => (bound === undefined ? "" : String(sign * bound)));
-  const isTied = most.some((bound, mask) => bound !== undefined && bound === worths[mask]);
-  return { unit: String(unit), decide, bounds: told.join("\n"), closest: least, isTied, of: 2 ** n - 2 };
+ * that of all), the `bounds` of the others by their masks, in lines, over the `unit`, and the masks and `numbers` of
+ * those who have least room for their size; `isTied` says that some of them have no room. Costs may be anything from
+ * the bound up, gains anything up to it. */
+export function margins(tree, game) {
+  const sign = game.costs ? -1n : 1n, { unit, over, most, listed } = groupBounds(tree, game, game.amounts);
+  const worths = game.amounts.map((amount) => sign * over(amount)), told = most.map((bound) => {
+    return bound === undefined ? "" : String(sign * bound);
+  });
+  const rooms = most.map((bound, mask) => (bound === undefined ? bound : bound - worths[mask]));
+  const closest = closestOf(rooms, worths), numbers = closest.map((mask) => String(game.amounts[mask]));
+  return {
+    unit: String(unit), decide: [...listed], bounds: told.join("\n"), closest, numbers, isTied: rooms.includes(0n),
+    of: 2 ** game.n - 2,
+  };
 }
 
-/** What a group may be worth at most, by its mask, for no level to be wrong: undefined for none and for all. */
-function leastBounds({ n, levels, mode, got, over, perHead }) {
+/** What each group may be worth at most, by its mask, over a unit of the game's `numbers` and the line's, for no level
+ * to be wrong: undefined for none, for all, and for those that a level lists. */
+export function groupBounds({ answer, certificate, shares }, { n, costs, perHead }, numbers) {
+  const sign = costs ? -1n : 1n, paid = shares.map(Rational.of), levels = certificate.levels.map(levelOf);
+  const all = [...paid, ...levels.map(({ excess }) => excess), ...numbers];
+  const unit = all.reduce((common, { den }) => (common % den ? lcm(common, den) : common), 1n);
+  const over = ({ num, den }) => num * (unit / den), got = sums(paid.map((share) => sign * over(share)));
   const excesses = levels.map(({ excess }) => over(excess)), most = Array(2 ** n).fill(undefined);
-  eachOpen({ n, levels, mode }, (mask, players, k) => {
+  eachOpen({ n, levels, mode: certificate.mode }, (mask, players, k) => {
     const bound = got[mask] + (perHead ? BigInt(players.length) * excesses[k] : excesses[k]);
     if (most[mask] === undefined || bound < most[mask]) most[mask] = bound;
   });
-  return most;
+  if (answer === "nucleolus") { // nobody gets less than alone
+    for (let i = 0; i < n; i++) if (most[1 << i] > got[1 << i]) most[1 << i] = got[1 << i];
+  }
+  const listed = new Set(levels.flatMap(({ coalitions, bounds }) => {
+    return [...coalitions, ...bounds].map(([group]) => maskOf(group));
+  }));
+  for (const mask of listed) most[mask] = undefined;
+  return { unit, over, most, listed };
 }
 
 /** Visits each group that is open at a level: its mask, its members, and the level's place. */
@@ -63,16 +68,15 @@ export function sums(items) {
   return all;
 }
 
-/** The groups with least room, as a part of their own numbers; those that have none of these first. */
-function closest(most, worths) {
-  const size = (mask) => (worths[mask] < 0n ? -worths[mask] : worths[mask]), found = [];
-  const room = (mask) => most[mask] - worths[mask];
-  const isCloser = (one, other) => room(one) * size(other) < room(other) * size(one)
-    || (room(one) * size(other) === room(other) * size(one) && room(one) < room(other));
-  most.forEach((bound, mask) => {
-    if (bound === undefined) return;
-    const place = found.findIndex((other) => isCloser(mask, other));
-    found.splice(place < 0 ? found.length : place, 0, mask);
+/** The places with least room, as a part of their own numbers; those that have none of these first. */
+export function closestOf(rooms, numbers) {
+  const size = (k) => (numbers[k] < 0n ? -numbers[k] : numbers[k]), found = [];
+  const isCloser = (one, other) => rooms[one] * size(other) < rooms[other] * size(one)
+    || (rooms[one] * size(other) === rooms[other] * size(one) && rooms[one] < rooms[other]);
+  rooms.forEach((room, k) => {
+    if (room === undefined) return;
+    const place = found.findIndex((other) => isCloser(k, other));
+    found.splice(place < 0 ? found.length : place, 0, k);
     found.splice(MOST_CLOSEST);
   });
   return found;
