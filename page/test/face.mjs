@@ -180,7 +180,8 @@ const numbersOfClasses = [
     await told(page, ".margins", /rest on 2 of the 3 numbers as they are: Bee and Cargo\. The other one may move/);
     await tryNumbers(page, expect, {
       decide: "rows.1.cost,rows.2.cost", cell: "rows.0.cost",
-      within: "18.9", beyond: "22", tip: "It may be from 18.90 to 21.00, and the shares stay, if no other number moves.",
+      within: "18.9", beyond: "22",
+      tip: "It may be from 18.90 to 21.00, and the shares stay, if no other number moves.",
     });
   }],
 ];

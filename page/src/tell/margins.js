@@ -19,8 +19,9 @@ export function restsTold(rests, free, { costs }, most) {
 /** The same of landings, claims or links, of which each has a range by itself. */
 export function numbersTold(rests, free, most) {
   const others = free > 1 ? `Each of the other ${free}` : "The other one";
-  return [countTold(rests, free, most), free > 0 && `${others} may move alone: as long as it stays within its range, the `
-    + "shares stay as they are, and the same certificate proves it."].filter(Boolean);
+  const told = `${others} may move alone: as long as it stays within its range, the shares stay as they are, and the `
+    + "same certificate proves it.";
+  return [countTold(rests, free, most), ...(free ? [told] : [])];
 }
 
 function countTold(names, free, most) {

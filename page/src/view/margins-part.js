@@ -77,17 +77,6 @@ export function tipOf(cell, found, format) {
 
 /** The part below “What if”. `session` has the names, and which numbers the page filled in. */
 export function marginsPart(result, { session, format }) {
-<<<<<<< HEAD
-  const found = marginsOf(result), { typed, kind } = session;
-  const isOther = result.line && !kind.isTable && !kind.isMarket && !result.game.ballots;
-  if (isOther) return el("p", { class: "hint screen" }, ELSEWHERE);
-  if (!found || !kind.isTable) return null;
-  const name = (mask) => groupLabel(typed.names, mask), order = masksBySize(typed.names.length).slice(0, -1);
-  const rests = order.filter((mask) => found.decide.has(mask)), verb = found.costs ? "cost" : "gain";
-  const copied = (event) => copy(tabbed(boundLines(order, found, { name, format })), event.target);
-  return el("section", { class: "margins" }, el("h3", {}, "Which numbers matter?"),
-    el("p", {}, restsTold(rests.map(name), found.free, found, MOST_NAMED).join(" ")),
-=======
   const found = marginsOf(result, session), { typed, kind } = session;
   const isOther = result.line && !kind.isMarket && !result.game.ballots && !marginsTask(result.game);
   if (isOther) return result.game.n > 1 && el("p", { class: "hint screen" }, ELSEWHERE);
