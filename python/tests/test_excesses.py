@@ -3,13 +3,14 @@ import random
 import unittest
 from fractions import Fraction
 from itertools import product
+from time import process_time
 from typing import Sequence
 
 import coop
 from coop.desk.cells import csv_text
 from coop.desk.documents import Point
 from coop.desk.excesses import Comparison, Entry, compare, comparisons, csv, excess_list, told
-from coop.desk.tables import put_together, shares_csv
+from coop.desk.tables import aligned, put_together, shares_csv
 from coop.masks import members
 from coop.styles import Style
 
@@ -164,6 +165,13 @@ class Tables(unittest.TestCase):
             text, 'player,nucleolus,"nucleolus rounded, EUR"\na,1/3,0.33\n\'=1+1\\u200b,100000,100000.00\n'
         )
         self.assertEqual(csv_text([["-1/2", "-0.50", "-x", "@a"]]), "-1/2,-0.50,'-x,'@a\n")
+
+    def test_a_long_table(self) -> None:
+        """Of as many rows as sixteen players have groups: the width of a column is found once."""
+        began = process_time()
+        lines = aligned([["place", *map(str, range(2**16))], ["x"] * (2**16 + 1)]).splitlines()
+        self.assertEqual((lines[0], lines[-1]), ("place  x", "65535  x"))
+        self.assertLess(process_time() - began, 20)
 
     def test_put_together(self) -> None:
         names, points = put_together(["Aer 1", "Aer 2", "Bee"], [point("nucleolus", "1/2 1/2 3")])

@@ -64,18 +64,44 @@ class Processes(unittest.TestCase):
     def test_scripts_without_node(self) -> None:
         """Each ends with 2 and one sentence; what needs no Node goes on."""
         with tempfile.TemporaryDirectory() as tools:
-            line = json.dumps(solved()).encode()
-            os.symlink(sys.executable, os.path.join(tools, "python3"))
-            for name in ("explain", "report", "picture", "slip", "same-game", "compare", "shares"):
-                words = [sys.executable, os.path.join(TOP, "scripts", name)]
-                words += ["-", os.path.join(TOP, "examples", "airport.json")] if name == "same-game" else []
-                data = line * 2 if name == "compare" else line
-                done = subprocess.run(words, input=data, env={"PATH": tools}, stdout=PIPE, stderr=PIPE)
-                if name == "shares":
-                    self.assertEqual((done.returncode, done.stderr), (0, b""))
-                    continue
-                self.assertEqual((done.returncode, done.stdout, done.stderr.count(b"\n")), (2, b"", 1), name)
-                self.assertIn(b"there is no Node on the path", done.stderr)
+            for name in TELLING:
+                self.fails(name, tools, b"there is no Node on the path")
+            self.assertEqual(script("shares", tools)[::2], (0, b""))
+            status, text, errors = script("from-costs", tools, data=b"a,1\nb,2\na+b,9\n")
+            self.assertEqual((status, text[:8], errors.count(b"\n")), (0, b'{"game":', 1))
+            self.assertIn(b"nobody looked for numbers that may be mistakes: there is no Node", errors)
+
+    def test_scripts_with_a_node_that_fails(self) -> None:
+        """One that ends at once, or in the middle, and one of another version."""
+        ends, dies = "raise SystemExit(3)", ANSWERS.format("raise SystemExit(3)")
+        kinds = [(ends, b"ended with 3 when it began"), (dies, b"ended with 3 before it answered"),
+                 (ANSWERS.format(ANOTHER), b"is of another version of coop")]
+        for code, sentence in kinds:
+            with tempfile.TemporaryDirectory() as tools:
+                node = os.path.join(tools, "node")
+                with open(node, "w") as file:
+                    file.write(f"#!{sys.executable}\n{code}\n")
+                os.chmod(node, 0o755)
+                for name in TELLING:
+                    self.fails(name, tools, sentence)
+
+    def fails(self, name: str, tools: str, sentence: bytes) -> None:
+        """A script ends with 2 and one sentence."""
+        status, text, errors = script(name, tools)
+        self.assertEqual((status, text, errors.count(b"\n")), (2, b"", 1), (name, errors))
+        self.assertIn(sentence, errors, name)
+
+
+TELLING = ("explain", "report", "picture", "slip", "same-game", "compare")
+
+
+def script(name: str, tools: str, data: bytes = b"") -> tuple[int, bytes, bytes]:
+    """What a script prints of a line, or of other bytes, where only the tools of a folder are found."""
+    line = data or json.dumps(solved()).encode() * (2 if name == "compare" else 1)
+    words = [sys.executable, os.path.join(TOP, "scripts", name)]
+    words += ["-", os.path.join(TOP, "examples", "airport.json")] if name == "same-game" else []
+    done = subprocess.run(words, input=line, env={"PATH": tools}, stdout=PIPE, stderr=PIPE)
+    return done.returncode, done.stdout, done.stderr
 
 
 @needs_node

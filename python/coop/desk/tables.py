@@ -63,8 +63,8 @@ def column_of(point: Point, style: Style, lines: Sequence[Line], owners: Optiona
     steps = steps_for(point, places, owners)
     exact = [str(sum((point.shares[i] for i in line.members), Fraction(0))) for line in lines]
     decimals = [decimal(sum(steps[i] for i in line.members), places) + style.behind for line in lines]
-    rows = [f"{e:>{longest(exact)}}  {d:>{longest(decimals)}}" for e, d in zip(exact, decimals)]
-    return [point.name] + rows
+    wide, narrow = longest(exact), longest(decimals)
+    return [point.name, *(f"{e:>{wide}}  {d:>{narrow}}" for e, d in zip(exact, decimals))]
 
 
 def steps_for(point: Point, places: int, owners: Optional[Sequence[str]] = None) -> list[int]:
@@ -103,11 +103,11 @@ def note_on(points: Sequence[Point], style: Style, owners: Optional[Sequence[str
 
 def aligned(columns: Sequence[Sequence[str]], left: Collection[int] = (0,)) -> str:
     """Columns of texts side by side, some to the left and the others to the right."""
-    lines = []
+    lines, widths = [], [longest(column) for column in columns]
     for row in zip(*columns):
         cells = []
-        for k, (cell, column) in enumerate(zip(row, columns)):
-            blanks = " " * (longest(column) - width(cell))
+        for k, cell in enumerate(row):
+            blanks = " " * (widths[k] - width(cell))
             shown = f"{ISOLATE}{cell}{END_OF_ISOLATE}" if is_from_the_right(cell) else cell
             cells.append(shown + blanks if k in left else blanks + shown)
         lines.append("  ".join(cells).rstrip() + "\n")
