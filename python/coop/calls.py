@@ -10,7 +10,7 @@ from . import answers, classes
 from .amounts import Amount, fractions_of, named_items, written
 from .answers import Answer
 from .errors import BadInput, Failure, Fault, NoAnswer, NoMemory, Refused, Slip, Usage
-from .game import Game, encoded
+from .game import Game, encoded, require_game
 from .program import Program, find
 
 COMMANDS = tuple(classes.COMMANDS)
@@ -120,8 +120,7 @@ def ask(command: str, game: Game, shares: Optional[Proposal] = None, program: Ch
 
 def document_of(game: Game, shares: Optional[Proposal] = None) -> bytes:
     """The bytes of the document of a game, and of shares of it."""
-    if not isinstance(game, Game):
-        raise BadInput(f"{type(game).__name__} isn't a game: make one, such as coop.table({{..}})")
+    require_game(game)
     return game.document() if shares is None else game.document(shares=items_of(game, shares))
 
 

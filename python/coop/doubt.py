@@ -31,7 +31,7 @@ from typing import Optional, Union
 from . import calls
 from .answers import CorePoint, EmptyCore, Names, Shares
 from .errors import BadInput
-from .game import Game
+from .game import Game, require_game
 from .games import made
 from .masks import mask_of, members
 
@@ -117,8 +117,7 @@ def amounts_of(game: Game) -> list[Fraction]:
 def require_bounds(low: Game, high: Game) -> None:
     """Refuses two games that aren't the bounds of a table."""
     for game in (low, high):
-        if not isinstance(game, Game):
-            raise BadInput(f"{type(game).__name__} isn't a game: make both, such as coop.cost_table({{..}})")
+        require_game(game)
         if not game.is_table:
             told = "coop.variants.table_of_game makes a table of it"
             raise BadInput(f"a game of class {game.kind} has no numbers of groups: {told}")

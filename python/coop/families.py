@@ -34,7 +34,7 @@ def game(kind: str, players: int, seed: int) -> Game:
     """A game of a family."""
     if kind not in KINDS:
         raise BadInput(f"{kind!r} is no family: name one of {', '.join(KINDS)}")
-    if not 3 <= players <= MOST_IN_A_TABLE:
+    if type(players) is not int or not 3 <= players <= MOST_IN_A_TABLE:
         raise BadInput(f"{players} players: a family has 3 to {MOST_IN_A_TABLE}")
     draw = Random(f"{kind} {players} {seed}")
     if kind in ("votes", "votes-ties"):

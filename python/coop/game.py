@@ -221,3 +221,9 @@ class Game:
     def document(self, **others: Any) -> bytes:
         """The bytes of a document of this game, with other keys beside it, as `shares`."""
         return encoded(WRITER.encode({"game": self.tree, **others}), "a name")
+
+
+def require_game(game: Any) -> None:
+    """Refuses what isn't a game."""
+    if not isinstance(game, Game):
+        raise BadInput(f"{type(game).__name__} isn't a game: make one, such as coop.airport({{..}})")

@@ -8,7 +8,7 @@ from typing import Any, Mapping, Union
 
 from .amounts import Amount, fraction_of
 from .errors import BadInput
-from .game import LISTS, SINGLE, Game
+from .game import LISTS, SINGLE, Game, require_game
 from .games import members_of, player_of
 from .masks import mask_of, members
 from .names import row_of
@@ -61,8 +61,7 @@ def names_of(game: Game, place: Place) -> tuple[str, ...]:
 
 def movable(game: Game) -> Game:
     """The game whose numbers move: of a vote the table of who wins, and of a market what its groups are worth."""
-    if not isinstance(game, Game):
-        raise BadInput(f"{type(game).__name__} isn't a game: make one, such as coop.airport({{..}})")
+    require_game(game)
     if game.kind == "market":
         return Game({**game.tree, "class": "assignment"}, game.factor)
     return table_of_game(game) if game.kind == "voting" else game

@@ -17,7 +17,7 @@ from . import calls
 from .amounts import Amount, fraction_of
 from .answers import Blocked, Names, Nucleolus, Shapley, Shares
 from .errors import BadInput, Usage
-from .game import Game
+from .game import Game, require_game
 
 __all__ = ["FORMULAS", "Row", "alone_and_added", "rules"]
 
@@ -44,6 +44,7 @@ def rules(
 ) -> Iterator[Row]:
     """A row for each rule by which the game has a division. Of `benefits`, if these are known, separable costs and
     remaining benefits takes account."""
+    require_game(game)
     for rule, find in PROVED.items():
         try:
             answer = find(game, program)

@@ -10,18 +10,21 @@ from __future__ import annotations
 
 from fractions import Fraction
 from math import factorial, gcd
-from typing import Mapping, Optional, Sequence
+from typing import Mapping, Optional, Sequence, Union
 
-from .amounts import Amount, common_denominator, fraction_of
+from .amounts import Amount, common_denominator, fraction_of, fractions_of, named_items
 from .errors import BadInput
 
 MOST_VOTERS, MOST_WORK = 1000, 1 << 31  # bits of all counts
 
 
-def shapley(quota: Amount, votes: Mapping[str, Amount]) -> dict[str, Fraction]:
-    """In what part of all orders of joining each voter decides. A coalition wins if its votes reach the quota; votes
-    may have decimals."""
-    need, whole = whole_votes(quota, list(votes.values()))
+def shapley(quota: Amount, votes: Union[Mapping[str, Amount], Sequence[Amount]]) -> dict[str, Fraction]:
+    """In what part of all orders of joining each voter decides; those of a list are numbered from 1. A coalition wins
+    if its votes reach the quota; votes may have decimals."""
+    items = named_items(votes)
+    amounts = fractions_of(votes if items is None else [vote for _, vote in items], None)
+    names = [str(k + 1) for k in range(len(amounts))] if items is None else [name for name, _ in items]
+    need, whole = whole_votes(quota, amounts)
     n, total = len(whole), sum(whole)
     if n > MOST_VOTERS:
         raise BadInput(f"{n} voters: at most {MOST_VOTERS} are counted")
@@ -42,7 +45,7 @@ def shapley(quota: Amount, votes: Mapping[str, Amount]) -> dict[str, Fraction]:
             others = counts[k] - (others << vote * bits)
             decided += orders[k] * (((others >> low) & window) % ((1 << bits) - 1))
         power[vote] = Fraction(decided, factorial(n))
-    return {name: power[vote] for name, vote in zip(votes, whole)}
+    return {name: power[vote] for name, vote in zip(names, whole)}
 
 
 def whole_votes(quota: Amount, votes: Sequence[Amount], digits: Optional[int] = None) -> tuple[int, list[int]]:

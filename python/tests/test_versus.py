@@ -71,6 +71,8 @@ class Judged(unittest.TestCase):
         blocked = coop.airport({"small": 1, "large": 9})
         same = {row.rule: row for row in versus.rules(blocked)}["equal shares"]
         self.assertEqual((same.leaving, same.by), (("small",), Fraction(7, 2)))
+        with self.assertRaisesRegex(BadInput, "str isn't a game"):
+            list(versus.rules("game"))  # type: ignore[arg-type]
         self.assertNotIn("nucleolus per head", [row.rule for row in versus.rules(coop.airport([1] * 9))])
 
     def test_published(self) -> None:

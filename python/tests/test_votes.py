@@ -41,6 +41,7 @@ class Votes(unittest.TestCase):
             "a": Fraction(2, 3), "b": Fraction(1, 6), "c": Fraction(1, 6)
         })
         self.assertEqual(votes.shapley("0.5", {"a": "0.3", "b": "0.7"}), {"a": 0, "b": 1})
+        self.assertEqual(set(votes.shapley(2, [1, "1.5", 1]).items()), {(name, Fraction(1, 3)) for name in "123"})
         hundred = votes.shapley(51, {str(k): 1 for k in range(100)})
         self.assertEqual(set(hundred.values()), {Fraction(1, 100)})
         refused: list[tuple[str, int, dict[str, Amount]]] = [
@@ -86,9 +87,9 @@ class Families(unittest.TestCase):
             self.assertEqual((game.n, game.tree), (5, families.game(kind, 5, 1).tree))
             self.assertNotEqual(game.tree, families.game(kind, 6, 1).tree)
         self.assertEqual(families.game("III", 3, 1).tree["worths"], [0, 0, 3, 0, 2, 3, 3])
-        for sentence, kind, players in (("is no family", "V", 5), ("2 players", "I", 2)):
+        for sentence, kind, players in (("is no family", "V", 5), ("2 players", "I", 2), ("3.0 players", "I", 3.0)):
             with self.assertRaisesRegex(BadInput, sentence):
-                families.game(kind, players, 1)
+                families.game(kind, players, 1)  # type: ignore[arg-type]
 
 
 if __name__ == "__main__":
