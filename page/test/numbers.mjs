@@ -76,7 +76,7 @@ const LISTS = [
   ["[1] 5 3 2 10\n[5] 9 6 16", "5 3 10 2 9 6 16"], ["0,5;0;2,25", "0,5 0 2,25"], ["1,5\n2,5\n4,5", "1,5 2,5 4,5"],
   ["1 234,50\n3\n2 000", "1 234,50 3 2 000"], ["(3.50)\n4\n-1", "(3.50) 4 -1"], ["A;3\nB;4\nA+B;5", "3 4 5"],
   ["Group\tCost\nA\t3\nB\t4\nA+B\t5", "3 4 5"], ["1,2,3\n4,5,6", /2 rows of 3 numbers/], ["1 2 3 4", /4 numbers alone/],
-  ["A\t3\t7\nB\t4\t7", /one number, and here one has more/], ["NA\n2\n3", /“NA” is no number/],
+  ["A\t3\t7\nB\t4\t7", /its number, and this one has another cell/], ["NA\n2\n3", /“NA” is no number/],
   ["v1,v2,v3\n1,2,3\n4,5,6", /2 rows of 3 numbers, so 2 games/], ["A;B;A+B\n1;2;3\n4;5;6", /so 2 games/],
   ['"","A","B","AB"\n"1",1,2,4\n"2",3,4,8', /2 rows of 3 numbers, so 2 games/], ["x y z\n1 2 3\n4 5 6", /so 2 games/],
   ['"","group","cost"\n"1","A",3\n"2","B",4\n"3","A+B",5', "3 4 5"], ['"","x"\n"1",3\n"2",4\n"3",5', "3 4 5"],

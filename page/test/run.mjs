@@ -25,6 +25,7 @@ import { monkey } from "./monkey.mjs";
 import { parts } from "./parts.mjs";
 import { precise } from "./precise.mjs";
 import { saying } from "./saying.mjs";
+import { strangers } from "./strangers.mjs";
 import { users } from "./users.mjs";
 
 const words = process.argv.slice(2), [page, top] = words.map((word) => resolve(word));
@@ -37,6 +38,7 @@ harness.add(large(slack, told));
 harness.add(desk);
 harness.add(door);
 harness.add(face);
+harness.add(strangers);
 harness.add(users);
 harness.add(figures);
 harness.add(parts);

@@ -35,6 +35,30 @@ function splitLine(line, by) {
   return [...cells, cell];
 }
 
+const NOTE = /^([(*†]|sources?\b|notes?\b|remarks?\b|quellen?\b|hinweis|anmerkung|stand\b)/iu;
+
+/** A pasted text without the lines that frame its table: lone words above it, as a title, and below it, as a source,
+ * with an empty line between: {rows, text, left}, where `left` are these words. */
+export function unframed(rows, text) {
+  const counts = rows.map((row) => row.filter(Boolean).length), isWide = (count) => count > 1;
+  const first = counts.findIndex(isWide), last = counts.findLastIndex(isWide), whole = { rows, text, left: [] };
+  if (counts.filter(isWide).length < 2) return whole;
+  const lone = (k) => rows[k].find(Boolean) ?? "", isNumber = (k) => !readNumber(lone(k)).fault;
+  const above = counts.slice(0, first), below = counts.slice(last + 1), gap = below.indexOf(0);
+  const isTitled = above.includes(0) && !above.some((count, k) => count && isNumber(k));
+  const isNote = (k) => counts[k] === 1 && !isNumber(k) && ((gap >= 0 && k > last + gap) || NOTE.test(lone(k)));
+  const isOut = (k) => (k < first ? isTitled : k > last && (!counts[k] || isNote(k)));
+  const kept = rows.map((_, k) => k).filter((k) => !isOut(k)), lines = text.split(/\r\n?|\n/);
+  const left = rows.flatMap((_, k) => (isOut(k) && counts[k] ? [lone(k)] : []));
+  return left.length ? { rows: kept.map((k) => rows[k]), text: kept.map((k) => lines[k]).join("\n"), left } : whole;
+}
+
+/** What is told of these. */
+export function leftText(left) {
+  const shown = left.slice(0, 3).map((words) => `“${words.slice(0, 60)}${words.length > 60 ? " …" : ""}”`);
+  return left.length ? `Left out, as no number stands beside: ${shown.join(", ")}${left.length > 3 ? " …" : ""}.` : "";
+}
+
 const NAME_AND_NUMBER = /^(.*\p{L}.*?)\s*[:\s]\s*([-−(]?\d\S*|\d\S* ?\S{1,4})$/u;
 
 /** Lines as mails and PDFs have them, in one cell each: parted at two blanks or more, or into a name and a number
@@ -72,8 +96,12 @@ export function headingsOf(rows, from, mark) {
   return words?.length && words.every(isWord) && below.some((row) => row.some(isNumber)) ? rows[0] : null;
 }
 
+const MONEY = /cost|price|fee|charge|kosten|preis|gebühr|co[uû]t|prix|\p{Sc}/iu; // rather a cost than what is needed
+const AMOUNT = /\p{Sc}\s*\d|^\d{1,3}([.,'’\s]\d{3})+$|^\d+[.,]\d\d$/u; // no name, below a heading
+
 /** The column that each pasted one is for: the one that its heading names, and of the others the next; or none. Numbers
- * are for no optional column, but where four columns stand as `ofFour` has them, by its keys. */
+ * are for no optional column, but where four columns stand as `ofFour` has them, by its keys; below headings amounts
+ * are no names. */
 export function columnsFor(columns, headings, { rows = [], mark = ".", ofFour = [] } = {}) {
   const wide = rows.reduce((most, row) => Math.max(most, lastOf(row)), headings?.length ?? 0);
   const all = Array.from({ length: wide }, (_, c) => c);
@@ -81,13 +109,17 @@ export function columnsFor(columns, headings, { rows = [], mark = ".", ofFour = 
   const isTitle = (text, title) => text?.toLowerCase() === title.toLowerCase();
   const named = all.map((c) => headings && (columns.find(({ title }) => isTitle(headings[c], title))
     ?? columns.find(({ heads }) => heads?.test(headings[c]))));
-  const found = named.map((column, c) => (column && named.indexOf(column) === c ? column : undefined));
+  const placesOf = (column) => all.filter((c) => named[c] === column), isMoney = (c) => MONEY.test(headings[c]);
+  const bestOf = (column) => placesOf(column).find(isMoney) ?? placesOf(column)[0];
+  const found = named.map((column, c) => (column && bestOf(column) === c ? column : undefined));
   const isFour = wide === 4 && columns.length === ofFour.length && isNumeric(below(3), mark);
   const order = isFour ? ofFour.map((key) => columns.find((column) => column.key === key)) : columns;
   const free = order.filter((column) => !found.includes(column));
   const filled = all.map((c) => {
     if (found[c]) return found[c];
-    const k = free.findIndex(({ optional }) => isFour || !optional || !isNumeric(below(c), mark));
+    const fits = ({ number, optional }) => (isFour || !optional || !isNumeric(below(c), mark))
+      && (number || !headings || !below(c).some((text) => AMOUNT.test(text)));
+    const k = free.findIndex(fits);
     return k < 0 ? undefined : free.splice(k, 1)[0];
   });
   return swapped(filled, found, below, mark);

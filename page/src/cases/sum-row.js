@@ -10,7 +10,7 @@ export const isEmpty = (row) => Object.values(row).every((text) => !text.trim())
 export function askOfSum(reading, state, keys) {
   const kept = state.rows.map((row, r) => ({ row, r })).filter(({ row }) => !isEmpty(row)), last = kept.at(-1);
   if (kept.length < 2) return false;
-  const nameOf = ({ row }) => row.name.trim(), { notSums = [] } = state;
+  const nameOf = ({ row }) => row.name.trim() || (row.type ?? "").trim(), { notSums = [] } = state;
   const named = kept.filter((one) => isSumWord(nameOf(one)) && notSums !== true && !notSums.includes(nameOf(one)));
   const above = kept.slice(0, -1).map(({ row }) => row);
   const isAsked = named.length > 0 || (!nameOf(last) && Boolean(state.isNamed)
@@ -18,7 +18,7 @@ export function askOfSum(reading, state, keys) {
   if (!isAsked) return false;
   reading.notes = reading.notes.filter((note) => !note.includes("Is it the sum of the others?")); // it is asked instead
   const { r } = named.at(-1) ?? last;
-  reading.asked = { r, name: state.rows[r].name.trim(), isLast: r === last.r };
+  reading.asked = { r, name: nameOf({ row: state.rows[r] }), isLast: r === last.r };
   return true;
 }
 

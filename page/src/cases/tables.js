@@ -187,8 +187,8 @@ function listOf(all, lineOf) {
   const long = rows.find((row) => row.slice(2).some(Boolean));
   if (long) {
     const shown = withEscapes(long.join("; ")).slice(0, 60);
-    return { fault: `${lineOf(long)}A line has a group and one number, and here one has more: “${shown}”. Members of a `
-      + "group have + between them." };
+    return { fault: `${lineOf(long)}A line is a group and its number, and this one has another cell: “${shown}”. `
+      + "Leave columns of remarks out; members of a group have + between them." };
   }
   const isNumber = ([group]) => !readNumber(group).fault;
   if (rows.some(isNumber) && rows.every((row) => !row[1])) {

@@ -57,9 +57,10 @@ export const votes = {
       reading.fault(list.cells.at(-1), `These are ${names.length} voters, and at most ${MOST} are taken.`);
     }
     if (!reading.isRight()) return { ...list, tree: {} };
-    if (isDouble && names.length > MOST_IN_TABLE) return { ...list, tree: null, ballots, isBeyond: true };
-    const tree = isDouble ? tableOfWins(list, ballots) : votingGame(reading, list, ballots[0]);
-    return { ...list, tree, ballots };
+    const tree = isDouble ? null : votingGame(reading, list, ballots[0]);
+    if (tree) return { ...list, tree, ballots };
+    if (names.length > MOST_IN_TABLE) return { ...list, tree: null, ballots, isBeyond: true };
+    return { ...list, tree: tableOfWins(list, ballots), ballots };
   },
 
   fromGame: (game) => ({
@@ -110,16 +111,15 @@ function readSecond(reading, state, mark, names) {
   return readBallot(reading, state.secondQuota, "secondQuota", "The second quota", { values, cells }, state);
 }
 
-function votingGame(reading, { named, cells }, ballot) {
+/** The game of its own class; null where the votes are more than that takes, and no common divisor helps. */
+function votingGame(reading, { named }, ballot) {
   const { votes, quota } = inWhole(ballot), all = votes.reduce((sum, one) => sum + one, 0n);
   const common = votes.reduce(gcd, quota) || 1n;
   // votes alone decide which sums are reached, so the quota is rounded up where only the votes have a common divisor
   const ofVotes = votes.reduce(gcd, 0n) || 1n, by = all > MOST_VOTES ? ofVotes : 1n;
   if (all / by > MOST_VOTES) {
-    reading.fault(cells.at(-1),
-      `The votes add to ${shortText(Rational.sum(ballot.votes))}, and the program takes 1,000. `
-      + "They have no common divisor that helps. Choose two quotas, with a second one that all reach: then any "
-      + "votes do.");
+    reading.notes.push("The document says of each group whether it wins, since so many votes are in no document.");
+    return null;
   }
   if (by > 1n) {
     const rounded = common === by ? "" : ", rounded up";

@@ -107,13 +107,14 @@ export class AnswerView {
     const proposal = {
       ...session.proposal,
       set: (r, text) => session.setProposal(Object.assign([...session.texts], { [r]: text })),
-      setAll: (texts) => session.setProposal(texts),
+      setAll: (texts, said) => session.setProposal(texts, said), labels: rows.map(({ label }) => label),
     };
     return {
       rows, format: session.format(), proposal, wide, filled: filledText(session), today: todayOf(session, rows),
       pinned: pinnedOf(session, rows), labelOfCell: (cell) => labelOfCell(cell, session), result,
       remark: filledLines(session, rows), source: sourceName(session.typed),
       coarse: session.typed.coarse, typed: this.typed, ask: session.askAbout(result),
+      said: session.ownSaid,
     };
   }
 

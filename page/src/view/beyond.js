@@ -46,7 +46,7 @@ function roundedTo(value, places) {
 }
 
 /** The parts of the answer that the page calculates. */
-export function beyondParts(beyond, { format, today, pinned, labelOfCell }) {
+export function beyondParts(beyond, { format, today, pinned, labelOfCell, said }) {
   const { isAll, rows, points } = beyond;
   const plain = format.plain(), tables = () => [shareLines(rows, points, plain), airlineLines(rows, points, plain),
     typeLines(rows, points, plain), roundingLines(points, plain)];
@@ -57,6 +57,7 @@ export function beyondParts(beyond, { format, today, pinned, labelOfCell }) {
     el("div", { class: "scroll" }, table(beyond, { format, today, pinned, own: (row, r) => {
       return ownInput(row, r, today, "today", todayTitle(COSTS));
     } })),
+    said && el("p", { class: "note own-said", role: "status" }, said),
     points.some(({ totals }) => format.isMoved(totals, rows)) && el("p", { class: "hint moved" }, movedText(rows)),
     isAll && el("p", { class: "tools" }, keepButton(pinned), pinTools(pinned)),
     isAll && todayTools(COSTS, today),

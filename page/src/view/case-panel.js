@@ -37,6 +37,7 @@ export function casePanel(kind, typed, settings) {
 
   /** Shows what the reading of the cells says. */
   function tell(reading) {
+    grid.tell?.(reading);
     markFaults(grid, reading.faults);
     markOdds(grid, oddsOf(reading, typed));
     markChanged(grid, settings.changed?.());
@@ -53,12 +54,15 @@ export function casePanel(kind, typed, settings) {
 
   return {
     element, tell, made, goTo: (cell) => goTo(grid, cell), choices: () => grid.choices?.(),
-    setTips: (tips) => {
-      (grid.setTips ?? ((some) => showTips(grid, some)))(tips);
-      refill(legend, tips && [el("span", { class: "dot", "aria-hidden": "true" }), " The answer rests on these ",
-        "numbers. How far off the others may be, “What if” says."]);
-    },
+    setTips: (tips) => showDeciding(grid, legend, tips),
   };
+}
+
+/** Marks the numbers on which the answer rests, and says what the mark means. */
+function showDeciding(grid, legend, tips) {
+  (grid.setTips ?? ((some) => showTips(grid, some)))(tips);
+  refill(legend, tips && [el("span", { class: "dot", "aria-hidden": "true" }), " The answer rests on these ",
+    "numbers. How far off the others may be, “What if” says."]);
 }
 
 function moreTools(kind, typed, others, onReset) {

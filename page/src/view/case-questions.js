@@ -1,5 +1,5 @@
 // What has to be settled before there is an answer: questions beside the cells, each with its ways out.
-import { countText, quotedText } from "../exact/decimals.js";
+import { countText, quotedText, shortText } from "../exact/decimals.js";
 import { DECIMALS, WHOLE } from "../exact/marks.js";
 import { Rational } from "../exact/rational.js";
 import { withEscapes } from "../game/names.js";
@@ -87,7 +87,7 @@ function partQuestion({ cell, typed, text, ways: [exact, rounded] }, state, { on
     state.exactParts = [...(state.exactParts ?? []), typed];
     onChange(0);
   };
-  const votes = (count) => `${countText(count)} votes`;
+  const votes = (count) => `${shortText(Rational.of(count))} votes`;
   return el("p", { class: "note" }, `“${withEscapes(typed.trim())}” asks for ${votes(exact)}, and ${text} for `,
     `${votes(rounded)}. Which is meant? `,
     button(`${text}, ${votes(rounded)}`, () => onReset({ ...state, [cell]: text }, `Take ${text}`, true), {

@@ -1,12 +1,12 @@
 // The column of the user's proposal: its cells, its sum, and ways to fill it.
 import { Rational, ZERO } from "../exact/rational.js";
 import { decimal, fullText, placesOf, readNumber, typedText } from "../exact/decimals.js";
-import { cellsOf } from "../cases/pasting.js";
 import { button, el } from "./dom.js";
 import { stepsOfRows, totalsOf } from "./format.js";
+import { pastedDivision } from "./proposal.js";
 
-/** A cell of a column that the user fills: `own` are its texts, `key` its name, `title` what it is. A column that is
- * pasted goes on below. */
+/** A cell of a column that the user fills: `own` are its texts, `key` its name, `title` what it is. A text of
+ * several lines that is pasted is of all rows. */
 export function ownInput({ label }, r, own, key, title) {
   const fault = own.faults[r];
   return el("input", {
@@ -20,10 +20,11 @@ export function ownInput({ label }, r, own, key, title) {
         document.querySelector(`[data-cell="${key}.${r + (event.shiftKey ? -1 : 1)}"]`)?.focus();
       },
       paste: (event) => {
-        const rows = cellsOf(event.clipboardData?.getData("text/plain") ?? "");
-        if (rows.length < 2) return;
+        const pasted = event.clipboardData?.getData("text/plain").trim() ?? "";
+        if (!pasted.includes("\n")) return;
         event.preventDefault();
-        own.setAll(own.texts.map((text, k) => rows[k - r]?.at(-1) ?? text));
+        const { texts, said, fault } = pastedDivision(pasted, own.labels, { first: r, before: own.texts });
+        own.setAll(texts ?? own.texts, fault ?? said);
       },
     },
   });

@@ -1,11 +1,51 @@
 // The division that the user proposes, or that stands today: a text for each row of the answer.
 import { readTogether } from "../exact/decimals.js";
+import { isMark, otherMark } from "../exact/marks.js";
 import { Rational } from "../exact/rational.js";
+import { isSumWord, withEscapes } from "../game/names.js";
+import { listed } from "../game/words.js";
 
-/** What the texts say for these rows. `totals` and `shares` are null until each row has a number. */
-export function proposalOf(texts, rows, mark) {
-  const typed = rows.map((_, r) => texts[r] ?? "");
-  const { read } = readTogether(typed, mark), isFault = ({ fault }, r) => fault && typed[r].trim();
+const LINE = /^(?<name>.*?\p{L}.*?)(?:\s*[:=;,]\s*|\s+(?:[-–—]\s+)?)(?<number>[-−(]?\p{Sc}?\s?\d.*)$/u;
+const BESIDE = /^\s*[:=;,]?\s*(?:[-–—](?=\s))?\s*|\s*\(.*\p{L}.*\)$/gu; // of a number behind a name
+const NUMBER = /^[-−(]?\p{Sc}?\s?\d[\d.,'’\s/]*(?:\p{Sc}|[A-Z]{3}|%)?\)?$/u;
+
+/** What a pasted text gives the rows, by their `labels`: {texts, said}, or {fault} in words. Lines with a name go to
+ * the row that is called so; numbers alone go on below from a row. */
+export function pastedDivision(text, labels, { first, before }) {
+  const lines = text.split(/\r\n?|\n/).map((line) => line.trim()).filter(Boolean), places = new Map(), out = [];
+  const called = [...labels.keys()].sort((i, j) => labels[j].length - labels[i].length);
+  const placeOf = (line) => called.find((i) => line.toLowerCase().startsWith(labels[i].toLowerCase())
+    && !/^[\p{L}\d]/u.test(line.slice(labels[i].length)));
+  if (lines.every((line) => NUMBER.test(line))) {
+    return { texts: before.map((own, r) => lines[r - first] ?? own), said: "" };
+  }
+  for (const line of lines) {
+    const place = placeOf(line), { name, number } = LINE.exec(line)?.groups ?? {};
+    if (place === undefined && (!name || isSumWord(name))) out.push(line);
+    else if (place === undefined) {
+      const stranger = withEscapes(name.slice(0, 40));
+      if (NUMBER.test(number)) return { fault: `No row is called “${stranger}”. Nothing was taken.` };
+      out.push(line);
+    } else if (places.has(place)) return { fault: `${withEscapes(labels[place])} is there twice. Nothing was taken.` };
+    else places.set(place, line.slice(labels[place].length).replace(BESIDE, ""));
+  }
+  if (!places.size) return { fault: "Give a number a line, or a name and a number in each. Nothing was taken." };
+  const quoted = out.slice(0, 3).map((line) => `“${withEscapes(line.slice(0, 40))}”`);
+  return {
+    texts: before.map((own, r) => places.get(r) ?? own),
+    said: `Taken by name: ${listed([...places.keys()].map((i) => withEscapes(labels[i])))}.`
+      + (out.length ? ` Left out: ${quoted.join(", ")}${out.length > 3 ? " …" : ""}.` : ""),
+  };
+}
+
+/** What the texts say for these rows. `totals` and `shares` are null until each row has a number. If only one of the
+ * decimal marks gives the `whole` that is divided, that one is meant. */
+export function proposalOf(texts, rows, mark, whole = null) {
+  const typed = rows.map((_, r) => texts[r] ?? ""), ways = isMark(mark) ? [mark, otherMark(mark)] : [mark];
+  const found = ways.map((by) => readTogether(typed, by)), isWhole = ({ read }) => {
+    return whole && read.every(({ value }) => value) && Rational.sum(read.map(({ value }) => value)).equals(whole);
+  };
+  const { read } = found.find(isWhole) ?? found[0], isFault = ({ fault }, r) => fault && typed[r].trim();
   const totals = rows.length && read.every(({ value }) => value) ? read.map(({ value }) => value) : null;
   return {
     texts: typed, totals, shares: totals && sharesOf(rows, totals), values: read.map(({ value = null }) => value),

@@ -1,5 +1,6 @@
 // The case that is worked on: what was typed, what was read of it, and the answers of the program.
 import { Marks } from "../exact/marks.js";
+import { Rational } from "../exact/rational.js";
 import { calculated } from "./calculated.js";
 import { formatOf } from "./format.js";
 import { Helper } from "./helper.js";
@@ -34,7 +35,7 @@ export class Session {
   open(kind, typed, { isFile = false, isTyped = isFile, ...settings } = {}) {
     const { measure = "plain", texts = [], todays = null, pinned = null, doubt = "", file = null } = settings;
     const { places = kind.places ?? 2, mark, entry } = settings;
-    Object.assign(this, { kind, typed, measure, texts, todays, pinned, doubt, places, isTyped });
+    Object.assign(this, { kind, typed, measure, texts, todays, pinned, doubt, places, isTyped, ownSaid: "" });
     this.wasPerHead = measure === "per-head"; // whether that was asked, by the case or by a person
     this.marks.open({ isFile, mark, entry });
     Object.assign(this, { reading: null, result: null, judged: {}, proposal: proposalOf([], [], this.marks.entry) });
@@ -150,12 +151,21 @@ export class Session {
 
   // ---- The proposal
 
-  readProposal() {
-    const canBe = this.reading.facts.kind !== "market";
-    this.proposal = { canBe, ...proposalOf(this.texts, this.reading.rows, this.marks.beside()), ...this.judged };
+  /** What is divided; null while nobody knows. */
+  whole() {
+    const { whole, kind } = this.reading.facts ?? {};
+    return whole === undefined || kind === "market" ? null : Rational.of(whole);
   }
 
-  setProposal(texts) {
+  readProposal() {
+    const canBe = this.reading.facts.kind !== "market";
+    this.proposal = { canBe, ...proposalOf(this.texts, this.reading.rows, this.marks.beside(), this.whole()),
+      ...this.judged };
+  }
+
+  /** `said` is told of a text that was pasted. */
+  setProposal(texts, said = "") {
+    this.ownSaid = said;
     this.texts = Array.from(texts, (text) => text ?? "");
     this.judged = {};
     this.readProposal();
@@ -172,7 +182,8 @@ export class Session {
   }
 
   /** What each pays or has today, a text for each row; null where the user doesn't compare. No answer changes. */
-  setTodays(texts) {
+  setTodays(texts, said = "") {
+    this.ownSaid = said;
     this.todays = texts && Array.from(texts, (text) => text ?? "");
     this.on.answer("todays");
   }

@@ -43,6 +43,7 @@ export function sharesTable(result, settings) {
       headOf(view), el("tbody", {}, linesOf(rows).map((line) => (line.of ? sumRow(line, view) : shareRow(line, view))),
         (kept.get(columns[0].key)?.gone ?? []).map((one, k) => goneRow(one, k, view))),
       footOf(view))),
+    settings.said && el("p", { class: "note own-said", role: "status" }, settings.said),
     leavingLines(view),
     proposal.shares && sameAs(points, proposal.shares),
     isMoved(points, rows, format) && el("p", { class: "hint exact" }, "Rounded so that the shares add up."),

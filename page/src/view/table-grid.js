@@ -31,6 +31,7 @@ class TableGrid {
     this.element = el("div", {}, players, this.message, pages, list, fills);
     this.element.more = tools;
     this.element.setTips = (tips) => this.setTips(tips);
+    this.element.tell = (reading) => this.tell(reading);
     this.order = masksBySize(typed.names.length);
     this.element.addEventListener("show-cell", ({ detail }) => this.showCell(detail));
     removeByKey(players);
@@ -222,7 +223,15 @@ class TableGrid {
   }
 
   fillBy(how) {
+    if (this.isAsking) return this.say("First say how the numbers are read: it is asked below.");
     return this.fillSplits(false, how);
+  }
+
+  /** Numbers that were filled follow the answer to how the typed ones are read. */
+  tell({ entry, isAsking }) {
+    const isOther = this.entry !== undefined && this.entry !== entry && this.typed.filled?.length > 0;
+    Object.assign(this, { entry, isAsking });
+    if (isOther) this.fillSplits(true);
   }
 
   /** Fills the empty groups; `again` those that were filled before. */

@@ -7,12 +7,13 @@ import { proposalOf } from "./proposal.js";
 
 /** What was typed of today, read by rows, and how to change it; `texts` is null where the user doesn't compare. */
 export function todayOf(session, rows) {
-  const { todays, result } = session, setAll = (texts) => session.setTodays(texts);
+  const { todays, result } = session, setAll = (texts, said) => session.setTodays(texts, said);
   const canBe = !result.game || (!result.game.isMarket() && !result.game.ballots); // of many landings there is no game
   if (!todays || !canBe) return { canBe, texts: null, setAll };
   const set = (r, text) => setAll(Object.assign([...todays], { [r]: text }));
   const { texts, values, faults } = proposalOf(todays, rows, session.marks.beside()), isWhole = values.every(Boolean);
-  return { canBe, texts, faults, set, setAll, values: isWhole ? [...values, Rational.sum(values)] : values };
+  const labels = rows.map(({ label }) => label);
+  return { canBe, texts, faults, labels, set, setAll, values: isWhole ? [...values, Rational.sum(values)] : values };
 }
 
 export function todayTitle({ costs }) {

@@ -68,10 +68,11 @@ export function doublePower(votes, seconds, quotas) {
   return shares;
 }
 
-/** What a case of votes shows beyond the program: the power of two ballots as texts, with the rows; null if it takes
- * too long. */
+/** What a case of votes shows beyond the program: the power of a ballot, or of two, as texts, with the rows; null if it
+ * takes too long. */
 export function powerBeyond(ballots, rows) {
-  const [one, other] = ballots.map(inWhole), numbers = ({ votes }) => votes.map(Number);
+  const [one, other = { votes: one.votes.map(() => 0n), quota: 0n }] = ballots.map(inWhole); // which all reach
+  const numbers = ({ votes }) => votes.map(Number);
   const power = doublePower(numbers(one), numbers(other), [one, other].map(({ quota }) => Number(quota)));
   const texts = ballots.map(({ votes, quota }) => ({ votes: votes.map(String), quota: String(quota) }));
   return power && { power, ballots: texts, rows: rows.map(({ label }) => ({ label })) };

@@ -1,0 +1,84 @@
+// Scenarios: texts as strangers paste them, with a title, notes, totals and names in another order. Nothing is taken for
+// what it isn't, and what is left out is told.
+import { noted, settle, told } from "./harness.mjs";
+
+const cells = (page) => page.run(`[...document.querySelectorAll("#case [data-cell]")].filter((one) => one.value)
+  .map((one) => one.value).join("|")`);
+const first = { costs: "numbers.1", gains: "numbers.1", network: "names.0" };
+const paste = (page, cell, text) => page.paste(`[data-cell="${cell}"]`, text);
+
+const framed = [
+  ["strangers: a title above a table, and notes below it", "costs", async (page, expect) => {
+    await paste(page, first.costs, "Borehole costs (EUR), offer of 3 March\n\nWho drills\tOffer\nKeller\t14.000,00 €\n"
+      + "Önen\t12.000,00 €\nKeller + Önen\t18.000,00 €\n\nPrices without VAT");
+    await told(page, "#answer .lead", /Keller pays 10.?000,00 and Önen pays 8.?000,00/);
+    expect("told", await page.text("#case .left-out"), /“Borehole costs .*3 March”, “Prices without VAT”\./);
+    await page.run("location.hash = '#network'");
+    await page.until(`document.querySelector('[data-cell="links.0-1"]')`);
+    await paste(page, first.network, "Water main\n\nFrom\tTo\tCost\nSpring\tUp\t12\nSpring\tLow\t9\nUp\tLow\t4");
+    await told(page, "#answer .lead", /Up pays .* and Low pays .*together 13[.,]00/);
+  }],
+  ["strangers: a creditors’ list finds its claims", "estate", async (page, expect) => {
+    await paste(page, "rows.0.name", "Verfahren 4 IN 233/25\n\nRang\tGläubiger\tForderung\tQuote\n"
+      + "§ 38\tStadtwerke\t1.234,56\t?\n§ 38\tMüller & Co. KG\t12.500,00\t?\n(ohne Zinsen)");
+    await told(page, "#case .pasted", /“Gläubiger” is “Who claims”, “Forderung” is “Claim”/);
+    expect("the cells", await cells(page), "Stadtwerke|1.234,56|Müller & Co. KG|12.500,00");
+  }],
+  ["strangers: euros are no names, and a total is asked about", "runway", async (page, expect) => {
+    await paste(page, "rows.0.name", "Aircraft type\tLandings\tRunway needed (m)\tCost of that length (€)\n"
+      + "Do 228\t1,204\t900\t€ 1,150,000\nATR 72\t2,310\t1,350\t€ 1,900,000\nTotal\t3,514\t2,250\t€ 3,050,000");
+    await told(page, "#case .pasted", /“Runway needed \(m\)” was left out/);
+    await told(page, "#case .faults", /“Total”\. Is it the sum of the others\?/);
+    expect("no answer before", await page.run("document.getElementById('answer').hidden"), true);
+    await page.click("Yes, remove it");
+    await told(page, "#answer .lead", /ATR 72 pays most/);
+    expect("no euro is a name", /€/.test(await page.text("#answer .lead")), false);
+  }],
+];
+
+const mine = `[0, 1, 2].map((r) => document.querySelector('[data-cell="proposal.' + r + '"]').value).join()`;
+const proposals = [
+  ["strangers: a proposal goes by names", "costs", async (page, expect) => {
+    await page.click("Type your own division");
+    for (const [text, taken, said] of [
+      ["Legal\t3.7\nSales\t4.2\nOps\t4.1", "4.2,4.1,3.7", /by name: Legal, Sales and Ops/],
+      ["Hi all,\n\nSales: 4.3\nOps - 4.0\nLegal 3.7 (they use it least)\n\nAnna", "4.3,4.0,3.7", /out: “Hi all,”/],
+      ["Sales\t4\nOps\t4\nMarketing\t4", "4.3,4.0,3.7", /No row is called “Marketing”\. Nothing was taken/],
+      ["Sales 5\nOps 4\nLegal 3\nTotal 12", "5,4,3", /Left out: “Total 12”/], ["4\n4\n4", "4,4,4", null],
+    ]) {
+      await paste(page, "proposal.0", text);
+      if (said) await told(page, "#answer .own-said", said);
+      expect(text, await page.run(mine), taken);
+    }
+    await page.type("numbers.7", "12000");
+    await settle(page);
+    await paste(page, "proposal.0", "4.200\n4.100\n3.700");
+    await told(page, "#answer .shares tfoot", /12.?000\.00(?!.*missing)/);
+  }],
+];
+
+const readings = [
+  ["strangers: what is filled follows how numbers are read", "gains", async (page, expect) => {
+    await paste(page, first.gains, "A\t0\nB\t5.000 €\nC\t2.000 €\nB + C\t21.000 €\nA + B + C\t56.000 €");
+    await noted(page, /5\.000/);
+    await page.click("Fill the empty ones by the best split");
+    await told(page, "#case", /First say how the numbers are read/);
+    await page.click("5000, whole");
+    await settle(page).catch(() => 0);
+    await page.click("Fill the empty ones by the best split");
+    await told(page, "#answer .lead", /together 56.?000\.00/);
+    expect("filled", await page.run(`document.querySelector('[data-cell="numbers.3"]').value`), "5000");
+  }],
+  ["strangers: shareholders’ votes of any size", "votes", async (page, expect) => {
+    await page.type("quota", "66.67 %");
+    await paste(page, "rows.0.name", "Novak\t41.5\nFund\t23\nFounders\t12.2\nBank\t9.8\nFloat\t13.5");
+    await noted(page, /asks for 66\.67 votes, and 2\/3 for (about )?(66\.6667|200\/3) votes\. Which is meant\?/);
+    await page.type("quota", "2/3");
+    await paste(page, "rows.0.name", "Novak\t4,150,000\nFund\t2,300,001\nFounders\t1,225,000\nBank\t980,000\n"
+      + "Float\t1,345,000");
+    await told(page, "#answer .lead", /Novak has most power, 53\.3/);
+    expect("told", await page.text("#case .faults"), /says of each group whether it wins/);
+  }],
+];
+
+export const strangers = [...framed, ...proposals, ...readings];
