@@ -12,6 +12,7 @@ import unittest
 from fractions import Fraction
 from typing import Any
 
+import coop
 from coop import BadInput, Game
 from coop.program import TOP
 
@@ -479,6 +480,12 @@ class Scripts(unittest.TestCase):
             self.assertIn("\\u000aheavy", found)
             self.assertIn("2 names look alike: medium, medium\\u200b", errors)
         self.assertIn("\\u000aheavy", script("shares", "--csv", text=text)[1])
+        game = {"class": "cost-table", "names": names, "players": 3, "worths": [8, 7, 10, 6, 10, 11, 12]}
+        answer = coop.nucleolus(coop.Game(game))
+        for name, words, given in (("margins", [], answer.line), ("versus", ["-"], json.dumps({"game": game}))):
+            status, found, errors = script(name, *words, text=given)
+            self.assertEqual((status, "\u200b" in found + errors, "\\u000aheavy" in found), (0, False, True), name)
+            self.assertIn("2 names look alike: medium, medium\\u200b", errors)
 
     @needs_program
     def test_thousands_of_many(self) -> None:
