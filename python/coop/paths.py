@@ -70,7 +70,7 @@ class Path:
         return joined and all(self.shows(piece, program, anew) for piece in self.pieces)
 
     def shows(self, piece: Piece, program: calls.Chosen, anew: bool) -> bool:
-        """Whether the lines of a piece show it."""
+        """Whether the lines of a piece show it: enough of them, and one wherever worths bend the wrong way."""
         frames = []
         for t, line in piece.lines:
             tree, (game, factor) = json.loads(line), self.moving.tree_at(t)
@@ -82,8 +82,9 @@ class Path:
                 return False
             if not anew and not calls.answered("check", line, self.moving.game, program):
                 return False
-        enough = 2 if self.moving.is_linear else 3
-        return len(frames) >= enough and all(frame == frames[0] for frame in frames)
+        places, enough = {t for t, _ in piece.lines}, 2 if self.moving.is_linear else 3
+        has_kinks = places.issuperset(self.moving.kinks(*piece.proved))
+        return has_kinks and len(places) >= enough and all(frame == frames[0] for frame in frames)
 
 
 def joined(pieces: list[Piece]) -> list[Piece]:
@@ -91,7 +92,8 @@ def joined(pieces: list[Piece]) -> list[Piece]:
     found: list[Piece] = []
     for piece in pieces:
         last = found[-1] if found else None
-        if last and last.slopes == piece.slopes and frame_in(last) == frame_in(piece):
+        meet = last is not None and last.lines[-1][0] == piece.lines[0][0]
+        if last and meet and last.slopes == piece.slopes and frame_in(last) == frame_in(piece):
             lines = (*last.lines, *piece.lines[1:])
             piece = Piece(last.low, piece.high, last.at_low, piece.at_high, piece.slopes, lines)
             found.pop()

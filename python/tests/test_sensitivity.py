@@ -1,6 +1,7 @@
 """Margins, paths and ranges: by hand, and over random games of each class against the program."""
 import random
 import unittest
+from dataclasses import replace
 from fractions import Fraction
 from typing import Any, Optional, Sequence
 
@@ -199,7 +200,9 @@ class Paths(unittest.TestCase):
         path = along(ESTATE, "estate", -40, 40)
         piece, other = path.pieces[0], along(ESTATE, "estate", -40, 30).pieces[0]
         self.assertTrue(path.check())
-        for lines in (piece.lines[:2], other.lines, [(t, line.replace(b'"75"', b'"76"')) for t, line in piece.lines]):
+        twice = (*piece.lines[:2], piece.lines[1])
+        shares = [(t, line.replace(b'"75"', b'"76"')) for t, line in piece.lines]
+        for lines in (piece.lines[:2], twice, other.lines, shares):
             wrong = sensitivity.Piece(
                 piece.low, piece.high, piece.at_low, piece.at_high, piece.slopes, tuple(lines)
             )
@@ -229,6 +232,21 @@ class Paths(unittest.TestCase):
         for piece in path.pieces:
             self.assertTrue(piece.low <= piece.proved[0] < piece.proved[1] <= piece.high)
         self.assertEqual(path.at(0), nucleolus(game).shares)
+
+    def test_costs_that_cross_where_no_document_is(self) -> None:
+        """No piece goes on past a crossing without a line there; and one that does shows nothing."""
+        most = 10**11
+        costs = [most + 12, most + 31, most + 24, 3 * most + 32, 3 * most + 1]
+        path = along(coop.airport(costs), {"1": 13, "2": 2}, -3, "5/3")
+        crossing = Fraction(12, 13)
+        self.assertIn(crossing, path.moving.kinks(Fraction(-3), Fraction(5, 3)))
+        self.assertTrue(path.check() and not path.is_proved)
+        self.assertTrue(all(not piece.proved[0] < crossing < piece.proved[1] for piece in path.pieces))
+        first = max(k for k, piece in enumerate(path.pieces) if piece.high == crossing)
+        one, other = path.pieces[first : first + 2]
+        both = replace(one, high=other.high, at_high=other.at_high, lines=(*one.lines, *other.lines))
+        spoilt = sensitivity.Path([*path.pieces[:first], both, *path.pieces[first + 2 :]], path.rule, path.moving)
+        self.assertFalse(spoilt.check())
 
     def test_floats_are_refused(self) -> None:
         for what, low, high in (("estate", -0.5, 1), ("estate", 0, 1.5), ({"estate": 0.5}, 0, 1)):
