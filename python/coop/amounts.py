@@ -5,6 +5,7 @@ A float is refused unless a number of digits is named, since 0.1 as a float isn'
 from __future__ import annotations
 
 import re
+from contextlib import suppress
 from decimal import Decimal
 from fractions import Fraction
 from math import gcd
@@ -54,12 +55,12 @@ def plain(value: Amount) -> Amount:
         if isinstance(exponent, int) and not -MOST_BITS < exponent < MOST_BITS:
             raise BadInput(f"a number has the exponent {exponent}")
         return value
-    try:
-        if not isinstance(value, bool):
+    if not isinstance(value, bool):
+        with suppress(TypeError):
             return index(value)
-    except TypeError:
         if isinstance(value, Real):  # a float of fewer bits
-            return float(value)
+            with suppress(TypeError):  # NumPy's spans of time are integers by their class, and have no value
+                return float(value)
     raise BadInput(f"{str(value)[:40]!r} isn't a number")
 
 
@@ -72,6 +73,7 @@ def fractions_of(values: Iterable[Amount], digits: Optional[int] = None) -> list
     """The exact values of a list. A text is none, though it has letters one after the other."""
     if isinstance(values, (str, bytes)):
         raise BadInput(f"{values[:40]!r} is a text, not a list of numbers")
+    require_order(values)
     require_one_dimension(values)
     try:
         items = list(values)
@@ -85,6 +87,18 @@ def named_items(values: Any) -> Optional[list[tuple[Any, Any]]]:
     values have no names. Refuses a data frame."""
     require_one_dimension(values)
     return list(values.items()) if hasattr(values, "keys") and hasattr(values, "items") else None
+
+
+def require_order(values: Any) -> None:
+    """Refuses a set, since nobody can say whose its items are, and equal ones are there once."""
+    if isinstance(values, (set, frozenset)):
+        raise BadInput("a set has no order: give a list")
+
+
+def require_count(count: Any, what: str) -> None:
+    """Refuses what isn't 1, 2, 3 and so on."""
+    if type(count) is not int or count < 1:
+        raise BadInput(f"{count!r} isn't a number of {what}: give 1 or more")
 
 
 def require_one_dimension(values: Any) -> None:

@@ -11,7 +11,7 @@ from fractions import Fraction
 from operator import index
 from typing import Any, Callable, Iterable, Mapping, Optional, Sequence, Union
 
-from .amounts import Amount, factor_for, fraction_of, fractions_of, named_items, written
+from .amounts import Amount, factor_for, fraction_of, fractions_of, named_items, require_order, written
 from .classes import CLASSES, LIMITS
 from .errors import BadInput
 from .game import MOST_IN_A_TABLE, Game, encoded
@@ -235,6 +235,7 @@ def checked_names(names: Sequence[str]) -> list[str]:
 
 def listed_names(names: Iterable[str]) -> list[str]:
     """Names as a list; of a text its letters."""
+    require_order(names)
     try:
         return list(names)
     except TypeError:

@@ -7,6 +7,7 @@ import time
 from collections import deque
 from typing import TYPE_CHECKING, Any, Callable, Iterable, Iterator, Optional, Sequence, TypeVar, Union
 
+from .amounts import require_count, require_order
 from .calls import COMMANDS, ON_A_GAME, Chosen, Outcome, answered, document_of
 from .errors import BadInput, Failure, NoAnswer
 from .game import Game
@@ -47,6 +48,9 @@ def many(
     words = words_of(commands)
     if faults not in ("keep", "raise"):
         raise BadInput(f"{faults!r} isn't a way to treat faults: use keep or raise")
+    require_count(batch, "games for a batch")
+    if processors is not None:
+        require_count(processors, "processors")
     if executor is not None:
         from .far import many_by
 
@@ -59,6 +63,7 @@ def many(
 
 def words_of(commands: Union[str, Sequence[str]]) -> tuple[str, ...]:
     """The commands, each of which answers to a game alone."""
+    require_order(commands)
     words = (commands,) if isinstance(commands, str) else tuple(commands)
     for word in words:
         if word not in ON_A_GAME:

@@ -64,8 +64,12 @@ _page: Optional[Server] = None
 def find(program: Union[None, str, Program] = None) -> Program:
     """The program: the one that is named, or the first that is found, which is kept."""
     global _found
+    if isinstance(program, str):
+        return named(program)
     if program is not None:
-        return named(program) if isinstance(program, str) else program
+        if not hasattr(program, "run"):
+            raise BadInput(f"{program!r} isn't a program: name one, or give what has `run`")
+        return program
     if _found is None:
         _found = found()
     return _found

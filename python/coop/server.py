@@ -13,6 +13,7 @@ import threading
 import weakref
 from typing import IO, Any, Optional, Sequence
 
+from .amounts import require_count
 from .errors import Fault
 from .library import TOO_LATE
 from .machine import processors
@@ -106,6 +107,8 @@ class Server:
 
     def __init__(self, command: Sequence[str], processes: Optional[int] = None, seconds: Optional[float] = None):
         self.command = list(command)
+        if processes is not None:
+            require_count(processes, "processes")
         self.processes = processes or processors()
         self.seconds = seconds
         self.begin()

@@ -2,10 +2,19 @@
 import unittest
 from decimal import Decimal
 from fractions import Fraction
+from numbers import Real
 
 from coop import BadInput
 from coop.amounts import Amount, factor_for, fraction_of, written
 from coop.styles import Style, column, decimal, rounded
+
+
+@Real.register
+class Span:
+    """A span of time as NumPy has it: a number by its class, and none by its value."""
+
+    def __float__(self) -> float:
+        raise TypeError("a span of time is no number")
 
 
 class Amounts(unittest.TestCase):
@@ -30,7 +39,7 @@ class Amounts(unittest.TestCase):
         self.assertEqual(fraction_of(0.2875775201, 9), Fraction(287577520, 10**9))
 
     def test_what_is_no_number(self) -> None:
-        others = True, None, Decimal("NaN"), float("inf")
+        others = True, None, Decimal("NaN"), Decimal("sNaN"), float("inf"), float("nan"), 2j, [1], Span()
         for value in ("", "1,200.50", "e3", "1e", "1e999", "1e2/3", "1/0", "ten", "1.", ".5", "NaN", *others):
             with self.assertRaises(BadInput, msg=value):
                 fraction_of(value, 3)  # type: ignore[arg-type]

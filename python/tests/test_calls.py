@@ -8,11 +8,12 @@ import time
 import unittest
 from concurrent.futures import ThreadPoolExecutor
 from fractions import Fraction
-from typing import Iterator, Union
+from typing import Any, Iterator, Union
 
 import coop
 from coop import answers
 from coop.program import TOP
+from coop.server import Server
 
 from .asking import Answering, needs_program
 
@@ -178,6 +179,26 @@ class Rows(unittest.TestCase):
         for words, said in (("convexx", "is no command"), ("propose", "needs more"), (("core", "check"), "needs more")):
             with self.assertRaisesRegex(coop.BadInput, said):
                 coop.many(words, [AIRPORT], program=program)
+        self.assertEqual(program.asked, [])
+
+    def test_what_nobody_can_take(self) -> None:
+        """A batch of no games would give no rows; a set has no order; what can't be run is no program."""
+        program = Answering(0)
+        with ThreadPoolExecutor(1) as pool:
+            for count in (0, -1, 1.5, True):
+                for more in ({"batch": count, "executor": pool}, {"processors": count}):
+                    with self.assertRaisesRegex(coop.BadInput, f"^{count} isn't a number of"):
+                        coop.many("core", [AIRPORT], program=program, **more)  # type: ignore[arg-type]
+                with self.assertRaisesRegex(coop.BadInput, f"^{count} isn't a number of processes"):
+                    Server(["node"], processes=count)  # type: ignore[arg-type]
+        some: Any = frozenset([1, 2])
+        for make in (coop.airport, lambda some: coop.airport([1, 2], some), lambda some: coop.tree([some, some])):
+            with self.assertRaisesRegex(coop.BadInput, "a set has no order"):
+                make(set(some))  # type: ignore[operator]
+        with self.assertRaisesRegex(coop.BadInput, "a set has no order"):
+            coop.many({"core", "shapley"}, [AIRPORT], program=program)  # type: ignore[arg-type]
+        with self.assertRaisesRegex(coop.BadInput, "5 isn't a program"):
+            coop.core(AIRPORT, program=5)  # type: ignore[arg-type]
         self.assertEqual(program.asked, [])
 
     def test_a_slow_source(self) -> None:
