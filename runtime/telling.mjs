@@ -49,6 +49,7 @@ const TASKS = {
   rules: aboutGame(rulesTold), same, odds, mail, slip,
 };
 const CANT = 2;
+const MOST_ODDS = 64;
 
 /** What the words after `tell` ask of the bytes of a document: a status, and the bytes of some JSON. */
 export function told(engine, [task, setting, ...more], document) {
@@ -142,7 +143,7 @@ function odds(_, data) {
   for (const [mask, number] of Object.entries({ ...filled, ...given })) values[mask] = Rational.of(number);
   const nameOf = (mask) => membersOf(mask).map((i) => withEscapes(names[i])).join("+");
   const isGiven = (mask) => Object.hasOwn(given, mask);
-  return { odds: oddsOf(values, names.length, { isCost, nameOf, isGiven }) };
+  return { odds: oddsOf(values, names.length, { isCost, nameOf, isGiven, most: MOST_ODDS }) };
 }
 
 function mail(_, data) {

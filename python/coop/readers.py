@@ -85,11 +85,13 @@ def names_of(rows: Sequence[tuple[Row, list[str]]]) -> list[str]:
 def look_alike(member: str, names: Sequence[str]) -> str:
     """Which of the names a member that isn't among them may be meant for: one that looks like it, or that differs in
     capitals alone."""
+    near = next((name for name in names if name.casefold() == member.casefold()), None)
+    if near:
+        return f", but one has {near}: is that the same player?"
     for name in names:
         if looks(name) == looks(member):
             return f", but one has {shown(name)}, which looks like it ({shown(member)}): is that the same player?"
-    near = next((name for name in names if name.casefold() == member.casefold()), None)
-    return f", but one has {near}: is that the same player?" if near else ""
+    return ""
 
 
 def once_each(rows: Sequence[tuple[Row, list[str], Fraction]], names: Sequence[str]) -> dict[int, Fraction]:

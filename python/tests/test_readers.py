@@ -131,7 +131,13 @@ class Readers(unittest.TestCase):
         self.assertRegex(doubts(groups(few, fill=True), Plainly())[0], "^line 7: a.b.c.d.e.f costs 7, more than ")
         dear = "".join(f"{'+'.join(some)},2\n" for some in combinations(names, 2))
         said = list(remarks(groups(few.replace("7", "6") + dear.replace("2", "3"), fill=True), False, Plainly()))
-        self.assertEqual(len([sentence for sentence in said if sentence.startswith("line ")]), 4)
+        told_of = [sentence[:8] for sentence in said if sentence.startswith("line ")]
+        self.assertEqual(told_of, ["line 2: ", "line 3: ", "line 4: ", "line 5: ", "line 12:"])
+        cheap = groups("".join(f"{name},3\n" for name in names) + f"{'+'.join(names)},4\n", fill=True)
+        self.assertEqual(list(remarks(cheap, False, Plainly()))[-1], "and 46 more (--all lists them)")
+        steep = "".join(f"{'+'.join(some)},{len(some) ** 2}\n" for k in range(1, 7) for some in combinations(names, k))
+        [general] = doubts(groups(steep), Plainly())
+        self.assertRegex(general, "^line [0-9]+: 57 groups cost more than parts of theirs apart")
         above = list(remarks(groups("a,3\nb,4\nc,5\na+b,6\na+b+c,7\n", fill=True), False, Plainly()))
         self.assertFalse([sentence for sentence in above if sentence.startswith("line ")])
         with patch("coop.telling.page_server", lambda: None):

@@ -9,9 +9,9 @@ const MOST_TOLD = 4;
 const MANY = 20; // misfits that no few numbers explain
 const MOST_MISFITS = 20000; // that are looked at
 
-/** The remarks on values by mask (undefined if there is none): {mask, sentence}; `nameOf(mask)` names a group, and
- * `isGiven(mask)` says whether somebody gave its number: of no other it is told. */
-export function oddsOf(values, n, { isCost, nameOf, isGiven = () => true }) {
+/** The remarks on values by mask (undefined if there is none), so many at most: {mask, sentence}. `nameOf(mask)` names
+ * a group, and `isGiven(mask)` says whether somebody gave its number: of no other it is told. */
+export function oddsOf(values, n, { isCost, nameOf, isGiven = () => true, most = MOST_TOLD }) {
   if (n < 2) return [];
   const isWhole = values.every((value) => !value || value.den === 1n);
   const scale = isWhole ? 1n : values.reduce((all, value) => (value ? lcm(all, value.den) : all), 1n);
@@ -22,13 +22,14 @@ export function oddsOf(values, n, { isCost, nameOf, isGiven = () => true }) {
   const isTold = ([one, other, rest]) => isGiven(one) && (rest !== undefined || isGiven(other));
   const all = (n > MOST_SPLIT ? misfitsOfOne(whole, isCost) : misfits(whole, isCost)).filter(isTold);
   let left = all;
-  while (left.length && found.length < MOST_TOLD) {
+  const isGeneral = () => found.length === MOST_TOLD && left.length > MANY && left.length * 2 > all.length;
+  while (left.length && found.length < most && !isGeneral()) {
     const mask = mostOften(left, isGiven), own = left.filter((groups) => groups.includes(mask));
     const more = own.length > 1 ? ` (${own.length - 1} more such)` : "";
     found.push({ mask, sentence: sentenceOf(mask, own[0], { nameOf, text, isCost }) + more });
     left = left.filter((groups) => !groups.includes(mask));
   }
-  return left.length > MANY && left.length * 2 > all.length ? [inGeneral(all, { isCost, nameOf })] : found;
+  return isGeneral() ? [inGeneral(all, { isCost, nameOf })] : found;
 }
 
 /** The one remark where no few numbers explain the others: joining costs in many groups. */

@@ -32,7 +32,7 @@ FIRST = 10  # so many lines of a list are told, where not all are asked for
 
 def remarks(costed: Costed, within: bool, say: Style, wants_all: bool = False) -> Iterator[str]:
     """The sentences, line by line; of long lists the first ten lines, or all. A list of what was filled in is whole."""
-    yield from doubts(costed, say)
+    yield from first_of(doubts(costed, say), wants_all)
     if not costed.filled:
         return
     game, factor = costed.game, costed.game.factor
