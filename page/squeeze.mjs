@@ -1,8 +1,10 @@
 // Code without what only the readers of its sources need: comments, indentation, empty lines, and blanks beside signs.
-// Strings, templates and regular expressions stay as they are, and so do the ends of lines.
+// Strings, templates and regular expressions stay as they are, and so do the ends of lines, but behind signs that are
+// never the last of a statement.
 
 const WORD = /[\p{L}\p{N}_$#]/u;
 const VALUE = /[\p{L}\p{N}_$)\]}"'`]/u; // after such a letter a stroke divides
+const OPEN = /[\n,{([]$/; // after which a statement goes on
 const BEFORE_REGEX = /(?:^|[^\p{L}\p{N}_$.])(?:return|typeof|case|in|of|do|else|void|yield|await)$/u;
 
 /** Where the text that begins at `start` ends: one in quotes, or a regular expression. */
@@ -51,7 +53,7 @@ function squeezed(code, start, isInside, kept = (piece) => piece) {
   while (at < code.length) {
     const letter = code[at];
     if (letter === "\n") {
-      if (text && !text.endsWith("\n")) text += "\n";
+      if (text && !OPEN.test(text)) text += "\n";
       hasBlank = false;
       at += 1;
     } else if (letter === " ") {

@@ -1,5 +1,5 @@
-// Scenarios: texts as strangers paste them, with a title, notes, totals and names in another order. Nothing is taken for
-// what it isn't, and what is left out is told.
+// Scenarios: texts as strangers paste them, with a title, notes, totals and names in another order. Nothing is taken
+// for what it isn’t, and what is left out is told.
 import { noted, settle, told } from "./harness.mjs";
 
 const cells = (page) => page.run(`[...document.querySelectorAll("#case [data-cell]")].filter((one) => one.value)

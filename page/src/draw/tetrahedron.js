@@ -43,7 +43,8 @@ export function tetrahedron(game, points, { wide, view }) {
     return [0, 1, 2].map((k) => parts.reduce((sum, part, i) => sum + part * CORNERS[i][k], 0));
   };
   const spots = corners.map(spotOf), solid = faces.map(({ places }) => around(places.map((at) => spots[at])));
-  const own3 = points.map(({ key, shares }) => ({ key, at: spotOf(shares.map(sign)) })), said = saidOf(corners, solid);
+  const own3 = points.map(({ key, shares }) => ({ key, at: spotOf(shares.map(sign)) })).reverse();
+  const said = saidOf(corners, solid);
   const legend = togetherOf(points), shapes = { spots, solid, points: own3, names: game.shown, legend, wide };
   const drawn = el("svg", {
     class: "picture turning", viewBox: `0 0 ${wide} ${HIGH + legend.length * LINE + 8}`, width: wide, role: "img",

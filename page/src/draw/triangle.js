@@ -42,7 +42,7 @@ export function trianglePicture(game, points, { wide }) {
     "aria-label": `Triangle of the divisions. ${title} ${toldOf(game, points)}; ${bounds.map(({ text }) => text)
       .join("; ")}`,
   }, coreOf(shape), framesOf(shape), bounds.map((bound) => bound.drawn), cornersOf(game, shape, width),
-  points.map((point, k) => markOf(point.key, ...shape.place(shape.shares[k]))),
+  points.map((point, k) => markOf(point.key, ...shape.place(shape.shares[k]))).reverse(),
   legend.map(({ mark, text }, k) => [
     mark(x + 8, top + k * LINE),
     el("text", { x: x + 26, y: top + k * LINE + 5 }, fitted(text, wide - x - 30)),
@@ -50,12 +50,12 @@ export function trianglePicture(game, points, { wide }) {
   return { drawn, title, hidden, isImputations: shape.isImputations };
 }
 
-/** The points, those at one place together: the mark is that of the last, which lies above the others. */
+/** The points, those at one place together: the mark is that of the first, which lies above the others. */
 export function togetherOf(points) {
   const places = new Map();
   for (const { key, title, shares } of points) {
-    const place = shares.join(), { titles = [] } = places.get(place) ?? {};
-    places.set(place, { key, titles: [...titles, title] });
+    const place = shares.join(), { titles = [], ...first } = places.get(place) ?? { key };
+    places.set(place, { ...first, titles: [...titles, title] });
   }
   return [...places.values()].map(({ key, titles }) => {
     return { key, text: titles.length > 1 ? `${listed(titles)}: one point` : titles[0] };

@@ -22,7 +22,7 @@ export function ownDivision(result, { rows, format, proposal, today, pinned, typ
     proposal.canBe && [
       el("h3", {}, "Your own division"), el("p", { class: "hint" }, HINT),
       !isOpen && el("p", { class: "tools" }, button("Type your own division", begin)),
-      proposalTools(result, { rows, proposal, format }),
+      proposalTools(result, { rows, proposal, format, isOpen }),
     ],
     (proposal.canBe || today.canBe) && points.length > 0 && comparisonPart(proposal, points[0], game, { rows, typed }),
     todayTools(game, today),

@@ -70,9 +70,9 @@ function wholeTexts(totals, rows, whole, { places, mark }) {
   });
 }
 
-export function proposalTools(result, { rows, proposal, format }) {
+export function proposalTools(result, { rows, proposal, format, isOpen }) {
   const fill = (totals) => proposal.setAll(wholeTexts(totals, rows, result.game.whole(), format));
-  return el("p", { class: "tools fill" }, el("span", {}, "Or fill it with "),
+  return el("p", { class: "tools fill" }, el("span", {}, isOpen ? "Fill it with " : "Or fill it with "),
     ways(result, rows).map(({ title, totals }) => button(title, () => fill(totals()), { class: "quiet" })),
     proposal.texts.some(Boolean) && button("clear", () => {
       proposal.setAll([]);

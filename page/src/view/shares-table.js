@@ -213,11 +213,12 @@ function footOf(view) {
     against && el("td", { class: "number against" }, against.texts.at(-1)),
   ]);
   const isJudged = columns.some(({ verdict }) => verdict !== null);
+  const isLong = Boolean(against && (proposal.verdict?.group || proposal.verdict?.refusal));
   const asked = (title, told, own) => named(view, "verdict", title, [
     context && el("td", { class: "context" }), today.texts && el("td"), pinned?.pin && el("td", { class: "kept" }),
     columns.map((point, k) => el("td", { class: kindOf(k) }, told(point))),
-    proposal.canBe && el("td", { class: "number proposed", colspan: against ? "2" : false, role: "status" },
-      proposal.shares ? told(own) : "–"),
+    proposal.canBe && el("td", { class: "number proposed", colspan: isLong ? "2" : false, role: "status" },
+      proposal.shares ? told(own) : "–"), against && !isLong && el("td", { class: "against" }),
   ]);
   return el("tfoot", {}, sum,
     isJudged && asked("Could a group do better alone?", (one) => verdictText(game, one.verdict, format), proposal));
