@@ -5,9 +5,9 @@
 //     node runtime/coop.mjs COMMAND FILE
 //
 // It prints the program's line and ends with the program's status; or with 70, and says why, if there is no answer
-// since a file is missing or the module stops. Standard error has a sentence if the words are wrong. docs/installing.md says
-// what is trusted. These words are none of the program: FILE, --version, which prints the version that the page names,
-// and --help.
+// since a file is missing or the module stops. Standard error has a sentence if the words are wrong. docs/installing.md
+// says what is trusted. These words are none of the program: FILE, --version, which prints the version that the page
+// names, and --help.
 const REFUSED = 3;
 const USAGE = 2;
 // No status of the program. Nor does a broken page end with 1, which is an answer.
