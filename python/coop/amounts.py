@@ -55,13 +55,18 @@ def plain(value: Amount) -> Amount:
         if isinstance(exponent, int) and not -MOST_BITS < exponent < MOST_BITS:
             raise BadInput(f"a number has the exponent {exponent}")
         return value
-    if not isinstance(value, bool):
+    if not is_truth(value):
         with suppress(TypeError):
             return index(value)
         if isinstance(value, Real):  # a float of fewer bits
             with suppress(TypeError):  # NumPy's spans of time are integers by their class, and have no value
                 return float(value)
     raise BadInput(f"{str(value)[:40]!r} isn't a number")
+
+
+def is_truth(value: Any) -> bool:
+    """Whether it is True or False, of Python or of NumPy."""
+    return isinstance(value, bool) or type(value).__name__ in ("bool", "bool_")
 
 
 def has_digits_of_a_float(value: Decimal, exact: Fraction) -> bool:

@@ -11,7 +11,7 @@ from fractions import Fraction
 from operator import index
 from typing import Any, Callable, Iterable, Mapping, Optional, Sequence, Union
 
-from .amounts import Amount, factor_for, fraction_of, fractions_of, named_items, require_order, written
+from .amounts import Amount, factor_for, fraction_of, fractions_of, is_truth, named_items, require_order, written
 from .classes import CLASSES, LIMITS
 from .errors import BadInput
 from .game import MOST_IN_A_TABLE, Game, encoded
@@ -60,7 +60,7 @@ def table_of(
     if len(names) > MOST_IN_A_TABLE:
         raise BadInput(f"{len(names)} players: a table has at most {MOST_IN_A_TABLE}")
     groups = (tuple(names[i] for i in members(group)) for group in by_mask(len(names)))
-    worths = [amount + 0 if isinstance(amount, bool) else amount for amount in map(worth, groups)]
+    worths = [int(amount) if is_truth(amount) else amount for amount in map(worth, groups)]
     return listed("cost-table" if costs else "table", worths, names, "mask", None, digits, per_head)
 
 

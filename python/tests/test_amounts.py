@@ -17,6 +17,13 @@ class Span:
         raise TypeError("a span of time is no number")
 
 
+class bool_:
+    """A truth value of NumPy, which is 1 where an index is asked for."""
+
+    def __index__(self) -> int:
+        return 1
+
+
 class Amounts(unittest.TestCase):
     def test_what_is_taken(self) -> None:
         cases: list[tuple[Amount, str]] = [
@@ -39,7 +46,7 @@ class Amounts(unittest.TestCase):
         self.assertEqual(fraction_of(0.2875775201, 9), Fraction(287577520, 10**9))
 
     def test_what_is_no_number(self) -> None:
-        others = True, None, Decimal("NaN"), Decimal("sNaN"), float("inf"), float("nan"), 2j, [1], Span()
+        others = True, None, Decimal("NaN"), Decimal("sNaN"), float("inf"), float("nan"), 2j, [1], Span(), bool_()
         for value in ("", "1,200.50", "e3", "1e", "1e999", "1e2/3", "1/0", "ten", "1.", ".5", "NaN", *others):
             with self.assertRaises(BadInput, msg=value):
                 fraction_of(value, 3)  # type: ignore[arg-type]

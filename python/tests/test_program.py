@@ -19,6 +19,7 @@ from coop.version import VERSION
 
 PACKAGE = os.path.join(TOP, "python")
 FIND = "import coop; print(coop.find().command)"
+SAY = "import coop; print(coop.program.said(coop.find()))"
 
 
 def executable(folder: str, name: str, text: str) -> str:
@@ -30,11 +31,20 @@ def executable(folder: str, name: str, text: str) -> str:
     return path
 
 
+def stub(path: str, version: str) -> str:
+    """Builds a library that says a version, and answers nothing: its source."""
+    with open(f"{path}.c", "w", encoding="utf-8") as file:
+        says = f"const char *coop_version(void) {{ return \"{version}\"; }}"
+        file.write(f"int coop_run(void) {{ return 0; }} {says}")
+    subprocess.run(["cc", "-shared", "-fPIC", "-o", path, f"{path}.c"], check=True)
+    return f"{path}.c"
+
+
 class Finding(unittest.TestCase):
-    def found(self, package: str, **environment: str) -> str:
+    def found(self, package: str, code: str = FIND, **environment: str) -> str:
         """What a new Python finds, by an environment alone."""
         settings = {"PYTHONPATH": package, "PATH": "/nowhere", **environment}
-        words = [sys.executable, "-B", "-c", FIND]
+        words = [sys.executable, "-B", "-c", code]
         done = subprocess.run(words, env=settings, cwd="/", stdout=subprocess.PIPE, stderr=subprocess.PIPE)
         return done.stdout.decode().strip() or done.stderr.decode().strip().split("\n")[-1]
 
@@ -81,16 +91,33 @@ class Finding(unittest.TestCase):
         self.assertEqual(repr(program), "Command(['x'])")
 
     @unittest.skipUnless(which("cc"), "there is no C compiler")
+    def test_a_library_inside(self) -> None:
+        """It answers; one of another version or another system is passed over, and what comes behind it is found."""
+        with tempfile.TemporaryDirectory() as top:
+            package = os.path.join(top, "python")
+            inside, path = os.path.join(package, "coop"), os.path.join(package, "coop", "libcoop.so")
+            os.makedirs(inside)
+            for name in os.listdir(os.path.join(PACKAGE, "coop")):
+                os.symlink(os.path.join(PACKAGE, "coop", name), os.path.join(inside, name))
+            for version, wanted in ((VERSION, f"the library {path} of coop {VERSION}"), ("2.0.0", "NotFound")):
+                stub(path, version)
+                self.assertIn(wanted, self.found(package, SAY))
+            with open(path, "wb") as file:
+                file.write(b"MZ coop_run")
+            self.assertIn("NotFound", self.found(package, SAY))
+            os.mkdir(os.path.join(top, "bin"))
+            builder = executable(os.path.join(top, "bin"), "coop", "exit 0")
+            executable(top, "rt", "exit 0")
+            self.assertEqual(self.found(package, SAY, PATH=top), builder)
+
+    @unittest.skipUnless(which("cc"), "there is no C compiler")
     def test_a_library_of_another_version(self) -> None:
-        """One that says so is refused; one that isn't coop's, too; and inside a package Node answers instead."""
+        """One that says so is refused; one that isn't coop's, too."""
         versions = {VERSION: VERSION, "1.9.7": "1.9.7", "2.0.0": None}
         with tempfile.TemporaryDirectory() as folder:
-            source, path = os.path.join(folder, "library.c"), os.path.join(folder, "{}.so")
+            path = os.path.join(folder, "{}.so")
             for version, wanted in versions.items():
-                with open(source, "w", encoding="utf-8") as file:
-                    says = f"const char *coop_version(void) {{ return \"{version}\"; }}"
-                    file.write(f"int coop_run(void) {{ return 0; }} {says}")
-                subprocess.run(["cc", "-shared", "-fPIC", "-o", path.format(version), source], check=True)
+                source = stub(path.format(version), version)
                 if wanted:
                     self.assertEqual(Library(path.format(version)).version, wanted)
                 else:
