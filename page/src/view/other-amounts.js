@@ -17,10 +17,10 @@ const MOST_MOVED = 16; // claims whose estate moves
  * worker, `typed` keeps what was typed, and `assumed(groups)` says whether the page filled the number of any. */
 export function otherAmounts({ game, answer }, settings) {
   const view = { game, answer, ...settings };
-  if (game.kind === "bankruptcy") return [game.n > 1 && game.n <= MOST_MOVED && movingPart(view), estatesPart(view)];
+  if (game.kind === "bankruptcy") return [estatesPart(view), game.n > 1 && game.n <= MOST_MOVED && movingPart(view)];
   const isTable = game.isTable(), isOther = ["airport", "tree"].includes(game.kind) && game.n <= MOST_OVERRUN;
   if ((isTable || isOther) && !game.ballots && game.n > 1) {
-    return [movingPart(view), overrunPart(view), leavingPart(view)];
+    return [overrunPart(view), movingPart(view), leavingPart(view)];
   }
   const isLarge = game.kind === "tree" && game.n > MOST_OVERRUN; // of a runway the answer says it, with all it lacks
   return isLarge && el("p", { class: "hint screen" }, "If the whole costs more than planned: who bears it is worked ",
