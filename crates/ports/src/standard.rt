@@ -1,18 +1,19 @@
 //! Standard input and output, which tell no content and count each failure.
-use ports::{Failed, Sink, Source};
+use crate::{Failed, Sink, Source};
 use std::io::{Read, Write};
 use std::rt::{Stdin, Stdout};
 
 /// Standard input.
 #[derive(Drop)]
-pub(crate) struct StdSource {
+pub struct StdSource {
     input: Stdin,
     faults: u64,
     failed: bool,
 }
 
 impl StdSource {
-    pub(crate) fn new(input: Stdin) -> StdSource {
+    /// Makes a source of what standard input gives.
+    pub fn new(input: Stdin) -> StdSource {
         StdSource {
             input,
             faults: 0,
@@ -47,14 +48,15 @@ impl Source for StdSource {
 
 /// Standard output, flushed after each write. A write that takes nothing of a piece with bytes counts as a failure.
 #[derive(Drop)]
-pub(crate) struct StdSink {
+pub struct StdSink {
     output: Stdout,
     faults: u64,
     failed: bool,
 }
 
 impl StdSink {
-    pub(crate) fn new(output: Stdout) -> StdSink {
+    /// Makes a sink that passes on to standard output.
+    pub fn new(output: Stdout) -> StdSink {
         StdSink {
             output,
             faults: 0,
