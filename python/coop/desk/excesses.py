@@ -24,8 +24,8 @@ class Entry(NamedTuple):
 
 def excess_list(game: Game, shares: Sequence[Fraction]) -> list[Entry]:
     """The excesses of all groups but the empty one and that of all, from the greatest; equals in mask order."""
-    found = asked(game, [Point("", list(shares))], EXACT, is_all=True)
-    return [Entry(Fraction(number), group) for group, _, number, _ in found["lists"][0]]
+    found = asked(game, [Point("", [share * game.factor for share in shares])], EXACT, is_all=True)
+    return [Entry(Fraction(number) / game.factor, group) for group, _, number, _ in found["lists"][0]]
 
 
 def asked(game: Game, points: Sequence[Point], say: Style, is_all: bool) -> dict[str, Any]:
