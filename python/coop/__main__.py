@@ -90,9 +90,9 @@ def show_page() -> int:
     if folder is None:
         raise NotFound("the page is missing: install the package again")
     page = os.path.join(folder, "coop.html")
-    print(page, flush=True)
+    status = told(page)
     webbrowser.open(pathlib.Path(page).as_uri())
-    return 0
+    return status
 
 
 def found() -> str:
@@ -108,16 +108,19 @@ def run(words: Sequence[str]) -> int:
     if list(words) == ["page"]:
         return show_page()
     if list(words) == ["--version"]:
-        print(f"coop {VERSION}, answered by {found()}")
-        return 0
+        return told(f"coop {VERSION}, answered by {found()}")
     if list(words) in (["--help"], ["-h"]):
-        print(usage())
-        return 0
+        return told(usage())
     is_file = len(words) == 2 and words[0] in COMMANDS and os.path.exists(words[1])
     status, line = answer_to_file(*words) if is_file else answer(words)
     if status == USAGE and b"words" in line:
         say(fault_of(words))
     return status if printed(line) else WRITE_FAULT
+
+
+def told(text: str) -> int:
+    """Prints a text, and gives the status."""
+    return 0 if printed(f"{text}\n".encode("utf-8", "surrogateescape")) else WRITE_FAULT
 
 
 def printed(line: bytes) -> bool:

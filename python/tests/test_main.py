@@ -72,8 +72,10 @@ class Command(unittest.TestCase):
 
     @needs_program
     def test_hostile_ports(self) -> None:
-        for end, status in (("<&-", 5), (">&-", 6), (">/dev/full", 6)):
-            command = f"'{sys.executable}' -m coop core {end}"
+        ends = [("core <&-", 5), ("core >&-", 6), ("core >/dev/full", 6)]
+        ends += [(f"{word} {end}", 6) for word in ("--version", "--help") for end in (">&-", ">/dev/full")]
+        for end, status in ends:
+            command = f"'{sys.executable}' -m coop {end}"
             settings = {**os.environ, "PYTHONPATH": os.path.join(TOP, "python")}
             words = ["sh", "-c", command]
             done = subprocess.run(words, input=AIRPORT, env=settings, stdout=subprocess.PIPE, stderr=subprocess.PIPE)
