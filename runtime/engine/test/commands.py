@@ -203,6 +203,9 @@ def faults_of_doors(bare: Bare, document: bytes) -> Iterator[str]:
         found = called(["sh", "-c", f"{command} core {AIRPORT}; {command} --help"], document, bare.tools)
         if found[0] or not found[1].startswith(CORE + b"usage: coop COMMAND FILE\n"):
             yield f"{command} with a file, and --help: {found}"
+        found = called(["sh", "-c", f"{command} --help >/dev/full"], document, bare.tools)
+        if found[0] != 6:
+            yield f"{command} --help with a full device: {found}, and not 6"
     said = [on_terminal(launcher, bare.tools) for _ in range(2)]
     if ["answered by" in text for text in said] != [True, False] or not all("then Ctrl-D" in text for text in said):
         yield f"bin/coop on a terminal: {said}"
