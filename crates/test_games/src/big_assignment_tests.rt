@@ -7,6 +7,7 @@ use crate::shares::are_numbers;
 use big_assignment::{MarketFault, MarketGame};
 use std::alloc::{AllocError, Global};
 use std::test::Fail;
+use worth_core::Shares;
 
 const LIMIT: i64 = 1 << 40;
 
@@ -81,23 +82,41 @@ fn markets_are_solved_as_by_hand(rt: HostRuntime) -> Result<(), Fail> {
     Ok(())
 }
 
-// 32 buyers and sellers in pairs; and 32 buyers who all want each of 31 goods, and bid the whole of it.
+const ALL: i64 = LIMIT - 1;
+
+/// What 32 buyers get at their best who have a seller each, and what the sellers get.
+const BUYERS_GAIN: [i128; 64] = [
+    1, 1, 1, 1, 1, 1, 1, 1, 1, 1, 1, 1, 1, 1, 1, 1, 1, 1, 1, 1, 1, 1, 1, 1, 1, 1, 1, 1, 1, 1, 1, 1,
+    0, 0, 0, 0, 0, 0, 0, 0, 0, 0, 0, 0, 0, 0, 0, 0, 0, 0, 0, 0, 0, 0, 0, 0, 0, 0, 0, 0, 0, 0, 0, 0,
+];
+
+const TOP: i128 = (1 << 40) - 1;
+
+/// The same of 32 buyers and 31 goods that each of them would pay the greatest number for.
+const SELLERS_GAIN: [i128; 63] = [
+    0, 0, 0, 0, 0, 0, 0, 0, 0, 0, 0, 0, 0, 0, 0, 0, 0, 0, 0, 0, 0, 0, 0, 0, 0, 0, 0, 0, 0, 0, 0, 0,
+    TOP, TOP, TOP, TOP, TOP, TOP, TOP, TOP, TOP, TOP, TOP, TOP, TOP, TOP, TOP, TOP, TOP, TOP, TOP,
+    TOP, TOP, TOP, TOP, TOP, TOP, TOP, TOP, TOP, TOP, TOP, TOP,
+];
+
+/// The value of a market of 32 buyers, and the shares that are best for them.
+fn best_of(alloc: Global, columns: usize, on: i64, off: i64) -> Result<(i64, Shares), Fail> {
+    let matrix = diagonal(alloc, 32, columns, on, off)?;
+    let game = MarketGame::new(alloc, matrix).ok().ok_or("no market")?;
+    let solution = game.solve(alloc)?;
+    Ok((solution.value, solution.buyers_best))
+}
+
 #[test]
 fn the_greatest_markets_are_solved(rt: HostRuntime) -> Result<(), Fail> {
-    const ALL: i64 = (1 << 40) - 1;
-    for &(columns, on, off, players, value, of_buyers, of_sellers) in &[
-        (32, 1, 0, 64, 32, 1, 0),
-        (31, ALL, ALL, 63, 31 * ALL, 0, ALL as i128),
-    ] {
-        let matrix = diagonal(rt.alloc(), 32, columns, on, off)?;
-        let game = MarketGame::new(rt.alloc(), matrix).ok().ok_or("no market")?;
-        let solution = game.solve(rt.alloc())?;
-        let x = &solution.buyers_best;
-        assert_eq!(rt; (solution.value, x.players()), (value, players));
-        for k in 0..x.players() {
-            let wanted = if k < 32 { of_buyers } else { of_sellers };
-            assert_eq!(rt; x.num(k), wanted, "player {k} of {players}");
-        }
+    const MARKETS: [(usize, i64, i64, i64, &[i128]); 2] = [
+        (32, 1, 0, 32, &BUYERS_GAIN),
+        (31, ALL, ALL, 31 * ALL, &SELLERS_GAIN),
+    ];
+    for &(columns, on, off, value, shares) in &MARKETS {
+        let (found, x) = best_of(rt.alloc(), columns, on, off)?;
+        let is_best = are_numbers(&x, shares);
+        assert_eq!(rt; (found, is_best), (value, true), "{columns} columns");
     }
     Ok(())
 }
@@ -105,17 +124,13 @@ fn the_greatest_markets_are_solved(rt: HostRuntime) -> Result<(), Fail> {
 /// What 32 buyers and 32 sellers are worth together: 2^33 for the same number, 2^j more if the buyer's is greater than
 /// the seller's, j, and else 0.
 fn steps(alloc: Global) -> Result<Vec<Vec<i64>>, AllocError> {
+    const SAME: i64 = 1 << 33;
     let mut matrix = Vec::new(alloc);
     for i in 0..32u32 {
         let mut row = Vec::new(alloc);
         for j in 0..32u32 {
-            row.push(if i < j {
-                0
-            } else if i == j {
-                1 << 33
-            } else {
-                (1 << 33) + (1 << j)
-            })?;
+            let more = if j < i { i64::from(1u32 << j) } else { 0 };
+            row.push(if i < j { 0 } else { SAME + more })?;
         }
         matrix.push(row)?;
     }

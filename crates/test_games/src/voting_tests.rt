@@ -1,7 +1,7 @@
 //! Voting games that are made and refused, their blockers and bounds, and their Shapley values.
 
 use crate::asked::{blocker_of, bound_of, worths_are};
-use crate::shares::shares_of;
+use crate::shares::{are_numbers, shares_of};
 use coalitions::Coalition;
 use std::test::Fail;
 use voting::{VotingFault, VotingGame, voting_shapley};
@@ -89,33 +89,42 @@ fn thirty_two_players_need_no_list_of_coalitions(rt: HostRuntime) -> Result<(), 
 /// The least common multiple of 1 to 32.
 const UNIT: i128 = 144_403_552_893_600;
 
-/// A quota and weights, how many players stand in front, and what each of these and each of the others has.
-const VALUES: [(i64, &[i64], u32, i128, i128); 3] = [
-    (5, &[4, 2, 1], 1, UNIT / 3 * 2, UNIT / 6),
+const TWO_THIRDS: i128 = UNIT / 3 * 2;
+
+const SIXTH: i128 = UNIT / 6;
+
+const VETO: i128 = UNIT / 2145 * 421;
+
+const OTHER: i128 = UNIT / 2145 * 4;
+
+/// A quota, weights and what each player has.
+const VALUES: [(i64, &[i64], &[i128]); 3] = [
+    (5, &[4, 2, 1], &[TWO_THIRDS, SIXTH, SIXTH]),
     // The Security Council: five members with a veto and ten without, of whom four have to join.
     (
         39,
         &[7, 7, 7, 7, 7, 1, 1, 1, 1, 1, 1, 1, 1, 1, 1],
-        5,
-        UNIT / 2145 * 421,
-        UNIT / 2145 * 4,
+        &[
+            VETO, VETO, VETO, VETO, VETO, OTHER, OTHER, OTHER, OTHER, OTHER, OTHER, OTHER, OTHER,
+            OTHER, OTHER,
+        ],
     ),
-    (17, &[1; 32], 32, UNIT / 32, 0),
+    (17, &[1; 32], &[UNIT / 32; 32]),
 ];
 
 #[test]
 fn shapley_values_are_those_known(rt: HostRuntime) -> Result<(), Fail> {
-    for &(quota, weights, in_front, theirs, of_others) in &VALUES {
+    for &(quota, weights, values) in &VALUES {
         let weights = weights.to_vec(rt.alloc())?;
         let game = VotingGame::new(rt.alloc(), quota, weights)
             .ok()
             .ok_or("no game")?;
         let x = voting_shapley(rt.alloc(), &game)?;
-        assert_eq!(rt; (x.den(), x.players()), (UNIT, game.len()));
-        for i in 0..x.players() {
-            let wanted = if i < in_front { theirs } else { of_others };
-            assert_eq!(rt; x.num(i), wanted, "{i} of quota {quota}");
-        }
+        assert_eq!(rt;
+            (x.den(), are_numbers(&x, values)),
+            (UNIT, true),
+            "quota {quota}"
+        );
     }
     Ok(())
 }
