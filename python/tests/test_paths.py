@@ -22,7 +22,7 @@ from coop.variants import table_of_game
 from . import exact
 from .asking import needs_program
 
-ROUNDS = int(os.environ.get("COOP_ROUNDS", "1"))
+ROUNDS = int(os.environ.get("COOP_ROUNDS", "3"))
 KINDS = ("table", "cost-table", "airport", "bankruptcy", "tree", "assignment", "voting")
 RULES = ("nucleolus", "prenucleolus")
 
@@ -143,7 +143,7 @@ class Random(unittest.TestCase):
     def tell(self, tried: "Counter[str]", least: int) -> None:
         """Sees that so many of each class were tried in a round, and prints how many where these are many."""
         self.assertTrue(all(tried[kind] >= least * ROUNDS for kind in KINDS), tried)
-        if ROUNDS > 1:
+        if ROUNDS > 3:
             print(f"{self.id()}: {dict(tried)}")
 
 
