@@ -5,8 +5,9 @@ from coop import runways
 from coop.airlines import landings_in
 from coop.styles import Style, each
 
-if sys.stdin.isatty():
+text = "" if sys.stdin.isatty() else sys.stdin.read()
+if not text:
     sys.exit("give the list on standard input: runway_list.py < LANDINGS.csv")
-paid = runways.nucleolus((row.airline, row.need, row.landings) for row in landings_in(sys.stdin.read()))
+paid = runways.nucleolus((row.airline, row.need, row.landings) for row in landings_in(text))
 for name, share in zip(paid, each(list(paid.values()), Style(2))):
     print(name, share)
