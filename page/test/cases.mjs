@@ -130,7 +130,7 @@ export const tables = [
     await typeAll(page, { "proposal.0": "8", "proposal.1": "2", "proposal.2": "1" });
     await settle(page);
     expect("missing", await page.text(".shares tfoot"), /1.00 is missing/);
-    const verdict = ".shares .verdict td:last-child";
+    const verdict = ".shares .verdict td.proposed";
     await page.type("proposal.2", "2");
     await settle(page);
     expect("in the core", await page.text(verdict), /No/);

@@ -114,7 +114,7 @@ export function documents(top, program) {
       await page.fill("#document textarea", departments);
       await page.until(READY);
       expect("typed", await page.run(`document.querySelector('[data-cell="proposal.0"]').value`), "4");
-      expect("judged", await page.text(".shares .verdict td:last-child"), /No/);
+      expect("judged", await page.text(".shares .verdict td.proposed"), /No/);
     }]];
 }
 

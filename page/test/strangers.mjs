@@ -20,9 +20,10 @@ const framed = [
   }],
   ["strangers: a creditors’ list finds its claims", "estate", async (page, expect) => {
     await paste(page, "rows.0.name", "Verfahren 4 IN 233/25\n\nRang\tGläubiger\tForderung\tQuote\n"
-      + "§ 38\tStadtwerke\t1.234,56\t?\n§ 38\tMüller & Co. KG\t12.500,00\t?\n(ohne Zinsen)");
+      + "§ 38\tStadtwerke\t1.234,56\t?\n§ 38\tMüller & Co. KG\t12.500,00\t?\nSumme\t\t13.734,56\n(ohne Zinsen)");
     await told(page, "#case .pasted", /“Gläubiger” is “Who claims”, “Forderung” is “Claim”/);
-    expect("the cells", await cells(page), "Stadtwerke|1.234,56|Müller & Co. KG|12.500,00");
+    expect("the cells", await cells(page), "Stadtwerke|1.234,56|Müller & Co. KG|12.500,00|Summe|13.734,56");
+    await noted(page, /“Summe”\. Is it the sum of the others\?/);
   }],
   ["strangers: euros are no names, and a total is asked about", "runway", async (page, expect) => {
     await paste(page, "rows.0.name", "Aircraft type\tLandings\tRunway needed (m)\tCost of that length (€)\n"
@@ -72,12 +73,13 @@ const readings = [
   ["strangers: shareholders’ votes of any size", "votes", async (page, expect) => {
     await page.type("quota", "66.67 %");
     await paste(page, "rows.0.name", "Novak\t41.5\nFund\t23\nFounders\t12.2\nBank\t9.8\nFloat\t13.5");
-    await noted(page, /asks for 66\.67 votes, and 2\/3 for (about )?(66\.6667|200\/3) votes\. Which is meant\?/);
+    await told(page, "#answer .lead", /Novak has most power/); // no votes add to between that and 2/3
     await page.type("quota", "2/3");
     await paste(page, "rows.0.name", "Novak\t4,150,000\nFund\t2,300,001\nFounders\t1,225,000\nBank\t980,000\n"
       + "Float\t1,345,000");
-    await told(page, "#answer .lead", /Novak has most power, 53\.3/);
-    expect("told", await page.text("#case .faults"), /says of each group whether it wins/);
+    await noted(page, /lists which groups win, and not the votes/);
+    await settle(page);
+    expect("the power", await page.text("#answer .lead"), /Novak has most power, 53\.3/);
   }],
 ];
 

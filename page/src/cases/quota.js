@@ -69,6 +69,9 @@ export function roundedPart(typed, votes, mark) {
   };
   const found = FRACTIONS.find(isNear);
   const text = found && typed.replace(/\d+[.,]\d+ ?%/, found.join("/"));
-  const ways = text ? [typed, text].map((one) => leastOf(one, votes, mark)) : [];
+  const all = Rational.of(votes.reduce((unit, one) => lcm(unit, one.den), 1n)); // what votes add to is in such parts
+  const ways = text ? [typed, text].map((one) => {
+    return Rational.of(-leastOf(one, votes, mark).times(all).negated().floor()).over(all);
+  }) : [];
   return text && !ways[0].equals(ways[1]) ? { text, ways: ways.map(String) } : null;
 }

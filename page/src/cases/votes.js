@@ -118,7 +118,7 @@ function votingGame(reading, { named }, ballot) {
   // votes alone decide which sums are reached, so the quota is rounded up where only the votes have a common divisor
   const ofVotes = votes.reduce(gcd, 0n) || 1n, by = all > MOST_VOTES ? ofVotes : 1n;
   if (all / by > MOST_VOTES) {
-    reading.notes.push("The document says of each group whether it wins, since so many votes are in no document.");
+    reading.notes.push("Power is counted over all groups: the document lists which groups win, and not the votes.");
     return null;
   }
   if (by > 1n) {

@@ -139,6 +139,7 @@ class ListGrid {
     const filled = below.map((row, k) => {
       const target = (this.typed.rows[Number(r) + k] ??= this.blank());
       row.forEach((text, c) => targets[c] && (target[targets[c].key] = text));
+      if (hasNames && !target.name) target.name = row.find((text, c) => !targets[c] && /\p{L}/u.test(text)) ?? "";
       return target;
     });
     const taken = pastedText(rows, headings, targets, columns.slice(first));

@@ -12,7 +12,8 @@ const NUMBER = /^[-−(]?\p{Sc}?\s?\d[\d.,'’\s/]*(?:\p{Sc}|[A-Z]{3}|%)?\)?$/u;
 /** What a pasted text gives the rows, by their `labels`: {texts, said}, or {fault} in words. Lines with a name go to
  * the row that is called so; numbers alone go on below from a row. */
 export function pastedDivision(text, labels, { first, before }) {
-  const lines = text.split(/\r\n?|\n/).map((line) => line.trim()).filter(Boolean), places = new Map(), out = [];
+  const lines = text.split(/\r\n?|\n/).map((line) => line.trim().replace(/\s+/g, " ")).filter(Boolean);
+  const places = new Map(), out = [];
   const called = [...labels.keys()].sort((i, j) => labels[j].length - labels[i].length);
   const placeOf = (line) => called.find((i) => line.toLowerCase().startsWith(labels[i].toLowerCase())
     && !/^[\p{L}\d]/u.test(line.slice(labels[i].length)));

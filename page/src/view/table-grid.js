@@ -230,6 +230,7 @@ class TableGrid {
   /** Numbers that were filled follow the answer to how the typed ones are read. */
   tell({ entry, isAsking }) {
     const isOther = this.entry !== undefined && this.entry !== entry && this.typed.filled?.length > 0;
+    if (this.isAsking && !isAsking) this.say();
     Object.assign(this, { entry, isAsking });
     if (isOther) this.fillSplits(true);
   }
