@@ -27,7 +27,7 @@ pub record SameLevels (mode : Mode) (family : Family) (measure : Measure) (g : G
   pub form : LevelsForm g.players (take i levels) (drop i levels)
   pub within : AllByRecursion (IsOf g.players) levels
 
-levels_of : (n : ℕ) (front levels : List Level) → LevelsForm n front levels → AllByRecursion (IsOf n) levels
+pub levels_of : (n : ℕ) (front levels : List Level) → LevelsForm n front levels → AllByRecursion (IsOf n) levels
 levels_of n front [] f = tt
 levels_of n front (l ∷ levels) f = (level_within n front l f.0, levels_of n (front ++ l ∷ []) levels f.1)
 

@@ -6,6 +6,7 @@
 -- EveryNucleolusIsPaid.antt: the five facts of the scheme don't depend on the denominator.
 use Rattle.std.proofs.Common.{◌≡◌, ℕ, ◌≤◌, List, length, get_or, ℤ, pos, neg_ℤ, ◌*ℤ◌, refl, sym, ap, ◌∙◌, inl, inr}
 use Rattle.std.proofs.Common.{arith}
+use Rattle.definitions.proofs.Cases.{same_or_other}
 use Rattle.definitions.proofs.Ring.{mul-zeroℤ}
 use Rattle.definitions.specs.Coalitions.{grand_coalition, sum_over}
 use Rattle.definitions.specs.Classes.{greatest_cost}
@@ -20,7 +21,6 @@ use Rattle.real_shares.proofs.Soundness.{IsNucleolusOver-from_levels}
 use Rattle.airport_scheme.specs.Scheme.{IsPaid}
 use Rattle.airport_scheme.proofs.Excesses.{game_of}
 use Rattle.airport_scheme.proofs.Chains.{Covers-none, Certifies-chain}
-use Rattle.law_answers.proofs.Numbers.{none_or_some}
 use Rattle.law_answers.proofs.NucleolusIsUnique.{nucleolus_unique}
 use Rattle.law_airports.proofs.PaymentLevels.{levels_exist, levels_fit}
 
@@ -58,9 +58,9 @@ module _ (costs : List ℕ) (at : ℕ → ℕ) (pay : ℕ → ℤ) (x : Allocati
 
 pub payments_nucleolus : (family : Family) (costs : List ℕ) (at : ℕ → ℕ) (pay : ℕ → ℤ) (x : Allocation)
     → IsPaid costs at pay x → IsNucleolus family Plain (game_of costs) x
-payments_nucleolus family costs at pay x p = elim (none_or_some (length costs)) [
+payments_nucleolus family costs at pay x p = elim (same_or_other (length costs) 0) [
   | inl none ↦ nobody_nucleolus costs at pay x none p family
-  | inr some ↦ some_nucleolus family costs at pay x some p
+  | inr some ↦ some_nucleolus family costs at pay x (omega (arith, some)) p
 ]
 
 pub payments_one : (costs : List ℕ) (at to : ℕ → ℕ) (pay more : ℕ → ℤ) (x y : Allocation) → IsPaid costs at pay x

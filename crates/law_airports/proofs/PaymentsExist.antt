@@ -4,12 +4,11 @@ use Rattle.std.proofs.Common.{◌≡◌, ℕ, zero, suc, ◌<◌, ◌≤◌, con
 use Rattle.std.proofs.Common.{refl, sym, ◌∙◌, inl, inr, arith}
 use Rattle.std.specs.List.{range_with_len}
 use Rattle.std.proofs.lemmas.List.FromFn.{get_or-map-range_with_len, length-map-range_with_len}
-use Rattle.definitions.proofs.Cases.{less_or_last, nat_eq-same, nat_eq-other}
+use Rattle.definitions.proofs.Cases.{same_or_other, less_or_last, nat_eq-same, nat_eq-other}
 use Rattle.definitions.proofs.Ring.{linear}
 use Rattle.definitions.specs.Games.{Allocation}
 use Rattle.orders.specs.Orders.{IsOrder}
 use Rattle.airport_scheme.specs.Scheme.{IsPaid}
-use Rattle.law_answers.proofs.Numbers.{none_or_some}
 use Rattle.law_airports.proofs.SchemesExist.{scheme_exists}
 
 -- minus the payment of the last of m places where player i stands
@@ -69,7 +68,7 @@ nobody_pays costs at none o = (
 
 pub payments_exist : (costs : List ℕ) (at : ℕ → ℕ) → IsOrder (length costs) (λ k. get_or costs k 0) at
     → (pay : ℕ → ℤ) × (x : Allocation) × IsPaid costs at pay x
-payments_exist costs at o = elim (none_or_some (length costs)) [
+payments_exist costs at o = elim (same_or_other (length costs) 0) [
   | inl none ↦ nobody_pays costs at none o
-  | inr some ↦ some_exist costs at some o
+  | inr some ↦ some_exist costs at (omega (arith, some)) o
 ]

@@ -129,7 +129,7 @@ module _ (estate : ℕ) (claims : List ℕ) (x : Allocation) (h : IsTalmud estat
       → IsPart (is_little estate claims) (cut_claimed estate claims x i) bound (share x i)
   of i lt = h.parts.2 i lt
 
-  den_some : pos 0 ≤ℤ x.den
+  pub den_some : pos 0 ≤ℤ x.den
   den_some = let positive = h.positive in omega (arith, linear)
 
   some : (i : ℕ) → pos 0 ≤ℤ cut_claimed estate claims x i

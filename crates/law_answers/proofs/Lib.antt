@@ -1,5 +1,6 @@
 pub mod Numbers
 pub mod AtPlayer
+pub mod Complements
 mod Gaps
 pub mod NucleolusIsUnique
 pub mod NucleolusIsInCore

@@ -20,7 +20,6 @@ use Rattle.airport.proofs.GreatestCosts.{greatest_cost-at_most}
 use Rattle.airport_scheme.specs.Scheme.{IsScheme, IsPaid}
 use Rattle.law_answers.specs.Airports.{pays}
 use Rattle.airport_scheme.proofs.Chains.{InCore-scheme}
-use Rattle.law_answers.proofs.Numbers.{none_or_some}
 use Rattle.theorems.proofs.Products.{products}
 
 -- ---- by place
@@ -101,11 +100,11 @@ module _ (costs : List ℕ) (at : ℕ → ℕ) (pay : ℕ → ℤ) (x : Allocati
   pub group : (s : ℕ) → s < 2 ^ length costs
       → sum_over (length costs) (pays x) s
       ≤ℤ (x.den *ℤ pos (greatest_cost (length costs) (λ k. get_or costs k 0) s))
-  group s lt = elim (none_or_some (length costs)) [
+  group s lt = elim (same_or_other (length costs) 0) [
     | inl none ↦
         let left = ap (λ (n : ℕ). sum_over n (pays x) s) none in
         omega (products, left, ap (λ (n : ℕ). x.den *ℤ pos (greatest_cost n (λ k. get_or costs k 0) s)) none)
-    | inr some ↦ some_group s some lt
+    | inr some ↦ some_group s (omega (arith, some)) lt
   ]
 
   some_all_pay : 1 ≤ length costs
@@ -124,12 +123,12 @@ module _ (costs : List ℕ) (at : ℕ → ℕ) (pay : ℕ → ℤ) (x : Allocati
 
   pub all_pay : sum_below (length costs) (pays x)
       ≡ x.den *ℤ pos (greatest_cost (length costs) (λ k. get_or costs k 0) (grand_coalition (length costs)))
-  all_pay = elim (none_or_some (length costs)) [
+  all_pay = elim (same_or_other (length costs) 0) [
     | inl none ↦
         let all = grand_coalition (length costs) in
         let left = ap (λ (n : ℕ). sum_below n (pays x)) none in
         omega (products, left, ap (λ (n : ℕ). x.den *ℤ pos (greatest_cost n (λ k. get_or costs k 0) all)) none)
-    | inr some ↦ some_all_pay some
+    | inr some ↦ some_all_pay (omega (arith, some))
   ]
 
   pub nobody_more : (i : ℕ) → i < length costs

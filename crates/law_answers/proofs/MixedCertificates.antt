@@ -6,8 +6,10 @@ use Rattle.std.proofs.Common.{◌≤ℤ◌, IsTrue, refl, sym, ap, ap₂, subst,
 use Rattle.std.specs.List.{AllByRecursion}
 use Rattle.std.proofs.lemmas.List.FromFn.{get_or-map-range_with_len, length-map-range_with_len}
 use Rattle.definitions.proofs.Alls.{all_weaken, all_both, all_with}
+use Rattle.definitions.proofs.Families.{allocation_of}
 use Rattle.definitions.proofs.Measured.{weight, measured-weight}
-use Rattle.definitions.proofs.Ring.{linear, ring_laws, add-mulℤ, mul-leℤ, mul-positiveℤ, mul-nonnegativeℤ}
+use Rattle.definitions.proofs.Ring.{linear, ring_laws, add-mulℤ, mul-leℤ, mul-nonnegativeℤ}
+use Rattle.definitions.proofs.Ring.{mul_exchangeℤ}
 use Rattle.definitions.proofs.SumsOver.{sum_over-same, sum_over-add, sum_over-times, amount-at}
 use Rattle.definitions.specs.Coalitions.{singleton, grand_coalition}
 use Rattle.definitions.specs.Games.{Game, Allocation, share, amount, excess, measured_excess, IsAllocation, InFamily}
@@ -19,6 +21,7 @@ use Rattle.definitions.specs.declared.Family.TheVariants.{Imputations, Preimputa
 use Rattle.definitions.specs.declared.Measure.{Measure}
 use Rattle.definitions.specs.declared.Measure.TheVariants.{Plain, PerHead}
 use Rattle.definitions.specs.declared.Mode.{Mode}
+use Rattle.fractions.proofs.Ratios.{product_positive}
 use Rattle.theorems.proofs.Products.{products}
 use Rattle.theorems.proofs.ScaledLevels.{Alike, Alike-turned, joined, listed_alike, outside_alike, fixed_alike}
 use Rattle.theorems.proofs.ScaledLevels.{weighs_alike}
@@ -28,11 +31,6 @@ use Rattle.law_answers.specs.Mixtures.{CertificatesCarry, AllBetweenAreNucleoli}
 
 above : (z : ℤ) → pos 1 ≤ℤ z → pos 0 ≤ℤ z
 above z h = omega (arith, linear, h)
-
-some_times : (c d : ℤ) → pos 1 ≤ℤ c → pos 1 ≤ℤ d → pos 1 ≤ℤ (c *ℤ d)
-some_times c d p q =
-    let positive = mul-positiveℤ c d (omega (arith, linear, p)) (omega (arith, linear, q)) in
-    omega (arith, linear, positive)
 
 -- ---- products
 
@@ -45,13 +43,10 @@ left_sides : (a b p q d e m k : ℤ)
     ≡ ((a *ℤ q) *ℤ e) *ℤ (m *ℤ d) +ℤ ((b *ℤ p) *ℤ d) *ℤ (k *ℤ e)
 left_sides a b p q d e m k =
     add-mulℤ ((a *ℤ q) *ℤ m) ((b *ℤ p) *ℤ k) (d *ℤ e)
-    ∙ ap₂ ◌+ℤ◌ (first ((a *ℤ q)) m d e) (second (b *ℤ p) k d e)
+    ∙ ap₂ ◌+ℤ◌ (first ((a *ℤ q)) m d e) (mul_exchangeℤ (b *ℤ p) k d e)
   where
     first : (c m d e : ℤ) → (c *ℤ m) *ℤ (d *ℤ e) ≡ (c *ℤ e) *ℤ (m *ℤ d)
     first c m d e = simp ring_laws
-
-    second : (c k d e : ℤ) → (c *ℤ k) *ℤ (d *ℤ e) ≡ (c *ℤ d) *ℤ (k *ℤ e)
-    second c k d e = simp ring_laws
 
 right_sides : (measure : Measure) (a b p q d e m k : ℤ)
     → ((a *ℤ e) *ℤ m +ℤ (b *ℤ d) *ℤ k) *ℤ measured_den measure (p *ℤ q)
@@ -100,7 +95,7 @@ module _ (n : ℕ) (v w : ℕ → ℤ) (x y : Allocation) (a b : ℤ) (a_low : p
   second_low = mul-nonnegativeℤ b x.den b_low (above x.den hx.1)
 
   allocation : IsAllocation between z
-  allocation = (length-map-range_with_len given 0 (length x.shares) ∙ hx.0, some_times x.den y.den hx.1 hy.1)
+  allocation = (length-map-range_with_len given 0 (length x.shares) ∙ hx.0, product_positive x.den y.den hx.1 hy.1)
 
   share-z : (i : ℕ) → i < n → share z i ≡ given i
   share-z i lt =
@@ -234,7 +229,7 @@ module _ (n : ℕ) (v w : ℕ → ℤ) (x y : Allocation) (a b : ℤ) (a_low : p
 
       formed : LevelForm n p l → LevelForm n r k
       formed form = record {
-        fraction = some_times l.excess_den m.excess_den l_den m_den;
+        fraction = product_positive l.excess_den m.excess_den l_den m_den;
         some = form.some;
         few = form.few;
         few_earlier = form.few_earlier;
@@ -278,10 +273,6 @@ module _ (n : ℕ) (v w : ℕ → ℤ) (x y : Allocation) (a b : ℤ) (a_low : p
 
 -- ---- both games
 
-family_allocation : (family : Family) (g : Game) (x : Allocation) → InFamily family g x → IsAllocation g x
-family_allocation Imputations g x h = h.0
-family_allocation Preimputations g x h = h.0
-
 pub certificates_carry : CertificatesCarry
 certificates_carry mode family measure g h x y ls ms a b same a_low b_low like form other e f =
     let n = g.players in
@@ -289,8 +280,8 @@ certificates_carry mode family measure g h x y ls ms a b same a_low b_low like f
     let formed : HasForm mode n ms = subst (λ (i : ℕ). HasForm mode i ms) (sym same) other in
     let here : Certifies mode family measure k y ms =
     subst (λ (i : ℕ). Certifies mode family measure (record { players = i; worth = h.worth }) y ms) (sym same) f in
-    let hx = family_allocation family g x e.0 in
-    let hy = family_allocation family k y here.0 in
+    let hx = allocation_of family g x e.0 in
+    let hy = allocation_of family k y here.0 in
     let all = carried n g.worth h.worth x y a b a_low b_low hx hy mode family measure [] [] [] ls ms tt tt like
     form.each formed.each e.1 here.1 in (
       record {

@@ -1,10 +1,7 @@
 -- Tests and casts of numbers that the crates of laws share.
-use Rattle.std.proofs.Common.{◌≡◌, ◌⊎◌, ℕ, ◌≤◌, true, unsigned_abs, ℤ, pos, ◌≤ℤ◌, arith}
+use Rattle.std.proofs.Common.{◌≡◌, ◌≤◌, true, unsigned_abs, ℤ, pos, ◌≤ℤ◌, arith}
 use Rattle.std.proofs.lemmas.Int.{ints}
 use Rattle.std.specs.Ordering.{int_eq}
-
-pub none_or_some : (n : ℕ) → (n ≡ 0) ⊎ (1 ≤ n)
-none_or_some n = grind arith
 
 pub to_int_eq : (a b : ℤ) → a ≡ b → int_eq a b ≡ true
 to_int_eq a b e = grind (arith, ints)

@@ -31,6 +31,7 @@ use Rattle.theorems.proofs.OneWay.{beats_one_way}
 use Rattle.theorems.proofs.Products.{products, sorted_products}
 use Rattle.theorems.proofs.SortedLemmas.{ComesBefore-sorted}
 use Rattle.theorems.proofs.Soundness.{SameOrLow-range, SomeAbove-range}
+use Rattle.law_answers.proofs.Complements.{complement-within, both_get}
 use Rattle.law_answers.proofs.DummiesGetTheirWorth.{dummies_get_worth}
 use Rattle.law_answers.proofs.NucleolusIsInCore.{core_low, same_excess}
 use Rattle.law_classes.proofs.VetoCores.{votes_are_simple}
@@ -38,32 +39,13 @@ use Rattle.law_answers.specs.ClassGames.{voting_game}
 use Rattle.law_classes.specs.ConstantSums.{IsConstantSum, ConstantSumCores, NucleolusRepresents, MajorityIsConstantSum}
 use Rattle.law_classes.specs.ConstantSums.{EssentialSumsHaveNoCore}
 
-opposite-within : (n s : ℕ) → grand_coalition n - s < 2 ^ n
-opposite-within n s = let within = grand_coalition-within n in omega (arith, within)
-
--- what a coalition and the others get
-both_get : (g : Game) (x : Allocation) (s : ℕ) → IsAllocation g x → IsEfficient g x → s < 2 ^ g.players
-    → amount x (grand_coalition g.players - s) +ℤ amount x s ≡ x.den *ℤ g.worth (grand_coalition g.players)
-both_get g x s hx e lt =
-    let n = g.players in
-    omega (
-      arith,
-      linear,
-      sum_over-complement n s (share x) lt,
-      sum_over-grand_coalition n (share x),
-      amount-at g x s hx,
-      amount-at g x (grand_coalition n - s) hx,
-      amount-at g x (grand_coalition n) hx,
-      e,
-    )
-
 pub constant_sum_cores : ConstantSumCores
 constant_sum_cores g x s sums h lt =
     let n = g.players in
     omega (
       products,
       core_low g x h s lt,
-      core_low g x h (grand_coalition n - s) (opposite-within n s),
+      core_low g x h (grand_coalition n - s) (complement-within n s),
       both_get g x s h.0 h.1 lt,
       ap (◌*ℤ◌ x.den) (sums s lt),
     )
@@ -247,7 +229,7 @@ module _ (quota : ℕ) (weights : List ℕ) (sums : IsConstantSum (voting_game q
     loses_half : ((s : ℕ) → s < 2 ^ n → g.worth s ≡ pos 1 → x.den <ℤ (amount x s +ℤ amount x s)) → (s : ℕ) → s < 2 ^ n
         → g.worth s ≡ pos 0 → (amount x s +ℤ amount x s) ≤ℤ x.den
     loses_half more s lt lost =
-        let half = more (grand_coalition n - s) (opposite-within n s) (wins_then s lt lost) in
+        let half = more (grand_coalition n - s) (complement-within n s) (wins_then s lt lost) in
         let both = both_get g x s hx e lt in
         omega (products, half, both, ap (◌*ℤ◌ x.den) wins)
 
@@ -292,7 +274,7 @@ module _ (quota : ℕ) (weights : List ℕ) (sums : IsConstantSum (voting_game q
       | inr lacks ↦ absurd
           (let lost = loses_then s lt won in
           let more = (votes_are_simple quota weights).more (singleton d) (grand_coalition n - s)
-          (singleton-within n d hd) (opposite-within n s) (λ i hi is_d. joins i hi is_d lacks) in
+          (singleton-within n d hd) (complement-within n s) (λ i hi is_d. joins i hi is_d lacks) in
           omega (arith, ints, alone, lost, more))
     ]
       where

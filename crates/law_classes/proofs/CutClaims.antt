@@ -7,7 +7,7 @@ use Rattle.definitions.proofs.Cases.{int_max-cases, less_or_greater}
 use Rattle.definitions.proofs.Ring.{linear, mul-leℤ}
 use Rattle.definitions.specs.Games.{Allocation, share}
 use Rattle.talmud.specs.Rule.{IsTalmud}
-use Rattle.law_answers.proofs.EachTwoAreAGarment.{one_of, two_of, two_are_a_garment, nobody_more}
+use Rattle.law_answers.proofs.EachTwoAreAGarment.{den_some, one_of, two_of, two_are_a_garment, nobody_more}
 use Rattle.law_answers.specs.TalmudRule.{unclaimed, IsGarment}
 use Rattle.law_classes.proofs.SmallerGroups.{cut_to}
 
@@ -43,9 +43,6 @@ module _ (estate : ℕ) (claims : List ℕ) (x : Allocation) (h : IsTalmud estat
   nonnegative : (k : ℕ) → k < length claims → pos 0 ≤ℤ share x k
   nonnegative k lt = (nobody_more estate claims x h k lt).0
 
-  positive : pos 0 ≤ℤ x.den
-  positive = let one = h.positive in omega (arith, linear, one)
-
   together : (j l : ℕ) → j < length claims → l < length claims → j ≢ l
       → (share x j +ℤ share x l) ≤ℤ (x.den *ℤ pos estate)
   together j l hj hl ne = elim (less_or_greater j l ne) [
@@ -57,7 +54,7 @@ module _ (estate : ℕ) (claims : List ℕ) (x : Allocation) (h : IsTalmud estat
       → IsGarment (x.den *ℤ cut_claim j) (x.den *ℤ cut_claim l) (share x j) (share x l)
   cut_garment j l hj hl ne =
       garment-cut x.den (pos estate) (pos (get_or claims j 0)) (pos (get_or claims l 0)) (share x j) (share x l)
-      positive
+      (den_some estate claims x h)
       (together j l hj hl ne) (two_are_a_garment estate claims x h j l hj hl ne)
 
   pub within_cut : (k : ℕ) → k < length claims → (pos 0 ≤ℤ share x k) × (share x k ≤ℤ (x.den *ℤ cut_claim k))

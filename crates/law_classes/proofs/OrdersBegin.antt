@@ -6,7 +6,7 @@ use Rattle.std.specs.List.{AllByRecursion}
 use Rattle.std.proofs.lemmas.Bool.{false≢true}
 use Rattle.std.proofs.lemmas.Bool.Decides.{nat_tests}
 use Rattle.definitions.proofs.Alls.{all_join, all_weaken}
-use Rattle.definitions.proofs.Cases.{true_or_false, nat_eq-other, nat_lt-less, nat_lt-past, from_nat_eq, not_true}
+use Rattle.definitions.proofs.Cases.{true_or_false, nat_eq-other, nat_lt-less, nat_lt-past, from_nat_eq, from_not, not_true}
 use Rattle.definitions.proofs.Halves.{size_below, size_below-zero, size_below-yes, size_below-no, size_below-more}
 use Rattle.definitions.proofs.Members.{members-zero, members-more_yes, members-more_no}
 use Rattle.definitions.proofs.Parts.{has_player-more_same, has_player-more_other}
@@ -137,10 +137,7 @@ module _ (n s i j : ℕ) (within : s < 2 ^ n) (hi : i < n) (hj : j < n) (ne : i 
   last-has k lt = coalition_where-has n (λ k. not (has_player both k)) k lt
 
   outside : (k : ℕ) → k < n → has_player last k ≡ true → has_player both k ≡ false
-  outside k lt inside = by_tests (has_player both k) (sym (last-has k lt) ∙ inside)
-    where
-      by_tests : (b : Bool) → not b ≡ true → b ≡ false
-      by_tests b h = grind arith
+  outside k lt inside = from_not (has_player both k) (sym (last-has k lt) ∙ inside)
 
   abbrev pub begins : List ℕ
   begins = members n s ++ i ∷ (j ∷ members n last)

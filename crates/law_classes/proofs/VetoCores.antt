@@ -237,12 +237,10 @@ pub veto_adds_no_less : (g : Game) (i j : ℕ) → IsSimple g → HasVeto g i �
 veto_adds_no_less g i j simple veto hi hj ne s lt out other =
     let loses = veto (s + 2 ^ j) (more-lt g.players s j lt hj other)
     (has_player-more_other s j i other ne ∙ out) in
-    let low = no_less (g.worth (s + 2 ^ i)) (simple.votes (s + 2 ^ i) (more-lt g.players s i lt hi out)) in
-    omega (arith, linear, loses, low)
-  where
-    no_less : (z : ℤ) → (z ≡ pos 0) ⊎ (z ≡ pos 1) → pos 0 ≤ℤ z
-    no_less z (inl e) = omega (arith, ints, e)
-    no_less z (inr e) = omega (arith, ints, e)
+    elim (simple.votes (s + 2 ^ i) (more-lt g.players s i lt hi out)) [
+      | inl none ↦ omega (arith, linear, loses, none)
+      | inr one ↦ omega (arith, linear, loses, one)
+    ]
 
 pub who_has_a_veto_gets_no_less : WhoHasAVetoGetsNoLess
 who_has_a_veto_gets_no_less family measure g x i j can simple h hi hj veto = elim (same_or_other i j) [

@@ -19,6 +19,7 @@ use Rattle.definitions.proofs.Alls.{all_weaken, all_both, all_with, all_join, al
 use Rattle.definitions.proofs.Cases.{nat_eq-same, nat_eq-other, less_or_last}
 use Rattle.definitions.specs.Sums.{sum_below}
 use Rattle.theorems.proofs.Products.{products, sorted_products}
+use Rattle.law_duality.proofs.BySign.{BySign, by_sign}
 
 -- an entry for each unknown; a number for each
 abbrev pub Row : Type 0
@@ -78,50 +79,11 @@ none_left C us h = elim (heads C us h) [
 
 -- ---- the rows by the sign of an entry
 
-pub record Parts (n : ℕ) (C : Row → Type 0) (us : List Row) : Type 0 where
-  pub ps : List Row
-  pub ns : List Row
-  pub zs : List Row
-  pub positive : AllByRecursion (λ (u : Row). C u × (pos 0 <ℤ u n)) ps
-  pub negative : AllByRecursion (λ (u : Row). C u × (u n <ℤ pos 0)) ns
-  pub none : AllByRecursion (λ (u : Row). C u × (u n ≡ pos 0)) zs
-  pub back : (y : Row) → AllByRecursion (Meets (suc n) y) ps → AllByRecursion (Meets (suc n) y) ns
-      → AllByRecursion (Meets (suc n) y) zs → AllByRecursion (Meets (suc n) y) us
+abbrev pub Parts : ℕ → (Row → Type 0) → List Row → Type 0
+Parts n C us = BySign (λ (u : Row). u n) C (Meets (suc n)) us
 
 pub parts : (n : ℕ) (C : Row → Type 0) (us : List Row) → AllByRecursion C us → Parts n C us
-parts n C [] h = record { ps = []; ns = []; zs = []; positive = tt; negative = tt; none = tt; back = λ y a b c. tt }
-parts n C (u ∷ us) h =
-    let r = parts n C us h.1 in
-    by_lt_z (u n) (pos 0)
-    (λ lt. record {
-      ps = r.ps;
-      ns = u ∷ r.ns;
-      zs = r.zs;
-      positive = r.positive;
-      negative = ((h.0, lt), r.negative);
-      none = r.none;
-      back = λ y a b c. (b.0, r.back y a b.1 c);
-    })
-    (λ le.
-    by_lt_z (pos 0) (u n)
-    (λ lt. record {
-      ps = u ∷ r.ps;
-      ns = r.ns;
-      zs = r.zs;
-      positive = ((h.0, lt), r.positive);
-      negative = r.negative;
-      none = r.none;
-      back = λ y a b c. (a.0, r.back y a.1 b c);
-    })
-    (λ ge. record {
-      ps = r.ps;
-      ns = r.ns;
-      zs = u ∷ r.zs;
-      positive = r.positive;
-      negative = r.negative;
-      none = ((h.0, omega (arith, linear)), r.none);
-      back = λ y a b c. (c.0, r.back y a b c.1);
-    }))
+parts n C us h = by_sign (λ (u : Row). u n) C (Meets (suc n)) us h
 
 -- ---- each row of positive entry with each of negative entry
 

@@ -1,3 +1,4 @@
+pub mod BySign
 pub mod Elimination
 pub mod Farkas
 pub mod SideWeights

@@ -9,7 +9,7 @@ use Rattle.definitions.proofs.Members.{sum_over-grand_coalition, sum_over-single
 use Rattle.definitions.proofs.Masks.{grand_coalition-within, singleton-within, proper_or_all}
 use Rattle.definitions.proofs.Measured.{weight, measured-weight, weight-positive}
 use Rattle.definitions.proofs.Families.{allocation_of, efficient_of}
-use Rattle.definitions.proofs.Cases.{less_or_last}
+use Rattle.definitions.proofs.Cases.{below_or_above, less_or_last}
 use Rattle.definitions.specs.Sums.{sum_below}
 use Rattle.definitions.specs.Coalitions.{has_player, singleton, grand_coalition, proper_coalitions, sum_over}
 use Rattle.definitions.specs.Measures.{IsMeasurable}
@@ -18,6 +18,7 @@ use Rattle.definitions.specs.Games.{InFamily, IsNucleolus}
 use Rattle.definitions.specs.declared.Family.{Family}
 use Rattle.definitions.specs.declared.Family.TheVariants.{Imputations, Preimputations}
 use Rattle.definitions.specs.declared.Measure.{Measure}
+use Rattle.definitions.specs.declared.Measure.TheVariants.{Plain}
 use Rattle.law_duality.specs.Existence.{NucleoliExist, PrenucleoliExist, ImputationsExist}
 use Rattle.theorems.proofs.SortedLemmas.{ComesBefore-sorted}
 use Rattle.theorems.proofs.Soundness.{SameOrLow-range, SomeAbove-range}
@@ -378,6 +379,22 @@ pub prenucleoli_exist : PrenucleoliExist
 prenucleoli_exist measure g m some =
     let y = some_preimputation g some in
     nucleolus_of Preimputations measure g m y.0 y.1
+
+-- a prenucleolus of each game that has players
+abbrev prenucleolus_by : (g : Game) → (0 < g.players) ⊎ (g.players ≤ 0) → Allocation
+prenucleolus_by g (inl some) = (prenucleoli_exist Plain g (inl refl) (omega (arith, some))).0
+prenucleolus_by g (inr none) = record { shares = []; den = pos 1 }
+
+prenucleolus_by-is : (g : Game) (c : (0 < g.players) ⊎ (g.players ≤ 0)) → 1 ≤ g.players
+    → IsNucleolus Preimputations Plain g (prenucleolus_by g c)
+prenucleolus_by-is g (inl some) h = (prenucleoli_exist Plain g (inl refl) (omega (arith, some))).1
+prenucleolus_by-is g (inr none) h = absurd (omega (arith, none, h))
+
+abbrev pub prenucleolus_of : Game → Allocation
+prenucleolus_of g = prenucleolus_by g (below_or_above 0 g.players)
+
+pub prenucleolus_of-is : (g : Game) → 1 ≤ g.players → IsNucleolus Preimputations Plain g (prenucleolus_of g)
+prenucleolus_of-is g h = prenucleolus_by-is g (below_or_above 0 g.players) h
 
 -- ---- imputations
 

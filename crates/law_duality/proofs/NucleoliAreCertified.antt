@@ -30,6 +30,7 @@ use Rattle.definitions.specs.declared.Family.{Family}
 use Rattle.definitions.specs.declared.Family.TheVariants.{Imputations}
 use Rattle.definitions.specs.declared.Measure.{Measure}
 use Rattle.definitions.specs.declared.Mode.TheVariants.{Span}
+use Rattle.theorems.proofs.Certified.{to_int_le}
 use Rattle.theorems.proofs.Transfers.{some_greatest}
 use Rattle.law_duality.specs.Kohlberg.{LevelShape, LevelsShape, HasShape}
 use Rattle.law_duality.proofs.Levels.{upto, upto_member}
@@ -169,10 +170,7 @@ module _ (family : Family) (measure : Measure) (g : Game) (m : IsMeasurable meas
         omega (arith, linear, ints, high t lt both.0, both.1)
 
     to_riser : (t : ℕ) → out front js s t ≡ true → e ≤ℤ me (suc t) → riser t ≡ true
-    to_riser t o le = and_both (out front js s t) (int_le e (me (suc t))) o (is_le e (me (suc t)) le)
-      where
-        is_le : (a b : ℤ) → a ≤ℤ b → int_le a b ≡ true
-        is_le a b le = grind (arith, ints)
+    to_riser t o le = and_both (out front js s t) (int_le e (me (suc t))) o (to_int_le e (me (suc t)) le)
 
     -- no transfer leaves the fixed ones as they are and raises each riser
     no_direction : (d : ℕ) → d < count → out front js s d ≡ true → me (suc d) ≡ e

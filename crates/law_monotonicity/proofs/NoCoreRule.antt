@@ -36,9 +36,6 @@ left_pair = pos 1 ∷ (pos 1 ∷ (pos 0 ∷ (pos 0 ∷ [])))
 abbrev right_pair : List ℤ
 right_pair = pos 0 ∷ (pos 0 ∷ (pos 1 ∷ (pos 1 ∷ [])))
 
-twice : (p : ℤ) → p *ℤ pos 2 ≡ p +ℤ p
-twice p = omega (arith, ints)
-
 -- a share a over p that isn't more than one b over q of nothing at most
 no_more : (a p b q : ℤ) → pos 1 ≤ℤ p → pos 1 ≤ℤ q → b ≤ℤ pos 0 → (a *ℤ q) ≤ℤ (b *ℤ p) → a ≤ℤ pos 0
 no_more a p b q hp hq low le =
@@ -81,13 +78,14 @@ module _ (n : ℕ) (many : 4 ≤ n) where
   third_nothing x h =
       let at : (s : ℕ) → s < 16 → (x.den *ℤ (after n 7).worth s) ≤ℤ sum_over 4 (share x) s =
       λ s lt. reaches 4 n (omega arith) many (with_three 7) (pos 2) (search rules) x s h lt in
+      let twice : x.den *ℤ pos 2 ≡ x.den +ℤ x.den = omega (arith, ints) in
       omega (
         products,
         at 7 (omega arith),
         at 9 (omega arith),
         at 10 (omega arith),
         first_at_most 4 n (omega arith) many (with_three 7) (pos 2) (search rules) x h,
-        twice x.den,
+        twice,
       )
 
   -- and where 1, 3 and 4 are, player 1 does
@@ -95,13 +93,14 @@ module _ (n : ℕ) (many : 4 ≤ n) where
   first_nothing x h =
       let at : (s : ℕ) → s < 16 → (x.den *ℤ (after n 13).worth s) ≤ℤ sum_over 4 (share x) s =
       λ s lt. reaches 4 n (omega arith) many (with_three 13) (pos 2) (search rules) x s h lt in
+      let twice : x.den *ℤ pos 2 ≡ x.den +ℤ x.den = omega (arith, ints) in
       omega (
         products,
         at 13 (omega arith),
         at 6 (omega arith),
         at 10 (omega arith),
         first_at_most 4 n (omega arith) many (with_three 13) (pos 2) (search rules) x h,
-        twice x.den,
+        twice,
       )
 
   -- together they get 1 at least

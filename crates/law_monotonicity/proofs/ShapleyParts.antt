@@ -1,27 +1,23 @@
 -- In the game in which all together are worth d and each other coalition nothing, all players are alike. So in the sum
 -- with it each of n players has an n-th of d more.
-use Rattle.std.proofs.Common.{◌≡◌, ◌≢◌, ℕ, zero, suc, ◌+◌, ◌^◌, ◌<◌, false, ℤ, pos, ◌+ℤ◌, ◌-ℤ◌, ◌*ℤ◌, ◌<ℤ◌, refl, sym}
+use Rattle.std.proofs.Common.{◌≡◌, ◌≢◌, ℕ, ◌+◌, ◌^◌, ◌<◌, false, ℤ, pos, ◌+ℤ◌, ◌-ℤ◌, ◌*ℤ◌, ◌<ℤ◌, refl, sym}
 use Rattle.std.proofs.Common.{ap, subst, ◌∙◌, inl, inr, arith}
 use Rattle.std.proofs.lemmas.Bool.{false≢true}
 use Rattle.std.proofs.Math.Pow.{pow_pos}
 use Rattle.definitions.proofs.Cases.{same_or_other}
 use Rattle.definitions.proofs.Members.{has_player-empty, has_player-grand_coalition, sum_below-same}
 use Rattle.definitions.proofs.Parts.{has_player-more_other, more-lt}
-use Rattle.definitions.proofs.Ring.{ring_laws, linear, mul-cancelℤ, mul_assocℤ, suc-mulℤ, zero-mulℤ}
-use Rattle.definitions.specs.Sums.{sum_below}
+use Rattle.definitions.proofs.Ring.{ring_laws, linear, mul-cancelℤ, mul_assocℤ}
 use Rattle.definitions.specs.Coalitions.{has_player, grand_coalition}
 use Rattle.definitions.specs.Games.{Game, share}
 use Rattle.definitions.specs.Players.{AreInterchangeable}
 use Rattle.definitions.specs.Shapley.{total_over, orders, shapley_total, factorial, IsShapley}
+use Rattle.shapley.proofs.Steps.{sum_below-constant}
 use Rattle.law_answers.proofs.SharesAddToAll.{factorial-positive, sum-totals}
 use Rattle.law_answers.proofs.ShapleyNoLess.{totals-alike}
 use Rattle.law_answers.proofs.TotalsAdd.{totals}
 use Rattle.law_monotonicity.specs.Growth.{ShapleyEachGetsAnEqualPart}
 use Rattle.law_monotonicity.proofs.Worths.{game}
-
-sum_below-constant : (n : ℕ) (c : ℤ) → sum_below n (λ i. c) ≡ pos n *ℤ c
-sum_below-constant zero c = sym (zero-mulℤ c)
-sum_below-constant (suc n) c = omega (arith, linear, sum_below-constant n c, suc-mulℤ n c)
 
 module _ (n : ℕ) (v w : ℕ → ℤ) (d : ℤ) (whole : w (grand_coalition n) ≡ v (grand_coalition n) +ℤ d)
     (others : (s : ℕ) → s < 2 ^ n → s ≢ grand_coalition n → w s ≡ v s) where

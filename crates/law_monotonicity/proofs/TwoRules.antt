@@ -1,14 +1,13 @@
 -- The Shapley value and the prenucleolus as rules, beside the impossibility of both properties.
-use Rattle.std.proofs.Common.{◌≡◌, ◌⊎◌, ℕ, ◌<◌, ◌≤◌, true, [], ℤ, pos, refl, sym, ap, ◌∙◌, inl, inr, arith}
+use Rattle.std.proofs.Common.{◌≡◌, ℕ, true, ℤ, refl, sym, ap, ◌∙◌, inl, arith}
 use Rattle.std.proofs.lemmas.Bool.{false≢true}
 use Rattle.std.proofs.Math.Pow.{pow_pos}
-use Rattle.definitions.proofs.Cases.{below_or_above}
 use Rattle.definitions.proofs.Members.{has_player-empty}
 use Rattle.definitions.specs.Coalitions.{has_player}
-use Rattle.definitions.specs.Games.{Game, Allocation, IsNucleolus}
+use Rattle.definitions.specs.Games.{Game, Allocation}
 use Rattle.definitions.specs.declared.Family.TheVariants.{Preimputations}
 use Rattle.definitions.specs.declared.Measure.TheVariants.{Plain}
-use Rattle.law_duality.proofs.Nucleoli.{prenucleoli_exist}
+use Rattle.law_duality.proofs.Nucleoli.{prenucleolus_of, prenucleolus_of-is}
 use Rattle.law_answers.specs.FairRules.{IsGameOf}
 use Rattle.law_answers.proofs.NucleolusIsInCore.{nucleolus_in_core}
 use Rattle.law_answers.proofs.ShapleyValuesExist.{shapley_exists}
@@ -38,18 +37,6 @@ shapley_grows n rule gives d t g h a b i ok core_a core_b up lt grows hi inside 
 
 -- ---- the prenucleolus
 
-nobody : Allocation
-nobody = record { shares = []; den = pos 1 }
-
-abbrev prenucleolus_of : (g : Game) → (0 < g.players) ⊎ (g.players ≤ 0) → Allocation
-prenucleolus_of g (inl some) = (prenucleoli_exist Plain g (inl refl) (omega (arith, some))).0
-prenucleolus_of g (inr none) = nobody
-
-prenucleolus_of-is : (g : Game) (c : (0 < g.players) ⊎ (g.players ≤ 0)) → 1 ≤ g.players
-    → IsNucleolus Preimputations Plain g (prenucleolus_of g c)
-prenucleolus_of-is g (inl some) h = (prenucleoli_exist Plain g (inl refl) (omega (arith, some))).1
-prenucleolus_of-is g (inr none) h = absurd (omega (arith, none, h))
-
 prenucleolus_picks : (n : ℕ) (rule : Game → Allocation) → GivesPrenucleolus n rule → PicksCorePoints n rule
 prenucleolus_picks n rule gives g z ok core =
     nucleolus_in_core Preimputations Plain g (rule g) z (inl refl) (gives g ok) core
@@ -59,10 +46,7 @@ prenucleolus_picks n rule gives g z ok core =
 pub two_rules_differ : TwoRulesDiffer
 two_rules_differ n many = (
   (λ g. (shapley_exists g).0, λ g ok. (shapley_exists g).1),
-  (
-    λ g. prenucleolus_of g (below_or_above 0 g.players),
-    λ g ok. prenucleolus_of-is g (below_or_above 0 g.players) (omega (arith, many, ok.0)),
-  ),
+  (prenucleolus_of, λ g ok. prenucleolus_of-is g (omega (arith, many, ok.0))),
   λ rule gives. (
     (monotonic_rules_are_shapley n rule).1 gives,
     shapley_grows n rule gives,

@@ -1,12 +1,13 @@
 -- Linear inequalities in the shares and one more number: members of a family whose excesses are at most caps, and some
 -- of whose excesses are at most that number.
-use Rattle.std.proofs.Common.{◌≡◌, ◌⊎◌, ℕ, zero, suc, ◌+◌, ◌-◌, ◌^◌, ◌<◌, ◌≤◌, Bool, true, false, cond, List, [], ◌∷◌}
+use Rattle.std.proofs.Common.{◌≡◌, ℕ, zero, suc, ◌+◌, ◌-◌, ◌^◌, ◌<◌, ◌≤◌, Bool, true, false, cond, List, [], ◌∷◌}
 use Rattle.std.proofs.Common.{◌++◌, length, map, ℤ, pos, negsuc, ◌+ℤ◌, ◌-ℤ◌, ◌*ℤ◌, refl, sym, ap, subst, ◌∙◌, inl}
 use Rattle.std.proofs.Common.{inr, arith, if◌then◌else◌}
 use Rattle.std.specs.List.{AllByRecursion, range_with_len}
 use Rattle.std.proofs.lemmas.Bool.{false≢true}
 use Rattle.std.proofs.lemmas.Int.{ints}
 use Rattle.definitions.proofs.Alls.{all_join, all_left, all_right}
+use Rattle.definitions.proofs.Cases.{same_or_later}
 use Rattle.definitions.proofs.Members.{sum_below-front}
 use Rattle.definitions.proofs.Members.{sum_below-same, sum_below-times}
 use Rattle.definitions.proofs.Ring.{linear}
@@ -36,13 +37,10 @@ all_range Q f a (suc k) each =
 range_all : (Q : Row → Type 0) (f : ℕ → Row) (a k : ℕ) → AllByRecursion Q (map f (range_with_len a k)) → (s : ℕ)
     → a ≤ s → s < a + k → Q (f s)
 range_all Q f a zero h s low high = absurd (omega arith)
-range_all Q f a (suc k) h s low high = elim (first_or_later a s low) [
+range_all Q f a (suc k) h s low high = elim (same_or_later a s low) [
   | inl same ↦ subst (λ (i : ℕ). Q (f i)) same h.0
   | inr later ↦ range_all Q f (a + 1) k h.1 s later (omega arith)
 ]
-  where
-    first_or_later : (a s : ℕ) → a ≤ s → (a ≡ s) ⊎ (a + 1 ≤ s)
-    first_or_later a s low = grind arith
 
 -- a on unknown 0, e on the unknowns of the members of s
 abbrev pub coefficients : ℤ → ℤ → ℕ → ℕ → ℤ

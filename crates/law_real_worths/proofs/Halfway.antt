@@ -6,7 +6,7 @@ use Rattle.std.specs.List.{range_with_len}
 use Rattle.std.proofs.lemmas.Bool.{false≢true}
 use Rattle.std.proofs.lemmas.List.FromFn.{get_or-map-range_with_len, length-map-range_with_len}
 use Rattle.std.proofs.Math.Nat.{pow-suc}
-use Rattle.definitions.proofs.Cases.{true_or_false, same_or_other, nat_eq-other}
+use Rattle.definitions.proofs.Cases.{true_or_false, same_or_other, nat_eq-other, and_right}
 use Rattle.definitions.proofs.Masks.{singleton-within}
 use Rattle.definitions.specs.Coalitions.{has_player, singleton, grand_coalition, proper_coalitions}
 use Rattle.definitions.specs.declared.Family.{Family}
@@ -43,11 +43,7 @@ some_of zero c e = absurd (false≢true e)
 some_of (suc s) c e = omega arith
 
 test_of : (s : ℕ) (c : Bool) → (not (nat_eq s 0) && c) ≡ true → c ≡ true
-test_of s c e = second (not (nat_eq s 0)) c e
-  where
-    second : (a c : Bool) → (a && c) ≡ true → c ≡ true
-    second true c e = e
-    second false c e = absurd (false≢true e)
+test_of s c e = and_right (not (nat_eq s 0)) c e
 
 no_test_of : (s : ℕ) (c : Bool) → 1 ≤ s → (not (nat_eq s 0) && c) ≡ false → c ≡ false
 no_test_of s c one e = rest (nat_eq s 0) c (nat_eq-other s 0 (λ h. omega arith)) e

@@ -28,17 +28,6 @@ abbrev pub count : (ℕ → Bool) → ℕ → ℕ
 count test zero = 0
 count test (suc b) = cond (test b) (suc (count test b)) (count test b)
 
-pub count_some : (test : ℕ → Bool) (b s : ℕ) → s < b → test s ≡ true → 1 ≤ count test b
-count_some test zero s lt e = absurd (omega arith)
-count_some test (suc b) s lt e = elim (less_or_last s b lt) [
-  | inl less ↦ raised (test b) (count_some test b s less e)
-  | inr last ↦ rw (sym (ap test last) ∙ e) (omega arith)
-]
-  where
-    raised : (c : Bool) → 1 ≤ count test b → 1 ≤ cond c (suc (count test b)) (count test b)
-    raised true h = omega arith
-    raised false h = h
-
 -- without number r
 abbrev pub without : (ℕ → Bool) → ℕ → ℕ → Bool
 without test r s = test s && not (nat_eq s r)

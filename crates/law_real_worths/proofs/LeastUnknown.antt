@@ -12,7 +12,8 @@ use Rattle.real_shares.proofs.Orders.{decided, at_most-same, from_less}
 use Rattle.real_shares.proofs.Multiples.{back, through, plus-at_most, times-keeps, times-cancel, times-zero}
 use Rattle.real_shares.proofs.Multiples.{equal_path}
 use Rattle.real_shares.proofs.RealNumbers.{are_ordered}
-use Rattle.law_real_worths.proofs.Rows.{Row, Parts, parts, value, Meets, combined, value_of_both, value_without, longer}
+use Rattle.law_duality.proofs.BySign.{by_sign}
+use Rattle.law_real_worths.proofs.Rows.{Row, Passes, Parts, value, Meets, combined, value_of_both, value_without, longer}
 use Rattle.law_real_worths.proofs.Rows.{longer_same, longer_other, with, value_longer, bound_below, bound_above}
 use Rattle.law_real_worths.proofs.Rows.{below_times, from_low_sum, met_above, met_below, met_crossed}
 
@@ -166,7 +167,7 @@ module _ (N : Numbers Real) (R : AreReals N) where
           let down = all_with (λ (w : Row). AtMost N c (bound_above N R m z w))
           (λ (u : Row). C u × (u.coefficient m <ℤ pos 0)) (MetWith m z c) r.ns
           (λ u le h. met_below N R m z u c h.1 le) k.2 r.negative in
-          (c, r.all (λ u. N.at_most N.zero (with N R m z c u)) none down (levels c), inr k.1)
+          (c, r.back (λ u. N.at_most N.zero (with N R m z c u)) none down (levels c), inr k.1)
       by_rows (p ∷ ps) e =
           let both : AllByRecursion Whole (p ∷ ps) = subst (λ (vs : List Row). AllByRecursion Whole vs) e
           (all_both (λ (u : Row). C u × (pos 0 <ℤ u.coefficient m))
@@ -183,7 +184,7 @@ module _ (N : Numbers Real) (R : AreReals N) where
           let down = all_weaken (λ (q : Row). Meets N R m z (crossed m v q)) (MetWith m z c) r.ns
           (λ q le. met_crossed N R m z v q s.1.0.1 le) s.1.1 in (
             c,
-            r.all (λ u. N.at_most N.zero (with N R m z c u)) ups down (levels c),
+            r.back (λ u. N.at_most N.zero (with N R m z c u)) ups down (levels c),
             inl (v, s.1.0, below_times N R m z v s.1.0.1),
           )
 
@@ -219,7 +220,7 @@ module _ (N : Numbers Real) (R : AreReals N) where
     first_unknown : (us : List Row) → AllByRecursion (Sound 1) us
         → (z : ℕ → Real) × AllByRecursion (Meets N R 1 z) us × Ends z
     first_unknown us h =
-        let r = parts 0 (Sound 1) us h in
+        let r = by_sign (λ (u : Row). u.coefficient 0) (Sound 1) Passes us h in
         let here = all_weaken (Without 0 (Sound 1)) (Meets N R 0 z0) r.zs
         (λ u s. sound_without 0 u s z0 some) r.none in
         let crossings = all_weaken (Without 0 (Sound 1)) (Meets N R 0 z0) (pairs 0 r.ps r.ns)
@@ -259,7 +260,7 @@ module _ (N : Numbers Real) (R : AreReals N) where
     least_unknown zero us h = first_unknown us h
     least_unknown (suc m) us h =
         let e = suc m in
-        let r = parts e (Sound (suc e)) us h in
+        let r = by_sign (λ (u : Row). u.coefficient e) (Sound (suc e)) Passes us h in
         let all = all_join (Without e (Sound (suc e))) r.zs (pairs e r.ps r.ns) r.none
         (pairs_without e (Sound (suc e)) (sound_closed (suc e)) r.ps r.ns r.positive r.negative) in
         let found = least_unknown m (r.zs ++ pairs e r.ps r.ns)

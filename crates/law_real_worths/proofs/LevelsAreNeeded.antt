@@ -1,7 +1,7 @@
 -- At the prenucleolus each collection of coalitions of at least some excess is balanced: otherwise a transfer gives one
 -- of them more and takes from none, by Farkas's lemma, and a small enough part of it comes first.
 use Rattle.std.proofs.Common.{◌≡◌, ◌⊎◌, ℕ, suc, ◌+◌, ◌-◌, ◌^◌, ◌<◌, ◌≤◌, Bool, true, ◌&&◌, not, nat_eq, List, map, ℤ}
-use Rattle.std.proofs.Common.{pos, ◌+ℤ◌, ◌-ℤ◌, ◌<ℤ◌, ◌≤ℤ◌, int_le, sym, ap, ◌∙◌, inl, inr, arith}
+use Rattle.std.proofs.Common.{pos, ◌+ℤ◌, ◌-ℤ◌, ◌≤ℤ◌, int_le, sym, ap, ◌∙◌, inl, inr, arith}
 use Rattle.std.proofs.lemmas.Bool.{false≢true}
 use Rattle.std.proofs.lemmas.Int.{ints, by_lt_z}
 use Rattle.definitions.proofs.Ring.{linear}
@@ -10,6 +10,7 @@ use Rattle.definitions.proofs.Members.{sum_over-grand_coalition}
 use Rattle.definitions.specs.Sums.{sum_below}
 use Rattle.definitions.specs.Coalitions.{grand_coalition, proper_coalitions, sum_over}
 use Rattle.definitions.specs.declared.Family.TheVariants.{Preimputations}
+use Rattle.theorems.proofs.Certified.{from_int_le, to_int_le}
 use Rattle.real_shares.specs.Numbers.{Numbers, IsOrderedGroup, AtMost, Less, Equal, times}
 use Rattle.real_shares.specs.Shares.{amount_of}
 use Rattle.real_shares.proofs.Orders.{at_most-same, from_less}
@@ -90,12 +91,6 @@ module _ {C : Type 0} (N : Numbers C) (L : IsOrderedGroup N) (halve : CanHalve N
     abbrev rises : ℕ → Bool
     rises s = level s && int_le (pos 1) (W s)
 
-    to_le : (a b : ℤ) → a ≤ℤ b → int_le a b ≡ true
-    to_le a b le = grind (arith, ints)
-
-    from_le : (a b : ℤ) → int_le a b ≡ true → a ≤ℤ b
-    from_le a b h = omega (arith, ints, h)
-
     -- who gets one step at least is at least so much lower
     one_step : (s : ℕ) → pos 1 ≤ℤ W s → AtMost N (excess_in N g z s) (N.plus (e s) (N.minus d))
     one_step s one =
@@ -149,7 +144,7 @@ module _ {C : Type 0} (N : Numbers C) (L : IsOrderedGroup N) (halve : CanHalve N
       range = from_proper n b lt parts.0
 
       at_top : AtMost N (excess_in N g z b) E
-      at_top = one_step b (from_le (pos 1) (W b) both.1)
+      at_top = one_step b (from_int_le (pos 1) (W b) both.1)
 
       above : Less N E (e b)
       above le = step.1 (no_less N L (e b) d le)
@@ -175,9 +170,9 @@ module _ {C : Type 0} (N : Numbers C) (L : IsOrderedGroup N) (halve : CanHalve N
           elim (true_or_false (level s)) [
             | inl in_level ↦
                 by_lt_z (pos 0) (W s) (λ up. inr
-                (let first = up_one (W s) up in
+                (let first : pos 1 ≤ℤ W s = omega (arith, linear, up) in
                 through N L (one_step s first) (L.shifts (e s) (e b) (N.minus d) (most s inside
-                (and_both (level s) (int_le (pos 1) (W s)) in_level (to_le (pos 1) (W s) first))))))
+                (and_both (level s) (int_le (pos 1) (W s)) in_level (to_int_le (pos 1) (W s) first))))))
                 (λ le. inl (same_excess s (flat (W s) le (none_less s inside in_level))))
             | inr out ↦
                 let proper = to_proper n s one (omega (arith, one, past)) in
@@ -188,9 +183,6 @@ module _ {C : Type 0} (N : Numbers C) (L : IsOrderedGroup N) (halve : CanHalve N
                 ]))) (L.shifts (e t) (e b) (N.minus d) parts.1))
           ]
         where
-          up_one : (u : ℤ) → pos 0 <ℤ u → pos 1 ≤ℤ u
-          up_one u h = omega (arith, linear)
-
           flat : (u : ℤ) → u ≤ℤ pos 0 → pos 0 ≤ℤ u → u ≡ pos 0
           flat u a b = omega (arith, linear)
 
@@ -208,6 +200,6 @@ module _ {C : Type 0} (N : Numbers C) (L : IsOrderedGroup N) (halve : CanHalve N
     never = elim (greatest_among N L rises e (2 ^ n)) [
       | inl none ↦
           false≢true
-          (sym (none c within) ∙ and_both (level c) (int_le (pos 1) (W c)) here (to_le (pos 1) (W c) gains))
+          (sym (none c within) ∙ and_both (level c) (int_le (pos 1) (W c)) here (to_int_le (pos 1) (W c) gains))
       | inr found ↦ never_with found.0 found.1 found.2 found.3
     ]

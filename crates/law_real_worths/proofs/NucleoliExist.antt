@@ -15,7 +15,7 @@ use Rattle.law_real_worths.proofs.ExcessRows.{IsWithin, IsBound}
 use Rattle.law_real_worths.proofs.Joined.{greatest_among}
 use Rattle.law_real_worths.proofs.Minimax.{minimax}
 use Rattle.law_real_worths.proofs.RealsCanHalve.{can_halve}
-use Rattle.law_real_worths.proofs.LeastLists.{count, count_some, count_without, without, without_other, never_both}
+use Rattle.law_real_worths.proofs.LeastLists.{count, count_without, without, without_other, never_both}
 use Rattle.law_real_worths.proofs.LeastLists.{same_excesses, first_by, next_cap, cap_yes, cap_no, at_most_cap, to_next}
 use Rattle.law_real_worths.proofs.LeastLists.{next_bound, IsFixed, sweep, Before}
 use Rattle.law_real_worths.proofs.UnbeatenIsNucleolus.{from_unbeaten}
@@ -144,7 +144,7 @@ module _ (N : Numbers Real) (R : AreReals N) (g : NumberGame Real) (family : Fam
       → (y : List Real) → Within cap y → Least cap
   least_within zero cap test top a few y hy = elim (greatest_among N L test (e y) b) [
     | inl none ↦ none_left cap test top a none y hy
-    | inr d ↦ absurd (let some = count_some test b d.0 d.1 d.2 in omega (arith, some, few))
+    | inr d ↦ absurd (let one = count_without test b d.0 d.1 d.2 in omega (arith, one, few))
   ]
   least_within (suc k) cap test top a few y hy = elim (greatest_among N L test (e y) b) [
     | inl none ↦ none_left cap test top a none y hy

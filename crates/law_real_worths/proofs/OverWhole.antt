@@ -1,13 +1,14 @@
 -- Each real number over a whole number is a real number: each of its multiples over that number, rounded down.
-use Rattle.std.proofs.Common.{◌≡◌, ℕ, zero, suc, ◌+◌, ◌/◌, ℤ, pos, negsuc, ◌+ℤ◌, ◌-ℤ◌, ◌*ℤ◌, ◌≤ℤ◌, neg_ℤ}
+use Rattle.std.proofs.Common.{◌≡◌, ℕ, suc, ◌+◌, ◌/◌, ℤ, pos, negsuc, ◌+ℤ◌, ◌-ℤ◌, ◌*ℤ◌, ◌≤ℤ◌, neg_ℤ}
 use Rattle.std.proofs.Common.{sym, ap, ◌∙◌, arith}
 use Rattle.std.proofs.Math.Nat.{lt-div-mul-add, div-mul-le_self}
 use Rattle.std.proofs.lemmas.Int.{ints}
-use Rattle.definitions.proofs.Ring.{linear, mul-addℤ, zero-mulℤ, suc-mulℤ, neg-mulℤ, mul-nonnegativeℤ}
+use Rattle.definitions.proofs.Ring.{linear, mul-addℤ, suc-mulℤ, neg-mulℤ, mul-nonnegativeℤ}
 use Rattle.definitions.proofs.Ring.{mul-le_cancelℤ}
 use Rattle.theorems.proofs.Products.{products}
 use Rattle.real_shares.specs.Numbers.{Numbers, IsOrderedGroup, Equal, multiple, times}
 use Rattle.real_shares.specs.Reals.{Real, AreReals}
+use Rattle.real_shares.proofs.Quotients.{multiple-near}
 use Rattle.real_shares.proofs.RealNumbers.{are_ordered}
 
 -- ---- an integer over r + 1, rounded down
@@ -52,15 +53,10 @@ module _ (N : Numbers Real) (R : AreReals N) where
   abbrev L : IsOrderedGroup N
   L = are_ordered N R
 
-  multiple_near : (k : ℕ) (a : Real) (n : ℕ) → (multiple N k a).near n ≡ pos k *ℤ a.near n
-  multiple_near zero a n = R.zero n ∙ sym (zero-mulℤ (a.near n))
-  multiple_near (suc k) a n =
-      R.plus (multiple N k a) a n ∙ ap (λ z. z +ℤ a.near n) (multiple_near k a n) ∙ sym (suc-mulℤ k (a.near n))
-
   pub times_near : (z : ℤ) (a : Real) (n : ℕ) → (times N z a).near n ≡ z *ℤ a.near n
-  times_near (pos k) a n = multiple_near k a n
+  times_near (pos k) a n = multiple-near N R k a n
   times_near (negsuc k) a n =
-      R.minus (multiple N (suc k) a) n ∙ ap (λ z. pos 0 -ℤ z) (multiple_near (suc k) a n)
+      R.minus (multiple N (suc k) a) n ∙ ap (λ z. pos 0 -ℤ z) (multiple-near N R (suc k) a n)
       ∙ negated k (a.near n)
     where
       negated : (k : ℕ) (z : ℤ) → pos 0 -ℤ pos (suc k) *ℤ z ≡ negsuc k *ℤ z

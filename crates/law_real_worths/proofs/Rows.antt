@@ -1,13 +1,13 @@
 -- Linear inequalities with whole coefficients and real constants, by eliminating one unknown after the other (Fourier
 -- 1826; Motzkin 1936). If some point meets all, one has the least unknown 0, or one below a bound.
-use Rattle.std.proofs.Common.{◌≡◌, ◌≢◌, ℕ, zero, suc, ◌-◌, List, [], ◌∷◌, ℤ, pos, neg_ℤ, ◌+ℤ◌}
+use Rattle.std.proofs.Common.{◌≡◌, ◌≢◌, ℕ, zero, suc, ◌-◌, List, ℤ, pos, neg_ℤ, ◌+ℤ◌}
 use Rattle.std.proofs.Common.{◌*ℤ◌, ◌<ℤ◌, unsigned_abs, Bool, IsTrue, nat_eq, refl, sym, ap, subst, ◌∙◌, arith}
 use Rattle.std.proofs.Common.{if◌then◌else◌}
-use Rattle.std.specs.List.{AllByRecursion}
-use Rattle.std.proofs.lemmas.Int.{by_lt_z, ints}
+use Rattle.std.proofs.lemmas.Int.{ints}
 use Rattle.definitions.proofs.Cases.{nat_eq-same, nat_eq-other}
 use Rattle.definitions.proofs.Members.{sum_below-same}
 use Rattle.definitions.proofs.Ring.{linear}
+use Rattle.law_duality.proofs.BySign.{BySign}
 use Rattle.law_duality.proofs.Elimination.{value_at, value_combined}
 use Rattle.theorems.proofs.Products.{products, sorted_products}
 use Rattle.real_shares.specs.Numbers.{Numbers, IsOrderedGroup, AtMost, Equal, times, total_below}
@@ -25,50 +25,12 @@ pub record Row : Type 0 where
 
 -- ---- the rows by the sign of a coefficient
 
-pub record Parts (m : ℕ) (C : Row → Type 0) (us : List Row) : Type 0 where
-  pub ps : List Row
-  pub ns : List Row
-  pub zs : List Row
-  pub positive : AllByRecursion (λ (u : Row). C u × (pos 0 <ℤ u.coefficient m)) ps
-  pub negative : AllByRecursion (λ (u : Row). C u × (u.coefficient m <ℤ pos 0)) ns
-  pub none : AllByRecursion (λ (u : Row). C u × (u.coefficient m ≡ pos 0)) zs
-  pub all : (Q : Row → Bool) → AllByRecursion (λ u. IsTrue (Q u)) ps → AllByRecursion (λ u. IsTrue (Q u)) ns
-      → AllByRecursion (λ u. IsTrue (Q u)) zs → AllByRecursion (λ u. IsTrue (Q u)) us
+-- the row passes the test
+abbrev pub Passes : (Row → Bool) → Row → Type 0
+Passes test u = IsTrue (test u)
 
-pub parts : (m : ℕ) (C : Row → Type 0) (us : List Row) → AllByRecursion C us → Parts m C us
-parts m C [] h = record { ps = []; ns = []; zs = []; positive = tt; negative = tt; none = tt; all = λ Q a b c. tt }
-parts m C (u ∷ us) h =
-    let r = parts m C us h.1 in
-    by_lt_z (u.coefficient m) (pos 0)
-    (λ lt. record {
-      ps = r.ps;
-      ns = u ∷ r.ns;
-      zs = r.zs;
-      positive = r.positive;
-      negative = ((h.0, lt), r.negative);
-      none = r.none;
-      all = λ Q a b c. (b.0, r.all Q a b.1 c);
-    })
-    (λ le.
-    by_lt_z (pos 0) (u.coefficient m)
-    (λ lt. record {
-      ps = u ∷ r.ps;
-      ns = r.ns;
-      zs = r.zs;
-      positive = ((h.0, lt), r.positive);
-      negative = r.negative;
-      none = r.none;
-      all = λ Q a b c. (a.0, r.all Q a.1 b c);
-    })
-    (λ ge. record {
-      ps = r.ps;
-      ns = r.ns;
-      zs = u ∷ r.zs;
-      positive = r.positive;
-      negative = r.negative;
-      none = ((h.0, omega (arith, linear)), r.none);
-      all = λ Q a b c. (c.0, r.all Q a b c.1);
-    }))
+abbrev pub Parts : ℕ → (Row → Type 0) → List Row → Type 0
+Parts m C us = BySign (λ (u : Row). u.coefficient m) C Passes us
 
 module _ (N : Numbers Real) (R : AreReals N) where
   abbrev L : IsOrderedGroup N

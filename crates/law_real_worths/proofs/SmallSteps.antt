@@ -1,7 +1,7 @@
 -- A number above zero that is as small as needed; and shares moved by multiples of it.
 use Rattle.std.proofs.Common.{◌≡◌, ℕ, zero, suc, ◌+◌, ◌<◌, Bool, true, false, cond}
-use Rattle.std.proofs.Common.{List, length, map, ℤ, pos, negsuc}
-use Rattle.std.proofs.Common.{◌+ℤ◌, ◌-ℤ◌, ◌≤ℤ◌, unsigned_abs, refl, sym, ap, ◌∙◌, inl, inr, arith}
+use Rattle.std.proofs.Common.{List, length, map, ℤ, pos}
+use Rattle.std.proofs.Common.{◌+ℤ◌, ◌-ℤ◌, ◌≤ℤ◌, unsigned_abs, sym, ap, ◌∙◌, inl, inr, arith}
 use Rattle.std.specs.List.{range_with_len}
 use Rattle.std.proofs.lemmas.Bool.{false≢true}
 use Rattle.std.proofs.lemmas.Int.{ints}
@@ -16,6 +16,7 @@ use Rattle.real_shares.proofs.Multiples.{chain, back, equal_path, plus-equal, le
 use Rattle.real_shares.proofs.Multiples.{right, minus-equal, plus-at_most}
 use Rattle.real_shares.proofs.Multiples.{times-zero, times-keeps, times-add, total_below-plus, total_below-equal}
 use Rattle.real_shares.proofs.Multiples.{through}
+use Rattle.law_answers.proofs.Numbers.{pos-unsigned_abs}
 use Rattle.law_real_worths.specs.Games.{NumberGame, excess_in, CanHalve}
 use Rattle.law_real_worths.proofs.CoreFirst.{amount_at}
 use Rattle.law_real_worths.proofs.Moves.{less_more}
@@ -37,15 +38,12 @@ module _ {C : Type 0} (N : Numbers C) (L : IsOrderedGroup N) where
 
   pub times_more : (u v : ℤ) (d : C) → AtMost N N.zero d → u ≤ℤ v → AtMost N (times N u d) (times N v d)
   times_more u v d low le =
-      let (k, e) = gap (v -ℤ u) (omega (arith, linear, le)) in
-      let whole : u +ℤ pos k ≡ v = omega (arith, linear, e) in
+      let k = unsigned_abs (v -ℤ u) in
+      let whole : u +ℤ pos k ≡ v =
+      omega (arith, linear, pos-unsigned_abs (v -ℤ u) (omega (arith, linear, le))) in
       through N L (no_less_with N L (times N u d) (times N (pos k) d) (multiple_low k d low))
       (chain N L (back N L (times-add N L u (pos k) d))
       (equal_path N L (times N (u +ℤ pos k) d) (times N v d) (ap (λ z. times N z d) whole))).0
-    where
-      gap : (z : ℤ) → pos 0 ≤ℤ z → (k : ℕ) × (z ≡ pos k)
-      gap (pos k) h = (k, refl)
-      gap (negsuc k) h = absurd (omega (arith, linear))
 
   module _ (halve : CanHalve N) where
     half_some : (c : C) → Less N N.zero c → Less N N.zero (halve c).0

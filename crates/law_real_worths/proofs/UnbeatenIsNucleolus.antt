@@ -1,15 +1,16 @@
 -- A member that no other comes before is the nucleolus: were it not to come before a member with other shares, those
 -- halfway between the two would come before it.
-use Rattle.std.proofs.Common.{◌≡◌, ◌⊎◌, ℕ, suc, ◌-◌, ◌^◌, Bool, true, false, cond, List, [], ◌∷◌, length, refl, sym, ap}
+use Rattle.std.proofs.Common.{◌≡◌, ◌⊎◌, ℕ, ◌-◌, ◌^◌, List, [], ◌∷◌, length, sym}
 use Rattle.std.proofs.Common.{◌∙◌, inl, inr, arith}
 use Rattle.std.proofs.lemmas.List.{length-map}
 use Rattle.definitions.specs.Coalitions.{proper_coalitions}
 use Rattle.definitions.specs.declared.Family.{Family}
-use Rattle.real_shares.specs.Numbers.{Numbers, IsOrderedGroup, AtMost, Equal, placed, sorted_by, IsLesserBy}
+use Rattle.real_shares.specs.Numbers.{Numbers, IsOrderedGroup, AtMost, Equal, sorted_by, IsLesserBy}
 use Rattle.real_shares.specs.Numbers.{ComesBeforeBy}
 use Rattle.real_shares.proofs.Orders.{decided, equal-same}
 use Rattle.real_shares.proofs.Multiples.{chain, back, through, minus-equal, right}
 use Rattle.real_shares.proofs.RealNumbers.{are_ordered}
+use Rattle.real_shares.proofs.Sorted.{length-sorted}
 use Rattle.law_real_worths.specs.Games.{NumberGame, excess_in, excess_list_in, HaveSameIn, IsUnbeatenIn}
 use Rattle.law_real_worths.specs.Games.{IsNucleolusIn, CanHalve}
 use Rattle.law_real_worths.specs.RealWorths.{UnbeatenIsNucleolus, IsUnitChange}
@@ -19,19 +20,6 @@ use Rattle.law_real_worths.proofs.Halfway.{halfway, halfway_member, comes_first}
 use Rattle.law_real_worths.proofs.RealsCanHalve.{can_halve}
 
 module _ {C : Type 0} (N : Numbers C) (L : IsOrderedGroup N) where
-  length_placed : (a : C) (l : List C) → length (placed N a l) ≡ suc (length l)
-  length_placed a [] = refl
-  length_placed a (b ∷ l) = either (N.at_most a b) (length_placed a l)
-    where
-      either : (t : Bool) → length (placed N a l) ≡ suc (length l)
-          → length (cond t (b ∷ placed N a l) (a ∷ (b ∷ l))) ≡ suc (suc (length l))
-      either true e = ap suc e
-      either false e = refl
-
-  length_sorted : (l : List C) → length (sorted_by N l) ≡ length l
-  length_sorted [] = refl
-  length_sorted (a ∷ l) = length_placed a (sorted_by N l) ∙ ap suc (length_sorted l)
-
   -- a list comes before another, or what comes before the other comes before it
   before_or_behind : (l k : List C) → length l ≡ length k
       → IsLesserBy N l k ⊎ ((m : List C) → IsLesserBy N m k → IsLesserBy N m l)
@@ -74,8 +62,8 @@ module _ {C : Type 0} (N : Numbers C) (L : IsOrderedGroup N) where
         → length (sorted_by N (excess_list_in N g y)) ≡ length (sorted_by N (excess_list_in N g z))
     lengths y z =
         let ps = proper_coalitions g.players in
-        length_sorted (excess_list_in N g y) ∙ length-map ps (excess_in N g y)
-        ∙ sym (length_sorted (excess_list_in N g z) ∙ length-map ps (excess_in N g z))
+        length-sorted N L (excess_list_in N g y) ∙ length-map ps (excess_in N g y)
+        ∙ sym (length-sorted N L (excess_list_in N g z) ∙ length-map ps (excess_in N g z))
 
     -- the same shares come before what they came before
     pub same_before : (y z : List C) → length y ≡ g.players → length z ≡ g.players → HaveSameIn N g y z

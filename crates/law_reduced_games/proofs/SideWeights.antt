@@ -13,6 +13,7 @@ use Rattle.definitions.specs.Coalitions.{grand_coalition, sum_over}
 use Rattle.definitions.specs.Games.{Game, Allocation, excess, IsNucleolus}
 use Rattle.definitions.specs.declared.Family.TheVariants.{Preimputations}
 use Rattle.definitions.specs.declared.Measure.TheVariants.{Plain}
+use Rattle.theorems.proofs.Certified.{to_int_le}
 use Rattle.theorems.proofs.Transfers.{some_greatest}
 use Rattle.law_duality.proofs.NoGain.{no_gain}
 use Rattle.law_duality.proofs.SideWeights.{SideWeights, side_weights}
@@ -88,13 +89,10 @@ module _ (g : Game) (x : Allocation) (is : IsNucleolus Preimputations Plain g x)
 
   pub weights_at : (d : ℕ) → d < count → SideWeights n (is_high d) some d
   weights_at d lt =
-      side_weights n (is_high d) some d lt (to_le (excess g x (suc d)) (excess g x (suc d)) (omega (arith, linear)))
+      side_weights n (is_high d) some d lt (to_int_le (excess g x (suc d)) (excess g x (suc d)) (omega (arith, linear)))
       (λ z total gain low.
       no_side_payment z (excess g x (suc d)) d total lt refl gain
-      (λ t less le. low t less (to_le (excess g x (suc d)) (excess g x (suc t)) le)))
-    where
-      to_le : (a b : ℤ) → a ≤ℤ b → int_le a b ≡ true
-      to_le a b le = grind (arith, ints)
+      (λ t less le. low t less (to_int_le (excess g x (suc d)) (excess g x (suc t)) le)))
 
   pub none_at : (d : ℕ) (lt : d < count) (s : ℕ) → excess g x s <ℤ excess g x (suc d)
       → (weights_at d lt).weights s ≡ pos 0

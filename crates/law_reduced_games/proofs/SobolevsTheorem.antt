@@ -12,13 +12,13 @@
 --    So by anonymity all get the same, and by efficiency (Rules.antt) nothing.
 -- 5. The players' own words are some of these players, and their reduced game is the game of excesses
 --    (WordGameShares.antt). So the rule gives nothing there, and by covariance the prenucleolus.
-use Rattle.std.proofs.Common.{◌≡◌, ◌⊎◌, ℕ, zero, suc, ◌-◌, ◌^◌, ◌<◌, ◌≤◌, List, [], length, get_or, map, ℤ, pos, neg_ℤ}
+use Rattle.std.proofs.Common.{◌≡◌, ℕ, zero, suc, ◌-◌, ◌^◌, ◌<◌, ◌≤◌, List, length, get_or, map, ℤ, pos, neg_ℤ}
 use Rattle.std.proofs.Common.{◌+ℤ◌, ◌*ℤ◌, ◌≤ℤ◌, refl, sym, ap, ◌∙◌, inl, inr, arith}
 use Rattle.std.proofs.lemmas.Int.{ints, by_lt_z}
 use lib.IntN.{*ℤ_comm}
 use Rattle.definitions.proofs.Alls.{all_at}
 use Rattle.definitions.proofs.Ring.{linear, mul-zeroℤ, mul-cancelℤ, mul_assocℤ, mul_left_commℤ, zero-mulℤ}
-use Rattle.definitions.proofs.Cases.{less_or_last, below_or_above}
+use Rattle.definitions.proofs.Cases.{less_or_last}
 use Rattle.definitions.proofs.Masks.{singleton-within}
 use Rattle.definitions.proofs.SumsOver.{sum_over-times, sum_over-same, sum_over-empty, amount-at, amount-empty}
 use Rattle.definitions.specs.Coalitions.{grand_coalition, proper_coalitions, sum_over}
@@ -27,7 +27,7 @@ use Rattle.definitions.specs.Games.{IsNucleolus}
 use Rattle.definitions.specs.declared.Family.TheVariants.{Preimputations}
 use Rattle.definitions.specs.declared.Measure.TheVariants.{Plain}
 use Rattle.theorems.proofs.ScaledLists.{order_kept, values_times}
-use Rattle.law_duality.proofs.Nucleoli.{prenucleoli_exist}
+use Rattle.law_duality.proofs.Nucleoli.{prenucleoli_exist, prenucleolus_of, prenucleolus_of-is}
 use Rattle.law_answers.specs.StrategicEquivalence.{equivalent_game, equivalent_shares}
 use Rattle.law_answers.specs.Renumbering.{renumbered_game, renumbered_shares}
 use Rattle.law_answers.proofs.NucleolusIsUnique.{nucleolus_unique}
@@ -253,20 +253,5 @@ prenucleolus_meets rule is = record {
 pub sobolevs_theorem : SobolevsTheorem
 sobolevs_theorem rule = (rule_is_prenucleolus rule, prenucleolus_meets rule)
 
--- a rule of the prenucleolus, and any shares of a game without players
-rule_of : (g : Game) → (0 < g.players) ⊎ (g.players ≤ 0) → Allocation
-rule_of g (inl some) = (prenucleoli_exist Plain g (inl refl) (omega (arith, some))).0
-rule_of g (inr none) = record { shares = []; den = pos 1 }
-
-rule_of-nucleolus : (g : Game) (r : (0 < g.players) ⊎ (g.players ≤ 0)) → 1 ≤ g.players
-    → IsNucleolus Preimputations Plain g (rule_of g r)
-unfolding rule_of
-rule_of-nucleolus g (inl some) p = (prenucleoli_exist Plain g (inl refl) (omega (arith, some))).1
-rule_of-nucleolus g (inr none) p = absurd (omega (arith, none, p))
-
 pub some_rule_meets_them : SomeRuleMeetsThem
-some_rule_meets_them = (
-  λ g. rule_of g (below_or_above 0 g.players),
-  prenucleolus_meets (λ g. rule_of g (below_or_above 0 g.players))
-      (λ g p. rule_of-nucleolus g (below_or_above 0 g.players) p.0),
-)
+some_rule_meets_them = (prenucleolus_of, prenucleolus_meets prenucleolus_of (λ g p. prenucleolus_of-is g p.0))

@@ -1,34 +1,20 @@
 -- What a coalition gets and what the others get add to the worth of all: so one gets at least its worth exactly when
 -- the other gets at most what it adds.
-use Rattle.std.proofs.Common.{◌≡◌, ℕ, ◌-◌, ◌^◌, ◌<◌, ◌+◌, ◌+ℤ◌, ◌-ℤ◌, ◌*ℤ◌, ◌≤ℤ◌, ap, arith}
+use Rattle.std.proofs.Common.{◌≡◌, ℕ, ◌-◌, ◌+◌, ◌-ℤ◌, ◌*ℤ◌, ◌≤ℤ◌, ap, arith}
 use Rattle.std.proofs.lemmas.Int.{by_lt_z}
 use Rattle.definitions.proofs.Masks.{singleton-within}
-use Rattle.definitions.proofs.Members.{sum_over-complement, sum_over-grand_coalition, sum_over-singleton}
+use Rattle.definitions.proofs.Members.{sum_over-singleton}
 use Rattle.definitions.proofs.Parts.{others_lacks}
 use Rattle.definitions.proofs.Ring.{linear}
 use Rattle.definitions.proofs.SumsOver.{amount-at}
 use Rattle.definitions.specs.Coalitions.{singleton, grand_coalition}
-use Rattle.definitions.specs.Games.{Game, Allocation, share, amount, IsAllocation, IsEfficient, InCore}
+use Rattle.definitions.specs.Games.{Game, Allocation, share, amount, InCore}
 use Rattle.definitions.specs.declared.Family.TheVariants.{Imputations}
+use Rattle.law_answers.proofs.Complements.{complement-within, both_get}
 use Rattle.law_answers.proofs.NucleolusIsInCore.{core_family}
-use Rattle.law_stability.proofs.Unions.{opposite-within, opposite-twice}
+use Rattle.law_stability.proofs.Unions.{opposite-twice}
 use Rattle.law_stability.specs.Subsidies.{IsSubsidyFree, CoreIsSubsidyFree, DummiesInTheCore}
 use Rattle.theorems.proofs.Products.{products}
-
--- what the others get
-rest : (g : Game) (x : Allocation) (s : ℕ) → IsAllocation g x → IsEfficient g x → s < 2 ^ g.players
-    → amount x (grand_coalition g.players - s) +ℤ amount x s ≡ x.den *ℤ g.worth (grand_coalition g.players)
-rest g x s hx e lt =
-    let n = g.players in
-    omega (
-      products,
-      sum_over-complement n s (share x) lt,
-      sum_over-grand_coalition n (share x),
-      amount-at g x s hx,
-      amount-at g x (grand_coalition n - s) hx,
-      amount-at g x (grand_coalition n) hx,
-      e,
-    )
 
 to_free : (g : Game) (x : Allocation) → InCore g x → IsSubsidyFree g x
 to_free g x h = (
@@ -38,9 +24,9 @@ to_free g x h = (
       let all = grand_coalition g.players in
       let reach : (x.den *ℤ g.worth (all - s)) ≤ℤ amount x (all - s) =
       by_lt_z (amount x (all - s)) (x.den *ℤ g.worth (all - s))
-      (λ blocks. absurd (h.2 (all - s) (opposite-within g.players s) blocks))
+      (λ blocks. absurd (h.2 (all - s) (complement-within g.players s) blocks))
       (λ le. le) in
-      omega (products, reach, rest g x s h.0 h.1 lt),
+      omega (products, reach, both_get g x s h.0 h.1 lt),
 )
 
 to_core : (g : Game) (x : Allocation) → IsSubsidyFree g x → InCore g x
@@ -49,9 +35,9 @@ to_core g x h = (
   h.1,
   λ s lt blocks.
       let all = grand_coalition g.players in
-      let at_most = h.2 (all - s) (opposite-within g.players s) in
+      let at_most = h.2 (all - s) (complement-within g.players s) in
       let same = ap (λ (t : ℕ). x.den *ℤ g.worth t) (opposite-twice g.players s lt) in
-      omega (products, blocks, at_most, same, rest g x s h.0 h.1 lt),
+      omega (products, blocks, at_most, same, both_get g x s h.0 h.1 lt),
 )
 
 pub core_is_subsidy_free : CoreIsSubsidyFree
@@ -64,7 +50,7 @@ dummies_in_the_core g x i h lt dummy =
     let all = grand_coalition n in
     let one = singleton-within n i lt in
     let whole : (all - singleton i) + singleton i ≡ all = omega (arith, one) in
-    let adds = dummy (all - singleton i) (opposite-within n (singleton i)) (others_lacks n i one lt) in
+    let adds = dummy (all - singleton i) (complement-within n (singleton i)) (others_lacks n i one lt) in
     let high = (to_free g x h).2 (singleton i) one in
     let low = (core_family Imputations g x h).2 i lt in
     let worth : g.worth all -ℤ g.worth (all - singleton i) ≡ g.worth (singleton i) =

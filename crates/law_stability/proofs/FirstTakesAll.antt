@@ -1,6 +1,6 @@
 -- If the first of three takes all, the two others are worth 1 and get nothing: the second outweighs the first, and
 -- objects with half of it, which the first can't counter.
-use Rattle.std.proofs.Common.{◌≡◌, ◌⊎◌, ℕ, ◌<◌, Bool, true, ◌||◌, not, nat_eq, ℤ, pos, ◌+ℤ◌, ◌*ℤ◌, ◌≤ℤ◌, int_le, refl}
+use Rattle.std.proofs.Common.{◌≡◌, ◌⊎◌, ℕ, ◌<◌, Bool, true, ◌||◌, not, nat_eq, pos, ◌+ℤ◌, ◌*ℤ◌, ◌≤ℤ◌, int_le, refl}
 use Rattle.std.proofs.Common.{sym, ap, ◌∙◌, inl, inr, arith, rules}
 use Rattle.std.proofs.lemmas.Int.{ints}
 use Rattle.definitions.proofs.Cases.{from_nat_eq}
@@ -85,11 +85,9 @@ no_counter q z c = elim (first_alone_or_third q c.within c.without) [
       ∙ ap (λ (s : ℕ). z.den *ℤ majority.worth s) third in
       let mine = c.as_before 0 (omega arith) (ap (λ (s : ℕ). has_player s 0) third) refl in
       let other = c.as_promised 2 (omega arith) (ap (λ (s : ℕ). has_player s 2) third) refl in
-      omega (products, got, mine, other, c.shares.1, twice (share z 2))
+      let twice : share z 2 *ℤ pos 2 ≡ share z 2 +ℤ share z 2 = omega (arith, ints) in
+      omega (products, got, mine, other, c.shares.1, twice)
 ]
-  where
-    twice : (a : ℤ) → a *ℤ pos 2 ≡ a +ℤ a
-    twice a = omega (arith, ints)
 
 pub not_countered : ¬ AreCountered majority first_takes_all
 not_countered h =

@@ -8,9 +8,10 @@ use Rattle.definitions.proofs.Members.{has_player-complement}
 use Rattle.definitions.proofs.Ring.{linear}
 use Rattle.definitions.specs.Coalitions.{has_player}
 use Rattle.theorems.proofs.Transfers.{some_greatest}
+use Rattle.law_answers.proofs.Complements.{complement-within}
 use Rattle.law_stability.proofs.NearRings.{inside, outside, IsNearRing, impossible}
 use Rattle.law_stability.proofs.SumsByTest.{total, total-same, total-parts, total-negated, count}
-use Rattle.law_stability.proofs.Unions.{opposite, opposite-within, opposite-twice, opposites-union, opposites-common}
+use Rattle.law_stability.proofs.Unions.{opposite, opposite-twice, opposites-union, opposites-common}
 
 module _ (n : ℕ) (p : ℕ → Bool) (s : ℕ) (lt : s < 2 ^ n) where
   inside-opposite : (i : ℕ) → i < n → inside p (opposite n s) i ≡ outside p s i
@@ -27,13 +28,13 @@ opposites : (n : ℕ) (p : ℕ → Bool) (z : ℕ → ℤ) (d : ℕ → Bool) �
     → IsNearRing n p (λ i. neg_ℤ (z i)) (λ s. d (opposite n s))
 opposites n p z d nr nothing = record {
   splits = λ s hs ds.
-      let found = nr.splits (opposite n s) (opposite-within n s) ds in (
+      let found = nr.splits (opposite n s) (complement-within n s) ds in (
         (found.1.0, found.1.1, sym (outside-opposite n p s hs found.1.0 found.1.1) ∙ found.1.2),
         (found.0.0, found.0.1, sym (inside-opposite n p s hs found.0.0 found.0.1) ∙ found.0.2),
       );
   ring = λ a b ha hb da db common_player left_out.
       let both =
-      nr.ring (opposite n a) (opposite n b) (opposite-within n a) (opposite-within n b) da db (
+      nr.ring (opposite n a) (opposite n b) (complement-within n a) (complement-within n b) da db (
         left_out.0,
         left_out.1,
         swapped (inside-opposite n p a ha left_out.0 left_out.1)
@@ -48,16 +49,16 @@ opposites n p z d nr nothing = record {
         ap d (sym (opposites-union n a b ha hb)) ∙ both.0,
       );
   apart = λ s i j hs ds hi hj in_s out_s.
-      let e = nr.apart (opposite n s) j i (opposite-within n s) ds hj hi (inside-opposite n p s hs j hj ∙ out_s)
+      let e = nr.apart (opposite n s) j i (complement-within n s) ds hj hi (inside-opposite n p s hs j hj ∙ out_s)
       (outside-opposite n p s hs i hi ∙ in_s) in (
         opposite n e.0,
-        opposite-within n e.0,
+        complement-within n e.0,
         ap d (opposite-twice n e.0 e.1) ∙ e.2,
         has_player-complement n e.0 j e.1 hj ∙ ap not e.4,
         has_player-complement n e.0 i e.1 hi ∙ ap not e.3,
       );
   positive = λ s hs ds.
-      let up = nr.positive (opposite n s) (opposite-within n s) ds in
+      let up = nr.positive (opposite n s) (complement-within n s) ds in
       let same = total-same n z (inside p (opposite n s)) (outside p s) (inside-opposite n p s hs) in
       let parts = total-parts n z p (inside p s) (outside p s) (λ i lt. by_test (p i) (has_player s i)) in
       omega (arith, linear, up, same, parts, nothing, total-negated n z (inside p s));
@@ -94,7 +95,7 @@ no_near_ring n p z d nr nothing s hs ds = elim (some_greatest either fewness (2 
           (λ r hr dr.
           let two =
           least (opposite n r) (
-            opposite-within n r,
+            complement-within n r,
             or_right (d (opposite n r)) (d (opposite n (opposite n r))) (ap d (opposite-twice n r hr) ∙ dr),
           ) in (
             omega (arith, linear, least r (hr, or_left (d r) (d (opposite n r)) dr), is),
@@ -106,7 +107,7 @@ no_near_ring n p z d nr nothing s hs ds = elim (some_greatest either fewness (2 
           (λ r hr dr.
           let two =
           least (opposite n r) (
-            opposite-within n r,
+            complement-within n r,
             or_left (d (opposite n r)) (d (opposite n (opposite n r))) dr,
           ) in (
             omega (arith, linear, least r (hr, or_right (d r) (d (opposite n r)) dr), is),

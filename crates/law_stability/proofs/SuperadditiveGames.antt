@@ -4,7 +4,7 @@ use Rattle.std.proofs.Common.{◌≡◌, ◌≢◌, ℕ, ◌+◌, ◌^◌, Bool,
 use Rattle.std.proofs.Common.{inl, inr, arith}
 use Rattle.std.proofs.Math.Pow.{pow_pos}
 use Rattle.std.proofs.lemmas.Bool.{false≢true}
-use Rattle.definitions.proofs.Cases.{same_or_other}
+use Rattle.definitions.proofs.Cases.{same_or_other, or_false}
 use Rattle.definitions.proofs.Masks.{singleton-within}
 use Rattle.definitions.proofs.Members.{has_player-empty, has_player-singleton, has_player-singleton_other}
 use Rattle.definitions.proofs.Parts.{has_player-more_same, has_player-more_other, more-lt}
@@ -48,7 +48,4 @@ superadditive_is_zero_monotonic g super s i lt hi out = super s (singleton i) (s
 
     another : (k : ℕ) → k ≢ i → has_player (s + 2 ^ i) k ≡ (has_player s k || has_player (singleton i) k)
     another k ne = has_player-more_other s i k out ne
-        ∙ sym (ap (λ (b : Bool). has_player s k || b) (has_player-singleton_other i k ne) ∙ none (has_player s k))
-      where
-        none : (b : Bool) → (b || false) ≡ b
-        none b = grind arith
+        ∙ sym (ap (λ (b : Bool). has_player s k || b) (has_player-singleton_other i k ne) ∙ or_false (has_player s k))

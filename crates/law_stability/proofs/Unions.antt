@@ -4,9 +4,9 @@
 --   common n a b    the players of both
 --   opposite n s    the players that aren't in s
 use Rattle.std.proofs.Common.{◌≡◌, ℕ, ◌-◌, ◌^◌, ◌<◌, Bool, ◌&&◌, ◌||◌, not, sym, ap, ◌∙◌, arith}
-use Rattle.definitions.proofs.Masks.{grand_coalition-within}
 use Rattle.definitions.proofs.Members.{has_player-complement}
 use Rattle.definitions.specs.Coalitions.{has_player, grand_coalition}
+use Rattle.law_answers.proofs.Complements.{complement-within}
 use Rattle.law_answers.proofs.RenumberedCoalitions.{coalition_where-within, coalition_where-has, same_below}
 use Rattle.law_answers.specs.Renumbering.{coalition_where}
 
@@ -18,9 +18,6 @@ common n a b = coalition_where n (λ i. has_player a i && has_player b i)
 
 abbrev pub opposite : ℕ → ℕ → ℕ
 opposite n s = grand_coalition n - s
-
-pub opposite-within : (n s : ℕ) → opposite n s < 2 ^ n
-opposite-within n s = let within = grand_coalition-within n in omega (arith, within)
 
 pub opposite-twice : (n s : ℕ) → s < 2 ^ n → opposite n (opposite n s) ≡ s
 opposite-twice n s lt = omega (arith, lt)
@@ -41,7 +38,7 @@ common-within n a b = coalition_where-within n (λ k. has_player a k && has_play
 pub opposites-union : (n a b : ℕ) → a < 2 ^ n → b < 2 ^ n
     → union n (opposite n a) (opposite n b) ≡ opposite n (common n a b)
 opposites-union n a b ha hb =
-    same_below n _ _ (union-within n (opposite n a) (opposite n b)) (opposite-within n (common n a b))
+    same_below n _ _ (union-within n (opposite n a) (opposite n b)) (complement-within n (common n a b))
     (λ i lt. union-has n (opposite n a) (opposite n b) i lt
     ∙ ap (λ (c : Bool). c || has_player (opposite n b) i) (has_player-complement n a i ha lt)
     ∙ ap (λ (c : Bool). not (has_player a i) || c) (has_player-complement n b i hb lt)
@@ -55,7 +52,7 @@ opposites-union n a b ha hb =
 pub opposites-common : (n a b : ℕ) → a < 2 ^ n → b < 2 ^ n
     → common n (opposite n a) (opposite n b) ≡ opposite n (union n a b)
 opposites-common n a b ha hb =
-    same_below n _ _ (common-within n (opposite n a) (opposite n b)) (opposite-within n (union n a b))
+    same_below n _ _ (common-within n (opposite n a) (opposite n b)) (complement-within n (union n a b))
     (λ i lt. common-has n (opposite n a) (opposite n b) i lt
     ∙ ap (λ (c : Bool). c && has_player (opposite n b) i) (has_player-complement n a i ha lt)
     ∙ ap (λ (c : Bool). not (has_player a i) && c) (has_player-complement n b i hb lt)

@@ -29,4 +29,4 @@ mod LevelPairs
 mod Followed
 mod ChainSteps
 mod StageSteps
-mod StageLoop
+pub mod StageLoop

@@ -1,20 +1,45 @@
-//! The level that optimal weights of a stage are.
-ghost use Rattle.std.specs.Prelude.{◌≡◌, ℕ, ◌+◌, ◌^◌, ◌≤◌, length, take, IfOk, OnOk, OnErr};
+//! The level that optimal weights of a stage are. The number of a column is the numerator of its weight.
+ghost use Rattle.std.specs.Prelude.{◌≡◌, ℕ, ◌+◌, ◌^◌, ◌<◌, ◌≤◌, ◌-ℤ◌, ◌≤ℤ◌, pos, unsigned_abs, length, take};
+ghost use Rattle.std.specs.Prelude.{IfOk, OnOk, OnErr};
 ghost use Rattle.std.specs.List.{AllByRecursion};
 ghost use Rattle.arrayvec.specs.ArrayVec.{array_vec_len};
+ghost use Rattle.definitions.specs.Certificates.{number_at};
 ghost use Rattle.separation.specs.Stage.{earlier_of};
 ghost use Rattle.kohlberg.specs.Solved.{IsLowest};
 ghost use Rattle.nested_programs.specs.Numbers.{AreNumbers, outer_pairs, earlier_pairs};
 ghost use Rattle.nested_programs.specs.Numbers.{level_pairs, bound_pairs, IsLevelOf};
 ghost use Rattle.kohlberg.specs.Pairs.{placed, placed_behind};
 
-use crate::numbers::net_of;
 use coalitions::Coalition;
 use kohlberg::{Level, put_pair};
 use separation::coalition_count;
 use simplex::{ColumnId, Optimal};
 use std::alloc::{AllocError, Global};
 use worth_core::ratio;
+
+/// The number of a column, and 0 for a column without one.
+fn number_of(weights: &[(ColumnId, i128)], id: ColumnId) -> i128
+    requires { AreNumbers weights.now }
+    ensures value { result ≡ number_at weights.now id }
+    ensures nonnegative { pos 0 ≤ℤ result }
+    ensures small { unsigned_abs result < 2 ^ 62 }
+{
+    for (other, weight) in weights {
+        if *other == id {
+            return *weight;
+        }
+    }
+    0
+}
+
+/// The number of a column less that of the same column negated.
+fn net_of(weights: &[(ColumnId, i128)], id: ColumnId, negated: ColumnId) -> i128
+    requires { AreNumbers weights.now }
+    ensures value { result ≡ number_at weights.now id -ℤ number_at weights.now negated }
+    ensures small { unsigned_abs result < 2 ^ 62 }
+{
+    number_of(weights, id) - number_of(weights, negated)
+}
 
 /// The coalitions outside that have a number, in mask order, where `first` is the number of the column of the empty
 /// one.

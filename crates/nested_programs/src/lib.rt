@@ -9,9 +9,6 @@
 
 mod found;
 mod level;
-mod numbers;
-mod point;
-mod singles;
 mod stages;
 
 ghost use Rattle.std.specs.Prelude.{◌≡◌, ◌↔◌, ◌<◌, ◌≤◌, IfOk, IsErrOf, MatchResult};
@@ -19,8 +16,7 @@ ghost use Rattle.definitions.specs.declared.Measure.{Measure};
 ghost use Rattle.nested_programs.specs.Answer.{IsFound, IsFault};
 
 use definitions::{Family, Measure};
-pub use found::{Found, NestedFault};
-pub use point::solve_few;
+pub use found::{Found, NestedFault, solve_few};
 use std::alloc::Global;
 use worth_core::Worth;
 

@@ -36,7 +36,7 @@ quotient u r = record {
 }
 
 module _ (N : Numbers Real) (R : AreReals N) where
-  multiple-near : (k : ℕ) (a : Real) (n : ℕ) → (multiple N k a).near n ≡ pos k *ℤ a.near n
+  pub multiple-near : (k : ℕ) (a : Real) (n : ℕ) → (multiple N k a).near n ≡ pos k *ℤ a.near n
   multiple-near zero a n = R.zero n ∙ sym (zero-mulℤ (a.near n))
   multiple-near (suc k) a n =
       R.plus (multiple N k a) a n ∙ ap (λ z. z +ℤ a.near n) (multiple-near k a n) ∙ sym (suc-mulℤ k (a.near n))

@@ -121,7 +121,7 @@ module _ {C : Type 0} (N : Numbers C) (L : IsOrderedGroup N) where
       ] in
       step (N.at_most a b)
 
-  length-sorted : (l : List C) → length (sorted_by N l) ≡ length l
+  pub length-sorted : (l : List C) → length (sorted_by N l) ≡ length l
   length-sorted [] = refl
   length-sorted (a ∷ l) = length-placed a (sorted_by N l) ∙ ap suc (length-sorted l)
 

@@ -1,12 +1,11 @@
 -- The first levels of a certificate, and the span of what levels fix.
 use Rattle.std.proofs.Common.{◌≡◌, ℕ, zero, suc, ◌+◌, ◌≤◌, List, [], ◌∷◌, ◌++◌, length, take, subst, arith}
-use Rattle.std.specs.List.{AllByRecursion}
 use Rattle.definitions.specs.Coalitions.{grand_coalition}
 use Rattle.definitions.specs.Certificates.{Level, LevelsForm, HasForm}
 use Rattle.definitions.specs.declared.Mode.{Mode}
 use Rattle.spans.specs.Span.{SpanData}
-use Rattle.kohlberg.specs.Extends.{Extends, IsLevelVector, IsOf}
-use Rattle.kohlberg.proofs.SpanScan.{SpansFixed-start, SpansFixed-more, level_within}
+use Rattle.kohlberg.specs.Extends.{Extends, IsLevelVector}
+use Rattle.kohlberg.proofs.SpanScan.{SpansFixed-start, SpansFixed-more}
 use Rattle.separation.specs.Same.{IsSpanOf}
 
 first_have_form : (n i : ℕ) (front levels : List Level) → LevelsForm n front levels → LevelsForm n front (take i levels)
@@ -29,11 +28,6 @@ first_formed mode n i levels h = record {
   each = first_have_form n i [] levels h.each;
 }
 
-pub levels_within : (n : ℕ) (front levels : List Level) → LevelsForm n front levels → AllByRecursion (IsOf n) levels
-levels_within n front [] h = tt
-levels_within n front (l ∷ levels) h =
-    (level_within n front l h.0, levels_within n (front ++ l ∷ []) levels h.1)
-
 pub spans_levels : (n : ℕ) (v : SpanData) (new : List ℕ) (levels : List Level)
     → v ≡ record { players = n; kept = grand_coalition n ∷ [] }
     → Extends v.players v.kept new (IsLevelVector v.players levels) → IsSpanOf n new levels
@@ -42,8 +36,3 @@ spans_levels n v new levels start extends =
     subst (λ (v : SpanData). Extends v.players v.kept new (IsLevelVector v.players levels)) start extends in
     let h = SpansFixed-more n (grand_coalition n ∷ []) new [] levels (SpansFixed-start n) more in
     record { inside = λ s lt q. h.inside s q; outside = λ s lt q. h.outside s q }
-
-pub levels_few : (n : ℕ) (front levels : List Level) → LevelsForm n front levels
-    → AllByRecursion (λ l. length l.coalitions ≤ 65536) levels
-levels_few n front [] h = tt
-levels_few n front (l ∷ levels) h = (h.0.few, levels_few n (front ++ l ∷ []) levels h.1)

@@ -24,8 +24,11 @@ use Rattle.theorems.proofs.Soundness.{IsNucleolus-from_certificate}
 pub from_int_eq : (a b : ℤ) → int_eq a b ≡ true → a ≡ b
 from_int_eq a b e = grind (arith, ints)
 
-from_int_le : (a b : ℤ) → int_le a b ≡ true → a ≤ℤ b
+pub from_int_le : (a b : ℤ) → int_le a b ≡ true → a ≤ℤ b
 from_int_le a b e = grind (arith, ints)
+
+pub to_int_le : (a b : ℤ) → a ≤ℤ b → int_le a b ≡ true
+to_int_le a b le = grind (arith, ints)
 
 -- where b holds, so does c
 implied : (b c : Bool) → (not b || c) ≡ true → b ≡ true → c ≡ true

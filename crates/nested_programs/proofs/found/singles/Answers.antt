@@ -5,7 +5,7 @@ use Rattle.std.proofs.Math.Pow.{pow-lt}
 use mir.Syntax.{w64}
 use Rattle.definitions.specs.Sums.{sum_below}
 use Rattle.definitions.specs.Coalitions.{singleton}
-use Rattle.nested_programs.proofs.singles.singles.Goals as goal
+use Rattle.nested_programs.proofs.found.singles.Goals as goal
 use Rattle.definitions.proofs.Casts.{cast_kept}
 
 more_small : (a b : ℤ) (i : ℕ) → unsigned_abs a ≤ i * 2 ^ 46 → unsigned_abs b < 2 ^ 46

@@ -14,9 +14,9 @@ use Rattle.definitions.specs.declared.Family.{Family}
 use Rattle.definitions.specs.declared.Family.TheVariants.{Imputations, Preimputations}
 use Rattle.nested_programs.specs.Answer.{singles, HasMember}
 use Rattle.nested_programs.proofs.Members.{imputation, preimputation}
-use Rattle.nested_programs.proofs.singles.lacks_imputation.Goals as goal
-use Rattle.nested_programs.proofs.singles.lacks_imputation.Goals.{else-eq-via-then-eq+else-sum-total}
-use Rattle.nested_programs.proofs.singles.lacks_imputation.Goals.{else-eq-via-else-eq}
+use Rattle.nested_programs.proofs.found.lacks_imputation.Goals as goal
+use Rattle.nested_programs.proofs.found.lacks_imputation.Goals.{else-eq-via-then-eq+else-sum-total}
+use Rattle.nested_programs.proofs.found.lacks_imputation.Goals.{else-eq-via-else-eq}
 
 cast_same : (r : ℤ) → mag r < 2 ^ 63 → to_z w64 (of_z w64 r) ≡ r
 cast_same r h = to_z-of_z w64 r (sfits_lit (yes_ltb h))

@@ -1,7 +1,7 @@
 use Rattle.std.proofs.Common.{inr}
 use Rattle.nested_programs.specs.Stage.{stage_of}
 use Rattle.nested_programs.proofs.CertifiedPoint.{is_point}
-use Rattle.nested_programs.proofs.point.solve_few.Goals as goal
+use Rattle.nested_programs.proofs.found.solve_few.Goals as goal
 
 pub returns : goal.returns
 returns g c =

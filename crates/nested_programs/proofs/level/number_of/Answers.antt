@@ -2,7 +2,7 @@ use Rattle.std.proofs.Common.{◌≢◌, ◌^◌, ◌<◌, length, get_or, pos, 
 use borrow.Author.Count.{below_more}
 use mir.Syntax.{w128}
 use Rattle.nested_programs.proofs.NumberedColumns.{number_none, number_found}
-use Rattle.nested_programs.proofs.numbers.number_of.Goals as goal
+use Rattle.nested_programs.proofs.level.number_of.Goals as goal
 use Rattle.definitions.proofs.Alls.{all_at}
 use Rattle.definitions.proofs.Casts.{cast_kept}
 
