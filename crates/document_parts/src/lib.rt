@@ -3,12 +3,8 @@
 #![tactic(auto)]
 
 mod excess;
-mod masks;
 mod names;
 mod numbers;
-mod rows;
-mod scale;
-mod scaled_numbers;
 mod shares;
 mod sizes;
 mod table;
@@ -18,9 +14,8 @@ mod version;
 pub use excess::{MeasureWord, measure_of};
 pub use names::{Names, know_sparse, names_of};
 pub use numbers::{Numbers, read_costs, read_worths};
-pub use rows::in_rows;
 pub use shares::{shares_as_worth, written_shares};
 pub use sizes::{is_list_size, is_short_list_size};
 pub use table::sparse_numbers;
-pub use values::{add_at, add_rows, add_seconds, add_values};
+pub use values::{add_at, add_rows, add_seconds, add_values, in_rows};
 pub use version::has_texts;

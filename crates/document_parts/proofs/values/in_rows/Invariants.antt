@@ -4,7 +4,7 @@ use Rattle.json_trees.specs.Trees.{parts}
 use Rattle.json_trees.proofs.Values.{rest}
 use Rattle.document_parts.specs.Scales.{all_parts}
 use Rattle.document_parts.specs.Numbers.{in_rows}
-use Rattle.document_parts.proofs.rows.in_rows.Given as goal
+use Rattle.document_parts.proofs.values.in_rows.Given as goal
 
 abbrev pub invariant-loop-array : goal.invariant-loop-array
 invariant-loop-array l = record {

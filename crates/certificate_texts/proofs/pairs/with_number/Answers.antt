@@ -1,6 +1,6 @@
 use Rattle.std.proofs.Common.{◌≡◌, ◌-◌, ◌*◌, ◌^◌, ◌%◌, rules}
 use Rattle.certificate_texts.proofs.Ascents.{bit_above}
-use Rattle.certificate_texts.proofs.ascending.with_number.Goals as goal
+use Rattle.certificate_texts.proofs.pairs.with_number.Goals as goal
 
 pub returns-clause-small : goal.returns-clause-small
 returns-clause-small c =

@@ -3,7 +3,7 @@ use Rattle.std.proofs.lemmas.List.{length-map, map-append}
 use Rattle.serde_json.specs.View.{view}
 use Rattle.json_trees.specs.Trees.{parts}
 use Rattle.document_parts.proofs.PartsRead.{row_more, row_fits}
-use Rattle.document_parts.proofs.rows.in_rows.Goals as goal
+use Rattle.document_parts.proofs.values.in_rows.Goals as goal
 
 pub loop-array-preserved : goal.loop-array-preserved
 loop-array-preserved c =

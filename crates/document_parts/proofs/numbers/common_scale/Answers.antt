@@ -4,7 +4,7 @@ use Rattle.std.proofs.lemmas.Int.{ints, to_z-of_z}
 use mir.Syntax.{w128}
 use Rattle.fractions.proofs.Divisors.{gcd_positive}
 use Rattle.document_parts.proofs.CommonScales.{large_denominator, keeps_scale, lcm_positive}
-use Rattle.document_parts.proofs.scale.common_scale.Goals as goal
+use Rattle.document_parts.proofs.numbers.common_scale.Goals as goal
 
 pub returns-then-den-gt-GREATEST-clause-value : goal.returns-then-den-gt-GREATEST-clause-value
 returns-then-den-gt-GREATEST-clause-value c =

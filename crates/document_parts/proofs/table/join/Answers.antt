@@ -1,7 +1,7 @@
 use Rattle.std.proofs.Common.{◌≡◌, ◌*◌, ◌^◌, ◌%◌, false, sym, ◌∙◌, rules}
 use Rattle.definitions.specs.Coalitions.{has_player}
 use Rattle.document_parts.proofs.Joining.{join_below}
-use Rattle.document_parts.proofs.masks.join.Goals as goal
+use Rattle.document_parts.proofs.table.join.Goals as goal
 
 pub returns-clause-within : goal.returns-clause-within
 returns-clause-within c =

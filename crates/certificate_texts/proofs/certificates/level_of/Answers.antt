@@ -2,7 +2,7 @@ use Rattle.std.proofs.Common.{◌≡◌, sym, ◌∙◌, to_z, of_z, rules}
 use mir.Syntax.{w128}
 use Rattle.serde_json.specs.View.{view}
 use Rattle.certificate_texts.proofs.WrittenLevels.{level_read}
-use Rattle.certificate_texts.proofs.levels.level_of.Goals as goal
+use Rattle.certificate_texts.proofs.certificates.level_of.Goals as goal
 
 pub returns : goal.returns
 returns c =

@@ -5,7 +5,7 @@ use Rattle.json_trees.specs.Fractions.{written_fraction}
 use Rattle.json_trees.specs.Trees.{integer}
 use Rattle.document_parts.specs.Numbers.{with_fraction}
 use Rattle.document_parts.proofs.CommonScales.{whole_step}
-use Rattle.document_parts.proofs.scaled_numbers.with_scale.Goals as goal
+use Rattle.document_parts.proofs.numbers.with_scale.Goals as goal
 
 pub returns-in-None-clause-value : goal.returns-in-None-clause-value
 returns-in-None-clause-value c =

@@ -2,7 +2,7 @@ use Rattle.std.proofs.Common.{◌≡◌, ◌<◌, ◌^◌, map}
 use Rattle.serde_json.specs.View.{view}
 use Rattle.document_parts.specs.Members.{joined}
 use Rattle.json_trees.proofs.Values.{rest}
-use Rattle.document_parts.proofs.masks.mask_of.Given as goal
+use Rattle.document_parts.proofs.table.mask_of.Given as goal
 
 abbrev pub invariant-loop-member : goal.invariant-loop-member
 invariant-loop-member l = record {

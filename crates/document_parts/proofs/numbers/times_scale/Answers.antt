@@ -7,7 +7,7 @@ use Rattle.std.proofs.lemmas.Int.{to_z-of_z, fits_signed_from_abs}
 use mir.Syntax.{w64, w128}
 use Rattle.worth_core.specs.LeastDenominators.{numerator_over}
 use Rattle.document_parts.specs.ScaledNumbers.{if_small}
-use Rattle.document_parts.proofs.scaled_numbers.times_scale.Goals as goal
+use Rattle.document_parts.proofs.numbers.times_scale.Goals as goal
 
 none_if_large : (z : ℤ) → 2 ^ 40 ≤ unsigned_abs z → None ≡ if_small (Some z)
 none_if_large z h = sym (ap (λ b. if b then Some z else None) (le-ltb (unsigned_abs z) (2 ^ 40) h))

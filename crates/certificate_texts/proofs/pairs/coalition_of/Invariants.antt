@@ -3,7 +3,7 @@ use Rattle.serde_json.specs.View.{view}
 use Rattle.certificate_texts.specs.Levels.{numbers_above, coalition_of}
 use Rattle.json_trees.proofs.Values.{rest}
 use Rattle.certificate_texts.proofs.Ascents.{summed}
-use Rattle.certificate_texts.proofs.ascending.coalition_of.Given as goal
+use Rattle.certificate_texts.proofs.pairs.coalition_of.Given as goal
 
 abbrev pub invariant-loop-member : goal.invariant-loop-member
 invariant-loop-member l = record {
