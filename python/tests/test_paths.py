@@ -7,6 +7,7 @@ import random
 import unittest
 from collections import Counter
 from fractions import Fraction
+from functools import partial
 from typing import Any, Iterator, Optional
 
 import coop
@@ -25,6 +26,7 @@ from .asking import needs_program
 ROUNDS = int(os.environ.get("COOP_ROUNDS", "3"))
 KINDS = ("table", "cost-table", "airport", "bankruptcy", "tree", "assignment", "voting")
 RULES = ("nucleolus", "prenucleolus")
+NUMBERS = ("worths", "costs", "claims", "estate", "matrix")
 
 
 def drawn(draw: random.Random, kind: str) -> coop.Game:
@@ -107,10 +109,9 @@ class Random(unittest.TestCase):
                 self.assertEqual((path.pieces[0].low, path.pieces[-1].high), (low, high))
                 inside = [low + (high - low) * Fraction(draw.randint(0, 97), 97) for _ in range(2)]
                 for t in [low, high, *inside, *path.bends()[:1]]:
-                    wanted = shares_of(path.moving, t, rule)
-                    if wanted:
-                        self.assertEqual(list(path.at(t).values()), wanted, (game, what, rule, t))
-                        tried[f"{game.kind}, points"] += 1
+                    wanted = shares_of(game, what, rule, t)
+                    self.assertEqual(list(path.at(t).values()), wanted, (game, what, rule, t))
+                    tried[f"{game.kind}, points"] += 1
                 tried[game.kind] += 1
         self.tell(tried, 1)
 
@@ -119,23 +120,23 @@ class Random(unittest.TestCase):
         draw, tried = random.Random(206), Counter[str]()
         for game in games(draw):
             what, rule = draw.choice(what_moves(game)), draw.choice(RULES)
-            moving = Moving(game, what)
-            here = shares_of(moving, Fraction(0), rule)
+            at = partial(shares_of, game, {what: Fraction(1)}, rule)
+            here = at(Fraction(0))
             if here is None:
                 with self.assertRaisesRegex(BadInput, "there is no imputation"):
                     ranges(game, [what], rule)
                 continue
             found, = ranges(game, [what], rule)
-            self.assertEqual((found.what, found.number), (what, next(iter(moving.numbers.values()))))
+            self.assertEqual(found.what, what)
             for way, far, slopes in ((-1, found.down, found.below), (1, found.up, found.above)):
-                limit = abs(moving.room(rule)[way > 0])
+                limit = abs(Moving(game, what).room(rule)[way > 0])
                 self.assertEqual(slopes == {}, limit == 0, (game, what, rule))
                 end = Fraction(50) if far is None else far
                 for t in [end / 3, end] if slopes else []:
-                    self.assertEqual(shares_of(moving, way * t, rule), straight(here, slopes, way * t), (game, what, t))
+                    self.assertEqual(at(way * t), straight(here, slopes, way * t), (game, what, t))
                 if slopes and end < limit and far is not None:
                     t = way * (end + min(Fraction(1, 10**6), (limit - end) / 2))
-                    self.assertNotEqual(shares_of(moving, t, rule), straight(here, slopes, t), (game, what, t))
+                    self.assertNotEqual(at(t), straight(here, slopes, t), (game, what, t))
                     tried[f"{game.kind}, ends"] += 1
             tried[game.kind] += 1
         self.tell(tried, 0)
@@ -147,15 +148,33 @@ class Random(unittest.TestCase):
             print(f"{self.id()}: {dict(tried)}")
 
 
-def shares_of(moving: Moving, t: Fraction, rule: str) -> "Optional[list[Fraction]]":
-    """The shares after a change, by the solver of these tests; none if there is no imputation, or no document."""
-    try:
-        tree, factor = moving.tree_at(t)
-    except BadInput:
-        return None
-    game = coop.Game(tree, factor)
-    found = exact.nucleolus(game.n, exact.worths(tree), rule == "nucleolus", game.per_head)
-    return None if found is None else [moving.sign * share / factor for share in found]
+def shares_of(game: coop.Game, what: "dict[Any, Fraction]", rule: str, t: Fraction) -> "Optional[list[Fraction]]":
+    """The shares after a change, by the solver of these tests; none if there is no imputation."""
+    worths = exact.worths(after(game, what, t))
+    found = exact.nucleolus(game.n, worths, rule == "nucleolus", game.per_head)
+    return None if found is None else [-share if game.costs else share for share in found]
+
+
+def after(game: coop.Game, what: "dict[Any, Fraction]", t: Fraction) -> "dict[str, Any]":
+    """The game of a document after a change, whatever its denominators; of a vote its table."""
+    parts = {key: exact.read(part) for key, part in game.tree.items() if key in NUMBERS}
+    names, kind = game.names, "table" if game.kind == "voting" else game.kind
+    if game.kind == "voting":
+        parts = {"worths": exact.worths(game.tree)[1:]}
+    for asked, rate in what.items():
+        if "worths" in parts:
+            parts["worths"][sum(1 << names.index(name) for name in asked) - 1] += t * rate
+        elif "matrix" in parts:
+            points = ["source", *names] if kind == "tree" else names
+            i, j = points.index(asked[1]), points.index(asked[2]) - (0 if kind == "tree" else len(parts["matrix"]))
+            parts["matrix"][i][j] += t * rate
+            if kind == "tree":
+                parts["matrix"][j][i] += t * rate
+        elif asked == ("estate",):
+            parts["estate"] += t * rate
+        else:
+            parts["costs" if kind == "airport" else "claims"][names.index(asked[1])] += t * rate
+    return {"class": kind, **parts}
 
 
 def straight(here: "list[Fraction]", slopes: "dict[str, Fraction]", t: Fraction) -> "list[Fraction]":

@@ -310,6 +310,7 @@ class Ranges(unittest.TestCase):
         asked: list[tuple[coop.Game, Any, tuple[str, ...]]] = [
             (ESTATE, "Anna", ("claim", "Anna")), (ESTATE, ["claim", 1], ("claim", "Anna")), (VALLEY, "p+n", ("n", "p")),
             (NETWORK, ("link", "mill", 0), ("link", "source", "mill")), (AIRLINES, "Aer", ("cost", "Aer")),
+            (MARKET, ("pair", 2, "flat"), ("pair", "Ben", "flat")),
         ]
         for game, what, names in asked:
             self.assertEqual([found.what for found in ranges(game, [what])], [names])
