@@ -25,9 +25,9 @@ const GREY = [
   "Grey: the core, where no group could do better",
 ];
 
-/** The picture, and what is said below it. */
-export function trianglePicture(game, points, { wide }) {
-  const isBeside = wide >= BESIDE, width = isBeside ? wide * 0.58 : wide, side = Math.min(430, width - 60);
+/** The picture, and what is said below it; `most` is the longest side. */
+export function trianglePicture(game, points, { wide, most = 430 }) {
+  const isBeside = wide >= BESIDE, width = isBeside ? wide * 0.58 : wide, side = Math.min(most, width - 60);
   const shape = new Shape(game, points, { side, left: (width - side) / 2, top: TOP });
   const { bounds, hidden } = boundsOf(game, shape), bottom = TOP + shape.high + 56;
   const legend = [

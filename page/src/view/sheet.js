@@ -28,6 +28,7 @@ import { changeText, todayOf, todayTitle } from "./today.js";
 import { linesTable } from "./types-table.js";
 
 const WIDE = 700;
+const SMALL = 230; // of a side of the triangle, so that its letters can be read on paper
 const PAPER_WIDE = 176; // millimetres of A4 between the margins
 const MOST_PICTURED = 10; // rows whose bars leave room for the rest
 const MOST_ROWS = 18; // of one table; more stand in two, side by side
@@ -250,7 +251,7 @@ function pictureOf({ result, rows, format, ...session }) {
   }
   if (!solution) return null;
   if (bird && few) return holder(planPicture(game, bird.tree, settings));
-  if (game.n === 3) return holder(trianglePicture(game, [solution], settings).drawn, AREA);
+  if (game.n === 3) return holder(trianglePicture(game, [solution], { ...settings, most: SMALL }).drawn, AREA);
   return few ? holder(barsPicture(game, rows, [solution], settings), filledLines(session, rows)) : null;
 }
 
