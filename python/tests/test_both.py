@@ -6,7 +6,7 @@ import unittest
 from fractions import Fraction
 from pathlib import Path
 from random import Random
-from typing import Any
+from typing import Any, Optional
 
 from coop import filling, networks, runways
 from coop.errors import BadInput
@@ -50,7 +50,9 @@ def by_the_page(task: str, cases: list[Any]) -> list[Any]:
 class Both(unittest.TestCase):
     def test_groups_that_nobody_costed(self) -> None:
         """Each as its cheapest split, and as its cheapest cover by groups that have a number."""
-        draw, cases, wanted = Random(1), [], []
+        draw = Random(1)
+        cases: list[Any] = []
+        wanted: list[list[Fraction]] = []
         for k in range(COUNT):
             n, how = draw.randint(2, 6), ("split", "larger")[k % 2]
             everyone = 2**n - 1
@@ -68,7 +70,9 @@ class Both(unittest.TestCase):
 
     def test_networks_without_some_links(self) -> None:
         """What each group's cheapest network costs, by way of others; none where it joins not all."""
-        draw, cases, wanted = Random(2), [], []
+        draw = Random(2)
+        cases: list[Any] = []
+        wanted: list[Optional[list[Fraction]]] = []
         for _ in range(COUNT):
             names = [f"N{i}" for i in range(draw.randint(1, 6))]
             points = ["source", *names]
@@ -88,8 +92,8 @@ class Both(unittest.TestCase):
 
     def test_runways_of_any_number(self) -> None:
         draw = Random(3)
-        cases = [
-            [[str(Fraction(draw.randint(0, 30), draw.randint(1, 3))), draw.randint(1, 200)] for _ in range(size)]
+        cases: list[list[tuple[str, int]]] = [
+            [(str(Fraction(draw.randint(0, 30), draw.randint(1, 3))), draw.randint(1, 200)) for _ in range(size)]
             for size in (1, 2, 3, 5, 9, 20) for _ in range(8)
         ]
         for case, found in zip(cases, by_the_page("runway", cases)):
@@ -102,7 +106,7 @@ class Both(unittest.TestCase):
         draw = Random(4)
         drawn = ([Fraction(draw.randint(-500, 900), draw.randint(1, 60)) for _ in range(draw.randint(1, 9))]
                  for _ in range(COUNT))
-        cases = [{"shares": [str(share) for share in shares], "places": draw.randint(0, 4)} for shares in drawn]
+        cases: list[Any] = [{"shares": list(map(str, shares)), "places": draw.randint(0, 4)} for shares in drawn]
         for case, theirs in zip(cases, by_the_page("round", cases)):
             mine = rounded([Fraction(share) for share in case["shares"]], case["places"])
             self.assertEqual([int(step) for step in theirs], mine, case)

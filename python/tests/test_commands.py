@@ -482,8 +482,8 @@ class Scripts(unittest.TestCase):
         self.assertIn("\\u000aheavy", script("shares", "--csv", text=text)[1])
         game = {"class": "cost-table", "names": names, "players": 3, "worths": [8, 7, 10, 6, 10, 11, 12]}
         answer = coop.nucleolus(coop.Game(game))
-        for name, words, given in (("margins", [], answer.line), ("versus", ["-"], json.dumps({"game": game}))):
-            status, found, errors = script(name, *words, text=given)
+        for name, word, given in (("margins", "--places=2", answer.line), ("versus", "-", json.dumps({"game": game}))):
+            status, found, errors = script(name, word, text=given)
             self.assertEqual((status, "\u200b" in found + errors, "\\u000aheavy" in found), (0, False, True), name)
             self.assertIn("2 names look alike: medium, medium\\u200b", errors)
 
