@@ -106,7 +106,7 @@ def found() -> Program:
     path = built()
     if path:
         return Command([path])
-    inside = library_inside()
+    inside, why = library_inside()
     if inside:
         return inside
     page, builder, server = page_folder(), os.path.join(TOP, "bin", "coop"), page_server()
@@ -117,21 +117,21 @@ def found() -> Program:
     others = "or name a program, set COOP to it, or put it on the path"
     if page:
         wanted = "put Node 18 or later on the path (nodejs.org), install a wheel that has the library"
-        raise NotFound(f"no program found: {wanted} (tools/make/make-wheel), {others}")
-    raise NotFound(f"no program found, and the page is missing: install the package again, {others}")
+        raise NotFound(f"no program found{why}: {wanted} (tools/make/make-wheel), {others}")
+    raise NotFound(f"no program found{why}, and the page is missing: install the package again, {others}")
 
 
-def library_inside() -> Optional[Library]:
-    """The library of an installed package that was built with one, if this system can load it."""
+def library_inside() -> tuple[Optional[Library], str]:
+    """The library of an installed package that was built with one; or why this system can't load it."""
     folder = os.path.dirname(os.path.abspath(__file__))
     for name in LIBRARIES:
         path = os.path.join(folder, name)
         if os.path.exists(path):
             try:
-                return Library(path)
-            except NotFound:  # it was built for another system
-                return None
-    return None
+                return Library(path), ""
+            except NotFound as fault:  # it was built for another system
+                return None, f" ({fault})"
+    return None, ""
 
 
 def said(program: Program) -> str:

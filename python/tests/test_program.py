@@ -99,12 +99,13 @@ class Finding(unittest.TestCase):
             os.makedirs(inside)
             for name in os.listdir(os.path.join(PACKAGE, "coop")):
                 os.symlink(os.path.join(PACKAGE, "coop", name), os.path.join(inside, name))
-            for version, wanted in ((VERSION, f"the library {path} of coop {VERSION}"), ("2.0.0", "NotFound")):
+            another = f"NotFound: no program found ({path} is coop 2.0.0, and this package is {VERSION})"
+            for version, wanted in ((VERSION, f"the library {path} of coop {VERSION}"), ("2.0.0", another)):
                 stub(path, version)
                 self.assertIn(wanted, self.found(package, SAY))
             with open(path, "wb") as file:
                 file.write(b"MZ coop_run")
-            self.assertIn("NotFound", self.found(package, SAY))
+            self.assertIn(f"NotFound: no program found ({path} isn't a library of coop", self.found(package, SAY))
             os.mkdir(os.path.join(top, "bin"))
             builder = executable(os.path.join(top, "bin"), "coop", "exit 0")
             executable(top, "rt", "exit 0")
