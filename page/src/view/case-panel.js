@@ -16,6 +16,7 @@ import { markChanged } from "./pinned.js";
 import { tableGrid } from "./table-grid.js";
 
 const MOST_FAULTS = 6;
+const DECIDES = "The answer rests on these numbers. How far off the others may be, “What if” says.";
 const GRIDS = { list: listGrid, market: marketGrid, network: networkGrid, table: tableGrid };
 const KEYS = { player: "Alt+Delete in a name removes the player.", row: "Alt+Delete in a row removes it." };
 
@@ -61,8 +62,8 @@ export function casePanel(kind, typed, settings) {
 /** Marks the numbers on which the answer rests, and says what the mark means. */
 function showDeciding(grid, legend, tips) {
   (grid.setTips ?? ((some) => showTips(grid, some)))(tips);
-  refill(legend, tips && [el("span", { class: "dot", "aria-hidden": "true" }), " The answer rests on these ",
-    "numbers. How far off the others may be, “What if” says."]);
+  const dot = el("span", { class: "dot", "aria-hidden": "true" });
+  refill(legend, tips && [dot, grid.setTips ? ` ${DECIDES}` : el("span", { title: DECIDES }, " decides")]);
 }
 
 function moreTools(kind, typed, others, onReset) {
