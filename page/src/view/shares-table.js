@@ -218,7 +218,7 @@ function footOf(view) {
     context && el("td", { class: "context" }), today.texts && el("td"), pinned?.pin && el("td", { class: "kept" }),
     columns.map((point, k) => el("td", { class: kindOf(k) }, told(point))),
     proposal.canBe && el("td", { class: "number proposed", colspan: isLong ? "2" : false, role: "status" },
-      proposal.shares ? told(own) : "–"), against && !isLong && el("td", { class: "against" }),
+      proposal.shares ? told(own) : "–"), against && !isLong && el("td"),
   ]);
   return el("tfoot", {}, sum,
     isJudged && asked("Could a group do better alone?", (one) => verdictText(game, one.verdict, format), proposal));
