@@ -45,6 +45,7 @@ const proposals = [
       ["Legal\t3.7\nSales\t4.2\nOps\t4.1", "4.2,4.1,3.7", /by name: Legal, Sales and Ops/],
       ["Hi all,\n\nSales: 4.3\nOps - 4.0\nLegal 3.7 (they use it least)\n\nAnna", "4.3,4.0,3.7", /out: “Hi all,”/],
       ["Sales\t4\nOps\t4\nMarketing\t4", "4.3,4.0,3.7", /No row is called “Marketing”\. Nothing was taken/],
+      ["Sales\t8.00\t4.20\nOps\t7.50\t4.10", "4.3,4.0,3.7", /Two numbers stand beside Sales/],
       ["Sales 5\nOps 4\nLegal 3\nTotal 12", "5,4,3", /Left out: “Total 12”/], ["4\n4\n4", "4,4,4", null],
     ]) {
       await paste(page, "proposal.0", text);

@@ -1,5 +1,5 @@
 // The division that the user proposes, or that stands today: a text for each row of the answer.
-import { readTogether } from "../exact/decimals.js";
+import { readNumber, readTogether } from "../exact/decimals.js";
 import { isMark, otherMark } from "../exact/marks.js";
 import { Rational } from "../exact/rational.js";
 import { isSumWord, withEscapes } from "../game/names.js";
@@ -28,7 +28,13 @@ export function pastedDivision(text, labels, { first, before }) {
       if (NUMBER.test(number)) return { fault: `No row is called “${stranger}”. Nothing was taken.` };
       out.push(line);
     } else if (places.has(place)) return { fault: `${withEscapes(labels[place])} is there twice. Nothing was taken.` };
-    else places.set(place, line.slice(labels[place].length).replace(BESIDE, ""));
+    else {
+      const value = line.slice(labels[place].length).replace(BESIDE, ""), isTwo = /\d \D*\d/.test(value);
+      if (isTwo && readNumber(value).fault) {
+        return { fault: `Two numbers stand beside ${withEscapes(labels[place])}: “${value}”. Nothing was taken.` };
+      }
+      places.set(place, value);
+    }
   }
   if (!places.size) return { fault: "Give a number a line, or a name and a number in each. Nothing was taken." };
   const quoted = out.slice(0, 3).map((line) => `“${withEscapes(line.slice(0, 40))}”`);

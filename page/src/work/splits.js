@@ -99,7 +99,7 @@ function notesOf({ count, lacking, hasWhole, above, costs, how }) {
       ? " A group that could use the larger one’s plan would cost less." : ""}`);
   }
   const still = plural(lacking, "group is", "groups are");
-  if (lacking) notes.push(`${still} still empty.`);
+  if (lacking) notes.push(`${still} still empty: no groups with a number make ${lacking > 1 ? "them" : "it"} up.`);
   if (!hasWhole) notes.push(`What all together ${cost} has to be typed: it is what is divided, so it isn’t filled.`);
   return notes;
 }
