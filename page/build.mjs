@@ -21,12 +21,19 @@ const MOST = 850_000; // bytes of the page
 
 /** What stands in the place of "/* NAME *\/" in a module, as the text of a string or as code. */
 function placesOf(own) {
-  const style = (name) => JSON.stringify(readFileSync(join(SRC, name), "utf8")).slice(1, -1);
+  const style = (name) => JSON.stringify(styleOf(name)).slice(1, -1);
   return {
     MODULE: () => own,
     PALETTE: () => style("palette.css"),
     PICTURE: () => style("picture.css"),
   };
+}
+
+/** A style without comments, and a rule of it in one line, without blanks beside its signs. */
+function styleOf(name) {
+  return readFileSync(join(SRC, name), "utf8").replace(/\/\*[^]*?\*\//g, "").replace(/([;{,])\s*\n\s*/g, "$1")
+    .replace(/\n\s+/g, "\n").replace(/ \{/g, "{").replace(/([;{]) *(-{0,2}[\w-]+): /g, "$1$2:")
+    .replace(/;?\s*\}/g, "}");
 }
 
 /** A module and all that it imports, each once, in front of what needs it: code by path. */
@@ -104,7 +111,7 @@ function pageOf(own, commit) {
     .replace("VERSION", version())
     .replaceAll("COMMIT", commit)
     .replaceAll("DIGEST", createHash("sha256").update(unpacked(own)).digest("hex"))
-    .replace("/* STYLE */", () => styles.map(text).join("\n"))
+    .replace("/* STYLE */", () => styles.map(styleOf).join("\n"))
     .replace(/\/\* (SHARED|WORKER|PAGE) \*\//g, (_, name) => `"use strict";\n${scripts[name]}`);
 }
 

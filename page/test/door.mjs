@@ -189,6 +189,53 @@ const questions = [
   }],
 ];
 
+const messy = [
+  ["door: remarks beside a list, and what nobody knows", "costs", async (page, expect) => {
+    await page.paste('[data-cell="numbers.1"]', "Who\tOffer\tRemark\nKai\t14.000,00 €\t\nÖnen\t?\twith pump\n"
+      + "Kai + Önen\t18.000,00 €\t");
+    await told(page, "#case .note[role=status]", /“Remark” was left out\. A cell with “\?” is empty/);
+    expect("the cells", await cells(page), "Kai|Önen|14.000,00 €|18.000,00 €");
+  }],
+  ["door: of two columns of costs, and a type that is a total", "runway", async (page, expect) => {
+    const rows = [["Type", "Landings", "Needed (m)", "Cost (€)"], ["Do 228", "1,204", "900", "€ 1,150,000"],
+      ["E190", "845", "1,700", "€ 2,450,000"], ["Total", "2,049", "", "€ 3,600,000"]];
+    await pasted(page, rows);
+    await told(page, "#case .pasted", /Nothing was taken yet\. Which column is “A landing needs alone”\?/);
+    expect("nothing yet", await cells(page), /^Aer/);
+    await page.click("“Cost (€)”");
+    await noted(page, /The last row, “Total”\. Is it the sum of the others\?/);
+    expect("told", await page.text("#case .pasted"), /“Needed \(m\)” was left out/);
+    await page.click("Yes, remove it");
+    await told(page, "#answer .lead", /E190 pays most, 1,300,954\.36/);
+  }],
+  ["door: a list of a court, with its estate", "estate", async (page, expect) => {
+    await page.paste('[data-cell="rows.0.name"]', "Verfahren 4 IN 233/25\n\nRang\tGläubiger\tForderung\tQuote\n"
+      + "§ 38\tCelle\t1.234,56\t?\n§ 38\tMüller & Co.\t12.500,00\t?\nSumme\t\t13.734,56\t\nMasse\t\t10.000,00\t\n\n"
+      + "(ohne Zinsen)");
+    await noted(page, /The last row has no name\. Is it the sum/);
+    await page.click("Yes, remove it");
+    await told(page, "#answer .lead", /Celle gets 617,28 and Müller & Co\. gets 9\.382,72/);
+    await page.paste('[data-cell="rows.0.name"]', "§ 38\tCelle\t1.234,56\nX\tMüller & Co.\t12.500,00");
+    await told(page, "#case .pasted", /3 cells, and here are the columns .* Nothing was taken/);
+  }],
+  ["door: what is filled is read as the case is", "gains", async (page, expect) => {
+    await page.paste('[data-cell="numbers.1"]', "Firm;Saving\nAda;1,50\nBo;5.000 €\nCy;2.000 €\nBo + Cy;21.000 €\n"
+      + "All;56.000 €");
+    await page.click("Fill the empty ones by the best split");
+    await told(page, "#case .note[role=status]", /2 groups were filled/);
+    expect("by the comma", await page.run(`document.querySelector('[data-cell="numbers.3"]').value`), "5001,5");
+  }],
+  ["door: of votes in per cent that aren’t all it is asked", "votes", async (page, expect) => {
+    await page.type("quota", "2/3");
+    await pasted(page, [["Holder", "Part"], ["Novak", "41.5 %"], ["Fund", "23 %"], ["Founders", "12.25 %"],
+      ["Bank", "9.8 %"]]);
+    await noted(page, /The votes add to 86\.55 %\. Is “2\/3” meant of all 100 %/);
+    await page.click("Of 100 %: at least 66.70");
+    await told(page, "#answer-body", /Novak/);
+    expect("the quota", await page.run(`document.querySelector('[data-cell="quota"]').value`), "66.7");
+  }],
+];
+
 const kept = [
   ["door: who is gone stays in the kept column", "estate", async (page, expect) => {
     await page.click("Clear all");
@@ -276,4 +323,4 @@ const opened = [
   }],
 ];
 
-export const door = [...pastes, ...questions, ...kept, ...perHead, ...guards, ...opened];
+export const door = [...pastes, ...messy, ...questions, ...kept, ...perHead, ...guards, ...opened];

@@ -1,7 +1,8 @@
 // Numbers and lists as people type them, or other programs give them: what they are read as.
 import { cellNumber, readNumber, thousandsIn, typedText } from "../src/exact/decimals.js";
 import { runway } from "../src/cases/lists.js";
-import { cellsOf, columnsFor, headingsOf, pastedText } from "../src/cases/pasting.js";
+import { cellsOf } from "../src/cases/pasting.js";
+import { sheetOf } from "../src/cases/sheets.js";
 import { tableOf } from "../src/cases/tables.js";
 import { Rational } from "../src/exact/rational.js";
 
@@ -76,11 +77,18 @@ const LISTS = [
   ["[1] 5 3 2 10\n[5] 9 6 16", "5 3 10 2 9 6 16"], ["0,5;0;2,25", "0,5 0 2,25"], ["1,5\n2,5\n4,5", "1,5 2,5 4,5"],
   ["1 234,50\n3\n2 000", "1 234,50 3 2 000"], ["(3.50)\n4\n-1", "(3.50) 4 -1"], ["A;3\nB;4\nA+B;5", "3 4 5"],
   ["Group\tCost\nA\t3\nB\t4\nA+B\t5", "3 4 5"], ["1,2,3\n4,5,6", /2 rows of 3 numbers/], ["1 2 3 4", /4 numbers alone/],
-  ["A\t3\t7\nB\t4\t7", /its number, and this one has another cell/], ["NA\n2\n3", /“NA” is no number/],
+  ["A\t3\t7\nB\t4\t7", /one number, and here one has more/], ["NA\n2\n3", /“NA” is no number/],
   ["v1,v2,v3\n1,2,3\n4,5,6", /2 rows of 3 numbers, so 2 games/], ["A;B;A+B\n1;2;3\n4;5;6", /so 2 games/],
   ['"","A","B","AB"\n"1",1,2,4\n"2",3,4,8', /2 rows of 3 numbers, so 2 games/], ["x y z\n1 2 3\n4 5 6", /so 2 games/],
   ['"","group","cost"\n"1","A",3\n"2","B",4\n"3","A+B",5', "3 4 5"], ['"","x"\n"1",3\n"2",4\n"3",5', "3 4 5"],
-  ["Group;Cost\n1;5\n2;3", "5 3 "], ["[".repeat(100000) + "1", "1"], ["[(3.50), [4], -1]", "3.50 4 -1"],
+  ["Group;Cost\n1;5\n2;3", "5 3 "], ["Costs, 3 March\n\nA\t3\nB\t4\nA+B\t5\n\nwithout VAT", "3 4 5"],
+  ["Who\tOffer\tRemark\nA\t3 €\t\nB\t?\tby phone\nA, B\t5 €\t", "3 €  5 €"],
+  ["A\t3\tx\nB\t4\t\nA+B\t5\t", /Line 1: .* is more: “A; 3/],
+  ["Who\tOffer\tLast\nA\t3\t2\nB\t4\t4\nA+B\t5\t6", /Line 2: .* one number, and here one has more: “A; 3; 2”/],
+  ["Costs 2026\t\n\nA\t3\nB\tn/a\nA+B\t5", "3  5"], ["Costs 2026\nA\t3\nB\t4\nA+B\t5", "3 4 5"],
+  ["\nOffers\n\nA\t3 €\nB\t4 €\nC\t5 €\tx", /Line 6: A line has a group and its number/],
+  ["A\t\nB\t3\nA+B\t5", " 3 5"], ["A\tn/a\nB\t3\nA+B\t5", " 3 5"],
+ ["[".repeat(100000) + "1", "1"], ["[(3.50), [4], -1]", "3.50 4 -1"],
 ];
 for (const [text, wanted] of LISTS) {
   const { state, fault } = tableOf(text), found = fault ?? state.numbers.slice(1).join(" ");
@@ -119,14 +127,20 @@ const PASTED = [
   ["Aer\tx\nBee\t40", "name cost", "The first row was taken as headings: “Aer” is “Airline”, “x” is “A landing needs "
     + "alone”."],
   ["Aer\t20\t3\tA320\nBee\t40\t2\t", "", /“Airline”, “A landing needs alone”, “Landings”, “Type”.$/],
-  ["Aer\tx\t20\t3\tA320\nBee\tx\t40\t2\t", "", /“Landings”. Of each row only the first 4 cells were taken.$/],
+  ["Aer\tx\t20\t3\tA320\nBee\tx\t40\t2\t", "", /^These rows have 5 cells, .* all with their headings/],
+  ["Aircraft type\tLandings\tNeeded (m)\tCost (€)\nDo\t1,204\t900\t€ 1,150\nE190\t845\t1,700\t€ 2,450", "", "2 3"],
+  ["Landings 2025\t\t\n\t\t\nType\tLandings\tCost\nE190\t845\t20.50\n\t\t\nSource: log\t\t", "type count cost",
+    /^Left out, as no number stands beside: “Landings 2025”, “Source: log”\. The first row was taken/],
+  ["As agreed\n\nAer 20.50\nBee 40\n\nYours, Eve", "", /^Left out, .* “As agreed”, “Yours, Eve”\.$/],
+  ["Aer\nBee 40\nCargo 60", "", ""], ["Flight\tCost\tMore\n471\t20\t5", "name cost count", /“Flight” is “Airline”/],
+  ["Airline\tCost\tWeight\tLandings\tSlots\nAer\t20\t7\t3\t9", "name cost - count -", /“Weight” was left out. “Slots”/],
   ["Aer\t20\t3\t\nBee\t40\t2\t", "", ""], ["Aer\nBee", "", ""], ["Aer\tx\nBee\ty", "", /“Airline”, “Type”.$/],
 ];
 for (const [text, wanted, told] of PASTED) {
-  const rows = cellsOf(text), headings = headingsOf(rows, 1, ".");
-  const targets = columnsFor(runway.columns, headings, { rows, mark: ".", ofFour: runway.ofFour });
-  const found = headings ? targets.map((column) => column?.key ?? "-").join(" ") : "";
-  const said = pastedText(rows, headings, targets, runway.columns.filter(({ optional }) => !optional));
+  const usual = runway.columns.filter(({ optional }) => !optional);
+  const sheet = sheetOf(cellsOf(text), runway.columns, { mark: ".", ofFour: runway.ofFour, usual });
+  const found = sheet.headings ? sheet.targets.map((column) => column?.key ?? "-").join(" ") : "";
+  const said = sheet.fault ?? sheet.rivals?.at.join(" ") ?? sheet.notes.join(" ");
   if (found === wanted && (told instanceof RegExp ? told.test(said) : told === said)) continue;
   faults += 1;
   console.log(`${JSON.stringify(text)}: headings ${JSON.stringify(found)}, and it is told: ${said}`);

@@ -12,7 +12,7 @@ const framed = [
     await paste(page, first.costs, "Borehole costs (EUR), offer of 3 March\n\nWho drills\tOffer\nKeller\t14.000,00 €\n"
       + "Önen\t12.000,00 €\nKeller + Önen\t18.000,00 €\n\nPrices without VAT");
     await told(page, "#answer .lead", /Keller pays 10.?000,00 and Önen pays 8.?000,00/);
-    expect("told", await page.text("#case .left-out"), /“Borehole costs .*3 March”, “Prices without VAT”\./);
+    expect("told", await page.text("#case .note[role=status]"), /“Borehole costs .*3 March”, “Prices without VAT”\./);
     await page.run("location.hash = '#network'");
     await page.until(`document.querySelector('[data-cell="links.0-1"]')`);
     await paste(page, first.network, "Water main\n\nFrom\tTo\tCost\nSpring\tUp\t12\nSpring\tLow\t9\nUp\tLow\t4");
@@ -28,6 +28,7 @@ const framed = [
   ["strangers: euros are no names, and a total is asked about", "runway", async (page, expect) => {
     await paste(page, "rows.0.name", "Aircraft type\tLandings\tRunway needed (m)\tCost of that length (€)\n"
       + "Do 228\t1,204\t900\t€ 1,150,000\nATR 72\t2,310\t1,350\t€ 1,900,000\nTotal\t3,514\t2,250\t€ 3,050,000");
+    await page.click("“Cost of that length (€)”");
     await told(page, "#case .pasted", /“Runway needed \(m\)” was left out/);
     await told(page, "#case .faults", /“Total”\. Is it the sum of the others\?/);
     expect("no answer before", await page.run("document.getElementById('answer').hidden"), true);

@@ -13,6 +13,7 @@ const COST = /cost|need|price|fee|charge|amount|kosten|preis|betrag|gebühr|beda
 const heads = (words) => new RegExp(`^(?!.*(${COST.source})).*(${words})`, "iu"); // and no word of a cost
 const CREDITOR = /creditor|claimant|lender|party|name|gläubiger|créancier/iu;
 const CLAIM = /claim(?!ant)|amount|owed|debt|due\b|forderung|betrag|schuld|créance|montant|\p{Sc}/iu;
+const ESTATE = /^(the |die )?(estate|assets|available|(insolvenz|teilungs)?masse|actif|masse active)\b/iu;
 const MOST_LANDINGS = mostOf("airport"), MOST_CLAIMS = mostOf("bankruptcy"), MOST_NAME = LIMITS["bytes of a name"];
 
 export const runway = {
@@ -111,7 +112,7 @@ export const estate = {
   unit: "claim",
   grid: "list",
   mapNumbers: numbersMapped,
-  single: { key: "estate", title: "The estate", help: "what there is to divide" },
+  single: { key: "estate", title: "The estate", help: "what there is to divide", heads: ESTATE },
   columns: [
     { key: "name", title: "Who claims", wide: true, placeholder: "Claimant", heads: CREDITOR },
     { key: "claim", title: "Claim", number: true, heads: CLAIM },

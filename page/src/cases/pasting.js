@@ -35,44 +35,30 @@ function splitLine(line, by) {
   return [...cells, cell];
 }
 
-const NOTE = /^([(*†]|sources?\b|notes?\b|remarks?\b|quellen?\b|hinweis|anmerkung|stand\b)/iu;
-
-/** A pasted text without the lines that frame its table: lone words above it, as a title, and below it, as a source,
- * with an empty line between: {rows, text, left}, where `left` are these words. */
-export function unframed(rows, text) {
-  const counts = rows.map((row) => row.filter(Boolean).length), isWide = (count) => count > 1;
-  const first = counts.findIndex(isWide), last = counts.findLastIndex(isWide), whole = { rows, text, left: [] };
-  if (counts.filter(isWide).length < 2) return whole;
-  const lone = (k) => rows[k].find(Boolean) ?? "", isNumber = (k) => !readNumber(lone(k)).fault;
-  const above = counts.slice(0, first), below = counts.slice(last + 1), gap = below.indexOf(0);
-  const isTitled = above.includes(0) && !above.some((count, k) => count && isNumber(k));
-  const isNote = (k) => counts[k] === 1 && !isNumber(k) && ((gap >= 0 && k > last + gap) || NOTE.test(lone(k)));
-  const isOut = (k) => (k < first ? isTitled : k > last && (!counts[k] || isNote(k)));
-  const kept = rows.map((_, k) => k).filter((k) => !isOut(k)), lines = text.split(/\r\n?|\n/);
-  const left = rows.flatMap((_, k) => (isOut(k) && counts[k] ? [lone(k)] : []));
-  return left.length ? { rows: kept.map((k) => rows[k]), text: kept.map((k) => lines[k]).join("\n"), left } : whole;
-}
-
-/** What is told of these. */
-export function leftText(left) {
-  const shown = left.slice(0, 3).map((words) => `“${words.slice(0, 60)}${words.length > 60 ? " …" : ""}”`);
-  return left.length ? `Left out, as no number stands beside: ${shown.join(", ")}${left.length > 3 ? " …" : ""}.` : "";
-}
-
 const NAME_AND_NUMBER = /^(.*\p{L}.*?)\s*[:\s]\s*([-−(]?\d\S*|\d\S* ?\S{1,4})$/u;
 
 /** Lines as mails and PDFs have them, in one cell each: parted at two blanks or more, or into a name and a number
- * behind its last blank or colon; the same rows where not all are so, or where the numbers only count, as in "Lot 1".
- */
+ * behind its last blank or colon. Texts above and below may be other; the rows are the same where one between is, or
+ * where the numbers only count, as in "Lot 1". */
 export function partedLines(rows) {
-  if (rows.length < 2 || rows.some((row) => row.filter(Boolean).length !== 1)) return rows;
-  const texts = rows.map((row) => row.find(Boolean)), wide = texts.map((text) => text.split(/\s{2,}/));
+  const kept = rows.filter((row) => row.some(Boolean)), textOf = (row) => row.find(Boolean) ?? "";
+  if (kept.length < 2 || kept.some((row) => row.filter(Boolean).length !== 1)) return rows;
+  const wide = kept.map((row) => textOf(row).split(/\s{2,}/));
   if (wide.every(({ length }) => length > 1 && length === wide[0].length)) return wide;
-  const parts = texts.map((text) => NAME_AND_NUMBER.exec(text)?.slice(1));
-  const isHeaded = !parts[0] && parts.length > 2 && !/\d/.test(texts[0]), found = isHeaded ? parts.slice(1) : parts;
-  const isCount = found.every((one, k) => Number(one?.[1]) === k + 1);
-  if (isCount || !found.every((one) => one && !readNumber(one[1]).fault)) return rows;
-  return isHeaded ? [texts[0].split(/\s+(?=\S+$)/), ...found] : found;
+  const parts = rows.map((row) => nameAndNumber(textOf(row))), found = parts.filter(Boolean);
+  const [first, last] = [found[0], found.at(-1)].map((one) => parts.indexOf(one));
+  const isBroken = rows.slice(first, last).some((row, k) => textOf(row) && !parts[first + k]);
+  if (found.length < 2 || isBroken || found.every(([, number], k) => Number(number) === k + 1)) return rows;
+  const isHead = (text, r) => r === first - 1 && /\S\s+\S/.test(text) && !/\d/.test(text);
+  return rows.map((row, r) => {
+    const text = textOf(row);
+    return parts[r] ?? (isHead(text, r) ? text.split(/\s+(?=\S+$)/) : text ? [text, ""] : row);
+  });
+}
+
+function nameAndNumber(text) {
+  const [, name, number] = NAME_AND_NUMBER.exec(text) ?? [];
+  return number && !readNumber(number).fault ? [name, number] : undefined;
 }
 
 /** Rows without the numbers that R's write.csv puts in front of them, below a first heading that is empty; the same
@@ -96,33 +82,56 @@ export function headingsOf(rows, from, mark) {
   return words?.length && words.every(isWord) && below.some((row) => row.some(isNumber)) ? rows[0] : null;
 }
 
-const MONEY = /cost|price|fee|charge|kosten|preis|gebühr|co[uû]t|prix|\p{Sc}/iu; // rather a cost than what is needed
-const AMOUNT = /\p{Sc}\s*\d|^\d{1,3}([.,'’\s]\d{3})+$|^\d+[.,]\d\d$/u; // no name, below a heading
-
 /** The column that each pasted one is for: the one that its heading names, and of the others the next; or none. Numbers
- * are for no optional column, but where four columns stand as `ofFour` has them, by its keys; below headings amounts
- * are no names. */
+ * are for no optional column, but where four columns stand as `ofFour` has them, by its keys; and below a heading that
+ * says nothing, only those of the first column are names. */
 export function columnsFor(columns, headings, { rows = [], mark = ".", ofFour = [] } = {}) {
-  const wide = rows.reduce((most, row) => Math.max(most, lastOf(row)), headings?.length ?? 0);
-  const all = Array.from({ length: wide }, (_, c) => c);
-  const below = (c) => rows.slice(headings ? 1 : 0).map((row) => row[c]).filter(Boolean);
-  const isTitle = (text, title) => text?.toLowerCase() === title.toLowerCase();
+  const wide = wideOf(rows, headings), all = Array.from({ length: wide }, (_, c) => c);
+  const below = belowOf(rows, headings);
   const named = all.map((c) => headings && (columns.find(({ title }) => isTitle(headings[c], title))
     ?? columns.find(({ heads }) => heads?.test(headings[c]))));
-  const placesOf = (column) => all.filter((c) => named[c] === column), isMoney = (c) => MONEY.test(headings[c]);
-  const bestOf = (column) => placesOf(column).find(isMoney) ?? placesOf(column)[0];
-  const found = named.map((column, c) => (column && bestOf(column) === c ? column : undefined));
+  const found = named.map((column, c) => (column && named.indexOf(column) === c ? column : undefined));
   const isFour = wide === 4 && columns.length === ofFour.length && isNumeric(below(3), mark);
   const order = isFour ? ofFour.map((key) => columns.find((column) => column.key === key)) : columns;
   const free = order.filter((column) => !found.includes(column));
   const filled = all.map((c) => {
     if (found[c]) return found[c];
-    const fits = ({ number, optional }) => (isFour || !optional || !isNumeric(below(c), mark))
-      && (number || !headings || !below(c).some((text) => AMOUNT.test(text)));
-    const k = free.findIndex(fits);
+    const isNumbers = isNumeric(below(c), mark), isName = ({ wide: isWide }) => isWide && headings && c > 0;
+    const k = free.findIndex((column) => !(isNumbers && (isName(column) || (column.optional && !isFour))));
     return k < 0 ? undefined : free.splice(k, 1)[0];
   });
   return swapped(filled, found, below, mark);
+}
+
+const isTitle = (text, title) => text?.toLowerCase() === title.toLowerCase();
+
+/** How many columns pasted rows have. */
+function wideOf(rows, headings) {
+  return rows.reduce((most, row) => Math.max(most, lastOf(row)), headings?.length ?? 0);
+}
+
+/** The texts of a column, by its place. */
+function belowOf(rows, headings) {
+  return (c) => rows.slice(headings ? 1 : 0).map((row) => row[c]).filter(Boolean);
+}
+
+/** Columns of numbers whose headings all say that they are for the same column: {column, at}, with their places; null
+ * where none are, or one has its very title. */
+export function rivalsFor(columns, headings, { rows, mark }) {
+  const below = belowOf(rows, headings), all = (headings ?? []).map((_, c) => c);
+  for (const column of columns.filter(({ number }) => number)) {
+    const at = all.filter((c) => column.heads?.test(headings[c]) && isNumeric(below(c), mark));
+    if (at.length > 1 && !at.some((c) => isTitle(headings[c], column.title))) return { column, at };
+  }
+  return null;
+}
+
+/** Why rows without headings that are wider than their columns can't be taken; null if they aren't. */
+export function widthFault(rows, headings, targets, columns) {
+  const wide = wideOf(rows), isLost = rows.some((row) => row.some((text, c) => text && !targets[c]));
+  const titles = columns.map(({ title }) => `“${title}”`).join(", ");
+  return headings || !isLost ? null : `These rows have ${wide} cells, and here are the columns ${titles}. Copy those `
+    + "alone, or all with their headings, which say what is what.";
 }
 
 /** How many cells a row has, without empty ones behind. */
@@ -152,10 +161,8 @@ export function pastedText(rows, headings, targets, usual = targets) {
   const pairs = headings?.map((text, c) => targets[c] && `“${text}” is “${targets[c].title}”`).filter(Boolean);
   const out = headings?.filter((_, c) => !targets[c]).map((text) => `“${text}” was left out.`) ?? [];
   const taken = targets.filter(Boolean), isUsual = taken.every((column, c) => column === usual[c]);
-  const isWider = rows.some((row) => row.slice(headings ? targets.length : taken.length).some(Boolean));
   return [
     ...(pairs ? [`The first row was taken as headings: ${pairs.join(", ")}.`] : []), ...out,
     ...(pairs || isUsual ? [] : [`Taken, in this order, as: ${taken.map(({ title }) => `“${title}”`).join(", ")}.`]),
-    ...(isWider ? [`Of each row only the first ${taken.length} cells were taken.`] : []),
   ].join(" ");
 }

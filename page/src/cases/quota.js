@@ -4,7 +4,8 @@ import { lcm, Rational } from "../exact/rational.js";
 
 const MORE = /^(more than|over|above|mehr als|über|plus de|>(?!=))\s*/;
 const LEAST = /^(at least|mindestens|au moins|>=|≥)\s*/;
-const BEHIND = /\s*(of (all|the)( votes| seats)?|(aller|der) stimmen|des voix)$/;
+const OF_ALL = "of (?:all|the)|of (?:all |the )*(?:votes|seats|shares|capital)(?: present| cast)?";
+const BEHIND = new RegExp(`\\s*(?:${OF_ALL}|(?:aller|der) stimmen|des voix)$`);
 const MAJORITY = /^((simple|absolute|einfache) )?(majority|mehrheit|majorité( simple| absolue)?)$/;
 const UNANIMOUS = /^(all|everybody|unanim(ity|ous)|alle|einstimmig|unanimité)$/;
 const SIGNS = { "½": "1/2", "⅓": "1/3", "⅔": "2/3", "¼": "1/4", "¾": "3/4", "⅗": "3/5", "⅘": "4/5" };
@@ -46,15 +47,13 @@ function ofNumbers(text, mark) {
   return all.over(Rational.of(100));
 }
 
-/** The least number of votes that reaches the part of all that a text says; null for another text. What is more than a
- * part is the next sum that votes can have. */
-export function leastOf(typed, votes, mark) {
+/** The least number of votes that reaches the part of `all` that a text says, among the sums that votes can have; null
+ * for another text. */
+export function leastOf(typed, votes, mark, all = Rational.sum(votes)) {
   const said = partIn(typed ?? "", mark);
   if (!said) return null;
-  const least = Rational.sum(votes).times(said.part), den = votes.reduce((all, one) => lcm(all, one.den), 1n);
-  const unit = Rational.of(den), steps = least.times(unit);
-  if (said.isMore) return Rational.of(steps.floor() + 1n).over(unit);
-  return den === 1n ? Rational.of(-steps.negated().floor()) : least;
+  const unit = Rational.of(votes.reduce((den, one) => lcm(den, one.den), 1n)), steps = all.times(said.part).times(unit);
+  return Rational.of(said.isMore ? steps.floor() + 1n : -steps.negated().floor()).over(unit);
 }
 
 /** 66.67 % of 90 votes is a little more than 60, and two thirds are 60. If a rounded fraction asks for another number
@@ -69,9 +68,6 @@ export function roundedPart(typed, votes, mark) {
   };
   const found = FRACTIONS.find(isNear);
   const text = found && typed.replace(/\d+[.,]\d+ ?%/, found.join("/"));
-  const all = Rational.of(votes.reduce((unit, one) => lcm(unit, one.den), 1n)); // what votes add to is in such parts
-  const ways = text ? [typed, text].map((one) => {
-    return Rational.of(-leastOf(one, votes, mark).times(all).negated().floor()).over(all);
-  }) : [];
+  const ways = text ? [typed, text].map((one) => leastOf(one, votes, mark)) : [];
   return text && !ways[0].equals(ways[1]) ? { text, ways: ways.map(String) } : null;
 }

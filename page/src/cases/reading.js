@@ -9,7 +9,16 @@ import { remarksOf, withEscapes } from "../game/names.js";
 const MOST_SCALE = BigInt(LIMITS.denominator);
 const MOST = 2n ** BigInt(LIMITS.bits), MOST_NAME = LIMITS["bytes of a name"];
 const MOST_TOLD = 3; // numbers that are worked out, of which that is told
+const MOST_SHOWN = 40; // letters of what is no number
 const MOST_KEPT = 200; // faults that are kept with their cells; of the others only the number
+
+/** All cells are read by one mark: where some show which, that one settles those that can be read both ways, unless the
+ * user chose how these are read, by a `mark` of none or of both. `read(mark)` gives {reading, ..}. */
+export function byOneMark(read, mark) {
+  const first = read(mark), settled = first.reading.settles();
+  const isSettled = first.reading.doubts.size > 0 && settled !== null && isMark(mark);
+  return isSettled && settled !== mark ? read(settled) : first;
+}
 
 export class Reading {
   /** `opened` are the names of a document in whose cells nothing was typed yet; `isUnnamed` says that it has none. */
@@ -28,6 +37,7 @@ export class Reading {
     this.either = null; // a whole number that is one by both marks, as 5.000: {typed, ways}, each [value, mark]
     this.isOpen = false; // whether the grid itself has a question
     this.part = null; // a quota in per cent that may be a rounded fraction: {cell, typed, text, ways}
+    this.rest = null; // a part of votes that are per cent and not all: {cell, typed, ways}, each [all, least]
     this.notes = []; // what was changed for the program, and what is remarkable
     this.numbers = [];
     this.texts = new Map();
@@ -66,7 +76,8 @@ export class Reading {
     if (by && !this.shown.has(by)) this.shown.set(by, typed);
     if (fault === "is empty") return this.open(cell);
     if (fault) {
-      const shown = fault === "is no number" ? `: “${withEscapes(typed.trim().slice(0, 20))}”` : "";
+      const text = typed.trim(), short = text.length > MOST_SHOWN ? `${text.slice(0, MOST_SHOWN)}…` : text;
+      const shown = fault === "is no number" ? `: “${withEscapes(short)}”` : "";
       return this.fault(cell, `${what} ${fault}${shown}.`);
     }
     if (value.isNegative() && !canBeNegative) return this.fault(cell, `${what} can’t be negative.`);
@@ -197,7 +208,7 @@ export class Reading {
 
   isRight() {
     return !this.isOpen && !this.count && !this.empty.count && !this.asked && !this.either && !this.mixed
-      && !this.unsure && !this.part && !this.isPaused;
+      && !this.unsure && !this.part && !this.rest && !this.isPaused;
   }
 }
 

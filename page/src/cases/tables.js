@@ -3,10 +3,12 @@ import { readNumber, typedText } from "../exact/decimals.js";
 import { mostOf } from "../game/classes.js";
 import { maskOf, masksBySize, membersOf } from "../game/groups.js";
 import { isSumWord, withEscapes } from "../game/names.js";
+import { listed } from "../game/words.js";
 import { filledGroups } from "./filled-cells.js";
 import { rowsOf } from "./lists.js";
 import { oddsOf } from "./odds.js";
-import { cellsOf, ROW_NUMBERS, withoutRowNumbers } from "./pasting.js";
+import { leftText, unframed } from "./frames.js";
+import { cellsOf, headingsOf, ROW_NUMBERS, withoutRowNumbers } from "./pasting.js";
 import { Reading } from "./reading.js";
 import { unitsText, withoutUnits } from "./units.js";
 import { headingOf, manyBelow, numbersIn, vectorOf } from "./vectors.js";
@@ -120,25 +122,25 @@ export function withoutPlayer(state, player) {
 
 /** A table from a pasted text: lines of a group, with + between its members, and its number; or numbers alone, in the
  * order of the masks or by size: {state}, or {fault} in words. `told` says how it was read, `remark` what was left
- * out. */
-export function tableOf(text, names = [], order = "size", mark = ".") {
+ * out. Its lines may have other numbers than their own (`lines`), where others were left out. */
+export function tableOf(text, names = [], order = "size", mark = ".", lines = undefined) {
   const numbers = numbersIn(text), heading = numbers ? null : headingOf(text);
   if (numbers) return ofNumbers(numbers, names, order, mark);
   const below = heading !== null && numbersIn(text.trimStart().slice(heading.length));
   const found = below ? ofNumbers(below, names, order, mark) : {};
   if (found.state) return { ...found, remark: `${headingText(heading)}${found.remark}` };
-  const rows = cellsOf(text), kept = rows.filter((row) => row.some(Boolean));
+  const all = cellsOf(text), { rows, left } = unframed(all), kept = rows.filter((row) => row.some(Boolean));
   const many = kept.length > 0 && manyBelow(below ? [[], ...below] : kept);
   if (many) return { fault: many };
-  const { rows: bare = [], units = [], fault } = withoutUnits(withoutRowNumbers(kept), 1);
+  const plain = withoutRowNumbers(kept), { rows: bare, units = [], fault } = withoutUnits(plain, 1);
   if (fault) return { fault };
-  if (bare.length !== kept.length || bare.some((row, k) => row !== kept[k])) {
-    const inside = tableOf(bare.map((row) => row.join("\t")).join("\n"), names, order, mark);
-    const told = [withoutRowNumbers(kept) !== kept && ROW_NUMBERS, unitsText(units)].filter(Boolean).join(" ");
+  const places = new Map(all.map((row, k) => [row, lines?.[k] ?? k + 1])), own = kept.map((row) => places.get(row));
+  if (left.length || bare !== kept) {
+    const inside = tableOf(bare.map((row) => row.join("\t")).join("\n"), names, order, mark, own);
+    const told = [leftText(left), plain !== kept && ROW_NUMBERS, unitsText(units)].filter(Boolean).join(" ");
     return inside.state ? { ...inside, remark: ` ${told}${inside.remark}` } : inside;
   }
-  const lines = new Map(rows.map((row, k) => [row, `Line ${k + 1}: `]));
-  return kept.length ? listOf(kept, (row) => lines.get(row)) : { fault: "There is nothing in this list." };
+  return kept.length ? listOf(kept, own, mark) : { fault: "There is nothing in this list." };
 }
 
 /** A table of numbers alone, as other programs have it. */
@@ -175,29 +177,48 @@ function drops(values) {
   return count;
 }
 
-/** A heading: a first line whose number is none, where the next one has one. */
-function withoutHeading(rows) {
-  const isNumber = (row) => !readNumber(row?.[1] ?? "").fault;
-  return rows.length > 1 && rows[0][1] && !isNumber(rows[0]) && isNumber(rows[1]) ? rows.slice(1) : rows;
+/** Rows of a group and its number, of such as may have headings and further columns: {rows, lines, told}. Below
+ * headings the one column of numbers is taken; {fault} where there are several, or where no headings are. `lines` are
+ * the numbers of the lines of the text. */
+function pairsOf(all, allLines, mark) {
+  const headings = headingsOf(all, 1, mark), skip = headings ? 1 : 0, rows = all.slice(skip);
+  const lines = allLines.slice(skip), long = rows.findIndex((row) => row.slice(2).some(Boolean));
+  const told = headings ? headingText(headings.filter(Boolean).join("; ")) : "";
+  if (long < 0) return { rows, lines, told };
+  const isNumber = (text) => Boolean(text) && !readNumber(text, mark).fault;
+  const shown = withEscapes(rows[long].join("; ")).slice(0, 60), line = `Line ${lines[long]}: `;
+  const wide = all.reduce((most, { length }) => Math.max(most, length), 0);
+  const columns = Array.from({ length: wide - 1 }, (_, k) => k + 1);
+  const [at, other] = columns.filter((c) => rows.some((row) => isNumber(row[c])));
+  if (other !== undefined || at === undefined) {
+    return { fault: `${line}A line has a group and one number, and here one has more: “${shown}”. Members of a group `
+      + "have + between them." };
+  }
+  if (!headings) {
+    return { fault: `${line}A line has a group and its number, and here is more: “${shown}”. Leave that out, or give `
+      + "each column a heading." };
+  }
+  const out = columns.filter((c) => c !== at).map((c) => ` “${withEscapes(headings[c] ?? "")}” was left out.`);
+  return { rows: rows.map((row) => [row[0], row[at] ?? ""]), lines, told: told + out.join("") };
 }
 
-/** `lineOf(row)` says which line of the text it is. */
-function listOf(all, lineOf) {
-  const rows = withoutHeading(all), heading = rows === all ? null : all[0].filter(Boolean).join("; ");
-  const long = rows.find((row) => row.slice(2).some(Boolean));
-  if (long) {
-    const shown = withEscapes(long.join("; ")).slice(0, 60);
-    return { fault: `${lineOf(long)}A line is a group and its number, and this one has another cell: “${shown}”. `
-      + "Leave columns of remarks out; members of a group have + between them." };
-  }
+/** What says that nobody knows a number. */
+const UNKNOWN = /^(\?+|n\/?a|n\.a\.|k\. ?a\.|[-–—]|unknown|unbekannt|inconnu|tb[cd])$/i;
+
+/** A table of rows of a group and its number; `allLines` are the numbers of their lines. */
+function listOf(all, allLines, mark) {
+  const { rows, lines, told, fault } = pairsOf(all, allLines, mark), lineOf = (k) => `Line ${lines[k]}: `;
+  if (fault) return { fault };
   const isNumber = ([group]) => !readNumber(group).fault;
   if (rows.some(isNumber) && rows.every((row) => !row[1])) {
-    const row = rows.find(([group]) => readNumber(group).fault), other = withEscapes(row[0].slice(0, 40));
-    return { fault: `${lineOf(row)}“${other}” is no number, and the others have no group beside them.` };
+    const k = rows.findIndex((row) => !isNumber(row)), other = withEscapes(rows[k][0].slice(0, 40));
+    return { fault: `${lineOf(k)}“${other}” is no number, and the others have no group beside them.` };
   }
-  const read = rows.map((row) => {
-    const [group, number = ""] = row, members = group.normalize("NFC").split("+").map((member) => member.trim());
-    return { members, number, line: lineOf(row) };
+  const open = new Set();
+  const read = rows.map(([group, given = ""], k) => {
+    const members = group.normalize("NFC").split("+").map((member) => member.trim());
+    if (UNKNOWN.test(given)) open.add(given);
+    return { members, number: UNKNOWN.test(given) ? "" : given, line: lineOf(k) };
   });
   const grouped = inOtherWords(read);
   const names = [...new Set(read.filter(({ members }) => members.length === 1).map(({ members }) => members[0]))];
@@ -206,7 +227,8 @@ function listOf(all, lineOf) {
     return { fault: `These are ${names.length} players, and a table has at most ${MOST_PLAYERS}. A group of several is `
       + "its members with + between, as Sales+Ops." };
   }
-  return { ...placedList(read, names), remark: `${heading === null ? "" : headingText(heading)}${grouped}` };
+  const unknown = open.size ? ` A cell with ${listed([...open].map((text) => `“${text}”`))} is empty.` : "";
+  return { ...placedList(read, names), remark: told + grouped + unknown };
 }
 
 const AND = /\s*(?:&|,|\/|\band\b|\bund\b|\bet\b)\s*/u;

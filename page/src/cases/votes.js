@@ -10,6 +10,7 @@ import { askOfSum } from "./sum-row.js";
 
 const MOST = mostOf("voting"), MOST_IN_TABLE = mostOf("table");
 const MOST_VOTES = BigInt(LIMITS.votes);
+const HUNDRED = Rational.of(100);
 const VOTER = /voter|state|party|member|country|holder|owner|name|staat|land|partei|mitglied|aktion|état|pays|parti/iu;
 const VOTES = /vote|seat|share|weight|stimme|sitz|anteil|voix|siège|part\b|population|bevölkerung/iu;
 
@@ -54,11 +55,12 @@ export const votes = {
     if (isDouble) ballots.push(readSecond(reading, state, mark, names));
     if (!isDouble) reading.close();
     if (names.length > MOST) {
-      reading.fault(list.cells.at(-1), `These are ${names.length} voters, and at most ${MOST} are taken.`);
+      reading.pause(`These are ${names.length} voters, and here up to ${MOST} are counted. The Python package counts `
+        + "any number (coop.votes).");
     }
     if (!reading.isRight()) return { ...list, tree: {} };
-    const tree = isDouble ? null : votingGame(reading, list, ballots[0]);
-    if (tree) return { ...list, tree, ballots };
+    const game = isDouble ? null : votingGame(reading, list, ballots[0]);
+    if (game) return { ...list, tree: game, ballots };
     if (names.length > MOST_IN_TABLE) return { ...list, tree: null, ballots, isBeyond: true };
     return { ...list, tree: tableOfWins(list, ballots), ballots };
   },
@@ -72,18 +74,20 @@ export const votes = {
 };
 
 /** The quota of some votes: a number, or a part of all. With decimals it may have some, too. */
-function readBallot(reading, typed, cell, what, { values }, { exactParts = [] }) {
+function readBallot(reading, typed, cell, what, { values }, { exactParts = [], isPercent = false }) {
   const all = Rational.sum(values), isWhole = values.every((value) => value.isWhole());
   const part = leastOf(typed, values, reading.mark), quota = part ?? reading.number(cell, typed, what);
   if (part) {
     const rounded = !exactParts.includes(typed) && roundedPart(typed, values, reading.mark);
     if (rounded) reading.part = { cell, typed, ...rounded };
     const [told, least] = [all, part].map(shortText);
+    if (isPercent && all.less(HUNDRED)) reading.rest = restOf(cell, typed, values, reading.mark);
     reading.notes.push(`${what}: ${withEscapes(typed.trim())} of ${told} votes, so at least ${least}.`);
   }
   if (!quota) return { values };
   if (isWhole && !quota.isWhole()) {
-    reading.fault(cell, `${what} is a whole number: the least number of votes that is enough.`);
+    reading.fault(cell, `${what} is a whole number, the least number of votes that is enough; or a part, as 2/3 or `
+      + "60 %.");
   } else if (quota.isZero() || quota.isNegative() || all.less(quota)) {
     const least = isWhole ? `from 1 to ${all}` : `above 0, and at most ${shortText(all)}`;
     reading.fault(cell, `${what} is ${least}, the votes of all.`);
@@ -108,10 +112,17 @@ function readSecond(reading, state, mark, names) {
     values.push(reading.number(cells.at(-1), typed, "The second number of votes") ?? Rational.of(0));
   }
   if (!isAny) reading.notes.push("No second votes are typed, so each voter has one.");
-  return readBallot(reading, state.secondQuota, "secondQuota", "The second quota", { values, cells }, state);
+  const own = { ...state, isPercent: false };
+  return readBallot(reading, state.secondQuota, "secondQuota", "The second quota", { values, cells }, own);
 }
 
-/** The game of its own class; null where the votes are more than that takes, and no common divisor helps. */
+/** Votes in per cent that are fewer than 100 together: a part may be of these, or of 100. */
+function restOf(cell, typed, values, mark) {
+  const ways = [HUNDRED, Rational.sum(values)].map((all) => [all, leastOf(typed, values, mark, all)]);
+  return { cell, typed, ways: ways.map((way) => way.map(String)) };
+}
+
+/** The game of one quota; null where the votes are more than its class takes. */
 function votingGame(reading, { named }, ballot) {
   const { votes, quota } = inWhole(ballot), all = votes.reduce((sum, one) => sum + one, 0n);
   const common = votes.reduce(gcd, quota) || 1n;

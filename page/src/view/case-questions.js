@@ -1,5 +1,5 @@
 // What has to be settled before there is an answer: questions beside the cells, each with its ways out.
-import { countText, quotedText, shortText } from "../exact/decimals.js";
+import { countText, quotedText, shortText, typedText } from "../exact/decimals.js";
 import { DECIMALS, WHOLE } from "../exact/marks.js";
 import { Rational } from "../exact/rational.js";
 import { withEscapes } from "../game/names.js";
@@ -8,11 +8,12 @@ import { doubtNotes } from "./doubts.js";
 
 /** What has to be settled before there is an answer, and how numbers were read. */
 export function questions(reading, typed, settings) {
-  const { asked, swap, perHead, mixed, unsure, part, either } = reading;
+  const { asked, swap, perHead, mixed, unsure, part, rest, either } = reading;
   return [
     asked && sumQuestion(asked, typed, settings), swap && swapQuestion(swap, typed, settings),
     perHead && perHeadQuestion(perHead, settings), mixed && mixedQuestion(mixed, reading, settings),
-    part && partQuestion(part, typed, settings), unsure && unsureQuestion(unsure, reading, settings),
+    rest ? restQuestion(rest, typed, reading, settings) : part && partQuestion(part, typed, settings),
+    unsure && unsureQuestion(unsure, reading, settings),
     either ? eitherQuestion(either, settings) : !mixed && !unsure && doubtNotes(reading, settings),
   ];
 }
@@ -26,7 +27,8 @@ function sumQuestion({ r, name, isLast }, typed, { onReset, onChange }) {
   };
   const [which, rest] = name ? [`, “${withEscapes(name)}”.`, " "] : [" has no name.", " If not, give it a name. "];
   const row = isLast ? "The last row" : `Row ${r + 1}`, others = isLast ? "the others" : "others";
-  const asked = `${row}${which} Is it the sum of ${others}? It would count as one more.${rest}`;
+  const isPart = name && /of which|thereof|davon|dont/i.test(name), sum = isPart ? "a part" : "the sum";
+  const asked = `${row}${which} Is it ${sum} of ${others}? It would count as one more.${rest}`;
   return el("p", { class: "note" }, asked,
     button("Yes, remove it", without, { class: "quiet" }), name && button("No, it counts", keep, { class: "quiet" }));
 }
@@ -93,4 +95,19 @@ function partQuestion({ cell, typed, text, ways: [exact, rounded] }, state, { on
     button(`${text}, ${votes(rounded)}`, () => onReset({ ...state, [cell]: text }, `Take ${text}`, true), {
       class: "quiet",
     }), " ", button(`Exactly that, ${votes(exact)}`, keep, { class: "quiet" }));
+}
+
+/** Asks whether a part is one of all 100 %, where the votes that are typed are fewer. */
+function restQuestion({ cell, typed, ways: [[, ofAll], [sum, ofThese]] }, state, { mark }, { onReset, onChange }) {
+  const shown = (text) => shortText(Rational.of(text)), { isPercent, ...others } = state;
+  const ofHundred = { ...others, [cell]: typedText(Rational.of(ofAll), mark) };
+  const keep = () => {
+    state.isPercent = false;
+    onChange(0);
+  };
+  return el("p", { class: "note" }, `The votes add to ${shown(sum)} %. Is “${withEscapes(typed.trim())}” meant of all `,
+    "100 %, of which others have the rest and don’t vote? ",
+    button(`Of 100 %: at least ${shown(ofAll)}`, () => onReset(ofHundred, "Of 100 %", true), {
+      class: "quiet",
+    }), " ", button(`Of these: at least ${shown(ofThese)}`, keep, { class: "quiet" }));
 }

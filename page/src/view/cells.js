@@ -1,5 +1,6 @@
 // What the grids of all cases share: a cell to type in, moving by keys, and pasting.
-import { cellsOf, leftText, unframed } from "../cases/pasting.js";
+import { leftText, unframed } from "../cases/frames.js";
+import { cellsOf } from "../cases/pasting.js";
 import { withEscapes } from "../game/names.js";
 import { button, cellOf, el } from "./dom.js";
 
@@ -51,13 +52,15 @@ export function moveByKeys(element, neighbour) {
 }
 
 /** What is pasted over several cells goes to `fill(cell, rows, text)`; a text for one cell is pasted as ever. A long
- * one is read by `readCells`, beside the page. */
-export function pasteCells(element, fill, readCells) {
+ * one is read by `readCells`, beside the page. What frames a table is left out, and told, but where `fill` does that
+ * (`isWhole`). */
+export function pasteCells(element, fill, readCells, { isWhole = false } = {}) {
   const said = el("p", { class: "hint left-out", role: "status" }), take = (cell, all, whole) => {
+    if (isWhole) return fill(cell, all, whole);
     const { rows, text, left } = unframed(all, whole);
     said.textContent = withEscapes(leftText(left));
     if (left.length) element.after(said);
-    fill(cell, rows, text);
+    return fill(cell, rows, text);
   };
   element.addEventListener("paste", async (event) => {
     const text = event.clipboardData?.getData("text/plain") ?? "", cell = event.target.dataset?.cell;

@@ -19,8 +19,9 @@ export function doubtNotes({ doubts: found, entry, mark, shown }, { setEntry }) 
     "change places. Each of the two can be read in one way only, so it is read as it shows.");
   if (!doubts.length) return clash;
   const proof = isClash ? undefined : one, isChosen = !isMark(entry);
-  const why = isChosen ? "as you chose" : `${proof ? `${quoted(proof)} shows that ` : ""}the ${nameOfMark(mark)} comes `
-    + "before decimals";
+  const isOwn = doubts.some(({ typed }) => typed === proof);
+  const because = proof && (isOwn ? "it can only be whole, so " : `${quoted(proof)} shows that `);
+  const why = isChosen ? "as you chose" : `${because ?? ""}the ${nameOfMark(mark)} comes before decimals`;
   const read = listed(doubts.map((doubt) => readAs(doubt, mark, doubts.length)));
   const [{ count }] = doubts, isMany = doubts.length === 1 && count > 1;
   const more = isMany ? ` So are the ${count} numbers here that can be read in two ways.` : "";

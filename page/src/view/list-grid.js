@@ -1,6 +1,5 @@
 // The grid of a list: a runway, an estate, a vote. A row is added while the last one is filled.
-import { columnsFor, headingsOf, partedLines, pastedText, ROW_NUMBERS, withoutRowNumbers } from "../cases/pasting.js";
-import { unitsText, withoutUnits } from "../cases/units.js";
+import { sheetOf } from "../cases/sheets.js";
 import { withEscapes } from "../game/names.js";
 import { cellInput, moveByKeys, pasteCells, removal } from "./cells.js";
 import { button, el, refill } from "./dom.js";
@@ -23,7 +22,7 @@ class ListGrid {
       const [, r, key] = cell.split(".");
       return `rows.${Number(r) + step}.${key}`;
     });
-    pasteCells(table, (cell, rows) => this.fill(cell, rows), readCells);
+    pasteCells(table, (cell, rows) => this.fill(cell, rows), readCells, { isWhole: true });
     this.showSingles();
     this.show();
   }
@@ -117,37 +116,61 @@ class ListGrid {
     return given.some(({ key }, k) => row[key] !== before[k]);
   }
 
-  fill(cell, pasted) {
+  /** Takes what was pasted into a cell, `without` some of its columns where the user chose among them. */
+  fill(cell, pasted, without = []) {
     const [, r, key] = cell.split("."), columns = this.columns(), first = columns.findIndex((one) => one.key === key);
     if (first < 0) return;
-    const lines = pasted.filter((row) => row.some(Boolean));
-    const { rows: all, units = [], fault } = withoutUnits(first ? lines : partedLines(lines), 1);
-    if (fault) return void (this.said.textContent = `${fault} Nothing was taken.`);
+    const { ofFour, single } = this.kind, own = first ? columns.slice(first) : this.allColumns();
+    const sheet = sheetOf(pasted, own, {
+      mark: this.mark(), ofFour, usual: columns.slice(first), isFirst: !first, without,
+      single: single?.heads && this.isOpen(single.key) && single,
+    });
+    if (sheet.fault) return this.say(`${sheet.fault} Nothing was taken.`);
+    if (sheet.rivals) return this.askWhich(sheet.rivals, (others) => this.fill(cell, pasted, others));
     this.remember("Paste");
-    const rows = withoutRowNumbers(all);
-    const own = first ? columns.slice(first) : this.allColumns(), isNumbered = rows !== all && ROW_NUMBERS;
-    const from = own.filter(({ optional }) => !optional).findIndex(({ number }) => number);
-    const headings = headingsOf(rows, Math.max(0, from), this.mark());
-    const targets = columnsFor(own, headings, { rows, mark: this.mark(), ofFour: this.kind.ofFour });
-    const given = rows.slice(headings ? 1 : 0), below = given.slice(0, this.kind.most * 4);
-    const isCut = below.length < given.length && `Of ${given.length} rows only the first ${below.length} were taken.`;
-    const hasNames = targets.some((target) => target?.key === this.kind.columns[0].key);
-    if (Number(r) === 0 && hasNames && (headings || below.length > 1) && this.isExample()) this.leaveExample();
-    else if (Number(r) === 0) this.forgetExample(targets, below.length);
-    const isBoth = this.kind.ofFour && ["cost", "count"].every((one) => targets.some((target) => target?.key === one));
-    if (isBoth) this.typed.isUnordered = !headings;
+    this.take(sheet, Number(r));
+  }
+
+  /** Whether nothing of the user's stands in the cell above the list. */
+  isOpen(key) {
+    return !this.typed[key].trim() || (this.isExample() && this.typed[key] === this.kind.example()[key]);
+  }
+
+  /** Asks which of several columns of numbers is meant; `use` takes the list without the others. */
+  askWhich({ column: { title }, at, headings }, use) {
+    const way = (c) => button(`“${withEscapes(headings[c])}”`, () => use(at.filter((other) => other !== c)), {
+      class: "quiet",
+    });
+    this.say("");
+    refill(this.said, `Nothing was taken yet. Which column is “${title}”? `, at.map(way));
+  }
+
+  take({ rows, targets, headings, notes, number, isPercent }, r) {
+    const { kind, typed } = this, below = rows.slice(0, kind.most * 4);
+    const isTaken = (key) => targets.some((target) => target?.key === key);
+    const isCut = below.length < rows.length && `Of ${rows.length} rows only the first ${below.length} were taken.`;
+    const isList = isTaken(kind.columns[0].key) && (headings || below.length > 1);
+    if (r === 0 && isList && this.isExample()) this.leaveExample();
+    else if (r === 0) this.forgetExample(targets, below.length);
+    if (kind.ofFour && ["cost", "count"].every(isTaken)) typed.isUnordered = !headings;
+    if (number) typed[kind.single.key] = number;
+    if (kind.isVote) typed.isPercent = isPercent;
     const filled = below.map((row, k) => {
-      const target = (this.typed.rows[Number(r) + k] ??= this.blank());
+      const target = (typed.rows[r + k] ??= this.blank());
       row.forEach((text, c) => targets[c] && (target[targets[c].key] = text));
       if (hasNames && !target.name) target.name = row.find((text, c) => !targets[c] && /\p{L}/u.test(text)) ?? "";
       return target;
     });
-    const taken = pastedText(rows, headings, targets, columns.slice(first));
-    const said = [isNumbered, taken, unitsText(units), isCut, ...this.complete(filled, targets)];
-    this.said.textContent = withEscapes(said.filter(Boolean).join(" "));
-    this.said.classList.toggle("warn", /left out|first \d+ (cells )?were taken/.test(this.said.textContent));
+    this.say([...notes, isCut, ...this.complete(filled, targets)].filter(Boolean).join(" "));
+    this.showSingles();
     this.show();
     this.onChange();
+  }
+
+  /** Says what became of a pasted list; what was left out, or not taken, is seen at once. */
+  say(text) {
+    this.said.textContent = withEscapes(text);
+    this.said.classList.toggle("warn", /left out|Left out|only the first|Nothing was/.test(text));
   }
 
   /** What wasn't pasted begins as a typed row does, and that is told; a list with names has them in each row. */

@@ -20,7 +20,8 @@ export function ownInput({ label }, r, own, key, title) {
         document.querySelector(`[data-cell="${key}.${r + (event.shiftKey ? -1 : 1)}"]`)?.focus();
       },
       paste: (event) => {
-        const pasted = event.clipboardData?.getData("text/plain").trim() ?? "";
+        const given = event.clipboardData?.getData("text/plain").trim() ?? "";
+        const pasted = given.includes("\n") ? given : given.replace(/[,;]\s+(?=\p{L})/gu, "\n"); // a line of a mail
         if (!pasted.includes("\n")) return;
         event.preventDefault();
         const { texts, said, fault } = pastedDivision(pasted, own.labels, { first: r, before: own.texts });

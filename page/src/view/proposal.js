@@ -3,7 +3,7 @@ import { readNumber, readTogether } from "../exact/decimals.js";
 import { isMark, otherMark } from "../exact/marks.js";
 import { Rational } from "../exact/rational.js";
 import { isSumWord, withEscapes } from "../game/names.js";
-import { listed } from "../game/words.js";
+import { listed, plural } from "../game/words.js";
 
 const LINE = /^(?<name>.*?\p{L}.*?)(?:\s*[:=;,]\s*|\s+(?:[-–—]\s+)?)(?<number>[-−(]?\p{Sc}?\s?\d.*)$/u;
 const BESIDE = /^\s*[:=;,]?\s*(?:[-–—](?=\s))?\s*|\s*\(.*\p{L}.*\)$/gu; // of a number behind a name
@@ -18,6 +18,8 @@ export function pastedDivision(text, labels, { first, before }) {
   const placeOf = (line) => called.find((i) => line.toLowerCase().startsWith(labels[i].toLowerCase())
     && !/^[\p{L}\d]/u.test(line.slice(labels[i].length)));
   if (lines.every((line) => NUMBER.test(line))) {
+    const rest = labels.length - first, isMore = lines.length > rest;
+    if (isMore) return { fault: `These are ${lines.length} numbers for ${plural(rest, "row")}. Nothing was taken.` };
     return { texts: before.map((own, r) => lines[r - first] ?? own), said: "" };
   }
   for (const line of lines) {
@@ -29,21 +31,24 @@ export function pastedDivision(text, labels, { first, before }) {
       out.push(line);
     } else if (places.has(place)) return { fault: `${withEscapes(labels[place])} is there twice. Nothing was taken.` };
     else {
-      const value = line.slice(labels[place].length).replace(BESIDE, ""), isTwo = /\d \D*\d/.test(value);
-      if (isTwo && readNumber(value).fault) {
-        return { fault: `Two numbers stand beside ${withEscapes(labels[place])}: “${value}”. Nothing was taken.` };
+      const rest = line.slice(labels[place].length).replace(BESIDE, "").trim();
+      if (readNumber(rest).fault) {
+        const two = /\d\s\D*\d/.test(rest) && `Two numbers stand beside ${withEscapes(labels[place])}: “${rest}”.`;
+        return { fault: `${two || `“${shownLine(line)}” has no amount that can be read.`} Nothing was taken.` };
       }
-      places.set(place, value);
+      places.set(place, rest);
     }
   }
   if (!places.size) return { fault: "Give a number a line, or a name and a number in each. Nothing was taken." };
-  const quoted = out.slice(0, 3).map((line) => `“${withEscapes(line.slice(0, 40))}”`);
+  const quoted = out.slice(0, 3).map((line) => `“${shownLine(line)}”`);
   return {
     texts: before.map((own, r) => places.get(r) ?? own),
     said: `Taken by name: ${listed([...places.keys()].map((i) => withEscapes(labels[i])))}.`
       + (out.length ? ` Left out: ${quoted.join(", ")}${out.length > 3 ? " …" : ""}.` : ""),
   };
 }
+
+const shownLine = (line) => withEscapes(line.replace(/\t/g, " ").slice(0, 40));
 
 /** What the texts say for these rows. `totals` and `shares` are null until each row has a number. If only one of the
  * decimal marks gives the `whole` that is divided, that one is meant. */

@@ -11,6 +11,7 @@ import { pasteBox } from "./paste-box.js";
 
 const MOST_WHOLE = 6; // players whose groups are all shown
 const PAGE = 42; // groups of more players that are shown at a time
+const ASKED = "First say how the numbers are read: it is asked below.";
 const WAIT = 150; // milliseconds between the last key and filling anew
 const REFILL = 60000; // the question waits for what is filled anew
 const SIZES = ["", "Alone", "Two together", "Three together", "Four together", "Five together", "Six together"];
@@ -36,9 +37,9 @@ class TableGrid {
     this.element.addEventListener("show-cell", ({ detail }) => this.showCell(detail));
     removeByKey(players);
     moveByKeys(list, (cell, step) => `numbers.${this.order[this.placeOf(cell) + step]}`);
-    pasteCells(list, (cell, rows, text) => this.paste(cell, rows, text), readCells);
+    pasteCells(list, (cell, rows, text) => this.paste(cell, rows, text), readCells, { isWhole: true });
     pasteCells(players, (cell, rows, text) => (rows.some((row) => row.length > 1) ? this.takeList(text)
-      : this.pasteNames(Number(cell.split(".")[1]), rows)), readCells);
+      : this.pasteNames(Number(cell.split(".")[1]), rows)), readCells, { isWhole: true });
     this.show();
     this.tellFilled();
   }
@@ -166,7 +167,7 @@ class TableGrid {
 
   /** A column of numbers fills the cells below; a list of groups, or a row of numbers, is one of the whole table. */
   paste(cell, rows, text) {
-    if (rows.every((row) => row.length > 1 && /[^\d.,\s-]/.test(row[0]))) return this.takeList(text);
+    if (rows.some(([group, ...cells]) => /\p{L}/u.test(group) && cells.some(Boolean))) return this.takeList(text);
     const place = this.placeOf(cell), numbers = numbersIn(text);
     if (place === 0 && rows.length > 2 && !numbers && headingOf(text) !== null) return this.takeList(text);
     if (place === 0 && numbers?.length === 1 && numbers[0].length > 2) return this.takeList(text);
@@ -223,14 +224,14 @@ class TableGrid {
   }
 
   fillBy(how) {
-    if (this.isAsking) return this.say("First say how the numbers are read: it is asked below.");
+    if (this.isAsking) return this.say(ASKED);
     return this.fillSplits(false, how);
   }
 
   /** Numbers that were filled follow the answer to how the typed ones are read. */
   tell({ entry, isAsking }) {
     const isOther = this.entry !== undefined && this.entry !== entry && this.typed.filled?.length > 0;
-    if (this.isAsking && !isAsking) this.say();
+    if (this.isAsking && !isAsking && this.message.textContent === ASKED) this.say();
     Object.assign(this, { entry, isAsking });
     if (isOther) this.fillSplits(true);
   }
@@ -238,7 +239,8 @@ class TableGrid {
   /** Fills the empty groups; `again` those that were filled before. */
   async fillSplits(again = false, how = this.typed.how) {
     const mine = (this.filling = (this.filling ?? 0) + 1), { filled } = this.typed;
-    const what = { typed: packed(this.typed), mark: this.mark(), costs: Boolean(this.kind.isCost), filled, how, again };
+    const isMarked = Boolean(this.typed.isMarked), costs = Boolean(this.kind.isCost);
+    const what = { typed: packed(this.typed), mark: this.mark(), costs, filled, how, again, isMarked };
     const { state, filled: fresh, notes, above = [], fault } = await this.help("fillSplits", what);
     if (mine !== this.filling) return;
     if (state && !again) this.remember("Fill the empty ones");

@@ -5,6 +5,7 @@ import { typedText } from "../exact/decimals.js";
 import { isMark, onlyMark } from "../exact/marks.js";
 import { caseNamed, caseOfClass } from "../cases/cases.js";
 import { cellsOf } from "../cases/pasting.js";
+import { byOneMark } from "../cases/reading.js";
 import { packed, tableOf } from "../cases/tables.js";
 import { factsOf } from "../game/facts.js";
 import { Game } from "../game/game.js";
@@ -16,14 +17,14 @@ import { powerBeyond } from "./double-power.js";
 import { beyondProgram } from "./runways.js";
 
 const MOST_PER_HEAD = 8;
-const TOO_MANY = "With so many different second votes the page counts the power of up to 16 voters only.";
+const TOO_MANY = "With so many different votes the page counts the power of up to 16 voters only.";
 const ANSWERS = ["nucleolus", "prenucleolus", "shapley"];
 const MOST_BYTES = 2097152;
-const QUESTIONS = ["asked", "either", "mixed", "unsure", "swap", "part"]; // of a reading, which the user answers
+const QUESTIONS = ["asked", "either", "mixed", "unsure", "swap", "part", "rest"]; // of a reading, for the user
 
 /** What the cells say: the rows of the answer, what is wrong, and, if nothing is, the document, its facts and game. */
 export function readCase({ id, typed, mark, measure, isMarked = typed.isMarked }) {
-  const { reading, rows, tree, ballots, landings, isBeyond } = readByOneMark(caseNamed(id), typed, mark);
+  const { reading, rows, tree, ballots, landings, isBeyond } = byOneMark((by) => caseNamed(id).read(typed, by), mark);
   reading.askOfMixed(isMarked);
   reading.askOfUnsure(isMarked);
   const power = isBeyond && reading.isRight() ? powerBeyond(ballots, rows) : null;
@@ -53,14 +54,6 @@ const playersOf = (rows) => rows.reduce((sum, { players, count = 1 }) => sum + (
 function tooManyPerHead(rows, tree) {
   const players = playersOf(rows);
   return players > 1 && (players > MOST_PER_HEAD || !tree || tree.class === "market") && players;
-}
-
-/** All cells are read by one mark: where some show which, that one settles those that can be read both ways, unless the
- * user chose how these are read, by a `mark` of none or of both. */
-function readByOneMark(kind, typed, mark) {
-  const first = kind.read(typed, mark), settled = first.reading.settles();
-  const isSettled = first.reading.doubts.size > 0 && settled !== null && isMark(mark);
-  return isSettled && settled !== mark ? kind.read(typed, settled) : first;
 }
 
 /** By which mark the numbers were read (`entry`; `mark` where one is needed to write them), which of them could be read

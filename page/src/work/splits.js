@@ -1,22 +1,22 @@
 // Groups that nobody has put a number on: what they cost, or are worth, by their best split into groups that have one.
 import { lcm, Rational } from "../exact/rational.js";
-import { cellNumber, typedText } from "../exact/decimals.js";
-import { onlyMark } from "../exact/marks.js";
+import { typedText } from "../exact/decimals.js";
+import { withEscapes } from "../game/names.js";
+import { byOneMark, Reading } from "../cases/reading.js";
 import { groupLabel, packed, unpacked } from "../cases/tables.js";
-import { LIMITS } from "../game/classes.js";
 import { plural } from "../game/words.js";
 
-const MOST_SCALE = BigInt(LIMITS.denominator);
 const MOST_NAMED = 300; // groups that are named
 
 /** Fills the empty groups of a table, and anew those that were `filled` before (`again` only these, so that a cell may
  * be emptied): {state, filled, notes, above}, or {fault}. `above` names groups that cost more than larger ones.
  * Costs take the cheapest split, gains the best; `how` may be "larger": then no group costs more than a larger one that
- * holds it. What all together cost or gain is never filled: it is divided. */
-export function fillSplits({ typed, mark, costs, filled = [], how = "split", again = false }) {
+ * holds it. What all together cost or gain is never filled: it is divided. Numbers are read as those of the case, so
+ * nothing is filled while the user is asked how (unless that `isMarked`). */
+export function fillSplits({ typed, mark, costs, filled = [], how = "split", again = false, isMarked = true }) {
   const { names, numbers: given } = unpacked(typed), old = new Set(filled), all = given.length - 1;
   const numbers = given.map((text, mask) => (old.has(mask) ? "" : text));
-  const { values, scale, by, fault } = scaledValues(numbers, mark);
+  const { values, scale, by, fault } = scaledValues(numbers, mark, isMarked);
   if (fault) return { fault };
   const best = bestSplits(how === "larger" ? heldByLarger(values).map(({ value }) => value) : values, costs);
   const fresh = [], hasWhole = values[all] !== null;
@@ -51,20 +51,28 @@ function abovesOf(values, fresh, { names, texts }) {
   return found.map((mask, k) => (k < MOST_NAMED ? `${told(mask)} (${told(least[mask].mask)})` : ""));
 }
 
-/** What was typed as whole numbers over a scale, null where nothing was; `by` is the decimal mark that all of it shows,
- * or else the one that was given. */
-function scaledValues(numbers, mark) {
-  const known = new Map(), read = numbers.map((text, mask) => {
-    if (!mask || !text.trim()) return null;
-    if (!known.has(text)) known.set(text, cellNumber(text, mark));
-    return known.get(text);
+/** What was typed as whole numbers over a scale, null where nothing was; `by` is the decimal mark by which all of it is
+ * written. */
+function scaledValues(numbers, mark, isMarked) {
+  const { reading, values } = byOneMark((by) => valuesOf(numbers, by), mark);
+  if (reading.count) return { fault: "Mend the numbers that are marked first." };
+  reading.askOfMixed(isMarked);
+  reading.askOfUnsure(isMarked);
+  const asked = reading.mixed ?? reading.unsure;
+  if (asked) return { fault: `First say how “${withEscapes(asked.typed.trim())}” is meant. Nothing was filled.` };
+  reading.close();
+  if (reading.isTooFine) return { fault: "The numbers are too fine: they have no common denominator to 65,536." };
+  const scale = values.reduce((all, value) => (value ? lcm(all, value.den) : all), 1n);
+  const whole = values.map((value) => value && Number((value.num * scale) / value.den));
+  return { scale, values: whole, by: reading.settles() ?? mark };
+}
+
+function valuesOf(numbers, mark) {
+  const reading = new Reading(mark), settled = { canBeNegative: true };
+  const values = numbers.map((text, mask) => {
+    return mask && text.trim() ? reading.number(`numbers.${mask}`, text, "The number", settled) : null;
   });
-  if (read.some((one) => one?.fault)) return { fault: "Mend the numbers that are marked first." };
-  let scale = 1n;
-  for (const { value } of known.values()) scale = scale > MOST_SCALE ? scale : lcm(scale, value.den);
-  if (scale > MOST_SCALE) return { fault: "The numbers are too fine: they have no common denominator to 65,536." };
-  const values = read.map((one) => one && Number((one.value.num * scale) / one.value.den));
-  return { scale, values, by: onlyMark([...known.values()].map(({ by }) => by)) ?? mark };
+  return { reading, values };
 }
 
 /** The best sum of groups with numbers that split each group, which may be its own number; null where there is none. A

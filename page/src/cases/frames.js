@@ -1,0 +1,49 @@
+// Texts that frame a pasted table and are no rows of it: a title above, notes below.
+import { readNumber } from "../exact/decimals.js";
+import { headingsOf } from "./pasting.js";
+
+const MOST_TOLD = 4;
+const MOST_LETTERS = 60;
+const NOTE = /^([(*†]|sources?\b|notes?\b|remarks?\b|quellen?\b|hinweis|anmerkung|stand\b)/iu;
+
+const filledOf = (row) => row.filter(Boolean);
+const isBlank = (row) => !row.some(Boolean);
+
+/** A text alone in its line. */
+function isLone(row) {
+  const [text, other] = filledOf(row);
+  return text !== undefined && other === undefined && Boolean(readNumber(text).fault);
+}
+
+/** A pasted text without what frames its table, if that has two columns or more: {rows, text, left}, where `left` are
+ * the texts that are left out. Such a one stands alone in its line: above the headings, beyond an empty line, in a line
+ * without signs between cells, or as a note. */
+export function unframed(rows, text = "") {
+  const whole = { rows, text, left: [] }, isOf = (row) => !isBlank(row) && !isLone(row);
+  if (rows.filter((row) => filledOf(row).length > 1).length < 2) return whole;
+  const first = rows.findIndex(isOf), end = rows.length - [...rows].reverse().findIndex(isOf);
+  const isHeaded = headingsOf(rows.slice(first, end), 0) !== null;
+  const above = apart(rows.slice(0, first).reverse(), rows[first], () => isHeaded);
+  const left = new Set([...above, ...apart(rows.slice(end), rows[end - 1], ([one]) => NOTE.test(one))]);
+  if (!left.size) return whole;
+  const lines = text.split(/\r\n?|\n/), isInside = (k) => k >= first && k < end;
+  const isKept = (_, k) => isInside(k) || !(isBlank(rows[k]) || left.has(rows[k]));
+  const texts = rows.filter((row) => left.has(row)).flatMap(filledOf);
+  return { rows: rows.filter(isKept), text: lines.filter(isKept).join("\n"), left: texts };
+}
+
+/** Of lines on one side of a table, the nearest first, the texts that aren't of it. */
+function apart(lines, [, ...others], isBeside) {
+  const blank = lines.findIndex(isBlank), isBeyond = (k) => blank >= 0 && k > blank;
+  const isOut = (line, k) => isBeyond(k) || (line.length === 1 && others.length > 0) || isBeside(filledOf(line));
+  return lines.filter((line, k) => isLone(line) && isOut(line, k));
+}
+
+/** What is told of these. */
+export function leftText(left) {
+  const shown = left.slice(0, MOST_TOLD).map((words) => {
+    return `“${words.slice(0, MOST_LETTERS)}${words.length > MOST_LETTERS ? " …" : ""}”`;
+  });
+  const more = left.length > MOST_TOLD ? " …" : "";
+  return left.length ? `Left out, as no number stands beside: ${shown.join(", ")}${more}.` : "";
+}
