@@ -1,12 +1,13 @@
 //! Solves cooperative games: a command from the words, a document from standard input, a line to standard output.
 #![tactic(auto)]
 
+mod adapters;
 mod behind_name;
 mod stack;
 
+use adapters::{StdSink, StdSource};
 use behind_name::BehindName;
 use coop::{Status, run};
-use ports::{StdSink, StdSource};
 use stack::use_stack;
 use std::io::ErrorKind;
 use std::process::ExitCode;

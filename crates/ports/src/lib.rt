@@ -7,7 +7,6 @@ mod memory_sink;
 mod memory_source;
 mod sink;
 mod source;
-mod standard;
 
 pub use failing_sink::FailingSink;
 pub use failing_source::FailingSource;
@@ -15,7 +14,6 @@ pub use memory_sink::MemorySink;
 pub use memory_source::MemorySource;
 pub use sink::Sink;
 pub use source::Source;
-pub use standard::{StdSink, StdSource};
 
 /// A read or a write that failed.
 #[derive(Clone, Copy, Debug, PartialEq, Eq)]

@@ -1,19 +1,18 @@
 //! Standard input and output, which tell no content and count each failure.
-use crate::{Failed, Sink, Source};
+use ports::{Failed, Sink, Source};
 use std::io::{Read, Write};
 use std::rt::{Stdin, Stdout};
 
 /// Standard input.
 #[derive(Drop)]
-pub struct StdSource {
+pub(crate) struct StdSource {
     input: Stdin,
     faults: u64,
     failed: bool,
 }
 
 impl StdSource {
-    /// Makes a source of what standard input gives.
-    pub fn new(input: Stdin) -> StdSource {
+    pub(crate) fn new(input: Stdin) -> StdSource {
         StdSource {
             input,
             faults: 0,
@@ -48,15 +47,14 @@ impl Source for StdSource {
 
 /// Standard output, flushed after each write. A write that takes nothing of a piece with bytes counts as a failure.
 #[derive(Drop)]
-pub struct StdSink {
+pub(crate) struct StdSink {
     output: Stdout,
     faults: u64,
     failed: bool,
 }
 
 impl StdSink {
-    /// Makes a sink that passes on to standard output.
-    pub fn new(output: Stdout) -> StdSink {
+    pub(crate) fn new(output: Stdout) -> StdSink {
         StdSink {
             output,
             faults: 0,
