@@ -6,7 +6,8 @@ use Rattle.std.specs.List.{AllByRecursion}
 use Rattle.std.proofs.lemmas.Bool.{false≢true}
 use Rattle.std.proofs.lemmas.Bool.Decides.{nat_tests}
 use Rattle.definitions.proofs.Alls.{all_join, all_weaken}
-use Rattle.definitions.proofs.Cases.{true_or_false, nat_eq-other, nat_lt-less, nat_lt-past, from_nat_eq, from_not, not_true}
+use Rattle.definitions.proofs.Cases.{true_or_false, nat_eq-other, nat_lt-less, nat_lt-past, from_nat_eq, from_not}
+use Rattle.definitions.proofs.Cases.{not_true}
 use Rattle.definitions.proofs.Halves.{size_below, size_below-zero, size_below-yes, size_below-no, size_below-more}
 use Rattle.definitions.proofs.Members.{members-zero, members-more_yes, members-more_no}
 use Rattle.definitions.proofs.Parts.{has_player-more_same, has_player-more_other}

@@ -13,8 +13,8 @@ use Rattle.real_shares.proofs.Multiples.{back, through, plus-at_most, times-keep
 use Rattle.real_shares.proofs.Multiples.{equal_path}
 use Rattle.real_shares.proofs.RealNumbers.{are_ordered}
 use Rattle.law_duality.proofs.BySign.{by_sign}
-use Rattle.law_real_worths.proofs.Rows.{Row, Passes, Parts, value, Meets, combined, value_of_both, value_without, longer}
-use Rattle.law_real_worths.proofs.Rows.{longer_same, longer_other, with, value_longer, bound_below, bound_above}
+use Rattle.law_real_worths.proofs.Rows.{Row, Passes, Parts, value, Meets, combined, value_of_both, value_without}
+use Rattle.law_real_worths.proofs.Rows.{longer, longer_same, longer_other, with, value_longer, bound_below, bound_above}
 use Rattle.law_real_worths.proofs.Rows.{below_times, from_low_sum, met_above, met_below, met_crossed}
 
 module _ (N : Numbers Real) (R : AreReals N) where
