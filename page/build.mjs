@@ -8,6 +8,7 @@
 //
 // It is no bundler. Each module becomes a function of its own, so names don't clash. An import names what it takes,
 // from a relative path; an export stands in front of what it exports. Other forms of import and export are refused.
+import { spawnSync } from "node:child_process";
 import { createHash } from "node:crypto";
 import { existsSync, readFileSync, writeFileSync } from "node:fs";
 import { dirname, join, resolve } from "node:path";
@@ -132,7 +133,13 @@ function commitOf(path) {
 function packedOf(file, out) {
   const own = !file || existsSync(out) ? packedIn(readFileSync(out, "utf8")) : null;
   const module = file && readFileSync(file);
-  return !module || (own && module.equals(unpacked(own))) ? own : packed(module);
+  return !module || (own && module.equals(unpacked(own))) ? own : packedByZopfli(file) ?? packed(module);
+}
+
+/** The module of a file, packed to some 5 % less by Debian's zopfli; null where that isn't there. */
+function packedByZopfli(file) {
+  const { status, stdout } = spawnSync("zopfli", ["--i15", "-c", file], { maxBuffer: 1 << 26 });
+  return status === 0 ? stdout.toString("base64") : null;
 }
 
 function main(words) {

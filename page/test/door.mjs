@@ -212,7 +212,7 @@ const messy = [
     await page.paste('[data-cell="rows.0.name"]', "Verfahren 4 IN 233/25\n\nRang\tGläubiger\tForderung\tQuote\n"
       + "§ 38\tCelle\t1.234,56\t?\n§ 38\tMüller & Co.\t12.500,00\t?\nSumme\t\t13.734,56\t\nMasse\t\t10.000,00\t\n\n"
       + "(ohne Zinsen)");
-    await noted(page, /The last row has no name\. Is it the sum/);
+    await noted(page, /The last row, “Summe”\. Is it the sum/);
     await page.click("Yes, remove it");
     await told(page, "#answer .lead", /Celle gets 617,28 and Müller & Co\. gets 9\.382,72/);
     await page.paste('[data-cell="rows.0.name"]', "§ 38\tCelle\t1.234,56\nX\tMüller & Co.\t12.500,00");

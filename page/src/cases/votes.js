@@ -11,6 +11,7 @@ import { askOfSum } from "./sum-row.js";
 const MOST = mostOf("voting"), MOST_IN_TABLE = mostOf("table");
 const MOST_VOTES = BigInt(LIMITS.votes);
 const HUNDRED = Rational.of(100);
+const BOTH_WIN = "Two groups without a common voter can both reach this quota. A majority is “more than 1/2”.";
 const VOTER = /voter|state|party|member|country|holder|owner|name|staat|land|partei|mitglied|aktion|état|pays|parti/iu;
 const VOTES = /vote|seat|share|weight|stimme|sitz|anteil|voix|siège|part\b|population|bevölkerung/iu;
 
@@ -51,7 +52,9 @@ export const votes = {
     const { opened, isUnnamed } = state, own = { rows, opened, isUnnamed };
     const list = readList(own, mark, "votes", "The number of votes", "Voter"), { reading, names } = list;
     askOfSum(reading, state, ["votes"]);
-    const ballots = [readBallot(reading, state.quota, "quota", "The quota", list, state)];
+    const ballots = [readBallot(reading, state.quota, "quota", "The quota", list, state)], [{ quota }] = ballots;
+    const isLow = !isDouble && quota && !Rational.sum(list.values).less(quota.plus(quota));
+    if (isLow) reading.notes.push(BOTH_WIN);
     if (isDouble) ballots.push(readSecond(reading, state, mark, names));
     if (!isDouble) reading.close();
     if (names.length > MOST) {

@@ -149,7 +149,7 @@ class ListGrid {
     const { kind, typed } = this, below = rows.slice(0, kind.most * 4);
     const isTaken = (key) => targets.some((target) => target?.key === key);
     const isCut = below.length < rows.length && `Of ${rows.length} rows only the first ${below.length} were taken.`;
-    const isList = isTaken(kind.columns[0].key) && (headings || below.length > 1);
+    const hasNames = isTaken(kind.columns[0].key), isList = hasNames && (headings || below.length > 1);
     if (r === 0 && isList && this.isExample()) this.leaveExample();
     else if (r === 0) this.forgetExample(targets, below.length);
     if (kind.ofFour && ["cost", "count"].every(isTaken)) typed.isUnordered = !headings;

@@ -62,6 +62,9 @@ function bareOf({ shares }, own, agreed) {
   return { text, shares: listed.map(String), isOwn: Boolean(own), facts: factsOf(game) };
 }
 
+/** What is said of a mail with names and amounts. */
+const IN_WORDS = "Shares in words are judged in a case: there “What if” has “Your own division”, which takes them.";
+
 /** What has to be known of the agreed file, beside whether it is the game of the line. */
 function aboutFile({ fault, tree, game }) {
   return { isGame: !fault && Boolean(game), isLine: !fault && tree.certificate !== undefined };
@@ -76,7 +79,8 @@ function lineOf(text) {
   } catch (fault) {
     if (!(fault instanceof JsonFault)) throw fault;
     const place = `in line ${fault.line}, column ${fault.column}`;
-    return { fault: `It is no JSON text: ${fault.sentence}, ${place}.`, isText: true };
+    const inWords = /^\s*[\p{L}\d]/u.test(text) ? ` ${IN_WORDS}` : "";
+    return { fault: `It is no JSON text: ${fault.sentence}, ${place}.${inWords}`, isText: true };
   }
 }
 
