@@ -17,7 +17,7 @@ export function sheetOf(pasted, columns, { mark, ofFour, single, usual, isFirst 
   const all = withoutRowNumbers(bare), usually = columns.filter(({ optional }) => !optional);
   const from = usually.findIndex(({ number }) => number);
   const heads = headingsOf(all, Math.max(0, from), mark), cut = (row) => row.filter((_, c) => !without.includes(c));
-  const above = single && singleRow(all, single), rows = all.filter((row) => row !== above).map(cut);
+  const above = single ? singleRow(all, single) : undefined, rows = all.filter((row) => row !== above).map(cut);
   const headings = heads && cut(heads), rivals = !without.length && rivalsFor(columns, headings, { rows, mark });
   if (rivals) return { rivals: { ...rivals, headings } };
   const targets = columnsFor(columns, headings, { rows, mark, ofFour });

@@ -16,6 +16,7 @@ import { headingOf, manyBelow, numbersIn, vectorOf } from "./vectors.js";
 const MOST_BY_NAME = 6; // above, the document lists numbers alone: it would be too long by names
 const MOST_PLAYERS = mostOf("table");
 const MOST_TOLD = 4; // groups in other words that are named
+const MOST_LETTERS = 4000; // of a group with all its names
 
 /** A table as it goes to a worker and back: one text is copied faster than 65,536. */
 export function packed({ names, numbers, opened, isUnnamed }) {
@@ -214,6 +215,8 @@ function listOf(all, allLines, mark) {
     const k = rows.findIndex((row) => !isNumber(row)), other = withEscapes(rows[k][0].slice(0, 40));
     return { fault: `${lineOf(k)}“${other}” is no number, and the others have no group beside them.` };
   }
+  const long = rows.findIndex(([group]) => group.length > MOST_LETTERS);
+  if (long >= 0) return { fault: `${lineOf(long)}A group of ${rows[long][0].length} letters is none.` };
   const open = new Set();
   const read = rows.map(([group, given = ""], k) => {
     const members = group.normalize("NFC").split("+").map((member) => member.trim());
