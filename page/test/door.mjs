@@ -218,6 +218,19 @@ const messy = [
     await page.paste('[data-cell="rows.0.name"]', "§ 38\tCelle\t1.234,56\nX\tMüller & Co.\t12.500,00");
     await told(page, "#case .pasted", /3 cells, and here are the columns .* Nothing was taken/);
   }],
+  ["door: a title above a market, and a line end behind it", "market", async (page, expect) => {
+    await page.paste('[data-cell="buyers.0"]', "Offers\n\tPiano\tCello\nLee\t4\t2\nKhan\t5\t3\n");
+    await told(page, "#answer .lead", /Lee – Cello and Khan – Piano trade: together they gain 7\.00/);
+    expect("told", await page.text("#case .left-out"), /Left out, as no number stands beside: “Offers”\./);
+  }],
+  ["door: a sum of some rows is asked about, whatever stands behind its name", "estate", async (page, expect) => {
+    await pasted(page, [["Name", "Claim"], ["A", 100], ["B", 50], ["Subtotal secured", 150], ["Total SE", 80]]);
+    await page.type("estate", "100");
+    await noted(page, /Row 3, “Subtotal secured”\. Is it the sum of others\?/);
+    await page.click("Yes, remove it");
+    await told(page, "#answer .lead", /Total SE gets/);
+    expect("who claims", await cells(page), "100|A|100|B|50|Total SE|80");
+  }],
   ["door: what is filled is read as the case is", "gains", async (page, expect) => {
     await page.paste('[data-cell="numbers.1"]', "Firm;Saving\nAda;1,50\nBo;5.000 €\nCy;2.000 €\nBo + Cy;21.000 €\n"
       + "All;56.000 €");

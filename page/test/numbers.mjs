@@ -133,6 +133,9 @@ const PASTED = [
     /^Left out, as no number stands beside: “Landings 2025”, “Source: log”\. The first row was taken/],
   ["As agreed\n\nAer 20.50\nBee 40\n\nYours, Eve", "", /^Left out, .* “As agreed”, “Yours, Eve”\.$/],
   ["Aer\nBee 40\nCargo 60", "", ""], ["Flight\tCost\tMore\n471\t20\t5", "name cost count", /“Flight” is “Airline”/],
+  ["Naam\tKosten\nJan\t€ 1.250,-\nDe Boer\t€ 2.400,-\nTotaal\t€ 3.650,-", "name cost", /“Kosten” is “A landing/],
+  ["Interno\tCondomino\tCosto\tNote\n1\tRossi, Mario\t€ 4.500,00\tpiano 1", "name type cost -", /“Note” was left out/],
+  ["Airline\tLead\t%\tLandings\t+/–\nAer\tx\t20\t3\t9", "name type cost count -", /“%” is “A landing needs alone”/],
   ["Airline\tCost\tWeight\tLandings\tSlots\nAer\t20\t7\t3\t9", "name cost - count -", /“Weight” was left out. “Slots”/],
   ["Aer\t20\t3\t\nBee\t40\t2\t", "", ""], ["Aer\nBee", "", ""], ["Aer\tx\nBee\ty", "", /“Airline”, “Type”.$/],
 ];

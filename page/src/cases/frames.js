@@ -29,7 +29,7 @@ export function unframed(rows, text = "") {
   const lines = text.split(/\r\n?|\n/), isInside = (k) => k >= first && k < end;
   const isKept = (_, k) => isInside(k) || !(isBlank(rows[k]) || left.has(rows[k]));
   const texts = rows.filter((row) => left.has(row)).flatMap(filledOf);
-  return { rows: rows.filter(isKept), text: lines.filter(isKept).join("\n"), left: texts };
+  return { rows: rows.filter(isKept), text: lines.slice(0, rows.length).filter(isKept).join("\n"), left: texts };
 }
 
 /** Of lines on one side of a table, the nearest first, the texts that aren't of it. */

@@ -27,7 +27,7 @@ export const runway = {
   columns: [
     {
       key: "name", title: "Airline", wide: true, placeholder: "Airline",
-      heads: heads("airline|carrier|company|name|gesellschaft|compagnie|transporteur"),
+      heads: heads("airline|carrier|company|name|owner|tenant|gesellschaft|eigentümer|compagnie|transporteur|propriét"),
     },
     { key: "type", title: "Type", optional: true, heads: heads("typ|aircraft|flugzeug|muster|avion|appareil") },
     { key: "cost", title: "A landing needs alone", number: true, heads: COST },

@@ -78,13 +78,13 @@ export const ROW_NUMBERS = "The first column, of row numbers, was left out.";
 export function headingsOf(rows, from, mark) {
   const [words, ...below] = rows.map((row) => row.slice(from).filter(Boolean));
   const isNumber = (text) => !readNumber(text, mark).fault;
-  const isWord = (text) => /[\p{L}\p{Sc}#]/u.test(text) && !SPOILT.test(text);
+  const isWord = (text) => /[\p{L}\p{Sc}#%+]/u.test(text) && !SPOILT.test(text);
   return words?.length && words.every(isWord) && below.some((row) => row.some(isNumber)) ? rows[0] : null;
 }
 
 /** The column that each pasted one is for: the one that its heading names, and of the others the next; or none. Numbers
- * are for no optional column, but where four columns stand as `ofFour` has them, by its keys; and below a heading that
- * says nothing, only those of the first column are names. */
+ * are for no optional column, but where four columns stand as `ofFour` has them, by its keys. Below a heading that says
+ * nothing, texts are no numbers, and only numbers of the first column are names. */
 export function columnsFor(columns, headings, { rows = [], mark = ".", ofFour = [] } = {}) {
   const wide = wideOf(rows, headings), all = Array.from({ length: wide }, (_, c) => c);
   const below = belowOf(rows, headings);
@@ -97,7 +97,9 @@ export function columnsFor(columns, headings, { rows = [], mark = ".", ofFour = 
   const filled = all.map((c) => {
     if (found[c]) return found[c];
     const isNumbers = isNumeric(below(c), mark), isName = ({ wide: isWide }) => isWide && headings && c > 0;
-    const k = free.findIndex((column) => !(isNumbers && (isName(column) || (column.optional && !isFour))));
+    const isTexts = headings && !isNumbers && below(c).length > 0;
+    const k = free.findIndex((column) => !(isNumbers && (isName(column) || (column.optional && !isFour)))
+      && !(isTexts && column.number));
     return k < 0 ? undefined : free.splice(k, 1)[0];
   });
   return swapped(filled, found, below, mark);

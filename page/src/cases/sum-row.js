@@ -2,6 +2,10 @@
 import { Rational } from "../exact/rational.js";
 import { isSumWord } from "../game/names.js";
 
+// how the name of a sum of some rows may begin
+const PARTIAL = new RegExp("^((grand |sub)?[ -]?tota+l|sum\\b|(zwischen)?summe|gesamt|sous-total|somme|carried|"
+  + "report\\b|übertrag)", "iu");
+
 export const isEmpty = (row) => Object.values(row).every((text) => !text.trim());
 
 /** Asks of a row that is named as a sum, or of the last one, if it has no name below names and a number of it is the
@@ -11,7 +15,9 @@ export function askOfSum(reading, state, keys) {
   const kept = state.rows.map((row, r) => ({ row, r })).filter(({ row }) => !isEmpty(row)), last = kept.at(-1);
   if (kept.length < 2) return false;
   const nameOf = ({ row }) => row.name.trim() || (row.type ?? "").trim(), { notSums = [] } = state;
-  const named = kept.filter((one) => isSumWord(nameOf(one)) && notSums !== true && !notSums.includes(nameOf(one)));
+  const isPartial = (one, k) => PARTIAL.test(nameOf(one)) && isOfRowsAbove(reading, kept, k, keys);
+  const isSum = (one, k) => isSumWord(nameOf(one)) || isPartial(one, k);
+  const named = kept.filter((one, k) => isSum(one, k) && notSums !== true && !notSums.includes(nameOf(one)));
   const above = kept.slice(0, -1).map(({ row }) => row);
   const isAsked = named.length > 0 || (!nameOf(last) && Boolean(state.isNamed)
     && keys.some((key) => isAbove(reading, last.row[key], above.map((row) => row[key]))));
@@ -20,6 +26,21 @@ export function askOfSum(reading, state, keys) {
   const { r } = named.at(-1) ?? last;
   reading.asked = { r, name: nameOf({ row: state.rows[r] }), isLast: r === last.r };
   return true;
+}
+
+/** Whether a number of a row is the sum of two or more rows right above it. */
+function isOfRowsAbove(reading, kept, k, keys) {
+  return keys.some((key) => {
+    const own = reading.known(kept[k].row[key]).value;
+    let sum = Rational.of(0);
+    for (let r = k - 1; own && r >= 0; r--) {
+      const { value } = reading.known(kept[r].row[key]);
+      if (!value) return false;
+      sum = sum.plus(value);
+      if (r < k - 1 && sum.equals(own)) return true;
+    }
+    return false;
+  });
 }
 
 /** Whether a number is the sum of others, or greater than each of them. */

@@ -235,7 +235,8 @@ function listOf(all, allLines, mark) {
 }
 
 const AND = /\s*(?:&|,|\/|\band\b|\bund\b|\bet\b)\s*/u;
-const ALL = /^(all|everybody|everyone|alle|tous)( (of them|three|four|five|six|drei|vier|trois|quatre))?$/i;
+const ALL = new RegExp("^(all|everybody|everyone|alle|tous)( (of them|together|zusammen|ensemble|three|four|five|six|"
+  + "drei|vier|trois|quatre))?$", "i");
 
 /** Finds groups that are written without +, as "North & South" where both have a line, or "All": their members are put
  * in place. What is told of it. */

@@ -12,7 +12,8 @@ const MOST = mostOf("voting"), MOST_IN_TABLE = mostOf("table");
 const MOST_VOTES = BigInt(LIMITS.votes);
 const HUNDRED = Rational.of(100);
 const BOTH_WIN = "Two groups without a common voter can both reach this quota. A majority is “more than 1/2”.";
-const VOTER = /voter|state|party|member|country|holder|owner|name|staat|land|partei|mitglied|aktion|état|pays|parti/iu;
+const VOTER = new RegExp("voter|state|party|member|country|holder|owner|name|staat|land|partei|mitglied|aktion|"
+  + "eigentümer|état|pays|parti|propriét", "iu");
 const VOTES = /vote|seat|share|weight|stimme|sitz|anteil|voix|siège|part\b|population|bevölkerung/iu;
 
 export const votes = {

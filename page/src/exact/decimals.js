@@ -8,9 +8,10 @@ const MOST_POWER = 40; // of ten, in a number as 1e-05
 const BLANKS = "[\\s\u00a0\u202f'’_]";
 const PARTED = new RegExp(`\\d${BLANKS}+\\d`), PARTED_BEHIND = new RegExp(`${BLANKS}\\d`);
 const BY_THREE = new RegExp(`^\\D*\\d{1,3}(?:${BLANKS}\\d{3})+(?!\\d)(\\D.*)?$`, "s");
-const MONEY = "(?:EUR|USD|GBP|CHF|JPY|CNY|INR|SEK|NOK|DKK|PLN|CZK|HUF|AUD|CAD|NZD|BRL|MXN|ZAR|TRY|\\p{Sc})";
+const MONEY = "(?:Rs\\.?|EUR|USD|GBP|CHF|JPY|CNY|INR|SEK|NOK|DKK|PLN|CZK|HUF|AUD|CAD|NZD|BRL|MXN|ZAR|TRY|\\p{Sc})";
 const OF_MONEY = new RegExp(`^${MONEY}|${MONEY}$`, "gu");
 const LAKHS = /^-?[1-9]\d?(?:,\d\d)+,\d{3}(\.\d+)?$/; // thousands as in India: 12,34,567
+const NO_CENTS = /^(.{0,60}\d)(?:([.,])[-–—]{1,2}|\/[-–])(\D{0,9})$/u; // 12,- and 12.– and 12/-
 const SCIENTIFIC = /^(-?)(\d*)(?:([.,])(\d*))?e([+-]?\d{1,3})$/i;
 
 /** Shares in steps of the last place, which add to the rounded sum, or to one that is given: all are rounded down
@@ -147,6 +148,8 @@ function scientific(text) {
  * is the mark in front of decimals where the text itself shows it. */
 export function readNumber(typed, mark = ".") {
   if (/^\d{1,15}$/.test(typed)) return { value: new Rational(BigInt(typed)) };
+  const [, before, by, behind] = NO_CENTS.exec(typed) ?? [];
+  if (before) return { ...readNumber(before + behind, by || mark), ...(by && { by, doubt: undefined }) };
   const text = joined(typed);
   if (text === "") return { fault: "is empty" };
   if (text === null || text.length > MOST_LETTERS) return { fault: "is no number" };

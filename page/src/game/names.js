@@ -5,7 +5,7 @@ const HIDDEN = /[\p{Cc}\p{Cf}\p{Zl}\p{Zp}\p{Default_Ignorable_Code_Point}\u2800]
 const RIGHT_TO_LEFT = /[\p{Script=Hebrew}\p{Script=Arabic}\p{Script=Syriac}\p{Script=Thaana}\p{Script=Nko}]/u;
 const [ISOLATE, END_OF_ISOLATE] = ["\u2068", "\u2069"];
 const SUMS = new RegExp("^((all )?together|sum|((grand|sub)[ -]?)?totals?( costs?| amount| claims?| debts?| "
-  + "votes?)?|suma|(zwischen)?summe|gesamt(summe|kosten|betrag)?|insgesamt|zusammen|somme|totale|"
+  + "votes?)?|suma|totaa?l|totalt|summa|(zwischen)?summe|gesamt(summe|kosten|betrag)?|insgesamt|zusammen|somme|totale|"
   + "(sous-)?total( général)?|(there)?of which\\b.*|thereof\\b.*|davon\\b.*|dont\\b.*)$", "i");
 
 // letters of other alphabets (Cyrillic, Greek, and some more), each in front of the Latin one that it is taken for
