@@ -222,6 +222,13 @@ const messy = [
     await page.paste('[data-cell="buyers.0"]', "Offers\n\tPiano\tCello\nLee\t4\t2\nKhan\t5\t3\n");
     await told(page, "#answer .lead", /Lee – Cello and Khan – Piano trade: together they gain 7\.00/);
     expect("told", await page.text("#case .left-out"), /Left out, as no number stands beside: “Offers”\./);
+    await page.paste('[data-cell="buyers.0"]', "\tPiano\tCello\nReserve price\t3\t1\nLee\t4\t2");
+    await told(page, "#case", /“Reserve price” looks like what sellers want\. .* Nothing was taken/);
+  }],
+  ["door: amounts in two currencies aren’t added", "estate", async (page, expect) => {
+    await pasted(page, [["Creditor", "Claim"], ["Alpha", "€ 100.50"], ["Beta", "EUR 200"], ["Gamma", "CHF 300"]]);
+    await told(page, "#case .faults", /The claim is in CHF, and another number in EUR\./);
+    expect("one fault", await page.run("document.querySelectorAll('#case .fault').length"), 2);
   }],
   ["door: a sum of some rows is asked about, whatever stands behind its name", "estate", async (page, expect) => {
     await pasted(page, [["Name", "Claim"], ["A", 100], ["B", 50], ["Subtotal secured", 150], ["Total SE", 80]]);

@@ -1,7 +1,7 @@
 // Reads what a person typed into the cells of a case, and keeps what is wrong, cell by cell.
 import { bytesOf } from "../game/words.js";
 import { lcm } from "../exact/rational.js";
-import { cellNumber, countText, shortText, thousandsIn } from "../exact/decimals.js";
+import { cellNumber, countText, moneyIn, shortText, thousandsIn } from "../exact/decimals.js";
 import { isMark, MARKS, onlyMark, otherMark } from "../exact/marks.js";
 import { LIMITS } from "../game/classes.js";
 import { remarksOf, withEscapes } from "../game/names.js";
@@ -30,6 +30,7 @@ export class Reading {
     this.doubts = new Map(); // of numbers that the decimal mark decides, by how they were read: the first, and how many
     this.thousands = new Set(); // signs between thousands
     this.shown = new Map(); // marks that stand in front of decimals beyond doubt, each with a text that shows it
+    this.money = undefined; // which the first number names that names one
     this.asked = null; // a row that may be the sum of the others: {r, name}
     this.mixed = null; // a number that would have decimals, though it hardly looks so: {typed, proof, count, value}
     this.unsure = null; // a number that can be read both ways, where nothing shows which: {typed, ways, count}
@@ -81,6 +82,11 @@ export class Reading {
       return this.fault(cell, `${what} ${fault}${shown}.`);
     }
     if (value.isNegative() && !canBeNegative) return this.fault(cell, `${what} can’t be negative.`);
+    const money = moneyIn(typed);
+    if (money && this.money && money !== this.money) {
+      return this.fault(cell, `${what} is in ${money}, and another number in ${this.money}.`);
+    }
+    this.money ??= money;
     this.numbers.push({ cell, value, what });
     return value;
   }

@@ -234,7 +234,7 @@ function listOf(all, allLines, mark) {
   return { ...placedList(read, names), remark: told + grouped + unknown };
 }
 
-const AND = /\s*(?:&|,|\/|\band\b|\bund\b|\bet\b)\s*/u;
+const AND = /\s*(?:&|,|\/|\b(?:and|und|et|y|e|en|och)\b)\s*/u;
 const ALL = new RegExp("^(all|everybody|everyone|alle|tous)( (of them|together|zusammen|ensemble|three|four|five|six|"
   + "drei|vier|trois|quatre))?$", "i");
 

@@ -8,8 +8,10 @@ const MOST_POWER = 40; // of ten, in a number as 1e-05
 const BLANKS = "[\\s\u00a0\u202f'’_]";
 const PARTED = new RegExp(`\\d${BLANKS}+\\d`), PARTED_BEHIND = new RegExp(`${BLANKS}\\d`);
 const BY_THREE = new RegExp(`^\\D*\\d{1,3}(?:${BLANKS}\\d{3})+(?!\\d)(\\D.*)?$`, "s");
-const MONEY = "(?:Rs\\.?|EUR|USD|GBP|CHF|JPY|CNY|INR|SEK|NOK|DKK|PLN|CZK|HUF|AUD|CAD|NZD|BRL|MXN|ZAR|TRY|\\p{Sc})";
+const MONEY = "(?:Rs\\.?|S?Fr\\.?|EUR|USD|GBP|CHF|JPY|CNY|INR|SEK|NOK|DKK|PLN|CZK|HUF|AUD|CAD|NZD|BRL|MXN|ZAR|TRY|"
+  + "\\p{Sc})";
 const OF_MONEY = new RegExp(`^${MONEY}|${MONEY}$`, "gu");
+const SAME_MONEY = { "€": "EUR", $: "USD", "£": "GBP", "¥": "JPY", "₹": "INR", Rs: "INR", Fr: "CHF", SFr: "CHF" };
 const LAKHS = /^-?[1-9]\d?(?:,\d\d)+,\d{3}(\.\d+)?$/; // thousands as in India: 12,34,567
 const NO_CENTS = /^(.{0,60}\d)(?:([.,])[-–—]{1,2}|\/[-–])(\D{0,9})$/u; // 12,- and 12.– and 12/-
 const SCIENTIFIC = /^(-?)(\d*)(?:([.,])(\d*))?e([+-]?\d{1,3})$/i;
@@ -131,6 +133,12 @@ function joined(typed) {
   const rest = PARTED.test(typed) ? BY_THREE.exec(typed) : [];
   if (!rest || PARTED_BEHIND.test(rest[1] ?? "")) return null;
   return typed.replace(/[\s\u00a0\u202f'’_]/g, "").replace(OF_MONEY, "").replace(/^[−–]/, "-");
+}
+
+/** The money that a text names, by its code or sign; undefined where it names none. */
+export function moneyIn(typed) {
+  const [sign] = typed.trim().match(OF_MONEY) ?? [], name = sign?.replace(".", "");
+  return SAME_MONEY[name] ?? name;
 }
 
 /** A decimal with a power of ten, as programs print it: 1e-05 is 0.00001. */

@@ -5,6 +5,14 @@ import { withEscapes } from "../game/names.js";
 import { cellInput, moveByKeys, pasteCells, removal } from "./cells.js";
 import { button, el, refill } from "./dom.js";
 
+const ASKING = /^(reserve|reservation|asking|minimum|lowest|seller wants|mindest)[\p{L} ]*( price|preis|wants)?$/iu;
+
+/** Why a block with what sellers want isn't taken. */
+function notGains(text) {
+  return `“${withEscapes(text)}” looks like what sellers want. Here each pair has what it gains together: what the `
+    + "thing is worth to the buyer, less that. Take it off, and leave that row out.";
+}
+
 export function marketGrid(kind, typed, settings) {
   return new MarketGrid(kind, typed, settings).element;
 }
@@ -29,7 +37,8 @@ class MarketGrid {
       return what === "values" ? `values.${Number(a) + step}.${b}` : `${what}.${Number(a) + step}`;
     });
     pasteCells(this.holder, (cell, pasted) => {
-      const { rows, units, fault } = withoutUnits(pasted, 1);
+      const asked = pasted.flat().find((text) => ASKING.test(text)), read = withoutUnits(pasted, 1);
+      const { rows, units, fault } = asked ? { fault: notGains(asked) } : read;
       refill(this.said, fault ? `${fault} Nothing was taken.` : unitsText(units));
       if (fault) return;
       remember("Paste");
