@@ -225,6 +225,13 @@ const messy = [
     await page.paste('[data-cell="buyers.0"]', "\tPiano\tCello\nReserve price\t3\t1\nLee\t4\t2");
     await told(page, "#case", /“Reserve price” looks like what sellers want\. .* Nothing was taken/);
   }],
+  ["door: a number of a claim is no claim", "estate", async (page, expect) => {
+    await pasted(page, [["Claim No.", "Creditor", "USD"], [17, "Alpha", 1250], [18, "Beta", 2250]]);
+    await told(page, "#case .pasted", /“Claim No\.” was left out/);
+    expect("the claims", await cells(page), "Alpha|1250|Beta|2250");
+    await pasted(page, [["Claim", "Creditor", "Amount"], [17, "Alpha", 1250], [18, "Beta", 2250]]);
+    await told(page, "#case .pasted", /Which column is “Claim”\?/);
+  }],
   ["door: amounts in two currencies aren’t added", "estate", async (page, expect) => {
     await pasted(page, [["Creditor", "Claim"], ["Alpha", "€ 100.50"], ["Beta", "EUR 200"], ["Gamma", "CHF 300"]]);
     await told(page, "#case .faults", /The claim is in CHF, and another number in EUR\./);

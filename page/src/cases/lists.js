@@ -9,10 +9,12 @@ import { bytesOf } from "../game/words.js";
 import { askOfSum, isEmpty } from "./sum-row.js";
 
 // words in the headings of columns, in English, German and French
-const COST = /cost|need|price|fee|charge|amount|kosten|preis|betrag|gebühr|bedarf|co[uû]t|prix|montant|\p{Sc}/iu;
+const MONEY = "\\b(?:eur|usd|gbp|chf)\\b|\\p{Sc}";
+const COST = new RegExp("cost|need|price|fee|charge|amount|kosten|preis|betrag|gebühr|bedarf|co[uû]t|prix|montant|"
+  + MONEY, "iu");
 const heads = (words) => new RegExp(`^(?!.*(${COST.source})).*(${words})`, "iu"); // and no word of a cost
 const CREDITOR = /creditor|claimant|lender|party|name|gläubiger|créancier/iu;
-const CLAIM = /claim(?!ant)|amount|owed|debt|due\b|forderung|betrag|schuld|créance|montant|\p{Sc}/iu;
+const CLAIM = new RegExp("claim(?!ant)|amount|owed|debt|due\\b|forderung|betrag|schuld|créance|montant|" + MONEY, "iu");
 const ESTATE = /^(the |die )?(estate|assets|available|(insolvenz|teilungs)?masse|actif|masse active)\b/iu;
 const MOST_LANDINGS = mostOf("airport"), MOST_CLAIMS = mostOf("bankruptcy"), MOST_NAME = LIMITS["bytes of a name"];
 

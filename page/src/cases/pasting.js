@@ -89,7 +89,7 @@ export function columnsFor(columns, headings, { rows = [], mark = ".", ofFour = 
   const wide = wideOf(rows, headings), all = Array.from({ length: wide }, (_, c) => c);
   const below = belowOf(rows, headings);
   const named = all.map((c) => headings && (columns.find(({ title }) => isTitle(headings[c], title))
-    ?? columns.find(({ heads }) => heads?.test(headings[c]))));
+    ?? columns.find((column) => isHeadOf(headings[c], column))));
   const found = named.map((column, c) => (column && named.indexOf(column) === c ? column : undefined));
   const isFour = wide === 4 && columns.length === ofFour.length && isNumeric(below(3), mark);
   const order = isFour ? ofFour.map((key) => columns.find((column) => column.key === key)) : columns;
@@ -105,6 +105,10 @@ export function columnsFor(columns, headings, { rows = [], mark = ".", ofFour = 
   return swapped(filled, found, below, mark);
 }
 
+/** Whether a heading says that its column is for one of ours. What numbers things is no amount. */
+const isHeadOf = (text, { heads, number, short }) => Boolean(heads?.test(text))
+  && !(number && !short && /(^|\s)(no|nr|num|number|nummer|id|ref)\.?$|[#№]/iu.test(text));
+
 const isTitle = (text, title) => text?.toLowerCase() === title.toLowerCase();
 
 /** How many columns pasted rows have. */
@@ -118,12 +122,12 @@ function belowOf(rows, headings) {
 }
 
 /** Columns of numbers whose headings all say that they are for the same column: {column, at}, with their places; null
- * where none are, or one has its very title. */
+ * where none are. */
 export function rivalsFor(columns, headings, { rows, mark }) {
   const below = belowOf(rows, headings), all = (headings ?? []).map((_, c) => c);
   for (const column of columns.filter(({ number }) => number)) {
-    const at = all.filter((c) => column.heads?.test(headings[c]) && isNumeric(below(c), mark));
-    if (at.length > 1 && !at.some((c) => isTitle(headings[c], column.title))) return { column, at };
+    const at = all.filter((c) => isHeadOf(headings[c], column) && isNumeric(below(c), mark));
+    if (at.length > 1) return { column, at };
   }
   return null;
 }
