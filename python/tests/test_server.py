@@ -295,11 +295,14 @@ class Frames(unittest.TestCase):
             self.assertEqual(ended(request + request[:cut]), (5, READY + answer))
 
     def test_lengths_that_are_too_large(self) -> None:
-        for words, document in ((4, (8 << 20) + 2), ((64 << 10) + 1, 4), (2**32 - 1, 2**32 - 1)):
-            self.assertEqual(ended(HEAD.pack(words, document) + b"core"), (5, READY))
-        longest = HEAD.pack(4, (8 << 20) + 1) + b"core" + b" " * ((8 << 20) + 1)
+        """They are all there, so that it is their length that is refused."""
+        self.assertEqual(ended(HEAD.pack(2**32 - 1, 2**32 - 1) + b"core"), (5, READY))
+        for words, document in (((64 << 10) + 1, 4), (4, (32 << 20) + 1)):
+            self.assertEqual(ended(HEAD.pack(words, document) + b"x" * (words + document)), (5, READY))
         refused = b'{"number":1,"refused":"TooLong"}\n'
-        self.assertEqual(ended(longest), (0, READY + HEAD.pack(3, len(refused)) + refused))
+        for count in ((8 << 20) + 1, (8 << 20) + 2):
+            longest = HEAD.pack(4, count) + b"core" + b" " * count
+            self.assertEqual(ended(longest), (0, READY + HEAD.pack(3, len(refused)) + refused))
 
     def test_ports_that_fail(self) -> None:
         """Nobody reads the answer, as after the end of a parent that was killed; or the input is a folder."""
@@ -338,7 +341,7 @@ class Frames(unittest.TestCase):
         long = b'3 {"number":1,"refused":"TooLong"}\n'
         wide = b"x" * (9 << 20) + b"\n" + b" " * (3 << 20) + b"\n" + AIRPORT
         self.assertEqual(ended(wide, ["--lines", "core"]), (0, long * 2 + core))
-        for wrong in (["--lines"], ["core"], ["--lines", "coer"], ["--lines", "core, shapley"], ["--lines", "gen"]):
+        for wrong in (["--lines"], ["core"], *(["--lines", typed] for typed in ("coer", "core, shapley", "gen", ""))):
             self.assertEqual(ended(AIRPORT, wrong), (2, b""))
 
     def test_output_that_is_thrown_away(self) -> None:
