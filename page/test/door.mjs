@@ -232,6 +232,13 @@ const messy = [
     await pasted(page, [["Claim", "Creditor", "Amount"], [17, "Alpha", 1250], [18, "Beta", 2250]]);
     await told(page, "#case .pasted", /Which column is “Claim”\?/);
   }],
+  ["door: a last row of sums in all columns is asked about", "runway", async (page, expect) => {
+    await pasted(page, [["Airline", "Cost", "Landings"], ["Aer", 20, 3], ["Bee", 40, 2], ["Alle zusammen", 60, 5]]);
+    await noted(page, /The last row, “Alle zusammen”\. Is it the sum of the others\?/);
+    await page.click("No, it counts");
+    await told(page, "#answer .lead", /Alle zusammen pays/);
+    expect("no more", /Is it the sum/.test(await page.text("#case .faults")), false);
+  }],
   ["door: amounts in two currencies aren’t added", "estate", async (page, expect) => {
     await pasted(page, [["Creditor", "Claim"], ["Alpha", "€ 100.50"], ["Beta", "EUR 200"], ["Gamma", "CHF 300"]]);
     await told(page, "#case .faults", /The claim is in CHF, and another number in EUR\./);

@@ -105,9 +105,9 @@ export function columnsFor(columns, headings, { rows = [], mark = ".", ofFour = 
   return swapped(filled, found, below, mark);
 }
 
-/** Whether a heading says that its column is for one of ours. What numbers things is no amount. */
-const isHeadOf = (text, { heads, number, short }) => Boolean(heads?.test(text))
-  && !(number && !short && /(^|\s)(no|nr|num|number|nummer|id|ref)\.?$|[#№]/iu.test(text));
+/** Whether a heading says that its column is for one of ours. What numbers things is no amount and no name. */
+const isHeadOf = (text, { heads, short }) => Boolean(heads?.test(text))
+  && !(!short && /(^|\s)(no|nr|num|number|nummer|id|ref)\.?$|[#№]/iu.test(text));
 
 const isTitle = (text, title) => text?.toLowerCase() === title.toLowerCase();
 

@@ -19,7 +19,11 @@ export function askOfSum(reading, state, keys) {
   const isSum = (one, k) => isSumWord(nameOf(one)) || isPartial(one, k);
   const named = kept.filter((one, k) => isSum(one, k) && notSums !== true && !notSums.includes(nameOf(one)));
   const above = kept.slice(0, -1).map(({ row }) => row);
-  const isAsked = named.length > 0 || (!nameOf(last) && Boolean(state.isNamed)
+  const isNew = notSums !== true && !notSums.includes(nameOf(last)), isSumIn = (key) => {
+    return isSumOf(reading, last.row[key] ?? "", above.map((row) => row[key] ?? ""));
+  };
+  const isAllSums = isNew && keys.length > 1 && above.length > 1 && keys.every(isSumIn);
+  const isAsked = named.length > 0 || isAllSums || (!nameOf(last) && Boolean(state.isNamed)
     && keys.some((key) => isAbove(reading, last.row[key], above.map((row) => row[key]))));
   if (!isAsked) return false;
   reading.notes = reading.notes.filter((note) => !note.includes("Is it the sum of the others?")); // it is asked instead
@@ -41,6 +45,12 @@ function isOfRowsAbove(reading, kept, k, keys) {
     }
     return false;
   });
+}
+
+/** Whether a number is the sum of others, which all are given. */
+function isSumOf(reading, typed, others) {
+  const [own, ...values] = [typed, ...others].map((text) => reading.known(text).value);
+  return Boolean(own) && values.every(Boolean) && own.equals(Rational.sum(values));
 }
 
 /** Whether a number is the sum of others, or greater than each of them. */

@@ -52,7 +52,7 @@ export const votes = {
     const rows = state.rows.map(({ name, votes }) => ({ name, votes }));
     const { opened, isUnnamed } = state, own = { rows, opened, isUnnamed };
     const list = readList(own, mark, "votes", "The number of votes", "Voter"), { reading, names } = list;
-    askOfSum(reading, state, ["votes"]);
+    askOfSum(reading, state, isDouble ? ["votes", "second"] : ["votes"]);
     const ballots = [readBallot(reading, state.quota, "quota", "The quota", list, state)], [{ quota }] = ballots;
     const isLow = !isDouble && quota && !Rational.sum(list.values).less(quota.plus(quota));
     if (isLow) reading.notes.push(BOTH_WIN);
