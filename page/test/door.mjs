@@ -239,6 +239,14 @@ const messy = [
     await told(page, "#answer .lead", /Alle zusammen pays/);
     expect("no more", /Is it the sum/.test(await page.text("#case .faults")), false);
   }],
+  ["door: a whole table takes the place of another", "estate", async (page, expect) => {
+    await pasted(page, [["Creditor", "Claim"], ["A", 1250], ["B", 2250], ["C", 900]]);
+    await page.type("estate", "1000");
+    await settle(page);
+    await pasted(page, [["Creditor", "Claim"], ["X", 1500], ["Y", 2500]]);
+    await told(page, "#answer .lead", /X gets 500\.00 and Y gets 500\.00: together 1000\.00/);
+    expect("who claims", await cells(page), "1000|X|1500|Y|2500");
+  }],
   ["door: amounts in two currencies aren’t added", "estate", async (page, expect) => {
     await pasted(page, [["Creditor", "Claim"], ["Alpha", "€ 100.50"], ["Beta", "EUR 200"], ["Gamma", "CHF 300"]]);
     await told(page, "#case .faults", /The claim is in CHF, and another number in EUR\./);

@@ -151,6 +151,7 @@ class ListGrid {
     const isCut = below.length < rows.length && `Of ${rows.length} rows only the first ${below.length} were taken.`;
     const hasNames = isTaken(kind.columns[0].key), isList = hasNames && (headings || below.length > 1);
     if (r === 0 && isList && this.isExample()) this.leaveExample();
+    else if (r === 0 && isList && headings) typed.rows = []; // a whole table is the case
     else if (r === 0) this.forgetExample(targets, below.length);
     if (kind.ofFour && ["cost", "count"].every(isTaken)) typed.isUnordered = !headings;
     if (number) typed[kind.single.key] = number;
