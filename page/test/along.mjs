@@ -7,22 +7,12 @@ import { Game } from "../src/game/game.js";
 import { membersOf } from "../src/game/groups.js";
 import { along } from "../src/work/along.js";
 import { ask as asked, lineOf } from "./program.mjs";
+import { tallied } from "./tally.mjs";
 
 const ROUNDS = 40, MOST_SECONDS = { 12: 1, 16: 3 }, SLACK = Number(process.env.SLACK ?? 3);
 const ask = (word, document) => ({ ...asked(word, document), line: lineOf(word, document) });
-let state = 5, tried = 0, faults = 0, pieces = 0, bends = 0;
-
-function draw(most) {
-  state = (state * 1103515245 + 12345) % 2 ** 31;
-  return Math.floor(state / 2048) % most;
-}
-
-function expect(what, found, wanted) {
-  tried += 1;
-  if (found === wanted) return;
-  faults += 1;
-  console.log(`${what}: found ${found}, wanted ${wanted}`);
-}
+const { draw, expect, count } = tallied(5);
+let pieces = 0, bends = 0;
 
 /** All pieces of a range, from the least amount. */
 function pathOf(game, rule, range) {
@@ -95,5 +85,5 @@ for (const [n, most] of Object.entries(MOST_SECONDS)) {
   console.log(`${n} players: a piece from ${covers.join(" to ")} found in ${seconds.toFixed(2)} s`);
   expect(`${n} players within ${most} s`, seconds < most * SLACK, true);
 }
-console.log(`${tried} expectations of ${pieces} pieces with ${bends} bends; ${faults} faults`);
-process.exit(faults || bends < ROUNDS ? 1 : 0);
+console.log(`${count.tried} expectations of ${pieces} pieces with ${bends} bends; ${count.faults} faults`);
+process.exit(count.faults || bends < ROUNDS ? 1 : 0);

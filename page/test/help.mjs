@@ -13,20 +13,9 @@ import { costsOfNetwork, fillLinks } from "../src/work/networks.js";
 import { fillSplits } from "../src/work/splits.js";
 import { tryPowers } from "./powers.mjs";
 import { tryRunways } from "./runways.mjs";
+import { tallied } from "./tally.mjs";
 
-let state = 5, tried = 0, faults = 0;
-
-function draw(most) {
-  state = (state * 1103515245 + 12345) % 2 ** 31;
-  return Math.floor(state / 2048) % most;
-}
-
-function expect(what, found, wanted) {
-  tried += 1;
-  if (found === wanted) return;
-  faults += 1;
-  console.log(`${what}: found ${found}, wanted ${wanted}`);
-}
+const { draw, expect, count } = tallied(5);
 
 // ---- Networks
 
@@ -190,5 +179,5 @@ for (let k = 0; k < 40; k++) {
   tryComparison(2 + (k % 3), k % 2 ? "table" : "cost-table", k % 5 ? "plain" : "per-head");
   trySplits(2 + (k % 4), k % 2 === 0);
 }
-console.log(`${tried} numbers of the page's own, ${faults} faults`);
-process.exit(faults || !tried ? 1 : 0);
+console.log(`${count.tried} numbers of the page's own, ${count.faults} faults`);
+process.exit(count.faults || !count.tried ? 1 : 0);

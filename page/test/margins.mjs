@@ -10,21 +10,11 @@ import { membersOf } from "../src/game/groups.js";
 import { margins } from "../src/work/margins.js";
 import { numberMargins } from "../src/work/number-margins.js";
 import { lineOf } from "./program.mjs";
+import { tallied } from "./tally.mjs";
 
 const ROUNDS = 300, MOST_SECONDS = { 12: 1, 16: 3 }, SLACK = Number(process.env.SLACK ?? 3);
-let state = 11, tried = 0, faults = 0, beyond = 0;
-
-function draw(most) {
-  state = (state * 1103515245 + 12345) % 2 ** 31;
-  return Math.floor(state / 2048) % most;
-}
-
-function expect(what, found, wanted) {
-  tried += 1;
-  if (found === wanted) return;
-  faults += 1;
-  console.log(`${what}: found ${found}, wanted ${wanted}`);
-}
+const { draw, expect, count } = tallied(11);
+let beyond = 0;
 
 /** A line with other numbers of its game, and all else as it was. */
 function withNumbers(tree, values) {
@@ -164,5 +154,6 @@ for (const [n, most] of Object.entries(MOST_SECONDS)) {
   console.log(`${n} players: ${decide.length} numbers decide, found in ${seconds.toFixed(2)} s`);
   expect(`${n} players within ${most} s`, seconds < most * SLACK, true);
 }
+const { tried, faults } = count;
 console.log(`${tried} expectations of which numbers decide, ${beyond} of them beyond a bound; ${faults} faults`);
 process.exit(faults || !tried ? 1 : 0);

@@ -1,6 +1,6 @@
 // Numbers and lists as people type them, or other programs give them: what they are read as.
 import { cellNumber, readNumber, thousandsIn, typedText } from "../src/exact/decimals.js";
-import { runway } from "../src/cases/lists.js";
+import { estate, runway } from "../src/cases/lists.js";
 import { cellsOf } from "../src/cases/pasting.js";
 import { sheetOf } from "../src/cases/sheets.js";
 import { tableOf } from "../src/cases/tables.js";
@@ -12,6 +12,7 @@ const CASES = [
   ["1.234,50", ".", "2469/2"], ["1 234,50", ",", "2469/2"], ["1'234.50", ".", "2469/2"],
   ["1,234,567", ".", "1234567"], ["1.234.567", ",", "1234567"], ["1,23,4", ".", null], ["25/2", ".", "25/2"],
   ["50/4", ".", "25/2"], ["1/0", ".", null], ["-3", ".", "-3"], ["−3.5", ".", "-7/2"], ["(3.50)", ".", "-7/2"],
+  ["1.250,-", ".", "1250"], ["1.250.-", ".", "1250"], ["12.5,-", ".", null], ["12,50,000/-", ",", "1250000"],
   ["€ 12.50", ".", "25/2"], ["12,50 €", ",", "25/2"], ["$1,234", ".", "1234"], ["0,125", ".", "1/8"],
   ["0.125", ",", "1/8"], [".5", ".", "1/2"], ["5.", ".", "5"], ["abc", ".", null], ["", ".", null],
   ["1e5", ".", "100000"], ["1e-05", ".", "1/100000"], ["2.5E+3", ",", "2500"], ["-1,25e-1", ".", "-1/8"],
@@ -149,6 +150,22 @@ for (const [text, wanted, told] of PASTED) {
   console.log(`${JSON.stringify(text)}: headings ${JSON.stringify(found)}, and it is told: ${said}`);
 }
 
-const tried = CASES.length + WORKED.length + THOUSANDS.length + VALUES.length + LISTS.length + PASTED.length;
+// the estate is a row of its own name, and no creditor's; and each column that two headings claim is asked about
+const sheets = [
+  [estate, "Creditor\tClaim\nEstate of Ann\t5\nBob\t7", [], "2 rows"],
+  [estate, "Who\tClaim\nAnn\t5\nMasse:\t3", [], "3"],
+  [runway, "Airline\tCost\tFee\tLandings\tFlights\nAer\t1\t2\t3\t4", [], "1 2"],
+  [runway, "Airline\tCost\tFee\tLandings\tFlights\nAer\t1\t2\t3\t4", [1], "3 4"],
+];
+for (const [kind, text, without, wanted] of sheets) {
+  const found = sheetOf(cellsOf(text), kind.columns, { mark: ".", single: kind.single, ofFour: kind.ofFour, without });
+  const told = found.rivals?.at.join(" ") ?? found.number ?? `${found.rows.length} rows`;
+  if (told === wanted) continue;
+  faults += 1;
+  console.log(`${JSON.stringify(text)}: found ${told}, and not ${wanted}`);
+}
+
+const tried = sheets.length + CASES.length + WORKED.length + THOUSANDS.length + VALUES.length
+  + LISTS.length + PASTED.length;
 console.log(`${tried} numbers and lists as people type them, ${faults} faults`);
 process.exit(faults || !CASES.length ? 1 : 0);

@@ -56,6 +56,7 @@ const proposals = [
     await page.type("numbers.7", "12000");
     await settle(page);
     await paste(page, "proposal.0", "4.200\n4.100\n3.700");
+    await told(page, "#answer", /Read with the comma before decimals: so they add to the whole\./);
     await told(page, "#answer .shares tfoot", /12.?000\.00(?!.*missing)/);
   }],
 ];

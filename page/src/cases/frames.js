@@ -1,5 +1,6 @@
 // Texts that frame a pasted table and are no rows of it: a title above, notes below.
 import { readNumber } from "../exact/decimals.js";
+import { withEscapes } from "../game/names.js";
 import { headingsOf } from "./pasting.js";
 
 const MOST_TOLD = 4;
@@ -42,7 +43,7 @@ function apart(lines, [, ...others], isBeside) {
 /** What is told of these. */
 export function leftText(left) {
   const shown = left.slice(0, MOST_TOLD).map((words) => {
-    return `“${words.slice(0, MOST_LETTERS)}${words.length > MOST_LETTERS ? " …" : ""}”`;
+    return `“${withEscapes(words.slice(0, MOST_LETTERS))}${words.length > MOST_LETTERS ? " …" : ""}”`;
   });
   const more = left.length > MOST_TOLD ? " …" : "";
   return left.length ? `Left out, as no number stands beside: ${shown.join(", ")}${more}.` : "";

@@ -15,7 +15,7 @@ const COST = new RegExp("cost|need|price|fee|charge|amount|kosten|preis|betrag|g
 const heads = (words) => new RegExp(`^(?!.*(${COST.source})).*(${words})`, "iu"); // and no word of a cost
 const CREDITOR = /creditor|claimant|lender|party|name|gläubiger|créancier/iu;
 const CLAIM = new RegExp("claim(?!ant)|amount|owed|debt|due\\b|forderung|betrag|schuld|créance|montant|" + MONEY, "iu");
-const ESTATE = /^(the |die )?(estate|assets|available|(insolvenz|teilungs)?masse|actif|masse active)\b/iu;
+const ESTATE = /^(the |die )?(estate|assets|available|(insolvenz|teilungs)?masse|actif)( \(.*\))?[:.]?$/iu;
 const MOST_LANDINGS = mostOf("airport"), MOST_CLAIMS = mostOf("bankruptcy"), MOST_NAME = LIMITS["bytes of a name"];
 
 export const runway = {

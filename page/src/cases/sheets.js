@@ -8,8 +8,8 @@ import { unitsText, withoutUnits } from "./units.js";
 
 /** Pasted rows for the `columns` from a cell on, of which `usual` go without saying: {rows, targets, headings, notes},
  * the rows below the headings, the column that each cell is for, and what has to be told. Or {fault}, in words; or
- * {rivals}, columns of which the user has to choose one: then it is asked again `without` the others. A row with the
- * number above the list (`single`) is no row of it. */
+ * {rivals}, columns of which the user has to choose one: then it is asked again `without` the others too. A row with
+ * the number above the list (`single`) is no row of it. */
 export function sheetOf(pasted, columns, { mark, ofFour, single, usual, isFirst = true, without = [] }) {
   const { rows: lines, left } = unframed(isFirst ? partedLines(pasted) : pasted);
   const { rows: bare, units = [], fault } = withoutUnits(lines.filter((row) => row.some(Boolean)), 1);
@@ -18,8 +18,9 @@ export function sheetOf(pasted, columns, { mark, ofFour, single, usual, isFirst 
   const from = usually.findIndex(({ number }) => number);
   const heads = headingsOf(all, Math.max(0, from), mark), cut = (row) => row.filter((_, c) => !without.includes(c));
   const above = single ? singleRow(all, single) : undefined, rows = all.filter((row) => row !== above).map(cut);
-  const headings = heads && cut(heads), rivals = !without.length && rivalsFor(columns, headings, { rows, mark });
-  if (rivals) return { rivals: { ...rivals, headings } };
+  const headings = heads && cut(heads), rivals = rivalsFor(columns, headings, { rows, mark });
+  const places = (heads ?? []).map((_, c) => c).filter((c) => !without.includes(c));
+  if (rivals) return { rivals: { ...rivals, at: rivals.at.map((k) => places[k]), headings: heads } };
   const targets = columnsFor(columns, headings, { rows, mark, ofFour });
   const lost = widthFault(rows, headings, targets, columns);
   if (lost) return { fault: lost };

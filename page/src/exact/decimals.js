@@ -157,7 +157,7 @@ function scientific(text) {
 export function readNumber(typed, mark = ".") {
   if (/^\d{1,15}$/.test(typed)) return { value: new Rational(BigInt(typed)) };
   const [, before, by, behind] = NO_CENTS.exec(typed) ?? [];
-  if (before) return { ...readNumber(before + behind, by || mark), ...(by && { by, doubt: undefined }) };
+  if (before) return withoutCents(readNumber(before + behind, ""), before.includes(by) ? undefined : by);
   const text = joined(typed);
   if (text === "") return { fault: "is empty" };
   if (text === null || text.length > MOST_LETTERS) return { fault: "is no number" };
@@ -168,6 +168,12 @@ export function readNumber(typed, mark = ".") {
   if (/^\(\d[\d.,]*\)$/.test(text)) return readNumber("-" + text.slice(1, -1), mark);
   if (!/^-?[\d.,]*\d[\d.,]*$/.test(text)) return scientific(text) ?? { fault: "is no number" };
   return marked(text, mark);
+}
+
+/** What was read in front of a sign for no cents: whole, so that "1.250,-" and "1.250.-" are 1250. */
+function withoutCents(found, by) {
+  if (found.value && !found.value.isWhole()) return { fault: "is no number" };
+  return { ...found, doubt: undefined, ...(by && { by }) };
 }
 
 /** Texts that are read by one mark: the one that some of them show, or else the given one. `isSettled` says that they

@@ -126,7 +126,7 @@ class ListGrid {
       single: single?.heads && this.isOpen(single.key) && single,
     });
     if (sheet.fault) return this.say(`${sheet.fault} Nothing was taken.`);
-    if (sheet.rivals) return this.askWhich(sheet.rivals, (others) => this.fill(cell, pasted, others));
+    if (sheet.rivals) return this.askWhich(sheet.rivals, (more) => this.fill(cell, pasted, [...without, ...more]));
     this.remember("Paste");
     this.take(sheet, Number(r));
   }
@@ -150,8 +150,10 @@ class ListGrid {
     const isTaken = (key) => targets.some((target) => target?.key === key);
     const isCut = below.length < rows.length && `Of ${rows.length} rows only the first ${below.length} were taken.`;
     const hasNames = isTaken(kind.columns[0].key), isList = hasNames && (headings || below.length > 1);
-    if (r === 0 && isList && this.isExample()) this.leaveExample();
-    else if (r === 0 && isList && headings) typed.rows = []; // a whole table is the case
+    const isWhole = r === 0 && isList && headings && !this.isExample(); // such a table is the case
+    const isOver = isWhole && typed.rows.some((row) => !this.isBlank(row)) && "The rows before are gone (Undo).";
+    if (isWhole) typed.rows = [];
+    else if (r === 0 && isList && this.isExample()) this.leaveExample();
     else if (r === 0) this.forgetExample(targets, below.length);
     if (kind.ofFour && ["cost", "count"].every(isTaken)) typed.isUnordered = !headings;
     if (number) typed[kind.single.key] = number;
@@ -162,7 +164,7 @@ class ListGrid {
       if (hasNames && !target.name) target.name = row.find((text, c) => !targets[c] && /\p{L}/u.test(text)) ?? "";
       return target;
     });
-    this.say([...notes, isCut, ...this.complete(filled, targets)].filter(Boolean).join(" "));
+    this.say([...notes, isCut, isOver, ...this.complete(filled, targets)].filter(Boolean).join(" "));
     this.showSingles();
     this.show();
     this.onChange();

@@ -1,6 +1,6 @@
 // The division that the user proposes, or that stands today: a text for each row of the answer.
 import { readNumber, readTogether } from "../exact/decimals.js";
-import { isMark, otherMark } from "../exact/marks.js";
+import { isMark, nameOfMark, otherMark } from "../exact/marks.js";
 import { Rational } from "../exact/rational.js";
 import { isSumWord, withEscapes } from "../game/names.js";
 import { listed, plural } from "../game/words.js";
@@ -57,11 +57,13 @@ export function proposalOf(texts, rows, mark, whole = null) {
   const found = ways.map((by) => readTogether(typed, by)), isWhole = ({ read }) => {
     return whole && read.every(({ value }) => value) && Rational.sum(read.map(({ value }) => value)).equals(whole);
   };
-  const { read } = found.find(isWhole) ?? found[0], isFault = ({ fault }, r) => fault && typed[r].trim();
+  const chosen = found.find(isWhole) ?? found[0], { read, by } = chosen;
+  const isFault = ({ fault }, r) => fault && typed[r].trim();
   const totals = rows.length && read.every(({ value }) => value) ? read.map(({ value }) => value) : null;
   return {
     texts: typed, totals, shares: totals && sharesOf(rows, totals), values: read.map(({ value = null }) => value),
     faults: read.map((one, r) => (isFault(one, r) ? `It ${one.fault}.` : null)),
+    told: chosen === found[0] ? "" : `Read with the ${nameOfMark(by)} before decimals: so they add to the whole.`,
   };
 }
 

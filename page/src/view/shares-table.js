@@ -44,6 +44,7 @@ export function sharesTable(result, settings) {
         (kept.get(columns[0].key)?.gone ?? []).map((one, k) => goneRow(one, k, view))),
       footOf(view))),
     settings.said && el("p", { class: "note own-said", role: "status" }, settings.said),
+    proposal.told && el("p", { class: "hint" }, proposal.told),
     leavingLines(view),
     proposal.shares && sameAs(points, proposal.shares),
     isMoved(points, rows, format) && el("p", { class: "hint exact" }, "Rounded so that the shares add up."),
