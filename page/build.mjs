@@ -13,6 +13,7 @@ import { createHash } from "node:crypto";
 import { existsSync, readFileSync, writeFileSync } from "node:fs";
 import { dirname, join, resolve } from "node:path";
 import { fileURLToPath } from "node:url";
+import { deflateSync, inflateSync } from "node:zlib";
 import { packed, packedIn, unpacked } from "../runtime/engine/inside.js";
 import { squeeze, withoutTexts } from "./squeeze.mjs";
 
@@ -20,15 +21,10 @@ const TOP = dirname(fileURLToPath(import.meta.url));
 const SRC = join(TOP, "src");
 const MOST = 850_000; // bytes of the page
 
-/** What stands in the place of "/* NAME *\/" in a module, as the text of a string or as code. */
-function placesOf(own) {
-  const style = (name) => JSON.stringify(styleOf(name)).slice(1, -1);
-  return {
-    MODULE: () => own,
-    PALETTE: () => style("palette.css"),
-    PICTURE: () => style("picture.css"),
-  };
-}
+const style = (name) => JSON.stringify(styleOf(name)).slice(1, -1);
+
+/** What stands in the place of "/* NAME *\/" in a module, as the text of a string. */
+const PLACES = { PALETTE: () => style("palette.css"), PICTURE: () => style("picture.css") };
 
 /** A style without comments, and a rule of it in one line, without blanks beside its signs. */
 function styleOf(name) {
@@ -38,13 +34,13 @@ function styleOf(name) {
 }
 
 /** A module and all that it imports, each once, in front of what needs it: code by path. */
-function modulesOf(entry, places) {
+function modulesOf(entry) {
   const done = new Map(), found = new Map();
   const visit = (path, from) => {
     if (done.get(path) === "open") throw new Error(`${from} and ${path} import each other`);
     if (done.has(path)) return;
     done.set(path, "open");
-    found.set(path, moduleOf(path, places, (other) => (visit(other, path), nameOf(other))));
+    found.set(path, moduleOf(path, (other) => (visit(other, path), nameOf(other))));
     done.set(path, "done");
   };
   visit(join(SRC, entry), "");
@@ -52,14 +48,14 @@ function modulesOf(entry, places) {
 }
 
 /** The modules that page and worker share, which stand in the page once, and those of each alone. */
-function scriptsOf(places) {
-  const page = modulesOf("view/main.js", places), worker = modulesOf("worker.js", places);
+function scriptsOf() {
+  const page = modulesOf("view/main.js"), worker = modulesOf("worker.js");
   const isShared = ([path]) => page.has(path) && worker.has(path);
-  const script = (modules) => inScript(modules.map(([, code]) => code).join("\n"));
+  const script = (modules) => `"use strict";\n${modules.map(([, code]) => code).join("\n")}`;
   return {
-    SHARED: script([...worker].filter(isShared)),
+    SHARED: inScript(script([...worker].filter(isShared))),
     WORKER: script([...worker].filter((one) => !isShared(one))),
-    PAGE: script([...page].filter((one) => !isShared(one))),
+    PAGE: inScript(script([...page].filter((one) => !isShared(one)))),
   };
 }
 
@@ -71,7 +67,7 @@ function nameOf(path) {
   return names.get(path);
 }
 
-function moduleOf(path, places, importing) {
+function moduleOf(path, importing) {
   const exported = [];
   let code = readFileSync(path, "utf8");
   code = code.replace(/^import \{([^}]*)\} from "([^"]+)";$/gm, (_, names, from) => {
@@ -88,15 +84,15 @@ function moduleOf(path, places, importing) {
   });
   if (/^(import|export)\b/m.test(code)) throw new Error(`${path} has an import or an export of another form`);
   if (exportsSeveral(readFileSync(path, "utf8"))) throw new Error(`${path} exports several constants at once`);
-  code = squeeze(code).replace(/\/\* ([A-Z]+) \*\//g, (whole, name) => places[name]?.() ?? whole);
-  return `const ${nameOf(path)} = (() => {\n${code}\nreturn { ${exported.join(", ")} };\n})();`;
+  code = squeeze(code).replace(/\/\* ([A-Z]+) \*\//g, (whole, name) => PLACES[name]?.() ?? whole);
+  return `let ${nameOf(path)}=(()=>{\n${code.trimEnd()}\nreturn{${exported}}})();`;
 }
 
 /** Whether one export has several constants, as `export const A = 1, B = 2`: only the first would be exported. */
 function exportsSeveral(code) {
   let bare = withoutTexts(code), before;
   do [before, bare] = [bare, bare.replace(/\([^()]*\)|\[[^[\]]*\]|\{[^{}]*\}/g, "0")]; while (bare !== before);
-  return /^export const [^;]*,/m.test(bare);
+  return /^export let [^;]*,/m.test(bare);
 }
 
 /** Code as the text of a script element may have it. */
@@ -104,16 +100,26 @@ function inScript(code) {
   return code.replace(/<\/script/gi, "<\\/script").replace(/<!--/g, "<\\!--");
 }
 
-/** `own` is the module as it stands in a page. */
-function pageOf(own, commit) {
-  const scripts = scriptsOf(placesOf(own)), text = (name) => readFileSync(join(SRC, name), "utf8");
+/** `own` is the module as it stands in a page, and `out` a page that may stand there already. */
+function pageOf(own, commit, out) {
+  const { WORKER, ...plain } = scriptsOf(), text = (name) => readFileSync(join(SRC, name), "utf8");
+  const scripts = { ...plain, MODULE: own, WORKER: packedText(WORKER, out) };
   const styles = ["palette.css", "style.css", "answer.css", "picture.css", "narrow.css", "print.css"];
   return text("page.html")
     .replace("VERSION", version())
     .replaceAll("COMMIT", commit)
     .replaceAll("DIGEST", createHash("sha256").update(unpacked(own)).digest("hex"))
     .replace("/* STYLE */", () => styles.map(styleOf).join("\n"))
-    .replace(/\/\* (SHARED|WORKER|PAGE) \*\//g, (_, name) => `"use strict";\n${scripts[name]}`);
+    .replace(/\/\* (SHARED|MODULE|WORKER|PAGE) \*\//g, (_, name) => scripts[name]);
+}
+
+/** A text packed by zlib, in base64; as the page at `out` has it where that is the same, since other versions may pack
+ * otherwise. */
+function packedText(text, out) {
+  const page = existsSync(out) ? readFileSync(out, "utf8") : "";
+  const [, old] = /id="worker-code" type="text\/plain">\s*([\w+/=]+)\s*</.exec(page) ?? [];
+  const isSame = old && inflateSync(Buffer.from(old, "base64")).toString() === text;
+  return isSame ? old : deflateSync(text, { level: 9 }).toString("base64");
 }
 
 /** The version of the project. */
@@ -149,7 +155,8 @@ function main(words) {
     console.error("node page/build.mjs [--module MODULE] [--commit COMMIT] --out PAGE");
     return 2;
   }
-  const page = pageOf(packedOf(file, out), option("--commit") ?? commitOf(out)), bytes = Buffer.byteLength(page);
+  const page = pageOf(packedOf(file, out), option("--commit") ?? commitOf(out), out);
+  const bytes = Buffer.byteLength(page);
   if (bytes > MOST) throw new Error(`the page has ${bytes} bytes, and may have ${MOST}`);
   writeFileSync(out, page);
   console.log(`${out}: ${bytes} bytes, SHA-256 ${createHash("sha256").update(page).digest("hex")}`);

@@ -1,10 +1,11 @@
 // Code without what only the readers of its sources need: comments, indentation, empty lines, and blanks beside signs.
-// Strings, templates and regular expressions stay as they are, and so do the ends of lines, but behind signs that are
-// never the last of a statement.
+// Strings, templates and regular expressions stay as they are, and so do the ends of lines, but where a statement ends
+// or goes on without them. Before the end of a block no semicolon is needed, and constants are variables.
 
 const WORD = /[\p{L}\p{N}_$#]/u;
 const VALUE = /[\p{L}\p{N}_$)\]}"'`]/u; // after such a letter a stroke divides
-const OPEN = /[\n,{([]$/; // after which a statement goes on
+const CONST = /(?<![\p{L}\p{N}_$.])const$/u;
+const OPEN = /[\n,;{([]$/; // after which no end of a line is needed
 const BEFORE_REGEX = /(?:^|[^\p{L}\p{N}_$.])(?:return|typeof|case|in|of|do|else|void|yield|await)$/u;
 
 /** Where the text that begins at `start` ends: one in quotes, or a regular expression. */
@@ -44,6 +45,7 @@ function template(code, start) {
 function squeezed(code, start, isInside, kept = (piece) => piece) {
   let text = "", at = start, depth = 0, hasBlank = false;
   const put = (piece) => {
+    if (piece === "}") text = text.replace(/;$|(?<=\})\n$/, "");
     const [last] = text.slice(-1), [next] = piece, isSame = last === next && "+-".includes(last);
     const isNeeded = last && last !== "\n" && ((WORD.test(last) && WORD.test(next)) || isSame || "/" === last
       || "/" === next);
@@ -57,6 +59,7 @@ function squeezed(code, start, isInside, kept = (piece) => piece) {
       hasBlank = false;
       at += 1;
     } else if (letter === " ") {
+      text = text.replace(CONST, "let"); // shorter, and no code counts on its refusals
       hasBlank = true;
       at += 1;
     } else if (code.startsWith("//", at)) at = (code.indexOf("\n", at) + code.length + 1) % (code.length + 1);

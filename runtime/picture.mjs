@@ -5,10 +5,10 @@ import { pictureFile } from "../page/src/draw/figure.js";
 import { fitted, widthOf } from "../page/src/draw/measure.js";
 import { el, textOf } from "../page/src/draw/tree.js";
 import { trianglePicture } from "../page/src/draw/triangle.js";
-import { fullText, shortText } from "../page/src/exact/decimals.js";
+import { columnTexts, fullText, shortText } from "../page/src/exact/decimals.js";
 import { Rational } from "../page/src/exact/rational.js";
 import { shownName } from "../page/src/game/names.js";
-import { columnTexts, Untold } from "../page/src/tell/answers.js";
+import { Untold } from "../page/src/tell/answers.js";
 
 const WIDE = 720, EDGE = 16, LINE = 22, TITLE = 18;
 /** The kinds of divisions that have a colour and a mark each, and whose they are by their names. */

@@ -1,8 +1,7 @@
 // A paper of HTML to print, for a program that asks: who gets how much, the picture, the reasons, and how to check.
 import { createHash } from "node:crypto";
 import { el, textOf } from "../page/src/draw/tree.js";
-import { columnTexts } from "../page/src/tell/answers.js";
-import { countText, fractionText, shortText } from "../page/src/exact/decimals.js";
+import { columnTexts, countText, fractionText, shortText } from "../page/src/exact/decimals.js";
 import { spoken } from "../page/src/exact/marks.js";
 import { Rational } from "../page/src/exact/rational.js";
 import { withEscapes } from "../page/src/game/names.js";

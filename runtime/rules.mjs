@@ -1,5 +1,5 @@
 // What numbers rest on, and how rules stand beside each other, in sentences, for a program that worked them out.
-import { shortText } from "../page/src/exact/decimals.js";
+import { saidText } from "../page/src/exact/decimals.js";
 import { Rational } from "../page/src/exact/rational.js";
 import { enumerated } from "../page/src/game/words.js";
 import { membersOf } from "../page/src/game/groups.js";
@@ -24,7 +24,7 @@ export function rulesTold(game, { rows }) {
   const namer = new Namer(game), verb = game.costs ? "save" : "gain", rules = (some) => some.map(({ rule }) => rule);
   const good = rows.filter(({ leaving }) => !leaving), own = rows.filter(({ isProved }) => !isProved);
   const blocked = rows.filter(({ leaving }) => leaving).map(({ rule, leaving, by }) => {
-    return `By ${rule}: ${namer.group(leaving)} could ${verb} ${shortText(Rational.of(by))}, and no group more.`;
+    return `By ${rule}: ${namer.group(leaving)} could ${verb} ${saidText(Rational.of(by))}, and no group more.`;
   });
   return { sentences: [
     good.length && `No group could do better by itself by: ${enumerated(rules(good))}.`, ...blocked,

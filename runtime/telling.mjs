@@ -21,6 +21,7 @@
 // is JSON, and the status is 0; of `same` 1 for another game, 2 where nobody can say, 3 where it is worth the same; of
 // `slip` 1 where one is found; and 2 with {"fault": SENTENCE} for what can't be told.
 import { oddsOf } from "../page/src/cases/odds.js";
+import { columnTexts } from "../page/src/exact/decimals.js";
 import { JsonFault, parseJson } from "../page/src/exact/json.js";
 import { spoken } from "../page/src/exact/marks.js";
 import { Rational } from "../page/src/exact/rational.js";
@@ -28,7 +29,7 @@ import { Game } from "../page/src/game/game.js";
 import { membersOf } from "../page/src/game/groups.js";
 import { ANOTHER, SAME, UNSAID, WORTH_THE_SAME } from "../page/src/game/same-worths.js";
 import { withEscapes } from "../page/src/game/names.js";
-import { answerTold, columnTexts, sharesTold, Untold } from "../page/src/tell/answers.js";
+import { answerTold, sharesTold, Untold } from "../page/src/tell/answers.js";
 import { failureTold } from "../page/src/tell/conditions.js";
 import { explain } from "../page/src/tell/explain.js";
 import { mended, unreadable } from "../page/src/tell/mail.js";

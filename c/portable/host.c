@@ -1,8 +1,7 @@
 /* coop_run of c/coop.h, by the module of WebAssembly as C: the heap that the module asks for, and one call in an
    instance of its own. What runtime/engine/host.js is to the page, this is to C. No proof covers it.
 
-   Beside the statuses of c/coop.h there are 70, when the module trapped, so there is no answer, and 124 of
-   coop_run_until (portable.h). Nothing static is written but where each thread's call is, so there is no race. */
+   Nothing static is written but where each thread's call is, so there is no race. */
 #if defined(__linux__) && !defined(COOP_PLAIN_MEMORY)
 #define _GNU_SOURCE /* mremap */
 #include <sys/mman.h>
@@ -16,10 +15,10 @@
 #define OUT_OF_MEMORY 7u
 #define NO_ANSWER 70u
 #define ENDED 124u
-#define FIRST_TURNS (1u << 20) /* of loops: some milliseconds */
+#define FIRST_TURNS (1u << 20) /* of loops: some 20 ms */
 #define TURNS (1u << 16)
 #define CLASSES 64
-#ifndef COOP_MOST
+#ifndef COOP_MOST /* the most memory of a call */
 #define COOP_MOST (1024u * 1024u * 1024u)
 #endif
 #if defined(_MSC_VER)

@@ -73,7 +73,7 @@ export const assumed = [
     await page.until("document.body.dataset.view === 'case'");
     await settle(page);
     expect("filled", await filledCount(page), 5);
-    expect("told", await page.text("#case .case > .note"), /The program reads its document alone/);
+    expect("told", await page.text("#case .case > .note"), /changed the file since, the page can’t know/);
     await told(page, MESSAGE, /^5 groups were filled[^]*1 of them cost more than a larger group that holds them/);
     const dearer = await page.run("document.querySelector('.named ul').textContent");
     expect("and which", dearer, "Aston + Dale: 184,9 (Aston + Bray + Dale: 175)");

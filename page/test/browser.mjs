@@ -196,7 +196,7 @@ class Page {
   async shot(path, { selector } = {}) {
     const size = await this.run("({ wide: document.documentElement.clientWidth, "
       + "high: document.documentElement.scrollHeight })");
-    let clip = { x: 0, y: 0, width: size.wide, height: Math.min(size.high, 7000), scale: 1 };
+    let clip = { x: 0, y: 0, width: size.wide, height: Math.min(size.high, 8000), scale: 1 };
     if (selector) {
       const box = await this.run(`(() => {
         const box = document.querySelector(${JSON.stringify(selector)}).getBoundingClientRect();

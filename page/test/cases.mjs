@@ -143,7 +143,7 @@ export const tables = [
     await page.click("equal parts");
     await settle(page);
     expect("equal", await page.run(`document.querySelector('[data-cell="proposal.0"]').value`), "4.00");
-    await page.click("nucleolus, rounded");
+    await page.click("fairest to those who gain least, rounded");
     await settle(page);
     expect("sum", await page.text(".shares .sum .proposed"), /12.00/);
   }],
@@ -278,6 +278,9 @@ export const otherCases = [
     await settle(page);
     expect("pairs", await page.text(".trades"), /Ann – Seller 2\s+8.00\s+6.00\sto\s8.00\s+7.00/);
     expect("idle", await page.text("#answer-body"), /Without a trade: Cem/);
+    await page.type("values.2.0", "7");
+    const ties = /There are ties: with Cem – Seller 1 in the place of others, all gain as much together/;
+    await told(page, "#why", ties);
   }],
 
   ["a large market has prices alone", "market", async (page, expect) => {

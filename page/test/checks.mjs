@@ -80,6 +80,12 @@ async function unread(page, expect, line, agreed) {
   await page.click("Read it without what the mail program added");
   await page.until("document.querySelectorAll('#verify .word.good').length === 3");
   expect("mended", await page.text("#verify .lead"), /Yes: these shares are the nucleolus of the agreed game/);
+  expect("broken", await give(page, line, agreed.replace(/(.{9})/g, "$1\n")), /the agreed file can’t be read/);
+  await page.click("Read the agreed file without what the mail program added");
+  await page.until("document.querySelectorAll('#verify .word.good').length === 3");
+  expect("mended, too", await page.text("#verify .answers"), /had done to the agreed file was undone/);
+  expect("a case", await give(page, '{"coop-page":1,"document":{}}'), /a saved case of this page.*“Open a saved case”/);
+  expect("in words", await give(page, "Ann pays 20"), /begins with “{”. Shares in words are judged in a case/);
   const twice = await give(page, line.replace('"costs"', '"costs":[1,1,1],"costs"'), agreed);
   expect("a key twice", twice, /^Don’t take this line: a key occurs twice in it/);
 }
@@ -97,6 +103,7 @@ async function bare(page, expect, line, agreed) {
   await page.click("Let them change places");
   await page.until("document.querySelectorAll('#verify .word.good').length === 3");
   expect("right", await page.text("#verify .lead"), /Yes: these shares/);
+  expect("no shares", await give(page, agreed, ""), /a game without shares[\s\S]*Open this game here, with/);
   await give(page, `{${own},"shares":["2/3","5/3","11/3"]}`, "");
   await page.click("Open this game: its shares are judged there");
   await page.until(READY);
@@ -160,7 +167,7 @@ async function withProposal(page, expect) {
   await page.run(`document.querySelector('[data-cell="paper.withProposal"]').click()`);
   const sheet = await page.run(`${PAPER}; document.getElementById('sheet').textContent`);
   expect("the columns", sheet, /Shapley shares[\s\S]*Your proposal[\s\S]*9.00/);
-  expect("what is said", sheet, /Your proposal: a group does better by itself: [\s\S]*place 1 is the first that/);
+  expect("what is said", sheet, /“Your proposal”: a group does better by itself: [\s\S]*place 1 is the first that/);
   expect("pages", await printed(page), 1);
 }
 

@@ -1,8 +1,8 @@
 // Scenarios: what a paste puts into the cells, and what stays there; what is asked; what is kept, copied and opened.
 import { noted, READY, settle, told } from "./harness.mjs";
 
-const cells = (page) => page.run(`[...document.querySelectorAll("#case [data-cell]")].filter((one) => one.value)
-  .map((one) => one.value).join("|")`);
+const CELLS = `[...document.querySelectorAll("#case [data-cell]")].filter((one) => one.value)
+  .map((one) => one.value).join("|")`, cells = (page) => page.run(CELLS);
 const sheetOf = (page) => page.run(`(dispatchEvent(new Event("beforeprint")),
   document.getElementById("sheet").textContent)`);
 /** Pastes into the first cell of a list, and waits for what is told. */
@@ -42,6 +42,22 @@ const pastes = [
       await page.click("The empty pairs can’t trade: 0");
       await told(page, "#answer .lead", /Dora – flat and Emil – house trade: together they gain 15\.00/);
       await page.click("Fill in the worked example");
+    }
+  }],
+  ["door: what is pasted over the example takes its place, or nothing is taken", "costs", async (page, expect) => {
+    const all = { "names.0": ["Ann\nBob\nCleo\nDirk", "Ann|Bob|Cleo|Dirk"], "numbers.3": ["8\n9", /othing was taken/],
+      "numbers.1": ["1\t8\n2\t7\n1+2\t10\n3\t6\n1+3\t9\n2+3\t11\n1+2+3\t12", "1|2|3|8|7|6|10|9|11|12"],
+      "buyers.0": ["Ann\t5\t–\t1\nBen\t7\t6\t2", "Ann|5|1|Ben|7|6|2"], "values.1.1": ["1\n2", /othing was taken/],
+      "links.0-1": ["1\n2\t3", "1|2|3|0"], "links.0-2": ["7\n8\n9", /othing was taken/] };
+    for (const [cell, [text, wanted]] of Object.entries(all)) {
+      const kind = { b: "market", v: "market", l: "network" }[cell[0]] ?? "costs", place = `[data-cell="${cell}"]`;
+      await page.run(`location.hash = '#${kind}'`);
+      await page.until(`document.querySelector('${place}')`);
+      await page.click("Fill in the worked example");
+      await page.paste(place, text);
+      await page.until(wanted instanceof RegExp ? `${wanted}.test(document.querySelector("#case").textContent)`
+        : `${CELLS} === ${JSON.stringify(wanted)}`);
+      expect(cell, /[1-9]\|/.test(await cells(page)), cell !== "names.0");
     }
   }],
   ["door: two thirds, and more than half", "votes", async (page, expect) => {
@@ -121,7 +137,7 @@ const questions = [
     await noted(page, /“1\.200” can be read as 1200 or as 1\.2, .* So can the 2 numbers like it\. Which is it\?/);
     expect("no answer before", await page.run("document.getElementById('answer').hidden"), true);
     await page.click("1200, whole");
-    await told(page, "#answer .lead", /together 2\s?500[.,]00/);
+    await told(page, "#answer .lead", /together 2\.500,00/);
     await page.click("Clear all");
     await pasted(page, [["Airline", "Cost", "Landings"], ["North", "1.200", 1], ["South", "2.500", 2]]);
     await page.click("1.2, with decimals");
@@ -167,7 +183,8 @@ const questions = [
     expect("parted", await cells(page), "Anna|500|Ben Ali|600|Cem|300");
     await page.paste('[data-cell="rows.0.name"]', "Lot 1\nLot 2\nLot 3");
     await page.until(`document.querySelector('[data-cell="rows.2.name"]').value === "Lot 3"`);
-    expect("names", await cells(page), "Lot 1|500|Lot 2|600|Lot 3|300");
+    expect("names", await cells(page), "Lot 1|Lot 2|Lot 3");
+    await told(page, "#case .pasted", /The rows before are gone \(Undo\)/);
   }],
   ["door: groups in other words are groups", "costs", async (page, expect) => {
     await page.paste('[data-cell="names.0"]', "Group\tCost\nNorth\t120\nSouth\t140\nEast\t100\nNorth & South\t190\n"
@@ -216,12 +233,12 @@ const messy = [
     await page.click("Yes, remove it");
     await told(page, "#answer .lead", /Celle gets 617,28 and Müller & Co\. gets 9\.382,72/);
     await page.paste('[data-cell="rows.0.name"]', "§ 38\tCelle\t1.234,56\nX\tMüller & Co.\t12.500,00");
-    await told(page, "#case .pasted", /3 cells, and here are the columns .* Nothing was taken/);
+    await told(page, "#case .pasted", /3 cells, and here are .* Nothing was taken/);
   }],
   ["door: a title above a market, and a line end behind it", "market", async (page, expect) => {
     await page.paste('[data-cell="buyers.0"]', "Offers\n\tPiano\tCello\nLee\t4\t2\nKhan\t5\t3\n");
     await told(page, "#answer .lead", /Lee – Cello and Khan – Piano trade: together they gain 7\.00/);
-    expect("told", await page.text("#case .left-out"), /Left out, as no number stands beside: “Offers”\./);
+    expect("told", await page.text("#case .hint[role=status]"), /Left out, as no number stands beside: “Offers”\./);
     await page.paste('[data-cell="buyers.0"]', "\tPiano\tCello\nReserve price\t3\t1\nLee\t4\t2");
     await told(page, "#case", /“Reserve price” looks like what sellers want\. .* Nothing was taken/);
   }],

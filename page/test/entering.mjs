@@ -116,7 +116,8 @@ marks.push(["numbers beside a file are read by its own mark", "estate", async (p
   await workOut(page, "120.000 240.000");
   await told(page, ".found", /“120.000” is read as 120: the point comes before decimals/);
   await page.click("No, the comma");
-  await told(page, ".found thead", /120\u202f000\.00\s+240\u202f000\.00/);
+  await told(page, ".found thead", /120\u202f000,00\s+240\u202f000,00/);
+  await told(page, ".lead", /together 300\u202f000,00/);
   await openText(page, `{"coop-page":1,"document":${estateOf(280000)},"entry":".","mark":","}`);
   await told(page, ".lead", /together 280\u202f000,00/);
   await settle(page);
@@ -188,15 +189,16 @@ const lists = [
   }],
 
   ...[
-    ["runway", "rows.0.cost", "2\n4\n6", ".lead", /Airline 1 pays/, "2\n4", /Aer pays/],
-    ["estate", "rows.0.claim", "1000\n2000\n3000", ".lead", /Claimant 1 gets/, "1000\n2000", /Adler gets/],
-    ["network", "links.0-1", "1\n2\t3\n4\t5\t6\n7\t8\t9\t10", ".lead", /Place 1 pays/, "1\n2\t3", /Harbour pays/],
-    ["market", "values.0.0", "1\t9\n9\t1\n3\t3", ".trades", /Buyer 1 – Seller 2/, "1\t9\n9\t1", /Ann – flat/],
+    ["runway", "rows.0.cost", "2\n4\n6", ".lead", /Airline 1 pays/, "2\n4", /Airline 1 pays/],
+    ["estate", "rows.0.claim", "1000\n2000\n3500", ".lead", /Claimant 1 gets/, "1000\n2000", /Claimant 1 gets/],
+    ["network", "links.0-1", "1\n2\t3\n4\t5\t6\n7\t8\t9\t10", ".lead", /Place 1 pays/, "1\n2\t3", /Place 1 pays/],
+    ["market", "values.0.0", "1\t9\n9\t1\n3\t3", ".trades", /Buyer 1 – Seller 2/, "1\t9\n9\t1", /Buyer 1 – Seller 2/],
   ].map(([id, cell, all, where, plain, part, own]) => {
     return [`names of the worked example don't stay with other numbers: ${id}`, id, async (page, expect) => {
+      if (id === "estate") await page.type("estate", "1500");
       await page.paste(`[data-cell="${cell}"]`, part);
       await settle(page);
-      expect("with a part they do", await page.text(where), own);
+      expect("with a part", await page.text(where), own);
       await page.paste(`[data-cell="${cell}"]`, all);
       await settle(page);
       expect("plain names", await page.text(where), plain);
@@ -232,6 +234,7 @@ const lists = [
     await page.type("estate", "300");
     const sheet = '"","who","claim"\n"1","Adler",100\n"2","Brandt",200\n"3","Chopra",300';
     await page.paste('[data-cell="rows.0.name"]', sheet);
+    await page.click("No, it counts"); // 300 is the sum of the others
     await settle(page);
     expect("names", await page.text(".lead"), /^Adler gets 50.00, Brandt gets 100.00 and Chopra gets 150.00/);
     const told = /^The first column, of row numbers, was left out. The first row was taken/;
@@ -341,5 +344,20 @@ export const entering = [...marks, ...lists, ...fills,
     await page.click("Redo “Fill in the worked example”");
     await settle(page);
     expect("and again", await value(page, "estate"), "2000");
+    for (const step of ["Fill in the worked example", "Typing", "Clear all"]) await page.click(`Undo “${step}”`);
+    await settle(page);
+    const isLeft = /Undo/.test(await page.text("#case .tools.bottom"));
+    expect("step by step, to the example", `${await value(page, "estate")} ${isLeft}`, "2000 false");
+    for (const step of ["Clear all", "Typing"]) await page.click(`Redo “${step}”`);
+    expect("and on", `${await value(page, "estate")} ${await value(page, "rows.0.claim")}`, "200 300");
+  }],
+  ["a player added by mistake goes, and what was typed stays", "costs", async (page, expect) => {
+    await page.click("Clear all");
+    await page.type("names.0", "Anke");
+    await page.click("Add a player");
+    await page.click("Undo “Add a player”");
+    const names = "[...document.querySelectorAll('[data-cell^=\"names.\"]')].map((cell) => cell.value).join()";
+    expect("the names", await page.run(names), /^Anke,(,)?$/);
+    expect("what else can be undone", await page.text("#case .tools.bottom"), /Undo “Typing”.*Redo “Add a player”/);
   }],
 ];

@@ -86,7 +86,8 @@ const rules = [
     await settle(page);
     await told(page, "#answer .leaving", /In proportion to costs alone: Sales and \w+ could leave, by \d\.\d\d/);
     expect("in the picture", await page.text("#answer .bars, #answer figure"), /The agencies’ rule/);
-    expect("in the evidence", await page.text("#evidence"), /page itself calculates “In proportion” and “Separable/);
+    const calculated = /page itself calculates “In proportion” and “The agencies’ rule”/;
+    expect("in the evidence", await page.text("#evidence"), calculated);
   }],
   ["face: a core point, fractions and the field’s names are on request", "costs", async (page, expect) => {
     const heads = () => page.text("#answer .shares thead");
@@ -97,6 +98,35 @@ const rules = [
     await told(page, "#answer .shares thead", /A core point/);
     await page.run(`document.querySelector('[data-cell="core"]').click()`);
     await page.until("!/core point/.test(document.querySelector('#answer .shares thead').innerText)");
+  }],
+  ["face: four digits are parted beside longer ones, in all that is told", "costs", async (page, expect) => {
+    const costs = [8000, 7500, 10000, 6000, 10000, 10250, 12000];
+    for (const [k, cost] of costs.entries()) await page.type(`numbers.${k + 1}`, String(cost));
+    await settle(page);
+    await told(page, "#margins", /Closest/);
+    expect("none bare", /\d{4}\./.test(await page.text("#answer-body")), false);
+    const ticks = "[...document.querySelectorAll('#answer-body svg text')].some((one) =>"
+      + " /\\d{4}/.test(one.textContent))";
+    expect("nor in the picture", await page.run(ticks), false);
+    expect("nor below", /\d{4}\./.test(await page.text("#margins")), false);
+  }],
+  ["face: a level’s reason that can’t be said gives way to two side by side on paper", "costs", (page) => {
+    return page.until("(dispatchEvent(new Event('beforeprint')), /gains least by joining .* stronger hold/s"
+      + ".test(document.getElementById('sheet').textContent))");
+  }],
+  ["face: the cells of a network hold their numbers", "network", async (page, expect) => {
+    await page.type("links.0-1", "3045.75");
+    await page.type("links.1-2", "1310.25");
+    await settle(page);
+    await page.click("Add a place"); // so the grid is drawn anew
+    const fits = (what) => `[...document.querySelectorAll("#case ${what}")]`
+      + ".every((one) => one.scrollWidth <= one.clientWidth)";
+    expect("cells", await page.run(fits(".matrix input")), true);
+    expect("the grid", await page.run(fits(".scroll")), true);
+  }],
+  ["face: a market isn’t sent to Python for which numbers matter", "market", async (page, expect) => {
+    expect("nothing of it", await page.run("/numbers matter/.test(document.getElementById('what-if').textContent)"),
+      false);
   }],
   ["face: at first everything is seen, with twelve buttons and 250 words at most", "runway", async (page, expect) => {
     await page.run("for (const part of document.querySelectorAll('.part')) part.open = false");
@@ -124,7 +154,9 @@ const rules = [
       "document.querySelector('#answer-body .notice').innerText")), false);
     await page.click("Why the formula is right");
     expect("then", await page.text("#answer-body .notice"), /payments_are_the_nucleolus/);
-    expect("the sheet begins with it", await sheetOf(page), /^A runway.*South pays most/s);
+    expect("the column", await page.text(".beyond thead"), /Fairest to those who gain least\s+calculated by the page/);
+    const both = /^A runway.*South pays most.*Fairest to those who gain leastnucleolus, Littlechild’s rulecalculated/s;
+    expect("the sheet begins with it, and has both names", await sheetOf(page), both);
   }],
 ];
 
@@ -199,7 +231,8 @@ const moved = [
     await told(page, ".moving", /Bends at\s+8\.00\s+9\.50\s+12\.50\s+17\.75/);
     expect("as many marks", await page.run("document.querySelector('.moving datalist').childElementCount"), 4);
     const found = () => page.text(".moving .found"), value = "document.querySelector('.moving input')";
-    expect("at the case", await found(), /Sales\s+3\.88\s+\+1\/4[\s\S]*From 9\.50 to 12\.50[\s\S]*lines of both ends/);
+    const line = /Sales\s+3\.88\s+\+1\/4[\s\S]*From 9\.50 to 12\.50[\s\S]*took 2 lines of it/;
+    expect("at the case", await found(), line);
     await page.run(`${value}.focus()`);
     for (let k = 0; k < 10; k++) await page.key("ArrowRight");
     const at = await page.run(`${value}.getAttribute("aria-valuetext")`);
@@ -214,10 +247,22 @@ const moved = [
     const own = (await page.text("#answer .lead")).match(/(?<=pays )\d+\.\d\d/g).join();
     expect(`the program’s answer at ${at}`, own, shares);
   }],
+  ["face: a straight line is told from bend to bend", "gains", async (page, expect) => { // by two certificates
+    const groups = "A 0 B 0 C 0 D 0 A+B 124 A+C 36 A+D 0 B+C 90 B+D 75 C+D 42 A+B+C 215 A+B+D 180 A+C+D 98 "
+      + "B+C+D 190 A+B+C+D 360";
+    await page.paste('[data-cell="numbers.1"]', groups.replace(/(\S+) (\S+) ?/g, "$1\t$2\n"));
+    await told(page, "#answer .lead", /and D gets/);
+    await settle(page);
+    await openMoved(page);
+    await page.until("!/Being worked out/.test(document.querySelector('.moving').innerText)");
+    expect("no bend at 347", /347\.00/.test(await told(page, ".moving", /From 327\.00 to 397\.00/)), false);
+  }],
   ["face: an estate moves from nothing to all claims, on a phone", "estate", async (page, expect) => {
+    const legend = "[...document.querySelectorAll('#why .triangle text')].map((one) => one.textContent).join(' ')";
+    expect("the legend is whole", await page.run(legend), /Brandt and Chopra get at least 799\.50/);
     await openMoved(page);
     await told(page, ".moving", /Bends at\s+1200\.00\s+1600\.50\s+3399\.50\s+3800\.00/);
-    expect("three lines", await page.text(".moving .found"), /took three lines, of the ends and between/);
+    expect("its lines", await page.text(".moving .found"), /took 3 lines of it/);
     await page.run("document.querySelector('.moving input').value = 0");
     await page.run("document.querySelector('.moving input').dispatchEvent(new Event('input'))");
     expect("nothing to divide", await page.text(".moving .found"), /together\s+0\.00\s+\+1/);

@@ -125,14 +125,19 @@ async function twentyVoters(page, expect) {
 async function estates(page, expect) {
   await showExact(page);
   expect("the Talmud’s name", await page.text(".shares thead"), /nucleolus, the Talmud’s rule[\s\S]*In proportion/);
-  await page.paste('[data-cell="rows.0.name"]', `Bank\t1000\nBank\t2000\n${"Long ".repeat(16)}AG\t3000`);
+  await page.paste('[data-cell="rows.0.name"]', `Bank\t1000\nBank\t2000\n${"Long ".repeat(16)}AG\t3500`);
   await page.type("estate", "2000"); // that of the example isn't theirs
-  await noted(page, /The name “Bank” occurs twice/);
-  await page.click("Number the names that occur twice");
+  await noted(page, /“Bank” occurs twice. What is it\?/);
+  await page.click("Several: number them");
   await noted(page, /^(?![\s\S]*occurs twice)[\s\S]*A name has at most/);
   await page.click("Shorten the long names");
   await settle(page);
   expect("an answer", await page.text("#answer .lead"), /Bank gets .*Bank 2 gets .*Long Long .*… gets/);
+  for (const [cell, text] of [["estate", "3000"], ["rows.1.claim", "500"], ["rows.2.claim", "9000"]]) {
+    await page.type(cell, text);
+  }
+  await settle(page);
+  expect("why", await page.text(".because"), /more than half of the claims, each counted .* so each loses/);
 }
 
 async function detours(page, expect) {

@@ -227,7 +227,7 @@ const beyond = [
     const note = await told(page, ".beyond .pinned", /^Against the kept answer, by the nucleolus: [^.]*Condor[^.]* \+/);
     expect("which cell", note, /Changed since: [^.]*60 → 80\./);
     expect("in its place", await page.run(`document.querySelector('[data-cell="rows.3.cost"]').title`), "Kept: 60");
-    expect("a column", await page.text(".beyond thead"), /A landing needs\s+Kept\s+Nucleolus/);
+    expect("a column", await page.text(".beyond thead"), /A landing needs\s+Kept\s+Fairest to those who gain least/);
     expect("together", await page.text(".beyond tfoot"), /305\s+60,00\s+80,00/);
     expect("on paper", await sheetOf(page), /Kept.*Condor.*Against the kept answer, by the nucleolus/);
     await page.run("dispatchEvent(new Event('afterprint'))");

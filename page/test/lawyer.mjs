@@ -34,21 +34,21 @@ async function cents(page, expect) {
   expect("on paper", sheet, rule);
   expect("the claims on paper", sheet, /together259.501.00184.300.50/);
   expect("decimals as in the table", sheet, /The estate of 184.300.50 is/);
-  const where = /project’s repository, at the commit named below[^.]*give you the address of the repository/;
+  const where = /project’s repository \(the sender has to give you its address\)\. Its “About this page” has to name/;
   expect("where the page is", sheet, where);
   expect("by typing", sheet, /simply type the numbers into that page: the answer has to be the same/);
   const steps = await page.text("#evidence .steps");
-  expect("handing on", steps, /the project’s repository, at the commit under “About this page”/);
+  expect("handing on", steps, /the project’s\s+repository\. Its “About this page” has to name the same SHA-256/);
 }
 
 async function besideNucleolus(page, expect) {
   await sixClaims(page);
   expect("not before it is whole", await page.run("document.querySelector('.shares .against')"), null);
   await propose(page);
-  expect("the title", await page.text(".shares thead .against"), "against the nucleolus");
+  expect("the title", await page.text(".shares thead .against"), "against the answer");
   const cells = "[...document.querySelectorAll('.shares td.against')]";
   const column = await page.run(`${cells}.map((td) => td.textContent).join()`);
-  const wanted = "−12\u202f599.88,+2925.37,−1074.87,+6249.38,+1000.00,+3500.00,0.00";
+  const wanted = "−12\u202f599.88,+2\u202f925.37,−1\u202f074.87,+6\u202f249.38,+1\u202f000.00,+3\u202f500.00,0.00";
   expect("more and less", column, wanted);
   expect("the first pair alone", await page.text(".holds"), /Yes, for example \S+/);
 }

@@ -220,7 +220,7 @@ function reasons(document, shares) {
   return [...rule.sentences, rule.last].join(" ");
 }
 expect("where the most comes from", reasons(agreed, ["50", "75", "75"]),
-  /at most 75\. One half is no greater: 50 of the 200\. The rest is 150, in 2 equal parts of 75\./);
+  /at most 75\. Half is no more than that for one claim: 50 of the 200\. The rest is 150, in 2 equal parts of 75\./);
 expect("not in proportion", reasons(agreed, ["50", "75", "75"]),
   /In proportion to the claims, each would get 33.33\u202f% of its claim\. By this rule/);
 expect("just in proportion", /proportion/.test(reasons(agreed.replace(":200", ":300"), ["50", "100", "150"])), false);

@@ -81,6 +81,19 @@ const phones = VIEWS.map((id) => [`phone width: ${id || "start"}`, id, async (pa
   expect("unfolded, too wide by", await page.run(OVER), 0);
 }, { wide: 360, high: 780 }]);
 
+/** With a proposal, and what each group could gain: a table that has to be scrolled hides what it compares. */
+const narrow = CASES.filter((id) => id !== "votes").map((id) => [`phone width: nothing to scroll, ${id}`, id,
+  async (page, expect) => {
+    await page.run("for (const one of document.querySelectorAll('details')) one.open = true");
+    await page.click("equal parts");
+    await settle(page);
+    if (await page.run("Boolean(document.querySelector('.excesses'))")) await told(page, ".excesses", /Place/);
+    const wide = `[...document.querySelectorAll("#answer .scroll, #why .scroll")].filter((one) => {
+      return one.scrollWidth > one.clientWidth + 1;
+    }).map((one) => one.innerText.slice(0, 40) + " " + (one.scrollWidth - one.clientWidth))`;
+    expect("too wide", await page.run(`${wide}.join("; ")`), "");
+  }, { wide: 390, high: 844 }]);
+
 const papers = CASES.map((id) => [`one page on paper: ${id}`, id, async (page, expect) => {
   // paper doesn't wait: all has to stand there as soon as the browser begins to print
   const begun = "dispatchEvent(new Event('beforeprint')); document.getElementById('sheet').textContent";
@@ -169,6 +182,7 @@ async function everything(page, expect) {
   expect("the sheet", await shown("#sheet"), false);
   expect("the reasons", await shown("#why"), true);
   expect("the buttons", await shown("#answer-settings"), false);
+  expect("the lines that the legend names", await shown("#why .triangle line.pair"), true);
 }
 
 /** What was typed last is worked out before paper takes it, and nothing of it is cut off at the edge. */
@@ -207,7 +221,7 @@ async function savedPicture(page, expect) {
 }
 
 export const looks = [
-  ...phones, ...papers,
+  ...phones, ...narrow, ...papers,
   ["64 claims on one page", "estate", longPaper],
   ["one page on paper: eight with other columns", "gains", withColumns],
   ["one page on paper: what takes more is told before", "runway", whatDoesNotFit],

@@ -1,11 +1,13 @@
 // Which numbers decide, against the program's check and the page's own checker, on random games by a fixed seed. Of
 // tables: at their bounds, or within them, all numbers at once leave the line proved; one beyond its bound never does.
-// Of runways, estates and networks the same of each number alone. And how long it takes for 12 and 16 players.
+// Of runways, estates and networks the same of each number alone. And how long it takes for 12 and 16 players. Of
+// markets whether there are ties.
 import { readFileSync } from "node:fs";
 import { checkAnew } from "../src/check/check-anew.js";
 import { parseJson, writeJson } from "../src/exact/json.js";
 import { Rational } from "../src/exact/rational.js";
 import { Game } from "../src/game/game.js";
+import { otherPairs } from "../src/tell/other-pairs.js";
 import { membersOf } from "../src/game/groups.js";
 import { margins } from "../src/work/margins.js";
 import { numberMargins } from "../src/work/number-margins.js";
@@ -135,6 +137,37 @@ for (let round = 0; round < ROUNDS; round++) {
   const kind = Object.keys(CLASSES)[round % 3], measure = draw(4) ? {} : { excess: "per-head" };
   tryNumbers(kind, 2 + draw(5), [3, 20, 1000][draw(3)], measure);
 }
+
+// ---- Markets: ties, by going through all pairs
+
+/** All sets of pairs that gain something, with what they gain: {pairs, gain}. */
+function allTrades(matrix, buyer = 0, taken = []) {
+  if (buyer === matrix.length) return [{ pairs: "", gain: 0 }];
+  const others = allTrades(matrix, buyer + 1, taken);
+  return others.concat(matrix[buyer].flatMap((worth, k) => (taken.includes(k) || !worth ? []
+    : allTrades(matrix, buyer + 1, [...taken, k]).map(({ pairs, gain }) => {
+      return { pairs: `${buyer}-${matrix.length + k} ${pairs}`, gain: gain + worth };
+    }))));
+}
+
+function tryMarket() {
+  const matrix = Array.from({ length: 1 + draw(4) }, () => []), wide = 1 + draw(4), top = 2 + draw(9);
+  for (const row of matrix) for (let k = 0; k < wide; k++) row.push(draw(top));
+  const tree = { class: "market", matrix: matrix.map((row) => row.map(BigInt)) }, all = allTrades(matrix);
+  const matching = parseJson(lineOf("matching", writeJson({ game: tree })));
+  const others = otherPairs(new Game(tree), matching);
+  const best = Math.max(...all.map(({ gain }) => gain)), ties = all.filter(({ gain }) => gain === best);
+  const name = `a market of ${JSON.stringify(matrix)}`;
+  expect(`${name}: ties`, Boolean(others), ties.length > 1);
+  const fresh = others?.map(([buyer, seller]) => `${buyer}-${seller} `) ?? [];
+  expect(`${name}: such pairs`, ties.some(({ pairs }) => fresh.every((pair) => pairs.includes(pair))), true);
+  expect(`${name}: other ones`, matching.pairs.some(([i, j]) => fresh.includes(`${i - 1n}-${j - 1n} `)), false);
+  return ties.length > 1;
+}
+
+let ties = 0;
+for (let round = 0; round < ROUNDS; round++) ties += tryMarket();
+expect("markets with and without ties", ties > ROUNDS / 9 && ties < ROUNDS, true);
 
 for (const [n, most] of Object.entries(MOST_SECONDS)) {
   for (const kind of Object.keys(CLASSES)) {

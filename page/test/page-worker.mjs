@@ -1,6 +1,7 @@
 // The page's worker, as it is in page/coop.html, for tests that Node runs.
 import { readFileSync } from "node:fs";
 import vm from "node:vm";
+import { inflateSync } from "node:zlib";
 
 const PAGE = readFileSync(new URL("../coop.html", import.meta.url), "utf8");
 const spoken = { mark: ".", thousands: "\u202f" };
@@ -14,10 +15,12 @@ function codeOf(id) {
 /** A worker: `ask(task, what, about)` as view/helper.js asks, but `about` is sent as it is. */
 export function started() {
   const waiting = new Map(), self = {
+    program: codeOf("program"),
     postMessage: ({ id, result, fault }) => waiting.get(id)(fault === undefined ? result : new Error(fault)),
   };
   const given = { self, WebAssembly, Response, Blob, DecompressionStream, atob, TextEncoder, TextDecoder };
-  vm.runInContext(["shared-code", "worker-code"].map(codeOf).join("\n"), vm.createContext(given));
+  const own = inflateSync(Buffer.from(codeOf("worker-code"), "base64"));
+  vm.runInContext(`${codeOf("shared-code")}\n${own}`, vm.createContext(given));
   return (task, what = {}, about = {}) => new Promise((resolve) => {
     const id = waiting.size;
     waiting.set(id, resolve);

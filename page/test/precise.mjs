@@ -53,7 +53,7 @@ const coarser = [
     await settle(page);
     expect("beside the document", await page.text(".made"), /the file is named gains-times-100000000\.json/);
     expect("with the answer", await page.text("#answer-body .coarse-note"), TIMES);
-    const divided = /Nucleolus, divided by 100\u202f000\u202f000: Player 1 113233\/93750 \(about 1.2078186667\); /;
+    const divided = /least, divided by 100\u202f000\u202f000: Player 1 113233\/93750 \(about 1.2078186667\); /;
     expect("divided", await page.text("#answer .divided"), divided);
     const names = /gains-times-100000000\.json,.*gains-times-100000000-nucleolus\.json/;
     expect("files", await savedNames(page), names);
@@ -75,7 +75,7 @@ const coarser = [
     await told(page, "#case-body", /Numbers were rounded to four decimals here, each by at most 0\.000050/);
     await page.run("location.hash = '#document'");
     await openFile(page, "gains-game.json", text);
-    // below the case stands "nucleolus, rounded", as soon as there is an answer
+    // below the case stands "fairest to those who gain least, rounded", as soon as there is an answer
     const cells = "document.getElementById('case-body').innerText";
     await page.until(`document.body.dataset.view === 'case' && !/were rounded/.test(${cells})`);
     await settle(page);
@@ -118,13 +118,14 @@ const empty = [
     await useList(page, pairsOfSix());
     await settle(page);
     const box = await page.text("#answer .notice");
+    expect("what lacks", box, /To satisfy every group, all together would have to be worth at least [\d./]+ more/);
     expect("groups are parted by semicolons", box, /Take all but Dora and Fink; .*; and all .*: they hold/);
     expect("no other prenucleolus", await page.text("#why"), /The prenucleolus is the same as the nucleolus here\./);
     expect("the box", await sheetOf(page), /Whatever the division, some group could do better by itself/);
-    expect("its own line", await sheetOf(page), /Nucleolus: a group does better by itself: .*, by \d/);
+    expect("its own line", await sheetOf(page), /“Fairest to[^”]*”: a group does better by itself: .*, by \d/);
     await page.run("document.querySelector('[data-cell=\"paper.withProposal\"]').click()");
     const sheet = await sheetOf(page);
-    expect("all lines", sheet, /Nucleolus, (A core point, )?Shapley shares(, [^:]*)?: a group does better/);
+    expect("all lines", sheet, /“Fairest to[^”]*”, (“A core point”, )?“By what each adds”.*: a group does better/);
     expect("told of the prenucleolus", sheet, /The prenucleolus is the same as the nucleolus here/);
   }],
 
@@ -140,7 +141,7 @@ const empty = [
       + "one.previousElementSibling.textContent).join()";
     expect("right of each number", await page.run(before), "42.17,54.42,24.41");
     const heads = "[...document.querySelectorAll('#sheet .shares thead th')].map((one) => one.textContent).join()";
-    expect("under a head of their own", await page.run(heads), /Shapley shares,exactly/);
+    expect("under a head of their own", await page.run(heads), /By what each addsShapley shares,exactly/);
   }],
 ];
 
@@ -184,6 +185,9 @@ const excesses = [
     await settle(page);
     await page.until("document.querySelector('.comparison')");
     await page.click("Your proposal beside the nucleolus");
+    expect("in the field’s words on request", /prenucleolus/.test(await page.text(".comparison")), false);
+    await page.click("Options");
+    await page.run("document.querySelector('[data-cell=\"exact\"]').click()");
     await told(page, ".comparison", /So it isn’t the prenucleolus either: the nucleolus is itself a division/);
     const held = /the prenucleolus always lies in the prekernel, and here .* has a stronger hold on/;
     expect("and by holds", await page.text(".comparison"), held);

@@ -3,14 +3,9 @@ import { readFileSync } from "node:fs";
 import { packedIn } from "../../runtime/engine/inside.js";
 import { parseJson } from "../src/exact/json.js";
 import { refusalText } from "../src/tell/refusals.js";
+import { solve, warmUp } from "../src/work/engine.js";
 
-const path = (name) => new URL(`../${name}`, import.meta.url);
-const text = (name) => readFileSync(path(name), "utf8");
-
-// the module that asks the program, with the program of the page in its place
-const code = text("src/work/engine.js").replace("/* MODULE */", () => packedIn(text("coop.html")))
-  .replace('"../../../runtime/engine/host.js"', () => JSON.stringify(path("../runtime/engine/host.js").href));
-const { solve, warmUp } = await import(`data:text/javascript;base64,${Buffer.from(code).toString("base64")}`);
+globalThis.self = { program: packedIn(readFileSync(new URL("../coop.html", import.meta.url), "utf8")) };
 await warmUp();
 
 /** What work/answers.js gives: {status, tree, refusal}. */

@@ -1,5 +1,5 @@
 // Scenarios: what has to be said where it counts: by which measure, how it is rounded, what a proposal is.
-import { noted, settle, showExact } from "./harness.mjs";
+import { noted, settle, showExact, told } from "./harness.mjs";
 
 const sheetOf = async (page) => {
   await page.run("dispatchEvent(new Event('beforeprint'))");
@@ -27,7 +27,7 @@ export const saying = [
     await page.run("document.querySelector('#why .meanings').open = true");
     expect("meaning", await page.text("#why .meanings"), /The nucleolus per head counts[\s\S]*Grotte 1970/);
     expect("no false sentence", /; the nucleolus is, wherever/.test(await page.text("#why .meanings")), false);
-    expect("proposal", await page.text(".fill"), /nucleolus per head, rounded/);
+    expect("proposal", await page.text(".fill"), /fairest to those who gain least, per head, rounded/);
     const sheet = await sheetOf(page);
     expect("paper", sheet, /Why: the nucleolus per head[\s\S]*one nucleolus per head \(Grotte 1970\)/);
     expect("not by another's name", /nucleolus(?![ -]per[ -]head)/i.test(sheet), false);
@@ -46,12 +46,13 @@ export const saying = [
   ["a proposal that the page fills in is whole", "gains", async (page, expect) => {
     await page.type("numbers.7", "120.0265");
     await settle(page);
-    for (const way of ["equal parts", "nucleolus, rounded", "Shapley shares", "in proportion"]) {
+    const ways = ["equal parts", "fairest to those who gain least, rounded", "by what each adds", "in proportion"];
+    for (const way of ways) {
       await page.click(way, "document.querySelector('.fill')");
       await settle(page);
       expect(way, /missing|too much/.test(await page.text(".shares tfoot")), false);
     }
-    await page.click("Shapley shares", "document.querySelector('.fill')");
+    await page.click("by what each adds", "document.querySelector('.fill')");
     await page.type("numbers.7", "361/3");
     await settle(page);
     await page.click("equal parts");
@@ -64,7 +65,7 @@ export const saying = [
     for (const r of [0, 1, 2]) await page.type(`rows.${r}.count`, "1");
     for (const [r, text] of ["2/3", "5/3", "11/3"].entries()) await page.type(`proposal.${r}`, text);
     await settle(page);
-    expect("told", await page.text(".same-as"), "Your proposal is exactly the column “Shapley shares”.");
+    expect("told", await page.text(".same-as"), "Your proposal is exactly the column “By what each adds”.");
     await page.until("document.querySelector('.comparison')");
     await page.click("Your proposal beside the nucleolus");
     const told = /Of all divisions in which nobody pays more than alone the nucleolus has the least list: at the first/;
@@ -78,7 +79,7 @@ export const saying = [
     const told = await page.run("document.querySelector('#why .moved').textContent");
     expect("told", told, /Rounded so that they add up[\s\S]*“Options” shows the exact/);
     expect("on paper", await sheetOf(page), /Rounded so that they add up/);
-    expect("decimals beside a fraction", await page.text("#why"), /but at most 100\/3 \(about 33.33\)/);
+    expect("decimals beside a fraction", await page.text("#why"), /but at most 33.33 \(exactly 100\/3\)/);
     await page.run("dispatchEvent(new Event('afterprint'))");
     await page.type("estate", "300");
     await settle(page);
@@ -190,7 +191,7 @@ saying.push(
     await page.until("document.querySelector('[data-cell=\"numbers.3\"]')?.value === '20'");
     await settle(page);
     const heads = await page.text(".shares thead");
-    expect("another", heads, /nucleolus[\s\S]*some may do worse than alone\s+prenucleolus/);
+    expect("another", heads, /nucleolus[\s\S]*even if some do worse than alone\s+prenucleolus/);
   }],
 
   ["points at one place in the triangle, and its corners", "runway", async (page, expect) => {
@@ -216,5 +217,25 @@ saying.push(
     await settle(page);
     const pages = (await page.pdf()).toString("latin1").match(/\/Type \/Page\b/g) ?? [];
     expect("pages", pages.length, 1);
+  }],
+);
+
+saying.push(
+  ["what a proposal leaves the worst-off, and the given numbers on paper", "gains", async (page, expect) => {
+    await page.click("equal parts");
+    await settle(page);
+    await page.click("Your proposal beside the nucleolus");
+    const leaves = /leaves singer and pianist together a gain of only 0; by the nucleolus each group has at least 15\./;
+    await told(page, ".comparison", leaves);
+    const towns = ["Ashby", "Brenton", "Colby", "Denham", "Elsworth"];
+    const lines = Array.from({ length: 31 }, (_, k) => {
+      const own = towns.filter((_, i) => ((k + 1) >> i) & 1);
+      return `${own.join("+")}\t${own.length ** 2 * 100 + k}`;
+    });
+    await page.paste('[data-cell="numbers.1"]', lines.join("\n"));
+    await told(page, "#answer .lead", /Elsworth gets/);
+    await settle(page);
+    expect("on paper", await sheetOf(page), /Given were: Ashby 100; .* 2530\./);
+    expect("one page", ((await page.pdf()).toString("latin1").match(/\/Type \/Page\b/g) ?? []).length, 1);
   }],
 );

@@ -1,6 +1,7 @@
 // Pictures of every state, to be looked at: node page/test/shots.mjs PAGE FOLDER [CASE ..]
 //
-// Each case wide and narrow, light and dark, unfolded, and on paper (as PDF, one page and everything).
+// Each case wide, on a phone and at twice the size, light and dark, unfolded with what has to be asked for, and on
+// paper (as PDF, one page and everything).
 import { mkdirSync, writeFileSync } from "node:fs";
 import { join, resolve } from "node:path";
 import { pathToFileURL } from "node:url";
@@ -9,7 +10,23 @@ import { READY } from "./harness.mjs";
 
 const [page, folder, ...wanted] = process.argv.slice(2);
 const ALL = ["", "document", "verify", "runway", "estate", "costs", "gains", "network", "market", "votes"];
-const LOOKS = { wide: {}, phone: { wide: 375, high: 800 }, dark: { dark: true } };
+const PHONE = { wide: 390, high: 800 };
+const LOOKS = {
+  wide: {}, phone: PHONE, dark: { dark: true }, "dark-phone": { ...PHONE, dark: true }, twice: { wide: 640, high: 450 },
+};
+/** What is shown only when somebody asks: by buttons, and by a list. */
+const ASKED = ["equal parts", "Work it out"];
+
+async function unfold(tab) {
+  await tab.run("for (const one of document.querySelectorAll('details')) one.open = true");
+  for (const text of ASKED) await tab.click(text).catch(() => {});
+  await tab.run("for (const one of document.querySelectorAll('details')) one.open = true");
+  await tab.run(`for (const one of document.querySelectorAll('[data-cell="leaves"]')) {
+    one.selectedIndex = one.options.length - 1;
+    one.dispatchEvent(new Event("change", { bubbles: true }));
+  }`);
+  await new Promise((resolve) => setTimeout(resolve, 3000));
+}
 
 async function shoot(browser, id, look) {
   const name = id || "start", url = pathToFileURL(resolve(page)).href;
@@ -23,7 +40,7 @@ async function shoot(browser, id, look) {
     writeFileSync(join(folder, `${name}-all.pdf`), await tab.pdf());
   }
   if (look !== "dark") {
-    await tab.run("for (const one of document.querySelectorAll('details')) one.open = true");
+    await unfold(tab);
     await tab.shot(join(folder, `${name}-${look}-unfolded.png`));
   }
   for (const fault of tab.faults()) console.log(name, look, fault);

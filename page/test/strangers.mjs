@@ -24,6 +24,8 @@ const framed = [
     await told(page, "#case .pasted", /“Gläubiger” is “Who claims”, “Forderung” is “Claim”/);
     expect("the cells", await cells(page), "Stadtwerke|1.234,56|Müller & Co. KG|12.500,00|Summe|13.734,56");
     await noted(page, /“Summe”\. Is it the sum of the others\?/);
+    await paste(page, "rows.0.name", "Creditor\tClaim\nAnn\t1000\n\t2000\n\t300\nBo\t500");
+    await noted(page, /3 cells are still empty/); // the estate, too
   }],
   ["strangers: euros are no names, and a total is asked about", "runway", async (page, expect) => {
     await paste(page, "rows.0.name", "Aircraft type\tLandings\tRunway needed (m)\tCost of that length (€)\n"
@@ -35,6 +37,8 @@ const framed = [
     await page.click("Yes, remove it");
     await told(page, "#answer .lead", /ATR 72 pays most/);
     expect("no euro is a name", /€/.test(await page.text("#answer .lead")), false);
+    await paste(page, "rows.0.name", "A\t5\n".repeat(2001));
+    await told(page, "#case .pasted", /These are 2001 rows, and at most 2000 fit\. Nothing was taken/);
   }],
 ];
 
@@ -47,6 +51,9 @@ const proposals = [
       ["Hi all,\n\nSales: 4.3\nOps - 4.0\nLegal 3.7 (they use it least)\n\nAnna", "4.3,4.0,3.7", /out: “Hi all,”/],
       ["Sales\t4\nOps\t4\nMarketing\t4", "4.3,4.0,3.7", /No row is called “Marketing”\. Nothing was taken/],
       ["Sales\t8.00\t4.20\nOps\t7.50\t4.10", "4.3,4.0,3.7", /Two numbers stand beside Sales/],
+      ["Sales: 4 %\nOps: 4 %\nLegal: 4 %", "4.3,4.0,3.7", /“4 %” beside Sales is no amount\. Write one amount/],
+      ["Bid :\nLegal : 1 340 k€\nSales : 640 k€\nOps : 60 k€", "640,60,1 340", /“k€” behind the numbers was left out/],
+      ["Sales : 1 340 k€\nOppo : 6 k€", "640,60,1 340", /No row is called “Oppo”/],
       ["Sales 5\nOps 4\nLegal 3\nTotal 12", "5,4,3", /Left out: “Total 12”/], ["4\n4\n4", "4,4,4", null],
     ]) {
       await paste(page, "proposal.0", text);
@@ -70,7 +77,7 @@ const readings = [
     await page.click("5000, whole");
     await settle(page).catch(() => 0);
     await page.click("Fill the empty ones by the best split");
-    await told(page, "#answer .lead", /together 56.?000\.00/);
+    await told(page, "#answer .lead", /together 56.000,00/);
     expect("filled", await page.run(`document.querySelector('[data-cell="numbers.3"]').value`), "5000");
   }],
   ["strangers: shareholders’ votes of any size", "votes", async (page, expect) => {
@@ -86,4 +93,74 @@ const readings = [
   }],
 ];
 
-export const strangers = [...framed, ...proposals, ...readings];
+const ballots = [
+  ["strangers: rows of one name are one, several, or pasted twice", "estate", async (page, expect) => {
+    await paste(page, "rows.0.name", "A\t1200\nB\t2300\nA\t500");
+    await page.type("estate", "900");
+    await noted(page, /“A” occurs twice\. What is it\?/);
+    await page.click("One: add them");
+    await settle(page);
+    expect("added", await cells(page), "900|A|1700|B|2300");
+    await paste(page, "rows.0.name", "X\t800\nY\t900\nX\t800");
+    await told(page, "#case .pasted", /The rows before are gone/);
+    await page.click("Pasted twice: keep one");
+    await settle(page);
+    expect("once", await cells(page), "900|X|800|Y|900");
+  }],
+  ["strangers: a table of votes with a quota, and with two", "votes", async (page, expect) => {
+    await paste(page, "rows.0.name", "Council 2026\n\nParty\tSeats\nCDU\t17\nSPD\t13\nGrüne\t9\n"
+      + "FDP\t5\nLinke\t4\n\nQuorum: 2/3 der Sitze");
+    await noted(page, /The quota: 2\/3 of 48 votes, so at least 32\./);
+    await told(page, "#case .pasted", /“Quorum”, 2\/3 der Sitze, was taken as votes needed/);
+    await paste(page, "rows.0.name", "State\tVotes\tPopulation\nA\t4\t80\nB\t3\t60\nC\t2\t20");
+    await page.click("Both, with two quotas");
+    await told(page, "#case .pasted", /“Population” is “Second votes”/);
+    expect("both", await cells(page), /\|A\|4\|80\|B\|3\|60\|C\|2\|20$/);
+  }],
+  ["strangers: votes in per cent that aren’t 100 together", "votes", async (page, expect) => {
+    await page.type("quota", "66.7 %");
+    await paste(page, "rows.0.name", "Holder\tShare\nAnna\t33.4%\nBruno\t33.3%\nZ\t18.4%\nStaff\t15.0%");
+    await noted(page, /The votes add to 100\.10 %\. Is “66\.7 %” meant of all 100 %\?/);
+    await page.click("Of 100 %: at least 66.70");
+    await told(page, "#answer .lead", /Anna/);
+    await paste(page, "rows.0.name", "Holder\tShare\nAnna\t20%\nBruno\t15%\nZ\t5%");
+    await page.type("quota", "more than half");
+    await noted(page, /Of all 100 % “more than half” is 51, which these never reach\. If others vote, add them\./);
+    expect("no way to a fault", /Of 100 %/.test(await page.text("#case")), false);
+    await page.click("Of these: at least 21");
+    await told(page, "#answer .lead", /Anna/);
+  }],
+];
+
+const lists = [
+  ["strangers: numbers that may be names are asked about", "estate", async (page, expect) => {
+    await paste(page, "rows.0.name", "Lägenhet\tBelopp\tRänta\n101\t400\t4\n102\t300\t3");
+    await told(page, "#case .pasted", /Nothing was taken yet\. Which column is “Who claims”\? “Lägenhet” ?“Belopp”/);
+    await page.click("“Lägenhet”");
+    await told(page, "#case .pasted", /Nothing was taken yet\. Which column is “Claim”\? “Belopp” ?“Ränta”/);
+    await page.click("“Belopp”");
+    await noted(page, /1 cell is still empty/);
+    expect("by the first", await cells(page), "101|400|102|300");
+  }],
+  ["strangers: a list is the case, and sums of any name are asked about", "estate", async (page, expect) => {
+    await paste(page, "rows.0.name", "X\t800\nY\t900\nZ\t100\nΣ\t1800");
+    await noted(page, /The last row, “Σ”\. Is it the sum of the others\?/);
+    await paste(page, "rows.0.claim", "Creditor\tClaim\nAnn\tEUR 1200\nBob\tEUR 2800\nSum\tEUR 4100");
+    await noted(page, /“Sum”\. Is it the sum of the others\? It says 4100, the others add to 4000/);
+    expect("from the first column", await cells(page), "Ann|EUR 1200|Bob|EUR 2800|Sum|EUR 4100");
+    await paste(page, "rows.0.name", "X\t800\nY\t900");
+    await told(page, "#case .pasted", /The rows before are gone/);
+    expect("no other", await cells(page), "X|800|Y|900");
+    await paste(page, "rows.0.claim", "70");
+    await paste(page, "rows.0.claim", "Claim\n70");
+    await told(page, "#case .pasted", /The rows below stay as they were/);
+  }],
+  ["strangers: seats beside shares in per cent are no per cent", "votes", async (page, expect) => {
+    await page.type("quota", "more than half");
+    await paste(page, "rows.0.name", "Partei; Sitze; %\nSP; 13; 40 %\nFDP; 9; 30 %\nMitte; 8; 30 %");
+    await noted(page, /more than half of 30 votes, so at least 16/);
+    expect("no question", /meant of all/.test(await page.text("#case")), false);
+  }],
+];
+
+export const strangers = [...framed, ...lists, ...proposals, ...readings, ...ballots];

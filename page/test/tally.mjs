@@ -6,7 +6,7 @@ export function tallied(seed) {
   const count = { tried: 0, faults: 0 };
   let state = seed;
   const draw = (most) => {
-    state = (state * 1103515245 + 12345) % 2 ** 31;
+    state = (Math.imul(state, 1103515245) + 12345) & 0x7fffffff;
     return Math.floor(state / 2048) % most;
   };
   const expect = (what, found, wanted) => {

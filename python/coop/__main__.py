@@ -50,7 +50,6 @@ def answer_to_file(command: str, path: str) -> tuple[int, bytes]:
 
 
 def is_terminal(port: Optional[TextIO]) -> bool:
-    """Whether people type at a port, or read it."""
     return port is not None and port.isatty()
 
 
@@ -73,7 +72,6 @@ def shown(text: str) -> str:
 
 
 def usage() -> str:
-    """What may be typed."""
     folder = folder_of("runtime", "usage.txt")
     if folder is None:
         raise NotFound("the list of the commands is missing: install the package again")
@@ -96,7 +94,6 @@ def show_page() -> int:
 
 
 def found() -> str:
-    """What answers."""
     try:
         return said(find())
     except NotFound as fault:
@@ -137,7 +134,6 @@ def printed(line: bytes) -> bool:
 
 
 def main() -> None:
-    """Ends with the status."""
     try:
         status = run(sys.argv[1:])
     except CoopError as fault:

@@ -19,7 +19,7 @@ from .sheets import note_on_points, require_width, sheet_of, unparted
 AIRLINE, TYPE, COUNT, NEED = "airline", "type", "landings", "need"
 THREE, FOUR = (AIRLINE, NEED, COUNT), (AIRLINE, TYPE, COUNT, NEED)
 EXAMPLE = "Aer,20.50,3 or Aer,A320,3,20.50"
-ORDER = "four columns are airline, type, landings and need, unless headings name another order (--head)"
+ORDER = "four columns are airline, type, landings and need, unless headings name another order (Layout(has_head=True))"
 MOST_COLUMNS = 64  # below headings
 
 # Words in headings. What is called a cost or a need isn't looked at for another word.
@@ -55,11 +55,13 @@ class Found(NamedTuple):
 
 
 def landings_in(text: str, *, digits: Optional[int] = None, layout: Layout = AS_SEEN) -> list[Landings]:
-    """The rows of a list. `games.landings` and `runways` take each one's name or airline, its need, and its
-    number of landings."""
+    """The rows of a list. `games.landings` and `runways` take the name, the need and the landings of each."""
     found = found_in(text, layout)
     rows = marked_by_need(found, layout)
     read = [landings_of(row, found, digits, hint_at(row, rows, layout)) for row in rows]
+    if len(read) > 1 and not found.is_told and max(row.need for row in read) < min(row.landings for row in read):
+        asked = f"are {read[0].landings} the landings of {read[0].name}, and does one need {read[0].need}?"
+        raise BadInput(f"{asked} Name the columns by headings: airline, landings, need (Layout(has_head=True))")
     require_told_apart(read, has_types=TYPE in found.places)
     return read
 
@@ -68,7 +70,6 @@ def landings_in(text: str, *, digits: Optional[int] = None, layout: Layout = AS_
 
 
 def found_in(text: str, layout: Layout) -> Found:
-    """The sheet of a text, with its columns."""
     widths: Collection[int] = range(3, MOST_COLUMNS + 1) if layout.has_head else (3, 4)
     sheet = sheet_of(text, widths, layout)
     if not sheet.has_width(widths) and sheet_of(text, range(3, MOST_COLUMNS + 1), layout).is_named:
@@ -78,7 +79,7 @@ def found_in(text: str, layout: Layout) -> Found:
     if {AIRLINE, COUNT, NEED}.issubset(places) and width in widths:
         require_width(sheet, (width,), EXAMPLE)
         return Found(sheet, places, True)
-    require_width(sheet, (3, 4), f"{EXAMPLE}, or name the columns of a longer list by headings (--head)")
+    require_width(sheet, (3, 4), f"{EXAMPLE}, or name the columns of a longer list by headings (Layout(has_head=True))")
     free = [k for k in range(width) if k not in places.values()]
     keys = [key for key in (THREE if width == 3 else FOUR) if key not in places]
     found = Found(sheet, {**places, **dict(zip(keys, free))}, False)
@@ -113,10 +114,10 @@ def require_plain_order(found: Found, free: Sequence[int]) -> None:
     first, second, third, last = ([row.cells[k] for row in sheet.rows] for k in range(4))
     line = sheet.rows[0].line
     if 0 in free and are_counted(first):
-        raise BadInput(f"line {line}: is {first[0]} the number of the row? Then use --skip 1")
+        raise BadInput(f"line {line}: is {first[0]} the number of the row? Then use Layout(skip=1)")
     if len(free) == 4 and sheet.sign == "," and all(cell.isdigit() for cell in [*second, *third, *last]):
         both = f"{second[0]},{third[0]}"
-        advice = f"write semicolons between cells; or if {second[0]} is a type, name the columns by headings (--head)"
+        advice = f"write semicolons between cells; or if {second[0]} is a type, name the columns by headings"
         raise BadInput(f"line {line}: is {both} one number, with a decimal comma? Then {advice}")
 
 
@@ -130,7 +131,6 @@ def marked_by_need(found: Found, layout: Layout) -> list[Row]:
 
 
 def landings_of(row: Row, found: Found, digits: Optional[int], hint: str) -> Landings:
-    """What a row says."""
     cells = {key: row.cells[place] for key, place in found.places.items()}
     if not cells[AIRLINE]:
         raise BadInput(f"line {row.line} has no name")

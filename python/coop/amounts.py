@@ -8,10 +8,10 @@ import re
 from contextlib import suppress
 from decimal import Decimal
 from fractions import Fraction
-from math import gcd
+from math import lcm
 from numbers import Real
 from operator import index
-from typing import Any, Iterable, Optional, Union
+from typing import Any, Iterable, Optional, Sequence, Union
 
 from .classes import LIMITS
 from .errors import BadInput
@@ -84,12 +84,36 @@ def fractions_of(values: Iterable[Amount], digits: Optional[int] = None) -> list
         items = list(values)
     except TypeError:
         raise BadInput(f"{str(values)[:40]!r} isn't a list of numbers") from None
-    return [fraction_of(value, digits) for value in items]
+    try:
+        return [fraction_of(value, digits) for value in items]
+    except BadInput:
+        if len(items) == 1:
+            raise
+    return amounts_of(values, [(f"number {k + 1}", item) for k, item in enumerate(items)], digits)
+
+
+def amounts_of(values: Any, items: Sequence[tuple[Any, Any]], digits: Optional[int] = None) -> list[Fraction]:
+    """The exact values of labelled numbers. What is none is told with its label, and with the name of its Series, which
+    is that of a row or a column of a data frame."""
+    found = []
+    for label, value in items:
+        try:
+            found.append(fraction_of(value, digits))
+        except BadInput as fault:
+            place = ", ".join(str(word) for word in (getattr(values, "name", None), label) if word not in (None, ""))
+            raise BadInput(f"{place}: {fault}" if place else str(fault)) from None
+    return found
+
+
+def label_of(label: Any) -> str:
+    """The name that a label is: its text. One that is missing, as None or NaN, is no name."""
+    if label is None or str(label) in ("nan", "NaT", "<NA>") and not isinstance(label, str):
+        raise BadInput(f"a label is missing ({label}): each number needs a name")
+    return str(label)
 
 
 def named_items(values: Any) -> Optional[list[tuple[Any, Any]]]:
-    """Returns the names and the values of a mapping, or of a Series of pandas, whose labels are its names; None if the
-    values have no names. Refuses a data frame."""
+    """Returns the names and the values of a mapping, or of a Series by its labels; None if there are no names."""
     require_one_dimension(values)
     return list(values.items()) if hasattr(values, "keys") and hasattr(values, "items") else None
 
@@ -100,10 +124,12 @@ def require_order(values: Any) -> None:
         raise BadInput("a set has no order: give a list")
 
 
-def require_count(count: Any, what: str) -> None:
-    """Refuses what isn't 1, 2, 3 and so on."""
-    if type(count) is not int or count < 1:
-        raise BadInput(f"{count!r} isn't a number of {what}: give 1 or more")
+def count_of(count: Any, what: str, whose: str = "") -> int:
+    """A count of 1 or more, which may be an integer of NumPy."""
+    with suppress(TypeError):
+        if not is_truth(count) and index(count) >= 1:
+            return index(count)
+    raise BadInput(f"{whose}{count!r} isn't a number of {what}: give 1 or more")
 
 
 def require_one_dimension(values: Any) -> None:
@@ -124,19 +150,11 @@ def written(value: Fraction) -> Union[int, str]:
     return value.numerator if value.denominator == 1 else str(value)
 
 
-def common_denominator(values: Iterable[Fraction]) -> int:
-    """The least common denominator."""
-    common = 1
-    for value in values:
-        common *= value.denominator // gcd(common, value.denominator)
-    return common
-
-
 def factor_for(values: list[Fraction], digits: Optional[int] = None) -> int:
     """By how much all numbers of a game are multiplied, so that a document takes them. That is 1 where their common
     denominator is one that a document may have; else that denominator, so that all become integers. Numbers rounded to
     more than four digits are multiplied by 10 to that power, whatever they are, so that games of one source agree."""
-    common = common_denominator(values)
+    common = lcm(*(value.denominator for value in values))
     if digits is not None and 10**digits > MOST_SCALE:
         common = 10**digits
     if any(abs(value.numerator) * common >= LIMIT * value.denominator for value in values):

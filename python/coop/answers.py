@@ -31,13 +31,12 @@ class Answer:
         return self.status == 0
 
     def _repr_html_(self) -> str:
-        """What a notebook shows."""
         text: str = shown.makers["answer"](self)
         return text
 
     def to_pandas(self, places: Optional[int] = None) -> Any:
-        """The shares as a Series of pandas: fractions, or floats of so many places. An answer without shares has an
-        empty one, which is a row of NaN in a data frame."""
+        """The shares as a Series of pandas: fractions, or floats of so many places, rounded so that they add up. An
+        answer without shares has an empty one, which is a row of NaN in a data frame."""
         return shown.makers["series"](getattr(self, "shares", {}), type(self).__name__.lower(), places)
 
 
@@ -185,16 +184,13 @@ class Reader:
         self.start = (line, status, game)
 
     def over(self, text: str) -> Fraction:
-        """The value of a fraction text over the factor."""
         value, factor = exact(text), self.game.factor
         return value if factor == 1 else value / factor
 
     def amount(self, key: str) -> Fraction:
-        """A number."""
         return self.over(self.tree[key])
 
     def shares(self, key: str = "shares") -> Shares:
-        """Shares by names."""
         return dict(zip(self.game.names, map(self.over, self.tree[key])))
 
     def name(self, player: int) -> str:
@@ -202,28 +198,23 @@ class Reader:
         return self.game.names[player - 1] if player else "0"
 
     def coalition(self, players: list[int]) -> Names:
-        """The names of a group."""
         return tuple(map(self.name, players))
 
     def links(self) -> tuple[tuple[str, str, Fraction], ...]:
-        """The links of a network."""
         factor = self.game.factor
         return tuple((self.name(end), self.name(new), Fraction(cost) / factor) for end, new, cost in self.tree["tree"])
 
     def no(self) -> No:
-        """A no with its place."""
         tree = self.tree
         coalition = self.coalition(tree.get("coalition", []))
         player = self.name(tree["player"]) if "player" in tree else ""
         return No(*self.start, tree["reason"], tree.get("level", 0), coalition, player, tree.get("excess", ""))
 
     def empty_core(self) -> EmptyCore:
-        """An empty core with its collection."""
         collection = tuple((self.coalition(group), weight) for group, weight in self.tree["collection"])
         return EmptyCore(*self.start, collection, self.tree["k"], self.amount("value"), self.amount("against"))
 
     def matching(self) -> Matching:
-        """The matching of a market."""
         pairs = tuple((self.name(buyer), self.name(seller)) for buyer, seller in self.tree["pairs"])
         ends = self.shares("buyers best"), self.shares("sellers best")
         return Matching(*self.start, pairs, self.amount("value"), *ends)
@@ -252,7 +243,6 @@ READERS: dict[str, Callable[[Reader], Answer]] = {
     "matching": Reader.matching,
 }
 READERS["prenucleolus"] = READERS["nucleolus"]
-"""How each answer is read."""
 
 
 def answer_of(line: str, status: int, game: Game) -> Answer:

@@ -4,17 +4,16 @@ from __future__ import annotations
 import json
 from fractions import Fraction
 from functools import partial
-from typing import Any, Mapping, Optional, Sequence, Union, cast
+from typing import Mapping, Optional, Sequence, Union, cast
 
 from . import answers, classes
-from .amounts import Amount, fractions_of, named_items, written
+from .amounts import Amount, amounts_of, fractions_of, named_items, written
 from .answers import Answer
 from .errors import BadInput, Failure, Fault, NoAnswer, NoMemory, Refused, Slip, Usage
-from .game import Game, encoded, require_game
+from .game import WRITER, Game, bytes_of, encoded, require_game
 from .program import Program, find
 
 COMMANDS = tuple(classes.COMMANDS)
-"""The words of the commands on a document."""
 ON_A_GAME = tuple(word for word, row in classes.COMMANDS.items() if row["needs"] == ["game"])
 """The words of the commands that a game alone is enough for."""
 
@@ -79,8 +78,7 @@ def convex(game: Game, program: Chosen = None) -> Union[answers.Convex, answers.
 def kernel(
     game: Game, shares: Proposal, program: Chosen = None, *, digits: Optional[int] = None
 ) -> Union[answers.InPrekernel, answers.NotInPrekernel, answers.NotEfficient]:
-    """Whether any two players have the same hold on each other by these shares: the prekernel. Digits are those of
-    `propose`."""
+    """Whether any two players have the same hold on each other by these shares, with digits as for `propose`."""
     answer = ask("kernel", game, rounded(game, shares, digits), program=program)
     return cast("Union[answers.InPrekernel, answers.NotInPrekernel, answers.NotEfficient]", answer)
 
@@ -96,12 +94,16 @@ def matching(game: Game, program: Chosen = None) -> answers.Matching:
 
 
 def check(line: Union[str, bytes, answers.Nucleolus], program: Chosen = None) -> Union[answers.Yes, answers.No]:
-    """Whether the certificate of a line shows that its shares are the nucleolus, or the prenucleolus, of its game."""
+    """Whether the certificate of a line shows that its shares are the nucleolus, or the prenucleolus, of its game. Of
+    an answer it is asked with the shares and the certificate that the answer has, which somebody may have changed."""
+    document = bytes_of(line)
+    game = line.game if isinstance(line, answers.Nucleolus) else game_of(document)
     if isinstance(line, answers.Nucleolus):
-        document, game = line.line.encode(), line.game
-    else:
-        document = line if isinstance(line, bytes) else encoded(line, "the line")
-        game = game_of(document)
+        tree = json.loads(line.line)
+        shares = [str(share * game.factor) for share in rounded(game, line.shares, None)]
+        if shares != tree["shares"] or line.certificate != tree["certificate"]:
+            tree.update(shares=shares, certificate=line.certificate)
+            document = encoded(WRITER.encode(tree), "a name")
     return cast("Union[answers.Yes, answers.No]", answered("check", document, game, program))
 
 
@@ -114,39 +116,32 @@ def game_of(document: bytes) -> Game:
 
 
 def ask(command: str, game: Game, shares: Optional[Proposal] = None, program: Chosen = None) -> Answer:
-    """What a command answers to a game, and to shares of it."""
     return answered(command, document_of(game, shares), game, program)
 
 
 def document_of(game: Game, shares: Optional[Proposal] = None) -> bytes:
-    """The bytes of the document of a game, and of shares of it."""
     require_game(game)
-    return game.document() if shares is None else game.document(shares=items_of(game, shares))
+    if shares is None:
+        return game.document()
+    return game.document(shares=[written(share * game.factor) for share in rounded(game, shares, None)])
 
 
 def rounded(game: Game, shares: Proposal, digits: Optional[int]) -> list[Fraction]:
     """Shares by names, or in the players' order, as exact numbers in that order."""
     items = named_items(shares)
     if items is not None:
-        named = {str(name): share for name, share in items}
+        named = dict(zip((str(name) for name, _ in items), amounts_of(shares, items, digits)))
         if len(items) != game.n or set(named) != set(game.names):
             raise BadInput(f"give a share to each of these names, each once: {', '.join(game.names)}")
-        shares = [named[name] for name in game.names]
+        return [named[name] for name in game.names]
     return fractions_of(shares, digits)
 
 
-def items_of(game: Game, shares: Proposal) -> list[Any]:
-    """Shares by names, or in the players' order, as a document has them."""
-    return [written(share * game.factor) for share in rounded(game, shares, None)]
-
-
 def answered(command: str, document: bytes, game: Game, program: Chosen) -> Answer:
-    """One run of the program, and its answer."""
     return answer_from(command, *find(program).run([command], document), document, game)
 
 
 def answer_from(command: str, status: int, data: bytes, document: bytes, game: Game) -> Answer:
-    """The answer of a status and a line."""
     line = data.decode("utf-8", "replace").rstrip("\n")
     if status not in (0, 1):
         raise fault_of(command, status, line, document)
@@ -157,7 +152,6 @@ def answer_from(command: str, status: int, data: bytes, document: bytes, game: G
 
 
 def fault_of(command: str, status: int, line: str, document: bytes) -> NoAnswer:
-    """The exception of a status that is no answer."""
     if status == 7:
         return NoMemory("the program ran out of memory", status)
     if status in (2, 3):
@@ -172,7 +166,6 @@ def fault_of(command: str, status: int, line: str, document: bytes) -> NoAnswer:
 
 
 def slip_of(command: str, document: bytes) -> Optional[Slip]:
-    """The mistake of a document that a command refused."""
     from .telling import slips
 
     return slips(document, command)[0]

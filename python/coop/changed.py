@@ -3,11 +3,12 @@ from __future__ import annotations
 
 from fractions import Fraction
 from math import lcm
-from typing import Any, Iterable, Iterator
+from typing import Any, Iterable
 
 from .amounts import LIMIT, MOST_SCALE, written
 from .errors import BadInput
 from .game import Game
+from .games import as_json, numbers_in
 
 
 class TooFine(BadInput):
@@ -16,11 +17,11 @@ class TooFine(BadInput):
 
 def tree_with(game: Game, parts: dict[str, Any]) -> tuple[dict[str, Any], int]:
     """The game of a document with other numbers at some keys, and by how much they are multiplied."""
-    amounts = list(flat(parts.values()))
+    amounts = list(numbers_in(parts))
     scale = lcm(*(amount.denominator for amount in amounts))
     require_room(greatest(amounts), scale)
     factor = 1 if scale <= MOST_SCALE else scale
-    tree = {**game.tree, **{key: scaled(part, factor) for key, part in parts.items()}}
+    tree = {**game.tree, **{key: as_json(part, factor) for key, part in parts.items()}}
     return with_version(tree, factor == 1 and scale > 1), factor
 
 
@@ -52,21 +53,11 @@ class Base:
             times = Fraction(factor, self.factor)
             if len(self.written) > 4:
                 self.written.clear()
-            amounts = self.game.amounts[1:]
-            self.written[factor] = amounts_as_written(amounts, times)
+            self.written[factor] = [written(q * times) for q in self.game.amounts[1:]]
         return self.written[factor]
 
 
-def amounts_as_written(amounts: Iterable[Fraction], times: Fraction) -> list[Any]:
-    """Numbers times another, as a document has them; whole ones quickly."""
-    if times.denominator > 1:
-        return [written(q * times) for q in amounts]
-    by = times.numerator
-    return [q.numerator * by if q.denominator == 1 else written(q * by) for q in amounts]
-
-
 def greatest(values: Iterable[Fraction]) -> Fraction:
-    """The greatest size."""
     return max((abs(value) for value in values), default=Fraction(0))
 
 
@@ -81,17 +72,3 @@ def with_version(tree: dict[str, Any], has_fractions: bool) -> dict[str, Any]:
     if has_fractions:
         return {**tree, "version": 2}
     return {key: part for key, part in tree.items() if key != "version"}
-
-
-def flat(parts: Iterable[Any]) -> Iterator[Fraction]:
-    """All numbers of some parts."""
-    for part in parts:
-        if isinstance(part, Fraction):
-            yield part
-        else:
-            yield from flat(part)
-
-
-def scaled(part: Any, factor: int) -> Any:
-    """A part with its numbers times a factor, as a document has them."""
-    return written(part * factor) if isinstance(part, Fraction) else [scaled(item, factor) for item in part]

@@ -3,29 +3,29 @@ from __future__ import annotations
 
 import json
 import os
+from functools import lru_cache
+from types import CodeType
 from typing import Any
 
 from .errors import BadInput
-from .program import TOP
-
-PACKAGE = os.path.dirname(os.path.abspath(__file__))
-INSIDE = os.path.join(PACKAGE, "scripts", "check-anew")
-CHECK_ANEW = INSIDE if os.path.exists(INSIDE) else os.path.join(TOP, "scripts", "check-anew")
+from .game import bytes_of
+from .program import folder_of
 
 
-def verdict(data: bytes) -> dict[str, Any]:
-    """The line of yes or no to the bytes of a document, as a tree, without a process of its own; what is none to check
-    is bad input."""
-    from importlib.machinery import SourceFileLoader
-    from importlib.util import module_from_spec, spec_from_loader
+@lru_cache(None)
+def compiled() -> CodeType:
+    path = os.path.join(folder_of("scripts", "check-anew") or "", "check-anew")
+    with open(path, "rb") as file:
+        code: CodeType = compile(file.read(), path, "exec")
+    return code
 
-    loader = SourceFileLoader("check_anew", CHECK_ANEW)
-    spec = spec_from_loader("check_anew", loader)
-    assert spec is not None
-    module: Any = module_from_spec(spec)
-    loader.exec_module(module)
+
+def verdict(data: Any) -> dict[str, Any]:
+    """The line of yes or no to a document, as a tree; what is none to check is bad input."""
+    module: dict[str, Any] = {"__name__": "check_anew"}
+    exec(compiled(), module)  # anew each time, since it keeps the excesses that it finds
     try:
-        tree: dict[str, Any] = json.loads(module.line_for(data))
-    except module.Refused as fault:
+        tree: dict[str, Any] = json.loads(module["line_for"](bytes_of(data)))
+    except module["Refused"] as fault:
         raise BadInput(str(fault)) from None
     return tree

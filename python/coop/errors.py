@@ -1,7 +1,9 @@
 """What can go wrong, as exceptions."""
 from __future__ import annotations
 
+import copyreg
 from dataclasses import dataclass
+from functools import cached_property
 from typing import Any, Callable, Optional
 
 from . import shown
@@ -34,58 +36,41 @@ class NotFound(CoopError):
 
 class Lost(CoopError):
     """An executor gave no answer to some games: it lost them with its processes, again and again, or took longer
-    than allowed. All games before them have had their rows, and those after them have none. The cause is the executor's
-    own exception."""
+    than allowed. `first` and `last` are their numbers, from 1. All games before them have had their rows, and those
+    after them have none. The cause is the executor's own exception."""
 
     def __init__(self, first: int, last: int, why: str):
         super().__init__(f"games {first} to {last}, and all after them, have no answer: {why}")
-        self.first = first
-        """The number of the first game without an answer, from 1."""
-        self.last = last
-        """The number of the last game that was lost with it."""
-        self.why = why
+        self.first, self.last, self.why = first, last, why
 
     def __reduce__(self) -> tuple[Any, ...]:
         return Lost, (self.first, self.last, self.why)
 
 
 class NoAnswer(CoopError):
-    """The program ended with another status than 0 or 1, so there is no answer."""
+    """The program ended with another status than 0 or 1, so there is no answer; `line` is what it wrote."""
 
     def __init__(self, sentence: str, status: int, line: str = ""):
         super().__init__(sentence)
-        self.status = status
-        """The status with which the program ended."""
-        self.line = line
-        """What it wrote."""
+        self.status, self.line = status, line
 
     def __reduce__(self) -> tuple[Any, ...]:
         """Its parts, since Python pickles an exception by its text alone."""
-        return restored, (type(self), self.args, self.__dict__)
-
-
-def restored(kind: type[NoAnswer], args: tuple[Any, ...], parts: dict[str, Any]) -> NoAnswer:
-    """An exception from its parts."""
-    fault = kind.__new__(kind, *args)
-    fault.args = args
-    fault.__dict__.update(parts)
-    return fault
+        return copyreg.__newobj__, (type(self), *self.args), self.__dict__  # type: ignore[attr-defined]
 
 
 @dataclass(frozen=True)
 class Failure:
     """What a row of `many` has if a call has no answer. It counts as no, since it is false. It isn't an exception, but
-    has one."""
+    has the one that the call raises."""
 
     fault: NoAnswer
-    """The exception that the call raises."""
 
     def __bool__(self) -> bool:
         return False
 
     @property
     def status(self) -> int:
-        """The status with which the program ended."""
         return self.fault.status
 
     @property
@@ -103,26 +88,15 @@ class Usage(NoAnswer):
 
 
 class Refused(NoAnswer):
-    """The document is refused, by a number and a name; status 3."""
+    """The document is refused, by the number and the name of a refusal; status 3."""
 
     def __init__(self, line: str, number: int, name: str, find: Callable[[], Optional[Slip]]):
         super().__init__(f"refused, {number} {name}", 3, line)
-        self.number = number
-        """The number of the refusal."""
-        self.name = name
-        """The name of the refusal."""
-        self.find = find
+        self.number, self.name, self.find = number, name, find
 
-    @property
+    @cached_property
     def where(self) -> Optional[Slip]:
-        """The mistake with its place, which is sought when it is first asked for. None where it isn't found, as where
-        there is no Node."""
-        if "found" not in self.__dict__:
-            self.found = self.sought()
-        return self.found
-
-    def sought(self) -> Optional[Slip]:
-        """The mistake, if it is that of the refusal."""
+        """The mistake with its place, sought when it is first asked for; None if it isn't found, as without Node."""
         try:
             slip = self.find()
         except CoopError:

@@ -17,8 +17,6 @@ from .game import Game
 from .program import Program, find
 
 Line = tuple[int, bytes]
-"""A status and a line."""
-
 Lines = list[list[Line]]
 """For each document, what each word says of it."""
 
@@ -52,8 +50,6 @@ def line_of(program: Program, word: str, document: bytes) -> Line:
 
 
 class Batch:
-    """Some games, and the future of their lines."""
-
     def __init__(self, executor: Executor, first: int, words: tuple[str, ...], games: list[Game], program: Chosen):
         self.documents = [game.document() for game in games]
         self.executor, self.first, self.words, self.games = executor, first, words, games
@@ -61,18 +57,15 @@ class Batch:
         self.future = self.submitted()
 
     def submitted(self) -> Any:
-        """The future of its lines."""
         try:
             return self.executor.submit(*self.call)
         except Exception as cause:  # what an executor says is its own
             raise self.lost("the executor takes no more") from cause
 
     def lost(self, why: str) -> Lost:
-        """The exception that names its games."""
         return Lost(self.first + 1, self.first + len(self.games), why)
 
     def rows(self, seconds: Optional[float]) -> Iterator[tuple[Outcome, ...]]:
-        """The answers, in order."""
         for game, document, lines in zip(self.games, self.documents, self.lines(seconds)):
             yield tuple(outcome_of(word, line, document, game) for word, line in zip(self.words, lines))
 
@@ -84,7 +77,8 @@ class Batch:
             except CoopError:
                 raise
             except Exception as cause:
-                if seconds is not None and is_late(cause):
+                kinds = [kind.__name__ for kind in type(cause).__mro__]  # executors have classes of their own for that
+                if seconds is not None and "TimeoutError" in kinds:
                     raise self.lost(f"the executor took more than {seconds} s") from cause
                 if not left:
                     raise self.lost(f"the executor lost them {TRIES} times") from cause
@@ -96,13 +90,7 @@ class Batch:
         raise self.lost("the executor returned the lines of other games")
 
 
-def is_late(fault: Exception) -> bool:
-    """Whether a future says that its time is over. Executors have classes of their own for that."""
-    return any(kind.__name__ == "TimeoutError" for kind in type(fault).__mro__)
-
-
 def outcome_of(word: str, line: Line, document: bytes, game: Game) -> Outcome:
-    """The answer of a line, or its failure."""
     try:
         return answer_from(word, *line, document, game)
     except NoAnswer as fault:

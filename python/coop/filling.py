@@ -73,7 +73,6 @@ def above_larger(amounts: Sequence[Fraction]) -> list[Above]:
 
 
 def split(group: int, best: dict[int, tuple[Fraction, int]]) -> list[int]:
-    """The parts of a group's cheapest split."""
     parts = []
     while group:
         parts.append(best[group][1])

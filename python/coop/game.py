@@ -52,14 +52,12 @@ def number(tree: Any, what: str) -> Fraction:
 
 
 def array(tree: Any, what: str) -> list[Any]:
-    """The items of an array."""
     if type(tree) is not list:
         raise BadInput(f"{what} isn't an array")
     return tree
 
 
 def numbers(tree: Any, what: str) -> list[Fraction]:
-    """The values of an array of numbers."""
     return [number(item, what) for item in array(tree, what)]
 
 
@@ -103,7 +101,6 @@ class Game:
         return hash((self.kind, self.n, *self.names))
 
     def _repr_html_(self) -> str:
-        """What a notebook shows."""
         text: str = shown.makers["game"](self)
         return text
 
@@ -124,13 +121,11 @@ class Game:
         return n
 
     def value(self, tree: dict[str, Any], key: str) -> Any:
-        """What stands at a key that the class has."""
         if key not in tree:
             raise BadInput(f"a game of class {self.kind} needs the key {key}")
         return tree[key]
 
     def read_matrix(self, tree: dict[str, Any]) -> list[list[Fraction]]:
-        """The rows of the matrix."""
         rows = [numbers(row, "a row of the matrix") for row in array(self.value(tree, "matrix"), "the matrix")]
         widths = {len(row) for row in rows}
         if len(widths) != 1 or widths == {0}:
@@ -149,7 +144,6 @@ class Game:
         return names
 
     def read_table(self, tree: dict[str, Any]) -> list[Fraction]:
-        """The numbers of a table by masks."""
         if "worths" in tree:
             amounts = [Fraction(0)] + numbers(tree["worths"], "worths")
         else:
@@ -173,12 +167,10 @@ class Game:
         raise BadInput(f"{json.dumps(member)[:80]} isn't a player of the game")
 
     def all_numbers(self) -> list[Fraction]:
-        """The numbers of the game, in one list."""
         single = [self.single] if self.kind in SINGLE else []
         return [entry for row in self.rows for entry in row] if hasattr(self, "rows") else [*self.amounts, *single]
 
     def title(self) -> str:
-        """The title of a picture of the game."""
         return f"{KINDS[self.kind].capitalize()}: what each {'pays' if self.costs else 'gets'}"
 
     def whole(self) -> Fraction:
@@ -223,7 +215,16 @@ class Game:
         return encoded(WRITER.encode({"game": self.tree, **others}), "a name")
 
 
+def bytes_of(told: Any) -> bytes:
+    """The bytes of a line or a document, which may be a text; of an answer's line, or of a game's document."""
+    if isinstance(told, Game):
+        return told.document()
+    line = getattr(told, "line", told)
+    if not isinstance(line, (str, bytes)):
+        raise BadInput(f"{type(told).__name__} isn't a line, a document, an answer or a game")
+    return encoded(line, "the line") if isinstance(line, str) else line
+
+
 def require_game(game: Any) -> None:
-    """Refuses what isn't a game."""
     if not isinstance(game, Game):
         raise BadInput(f"{type(game).__name__} isn't a game: make one, such as coop.airport({{..}})")

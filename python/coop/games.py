@@ -11,12 +11,14 @@ from fractions import Fraction
 from operator import index
 from typing import Any, Callable, Iterable, Mapping, Optional, Sequence, Union
 
-from .amounts import Amount, factor_for, fraction_of, fractions_of, is_truth, named_items, require_order, written
+from .amounts import Amount, amounts_of, count_of, factor_for, fraction_of, fractions_of, is_truth, label_of
+from .amounts import named_items, require_order, written
 from .classes import CLASSES, LIMITS
 from .errors import BadInput
 from .game import MOST_IN_A_TABLE, Game, encoded
 from .linear import sums
 from .masks import by_mask, mask_of, members
+from .names import looks, shown
 from .vectors import in_mask_order
 from .votes import whole_votes
 
@@ -38,8 +40,7 @@ def table(
     digits: Optional[int] = None,
     per_head: bool = False,
 ) -> Game:
-    """A game by what each group is worth: a mapping from groups, or a vector in an order of `vectors.ORDERS`, which
-    has to be named, since the length tells nothing.
+    """A game by what each group is worth: a mapping from groups, or a vector in an order of `vectors.ORDERS`.
 
     A group is a tuple or a set of names, or of numbers from 1; a name or a number alone; or a text, "Ann+Bob". The
     empty group may stand there with 0. Each other group has to be there, unless a default is named.
@@ -86,7 +87,7 @@ def airport(
 ) -> Game:
     """An airport by what each landing needs alone."""
     names, amounts = named(costs, names, digits)
-    require_none_negative(amounts)
+    require_none_negative(amounts, names)
     return made("airport", {"costs": amounts}, names, per_head, digits)
 
 
@@ -97,10 +98,12 @@ def landings(rows: Iterable[tuple[str, Amount, int]], *, digits: Optional[int] =
     costs: list[Amount] = []
     done: dict[str, int] = {}
     require_rows(rows)
+    row: Any
     for row in rows:
-        name, cost, count = parts_of(row)
-        if type(count) is not int or count < 1:
-            raise BadInput(f"{name}: {count!r} isn't a number of landings")
+        if isinstance(row, str) or not isinstance(row, Sequence) or len(row) != 3:
+            raise BadInput(f"{str(row)[:40]!r} isn't a row of a name, what a landing needs, and how many landings")
+        name, cost, count = label_of(row[0]), row[1], row[2]
+        count = count_of(count, "landings", f"{name}: ")
         if len(names) + count > MOST_LANDINGS:
             way = "coop.runways works out more, by both rules (docs/examples.md)"
             raise BadInput(f"more than {MOST_LANDINGS} landings: an airport has at most {MOST_LANDINGS} players; {way}")
@@ -109,14 +112,6 @@ def landings(rows: Iterable[tuple[str, Amount, int]], *, digits: Optional[int] =
         names += [f"{name} {number}" for number in range(first, first + count)]
         costs += [cost] * count
     return airport(costs, names, digits=digits, per_head=per_head)
-
-
-def parts_of(row: Any) -> tuple[str, Amount, int]:
-    """The three parts of a row of landings."""
-    if isinstance(row, str) or not isinstance(row, Sequence) or len(row) != 3:
-        raise BadInput(f"{str(row)[:40]!r} isn't a row of a name, what a landing needs, and how many landings")
-    name, cost, count = row
-    return name, cost, count
 
 
 def bankruptcy(
@@ -130,7 +125,8 @@ def bankruptcy(
     """An estate and the claims on it."""
     names, amounts = named(claims, names, digits)
     whole = fraction_of(estate, digits)
-    require_none_negative([whole, *amounts])
+    require_none_negative([whole], ["the estate"])
+    require_none_negative(amounts, names)
     if sum(amounts) < whole:
         raise BadInput(f"the claims add to {sum(amounts)}, less than the estate of {whole}: each gets its claim")
     return made("bankruptcy", {"claims": amounts, "estate": whole}, names, per_head, digits)
@@ -164,12 +160,14 @@ def market(matrix: Rows, names: Optional[Sequence[str]] = None, *, digits: Optio
     return made("market", {"matrix": rows_of(matrix, digits)}, names, digits=digits)
 
 
-def voting(quota: Amount, weights: Amounts, names: Optional[Sequence[str]] = None) -> Game:
+def voting(
+    quota: Amount, weights: Amounts, names: Optional[Sequence[str]] = None, *, digits: Optional[int] = None
+) -> Game:
     """A vote by weights and the quota that wins. Decimals, and votes that add to more than 1,000, become the least
     whole votes by which the same groups win. Where these add to more than 1,000 too, it is the table of who wins, of at
     most 16 voters; `votes.shapley` takes more."""
-    names, amounts = named(weights, names, None)
-    whole = fraction_of(quota)
+    names, amounts = named(weights, names, digits)
+    whole = fraction_of(quota, digits)
     if all(value.denominator == 1 for value in [whole, *amounts]) and sum(amounts) <= MOST_VOTES:
         return made("voting", {"quota": whole, "weights": amounts}, names)
     need, votes = whole_votes(whole, amounts)
@@ -188,19 +186,19 @@ def voting(quota: Amount, weights: Amounts, names: Optional[Sequence[str]] = Non
 def named(
     amounts: Amounts, names: Optional[Sequence[str]], digits: Optional[int]
 ) -> tuple[Optional[Sequence[str]], list[Fraction]]:
-    """The names and the numbers of a mapping or a list."""
     items = named_items(amounts)
     if items is None:
         return names, fractions_of(amounts, digits)
     if names is not None:
         raise BadInput("the mapping has the names already")
-    return [str(name) for name, _ in items], fractions_of((amount for _, amount in items), digits)
+    return [label_of(label) for label, _ in items], amounts_of(amounts, items, digits)
 
 
-def require_none_negative(amounts: list[Fraction]) -> None:
-    """Refuses numbers below 0."""
-    if min(amounts, default=Fraction(0)) < 0:
-        raise BadInput(f"{min(amounts)} is below 0")
+def require_none_negative(amounts: list[Fraction], names: Optional[Sequence[str]] = None) -> None:
+    least = min(amounts, default=Fraction(0))
+    if least < 0:
+        whose = f"{names[amounts.index(least)]}: " if isinstance(names, list) and len(names) == len(amounts) else ""
+        raise BadInput(f"{whose}{least} is below 0")
 
 
 def require_rows(rows: Any) -> None:
@@ -291,7 +289,6 @@ def listed(
     digits: Optional[int],
     per_head: bool,
 ) -> Game:
-    """A table from a mapping or a vector."""
     items = named_items(amounts)
     if items is None:
         if default is not None:
@@ -305,7 +302,7 @@ def listed(
     if order is not None:
         told = "" if isinstance(amounts, Mapping) else "; the labels of a Series name the groups: give its .to_numpy()"
         raise BadInput(f"`order` is for a vector, not for a mapping{told}")
-    groups = [(members_of(group), fraction_of(amount, digits)) for group, amount in items]
+    groups = list(zip([members_of(group) for group, _ in items], amounts_of(amounts, items, digits)))
     empty = [amount for group, amount in groups if not group]
     if any(empty):
         raise BadInput("the empty group has to be worth 0")
@@ -338,14 +335,14 @@ def by_groups(
     per_head: bool,
     digits: Optional[int],
 ) -> Game:
-    """A table from groups and their numbers."""
     everyone = list(dict.fromkeys(member for group, _ in groups for member in group))
     names = names if names is None else listed_names(names)
-    numbered = names is None and all(type(member) is int for member in everyone)
-    count = max(everyone, default=0) if numbered else len(names or everyone)
+    are_labels = any(str(name).lstrip("-").isdigit() for name in names or ())
+    numbered = not are_labels and all(type(member) is int for member in everyone)
+    count = max(everyone, default=0) if numbered and names is None else len(names or everyone)
     if not 1 <= count <= MOST_IN_A_TABLE:
         raise BadInput(f"{count} players: a table has 1 to {MOST_IN_A_TABLE}")
-    players: list[Any] = list(range(1, count + 1)) if numbered else list(names or map(str, everyone))
+    players = [str(i + 1) for i in range(count)] if numbered else list(names or map(str, everyone))
     found: dict[int, Fraction] = {}
     for group, amount in groups:
         mask = mask_of(player_of(member, players) for member in group)
@@ -356,16 +353,20 @@ def by_groups(
         found[mask] = amount
     missing = [mask for mask in range(1, 2 ** len(players)) if mask not in found]
     if missing and default is None:
-        first = "+".join(str(players[i]) for i in members(missing[0]))
-        raise BadInput(f"the group {first} is missing" + f", and {len(missing) - 1} more" * (len(missing) > 1))
+        first = "+".join((names or players)[i] for i in members(missing[0]))
+        lone = [name for name in players if sum(name in map(str, group) for group, _ in groups) == 1]
+        asked = f"; is {lone[0]} a player? Only one group has it" if len(lone) == 1 < len(players) else ""
+        raise BadInput(f"the group {first} is missing" + f", and {len(missing) - 1} more" * (len(missing) > 1) + asked)
     vector = [found.get(mask, default or Fraction(0)) for mask in range(1, 2 ** len(players))]
-    return made(kind, {"players": len(players), "worths": vector}, None if numbered else players, per_head, digits)
+    return made(kind, {"players": len(players), "worths": vector}, names if numbered else players, per_head, digits)
 
 
-def player_of(member: Any, players: Sequence[Any]) -> int:
-    """The place of a member among the players, by its name or by its number from 1."""
-    if member in players:
-        return players.index(member)
-    if type(member) is int and 1 <= member <= len(players):
-        return member - 1
-    raise BadInput(f"{member!r} isn't a player")
+def player_of(member: Any, names: Sequence[str]) -> int:
+    """The place of a player among the names. A number is the name that is its text, so 17 is "17"; beside other names
+    it isn't a place, which nobody could tell from a label."""
+    name = str(member)
+    if name in names and not is_truth(member):
+        return names.index(name)
+    near = next((own for own in names if looks(own) == looks(name)), None)
+    told = f"{shown(near)} looks like it ({shown(name)})" if near else f"there are {', '.join(names)}"
+    raise BadInput(f"{name} isn't a player: {told}{'' if isinstance(member, str) else '; give a name, not a place'}")

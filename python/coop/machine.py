@@ -6,7 +6,6 @@ from typing import Optional
 
 
 def which(name: str) -> Optional[str]:
-    """The program of this name on the path."""
     name += ".exe" if os.name == "nt" else ""
     for folder in os.environ.get("PATH", os.defpath).split(os.pathsep):
         path = os.path.join(folder or ".", name)
@@ -23,30 +22,7 @@ def processors() -> int:
 
 
 def spawned(words: list[str], document: bytes) -> tuple[int, bytes]:
-    """One process. The document is a file in memory, so neither end waits for the other."""
-    if not hasattr(os, "memfd_create") or not hasattr(os, "posix_spawnp"):
-        return run_elsewhere(words, document)
-    source = os.memfd_create("document")
-    reading, writing = os.pipe()
-    try:
-        with open(source, "wb", closefd=False) as file:
-            file.write(document)
-        os.lseek(source, 0, os.SEEK_SET)
-        actions = [(os.POSIX_SPAWN_DUP2, source, 0), (os.POSIX_SPAWN_DUP2, writing, 1)]
-        process = os.posix_spawnp(words[0], words, os.environ, file_actions=actions)
-    except BaseException:
-        os.close(reading)
-        raise
-    finally:
-        os.close(source)
-        os.close(writing)
-    with open(reading, "rb") as output:
-        line = output.read()
-    return os.waitstatus_to_exitcode(os.waitpid(process, 0)[1]), line
-
-
-def run_elsewhere(words: list[str], document: bytes) -> tuple[int, bytes]:
-    """The same on a system without files in memory."""
+    """The status and the output of one process, which has the document as its input."""
     import subprocess
 
     done = subprocess.run(words, input=document, stdout=subprocess.PIPE)

@@ -7,7 +7,7 @@ import time
 from collections import deque
 from typing import TYPE_CHECKING, Any, Callable, Iterable, Iterator, Optional, Sequence, TypeVar, Union
 
-from .amounts import require_count, require_order
+from .amounts import count_of, require_order
 from .calls import COMMANDS, ON_A_GAME, Chosen, Outcome, answered, document_of
 from .errors import BadInput, Failure, NoAnswer
 from .game import Game
@@ -48,9 +48,9 @@ def many(
     words = words_of(commands)
     if faults not in ("keep", "raise"):
         raise BadInput(f"{faults!r} isn't a way to treat faults: use keep or raise")
-    require_count(batch, "games for a batch")
+    batch = count_of(batch, "games for a batch")
     if processors is not None:
-        require_count(processors, "processors")
+        processors = count_of(processors, "processors")
     if executor is not None:
         from .far import many_by
 
@@ -88,7 +88,6 @@ def row_of(words: Sequence[str], game: Game, program: Program) -> tuple[Outcome,
 
 
 def outcome(word: str, document: bytes, game: Game, program: Program) -> Outcome:
-    """What one command answers."""
     try:
         return answered(word, document, game, program)
     except NoAnswer as fault:
@@ -107,7 +106,6 @@ def spread(
 
 
 def by_threads(work: Callable[[Item], Result], items: Iterable[Item], count: int) -> Iterator[Result]:
-    """The results in order, by so many threads."""
     from concurrent.futures import Future, ThreadPoolExecutor
 
     waiting: deque[Future[Result]] = deque()
@@ -127,40 +125,25 @@ def by_threads(work: Callable[[Item], Result], items: Iterable[Item], count: int
 
 
 def shown(results: Iterator[Result], items: Iterable[Any], progress: Optional[bool]) -> Iterator[Result]:
-    """The same results, with a bar that counts those that were taken."""
+    """The same results, with a bar on standard error that counts those that were taken."""
     total = len(items) if isinstance(items, Sequence) else None
-    bar = Progress(total, sys.stderr.isatty() if progress is None else progress)
-    for result in results:
+    is_shown = sys.stderr.isatty() if progress is None else progress
+    done, begun, last = 0, time.monotonic(), 0.0
+    for done, result in enumerate(results, 1):
         yield result
-        bar.count()
-    bar.end()
-
-
-class Progress:
-    """A bar on standard error."""
-
-    def __init__(self, total: Optional[int], is_shown: bool):
-        self.total, self.is_shown = total, is_shown
-        self.done, self.begun, self.last = 0, time.monotonic(), 0.0
-
-    def count(self) -> None:
-        """Counts an item."""
-        self.done += 1
         now = time.monotonic()
-        if self.is_shown and (now - self.last > 0.1 or self.done == self.total):
-            self.last = now
-            sys.stderr.write("\r" + self.text(now - self.begun))
+        if is_shown and (now - last > 0.1 or done == total):
+            last = now
+            sys.stderr.write("\r" + bar(done, total, now - begun))
             sys.stderr.flush()
+    if is_shown and done:
+        sys.stderr.write("\n")
 
-    def text(self, seconds: float) -> str:
-        """The bar, where it is known how many there are."""
-        if not self.total:
-            return f"{self.done} games, {seconds:.0f} s"
-        full = 30 * self.done // self.total
-        left = seconds * (self.total - self.done) / self.done
-        return f"[{'#' * full}{'.' * (30 - full)}] {self.done} of {self.total} games, {left:.0f} s left "
 
-    def end(self) -> None:
-        """Ends the line of the bar."""
-        if self.is_shown and self.done:
-            sys.stderr.write("\n")
+def bar(done: int, total: Optional[int], seconds: float) -> str:
+    """A bar, where it is known how many there are; else how many are done."""
+    if not total:
+        return f"{done} games, {seconds:.0f} s"
+    full = 30 * done // total
+    left = seconds * (total - done) / done
+    return f"[{'#' * full}{'.' * (30 - full)}] {done} of {total} games, {left:.0f} s left "

@@ -19,8 +19,9 @@ from .worths import worths_of
 
 @dataclass(frozen=True)
 class Margin:
-    """A group, its number, and how far that is from counting: the least that it may cost, or the most that it may be
-    worth, so that the certificate still shows the same shares. A group that counts as it is has no bound."""
+    """A `group`, its `number`, and how far that is from counting: the `bound` is the least that it may cost, or the
+    most that it may be worth, so that the certificate still shows the same shares, and `room` is the way to it. A group
+    that counts as it is has neither."""
 
     group: Names
     number: Fraction

@@ -11,7 +11,6 @@ def members(group: int) -> list[int]:
 
 
 def mask_of(players: Iterable[int]) -> int:
-    """The group of these players."""
     group = 0
     for player in players:
         group |= 1 << player

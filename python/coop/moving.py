@@ -8,9 +8,10 @@ from math import lcm
 from typing import Any, Iterator, Optional
 
 from .amounts import LIMIT
-from .changed import Base, TooFine, flat, greatest, scaled, tree_with, with_version
+from .changed import Base, TooFine, greatest, tree_with, with_version
 from .errors import BadInput
 from .game import LISTS, SINGLE, WRITER, Game, encoded
+from .games import as_json, numbers_in
 from .places import JUMPS, Place, What, movable, rates_of, told
 from .worths import worths_of
 
@@ -95,8 +96,8 @@ class Moving:
         """The game after a change, of whatever denominators; of a class, not of a table."""
         if t not in self.games:
             parts = self.parts_at(t)
-            scale = lcm(*(amount.denominator for amount in flat(parts.values())))
-            whole = {key: scaled(part, scale) for key, part in parts.items()}
+            scale = lcm(*(amount.denominator for amount in numbers_in(parts)))
+            whole = {key: as_json(part, scale) for key, part in parts.items()}
             if len(self.games) > 40:
                 self.games.clear()
             self.games[t] = Game(with_version({**self.game.tree, **whole}, False), scale)

@@ -49,8 +49,7 @@ def is_from_the_right(text: str) -> bool:
 
 
 def apart(text: str) -> str:
-    """A safe text for people, kept apart from the numbers beside it where it is written from the right: else a terminal
-    moves them."""
+    """A safe text; one from the right is kept apart from the numbers beside it, which a terminal moves otherwise."""
     return f"{ISOLATE}{safe(text)}{END_OF_ISOLATE}" if is_from_the_right(text) else safe(text)
 
 

@@ -33,7 +33,8 @@ def table_of_links(
     costs = [cheapest(group, by_points) for group in range(2 ** len(names))]
     if by_way_of_others:
         for bit in (1 << i for i in range(len(names))):
-            costs = [least(cost, None if group & bit else costs[group | bit]) for group, cost in enumerate(costs)]
+            pairs = [(cost, costs[group | bit]) for group, cost in enumerate(costs)]
+            costs = [min((cost for cost in pair if cost is not None), default=None) for pair in pairs]
     whole: list[Fraction] = []
     for group, cost in enumerate(costs):
         if cost is None:
@@ -81,8 +82,3 @@ def cheapest(group: int, links: Links) -> Optional[Fraction]:
         joined.add(new)
         left.remove(new)
     return cost
-
-
-def least(one: Optional[Fraction], other: Optional[Fraction]) -> Optional[Fraction]:
-    """The lesser of two costs, of which each may be lacking."""
-    return min((cost for cost in (one, other) if cost is not None), default=None)

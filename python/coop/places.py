@@ -119,15 +119,15 @@ def group_of(game: Game, what: Any) -> int:
 
 def owned_by(game: Game, name: Any) -> list[int]:
     """A player; or all landings of an airline or a type, whose names differ by the number behind."""
-    own = [i for i, other in enumerate(game.names) if row_of(other) == name and other != name]
-    if game.kind == "airport" and own and name not in game.names:
+    own = [i for i, other in enumerate(game.names) if row_of(other) == str(name) != other]
+    if game.kind == "airport" and own and str(name) not in game.names:
         return own
     return [player_of(name, game.names)]
 
 
 def point_of(game: Game, name: Any) -> int:
     """A point of a network; 0 is the source."""
-    if name not in game.names and name in ("source", "0", 0):
+    if str(name) not in game.names and str(name) in ("source", "0"):
         return 0
     return player_of(name, game.names) + 1
 

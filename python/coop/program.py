@@ -21,14 +21,9 @@ if TYPE_CHECKING:
     from .server import Server
 
 TOP = os.path.dirname(os.path.dirname(os.path.dirname(os.path.abspath(__file__))))
-BUILT = os.path.join(TOP, "crates", "coop_program", "out", "coop_program")
-"""Where a repository has the built program."""
-
-LIBRARIES = ("libcoop.so", "libcoop.dylib", "coop.dll")
-"""How the library inside a package may be called."""
-
-LIBRARY = re.compile(r"\.(so(\.[0-9]+)*|dylib|dll)$")
-"""How the name of a library ends, also with its version."""
+BUILT = os.path.join(TOP, "crates", "coop_program", "out", "coop_program")  # in a repository
+LIBRARIES = ("libcoop.so", "libcoop.dylib", "coop.dll")  # inside a package
+LIBRARY = re.compile(r"\.(so(\.[0-9]+)*|dylib|dll)$")  # with or without a version
 
 
 class Program(Protocol):
@@ -89,11 +84,6 @@ def named(text: str) -> Program:
         raise BadInput(f"{text!r} isn't a command: {fault}") from None
 
 
-def built() -> Optional[str]:
-    """The built program of the repository, where it is there."""
-    return BUILT if os.access(BUILT, os.X_OK) else None
-
-
 def found() -> Program:
     """The first program that the environment, the path or the repository has."""
     if os.environ.get("COOP"):
@@ -103,9 +93,8 @@ def found() -> Program:
     on_path = which("coop")
     if on_path:
         return Command([on_path])
-    path = built()
-    if path:
-        return Command([path])
+    if os.access(BUILT, os.X_OK):
+        return Command([BUILT])
     inside, why = library_inside()
     if inside:
         return inside
@@ -135,7 +124,6 @@ def library_inside() -> tuple[Optional[Library], str]:
 
 
 def said(program: Program) -> str:
-    """What answers, in words."""
     if isinstance(program, Library):
         return f"the library {program.path}" + (f" of coop {program.version}" if program.version else "")
     command = getattr(program, "command", None)
@@ -143,8 +131,7 @@ def said(program: Program) -> str:
 
 
 def page_server() -> Optional[Server]:
-    """The processes of Node that answer by the module in the page, and tell what the page does; begun when they are
-    first asked, and kept. None where there is no Node or no page."""
+    """The processes of Node that answer by the page's module and tell what the page does; None without Node or page."""
     global _page
     node, runtime = which("node") or which("nodejs"), folder_of("runtime", "serve.mjs")
     if _page is None and node and runtime:

@@ -15,12 +15,13 @@ from .errors import BadInput
 from .game import MOST_IN_A_TABLE, Game
 from .masks import mask_of, members
 from .names import looks, shown
-from .sheets import AS_SEEN, LEFT_OUT, Cell, Layout, Row, amount_of, by_mark, fixed_rows, hint_at, rows_of_numbers
-from .vectors import in_mask_order
+from .sheets import AS_SEEN, LEFT_OUT, Cell, Layout, Row, amount_of, are_counted, by_mark, fixed_rows, hint_at
+from .sheets import rows_of_numbers
+from .vectors import groups_in, in_mask_order
 
 MOST_CLAIMS = CLASSES["bankruptcy"]["players"][1]
 ANOTHER_SIGN = re.compile(r"[&/|,;]| and | und | et ")
-SKIP = "; if the first column has names, use --skip 1"
+SKIP = "; if the first column has names, use Layout(skip=1)"
 
 
 # ---- A line for each group
@@ -63,7 +64,6 @@ def groups(
 
 
 def members_of(row: Row) -> list[str]:
-    """The members of a row's group."""
     group = [member.strip() for member in row.cells[0].split("+")]
     if "" in group or len(set(group)) < len(group):
         raise BadInput(f"line {row.line}: a member of {row.cells[0]} has no name, or is there twice")
@@ -83,8 +83,7 @@ def names_of(rows: Sequence[tuple[Row, list[str]]]) -> list[str]:
 
 
 def look_alike(member: str, names: Sequence[str]) -> str:
-    """Which of the names a member that isn't among them may be meant for: one that looks like it, or that differs in
-    capitals alone."""
+    """For which of the names a member may be meant: one that looks like it, or that differs in capitals alone."""
     near = next((name for name in names if name.casefold() == member.casefold()), None)
     if near:
         return f", but one has {near}: is that the same player?"
@@ -117,15 +116,14 @@ def missing_groups(
     if missing:
         first = missing[-1] if fill else missing[0]
         others = f", and {len(missing) - 1} more groups" * (len(missing) > 1)
-        advice = (
-            ": the cost of all together can't be filled in" if fill else others + " (--fill takes the cheapest split)"
-        )
+        others += " (fill=True takes the cheapest split)"
+        advice = ": the cost of all together can't be filled in" if fill else others
         raise BadInput(f"{'+'.join(names[i] for i in members(first))} has no line{advice}")
     return []
 
 
 def no_player(rows: Sequence[tuple[Row, list[str], Fraction]], names: Sequence[str]) -> str:
-    """Which row, where groups lack, may be of no player: a group with another sign than + in it, or the sum."""
+    """Which row, where groups lack, may be of no player: a group with another sign than + in it, the sum, or all."""
     for row, group, _ in rows:
         parts = [part.strip() for part in ANOTHER_SIGN.split(group[0])]
         if len(group) == 1 and len(parts) > 1 and all(part in names for part in parts):
@@ -133,6 +131,10 @@ def no_player(rows: Sequence[tuple[Row, list[str], Fraction]], names: Sequence[s
     *others, (row, group, amount) = rows
     if len(rows) > 2 and len(group) == 1 and amount == sum(other for _, _, other in others):
         return f"; is {group[0]}, in line {row.line}, the row of the sum?"
+    is_lone = len(group) == 1 and not any(group[0] in other for _, other, _ in others)
+    if is_lone and any(len(other) > 1 for _, other, _ in others):
+        everyone = "+".join(name for name in names if name != group[0])
+        return f"; is {group[0]}, in line {row.line}, all of them together? Write {everyone}"
     return ""
 
 
@@ -141,7 +143,7 @@ def no_player(rows: Sequence[tuple[Row, list[str], Fraction]], names: Sequence[s
 
 def vectors(
     text: str,
-    order: str,
+    order: Optional[str] = None,
     *,
     kind: str = "table",
     names: Optional[Sequence[str]] = None,
@@ -149,30 +151,53 @@ def vectors(
     per_head: bool = False,
     layout: Layout = AS_SEEN,
 ) -> Iterator[Game]:
-    """A game from each row of numbers, in an order of `vectors.ORDERS`; blanks may stand between them, too. A head and
-    a first column of names are left out, where the head has no word above that column."""
-    rows, found = rows_of_numbers(text, layout)
+    """A game from each row of numbers, in an order of `vectors.ORDERS`; blanks may stand between them, too. Headings
+    that name the groups, Ann, Bob, Ann+Bob, give the names and the order; others may only count, as V1, V2. A first
+    column of names is left out, where the head has no word above it, or where the other headings name the groups."""
+    rows, found, head = rows_of_numbers(text, layout)
+    own, told = players_in(head)
+    first = rows[0].cells
+    if not head and len(rows) > 1 < len(first) and (groups_in(first) or first == [str(i) for i in range(len(first))]):
+        raise BadInput(f"line 1: are {', '.join(first[:3])}, .. headings, and no game? Then use Layout(has_head=True)")
+    if own and names is not None and list(names) != own:
+        raise BadInput(f"the headings name other players: {', '.join(own)}")
     for row in rows:
         hints = [hint_at(row, rows, found) or SKIP * (i == found.skip == 0) for i in range(len(row.cells))]
         amounts = [amount_of(row, i, digits, hint) for i, hint in enumerate(hints)]
         try:
-            vector = in_mask_order(amounts, order)
+            require_told(head, told, len(amounts))
+            vector = in_mask_order(amounts, order, told)
             players = len(vector).bit_length()
             if names is not None and len(names) != players:
                 raise BadInput(f"{len(names)} names for {players} players")
-            yield games.made(kind, {"players": players, "worths": vector}, names, per_head, digits)
+            yield games.made(kind, {"players": players, "worths": vector}, own or names, per_head, digits)
         except BadInput as fault:
             raise BadInput(f"line {row.line}: {fault}{SKIP * ('empty group first' in str(fault))}") from None
 
 
+def players_in(head: Sequence[str]) -> tuple[Optional[list[str]], Optional[list[int]]]:
+    """The players that headings name, unless by numbers from 1, and the group of each column; or nothing."""
+    names, told = groups_in(head) or (None, None)
+    return None if names and names == [str(i + 1) for i in range(len(names))] else names, told
+
+
+def require_told(head: Sequence[str], told: Optional[list[int]], width: int) -> None:
+    """Refuses headings that don't name the groups, and may say more than that they count: nobody would read them."""
+    stems = {heading.rstrip("0123456789") for heading in head}
+    counts = [heading[len(stem) :] for stem in stems for heading in head] if len(stems) == 1 else []
+    if told and len(head) != width:
+        raise BadInput(f"{width} numbers below {len(head)} headings")
+    if head and not told and any(head) and not (are_counted(counts) or len(head) == 1):
+        way = "name each group once, as Ann, Bob, Ann+Bob, or leave the row of headings out of the file"
+        raise BadInput(f"the headings don't name the groups ({', '.join(head[:4])}, ..): {way}")
+
+
 def left_out(text: str, layout: Layout) -> list[str]:
-    """What `vectors` leaves out of a text unasked, or takes for a game and may be a head."""
-    rows, found = rows_of_numbers(text, layout)
-    if found != layout:
-        return [LEFT_OUT]
-    if len(rows) > 1 and rows[0].cells == [str(i) for i in range(len(rows[0].cells))]:
-        return ["the first row, 0, 1, 2, .., is read as a game; if it has headings, use --head"]
-    return []
+    """What `vectors` leaves out of a text unasked."""
+    _, found, head = rows_of_numbers(text, layout)
+    if groups_in(head):
+        return ["left out the first column, which has names"] * (found.skip > layout.skip)
+    return [LEFT_OUT] * (found != layout)
 
 
 # ---- Claims and landings

@@ -9,17 +9,17 @@ many landings; here a name may have several rows. Each name pays the sum for all
 from __future__ import annotations
 
 from fractions import Fraction
-from typing import Iterable
+from typing import Iterable, Optional
 
-from .amounts import Amount, fraction_of
+from .amounts import Amount, amounts_of, count_of, label_of
 from .errors import BadInput
 
 Rows = Iterable[tuple[str, Amount, int]]
 
 
-def nucleolus(rows: Rows) -> dict[str, Fraction]:
+def nucleolus(rows: Rows, *, digits: Optional[int] = None) -> dict[str, Fraction]:
     """Littlechild's payments. Of landings that cost the same only the last place is looked at."""
-    read = list(read_rows(rows))
+    read = list(read_rows(rows, digits))
     places = places_of(read)
     everyone = places[-1][1]
     payments: dict[Fraction, Fraction] = {}
@@ -34,9 +34,9 @@ def nucleolus(rows: Rows) -> dict[str, Fraction]:
     return by_name(read, payments)
 
 
-def shapley(rows: Rows) -> dict[str, Fraction]:
+def shapley(rows: Rows, *, digits: Optional[int] = None) -> dict[str, Fraction]:
     """Shapley shares: what each cost is above the one before is borne alike by all landings that need so much."""
-    read = list(read_rows(rows))
+    read = list(read_rows(rows, digits))
     places = places_of(read)
     everyone = places[-1][1]
     payments: dict[Fraction, Fraction] = {}
@@ -48,15 +48,13 @@ def shapley(rows: Rows) -> dict[str, Fraction]:
     return by_name(read, payments)
 
 
-def read_rows(rows: Rows) -> Iterable[tuple[str, Fraction, int]]:
-    """The rows with exact costs."""
+def read_rows(rows: Rows, digits: Optional[int]) -> Iterable[tuple[str, Fraction, int]]:
     for name, cost, count in rows:
-        if type(count) is not int or count < 1:
-            raise BadInput(f"{name}: {count!r} isn't a number of landings")
-        exact = fraction_of(cost)
+        name = label_of(name)
+        exact, = amounts_of(None, [(name, cost)], digits)
         if exact < 0:
-            raise BadInput(f"{exact} is below 0")
-        yield name, exact, count
+            raise BadInput(f"{name}: {exact} is below 0")
+        yield name, exact, count_of(count, "landings", f"{name}: ")
 
 
 def places_of(rows: Iterable[tuple[str, Fraction, int]]) -> list[tuple[Fraction, int]]:

@@ -39,6 +39,7 @@ from .places import What, names_of, what_moves
 __all__ = ["Margin", "Margins", "Path", "Piece", "Range", "along", "margins", "ranges"]
 
 MOST_PIECES = 1000
+MOST_UNASKED = 255  # numbers of a game that are moved without a list: those of a table of 8
 RULES = ("nucleolus", "prenucleolus")
 LARGEST = 1 << 20  # parts into which the place of a bend that no document can have is cut
 
@@ -67,9 +68,10 @@ def along(
 
 @dataclass(frozen=True)
 class Range:
-    """How far one number may go alone, down and up, before the slopes change; None is as far as a document's numbers
-    go. `below` and `above` are what each share gains for each 1 more, on either side; they differ at a bend only. Where
-    the number can't go at all one way, that side has no slopes."""
+    """`what` moves, the `number` that it is, and how far that may go alone, `down` and `up`, before the slopes change;
+    None is as far as a document's numbers go. `below` and `above` are what each share gains for each 1 more, on either
+    side; they differ at a bend only. Where the number can't go at all one way, that side has no slopes. `matters` says
+    whether any slope isn't 0."""
 
     what: Names
     number: Fraction
@@ -87,10 +89,15 @@ class Range:
 def ranges(
     game: Game, some: Optional[Iterable[Any]] = None, rule: str = "nucleolus", program: calls.Chosen = None
 ) -> list[Range]:
-    """The ranges of numbers, which are named as for `along`; without a list, of all numbers of the game."""
-    if some is not None and (isinstance(some, (str, Mapping)) or not isinstance(some, Iterable)):
+    """The ranges of numbers, which are named as for `along`; without a list, of all of the game, at most 255."""
+    if some is None:
+        some = what_moves(game)
+        if len(some) > MOST_UNASKED:
+            told = f"the game has {len(some)} numbers, and at most {MOST_UNASKED} are moved unasked"
+            raise BadInput(f"{told}: name some, such as [{some[0]!r}], or ask `margins` which count")
+    if isinstance(some, (str, Mapping)) or not isinstance(some, Iterable):
         raise BadInput(f"{some!r} isn't a list of numbers: write [{some!r}]")
-    return [range_of(Run(game, what, rule, program), what) for what in (what_moves(game) if some is None else some)]
+    return [range_of(Run(game, what, rule, program), what) for what in some]
 
 
 def range_of(run: Run, what: Any) -> Range:

@@ -13,7 +13,7 @@ import threading
 import weakref
 from typing import IO, Any, Optional, Sequence
 
-from .amounts import require_count
+from .amounts import count_of
 from .errors import Fault
 from .library import TOO_LATE
 from .machine import processors
@@ -32,15 +32,14 @@ class Worker:
     """One process, which has one request at a time."""
 
     def __init__(self, command: Sequence[str]):
-        self.process = subprocess.Popen(list(command), stdin=subprocess.PIPE, stdout=subprocess.PIPE, bufsize=0)
+        self.process = subprocess.Popen(list(command), stdin=subprocess.PIPE, stdout=subprocess.PIPE)
         assert self.process.stdin is not None and self.process.stdout is not None
         self.input: IO[bytes] = self.process.stdin
         self.output: IO[bytes] = self.process.stdout
         self.is_late = False
 
     def ask(self, request: Optional[bytes], seconds: Optional[float]) -> tuple[int, bytes]:
-        """The status and the line; without a request, that it is there. Where they don't come in time, the process is
-        ended."""
+        """The status and the line; without a request, that it is there. A process that is late is ended."""
         if seconds is None:
             return self.asked(request)
         timer = threading.Timer(seconds, self.stop_late)
@@ -53,33 +52,21 @@ class Worker:
             timer.join()  # so that it is settled whether it was late
 
     def asked(self, request: Optional[bytes]) -> tuple[int, bytes]:
-        """The answer to a request, or the first one."""
-        rest = memoryview(request or b"")
         try:
-            while rest:
-                rest = rest[self.input.write(rest) :]
+            self.input.write(request or b"")
+            self.input.flush()
         except (OSError, ValueError):
             raise Ended from None
-        return self.receive()
-
-    def receive(self) -> tuple[int, bytes]:
-        """Reads an answer."""
         status, length = HEAD.unpack(self.read(HEAD.size))
         return status, self.read(length)
 
     def read(self, count: int) -> bytes:
-        """So many bytes."""
-        parts = []
-        while count:
-            part = self.output.read(count)
-            if not part:
-                raise Ended
-            parts.append(part)
-            count -= len(part)
-        return b"".join(parts)
+        part = self.output.read(count)
+        if len(part) < count:
+            raise Ended
+        return part
 
     def stop_late(self) -> None:
-        """Ends the process since its time is over."""
         self.is_late = True
         self.process.kill()
 
@@ -96,7 +83,6 @@ class Worker:
             return self.kill()
 
     def kill(self) -> int:
-        """Ends the process at once, and gives its status."""
         self.process.kill()
         return self.process.wait()
 
@@ -108,7 +94,7 @@ class Server:
     def __init__(self, command: Sequence[str], processes: Optional[int] = None, seconds: Optional[float] = None):
         self.command = list(command)
         if processes is not None:
-            require_count(processes, "processes")
+            processes = count_of(processes, "processes")
         self.processes = processes or processors()
         self.seconds = seconds
         self.begin()
@@ -117,7 +103,6 @@ class Server:
             os.register_at_fork(after_in_child=lambda: begin_anew(mine))
 
     def begin(self) -> None:
-        """No process yet."""
         self.owner = os.getpid()
         self.free: list[Worker] = []
         self.places = threading.Semaphore(self.processes)
@@ -132,8 +117,7 @@ class Server:
     def run(
         self, words: Sequence[str], document: bytes, seconds: Optional[float] = None
     ) -> tuple[int, bytes]:
-        """The status and the line of one request, by a process that is free; within so many seconds, where the call
-        has a limit of its own. Safe in threads."""
+        """The status and the line of one request, which may have a limit of seconds of its own. Safe in threads."""
         if os.getpid() != self.owner:
             self.begin()  # this was forked off, and the processes are its parent's
         typed = b"\0".join(word.encode() for word in words)
@@ -141,8 +125,10 @@ class Server:
         with self.places:
             return self.answered(request, self.free.pop() if self.free else None, seconds or self.seconds)
 
-    def answered(self, request: bytes, free: Optional[Worker], seconds: Optional[float]) -> tuple[int, bytes]:
-        """The answer of a free process; or of a new one, if there is none or it has ended."""
+    def answered(
+        self, request: bytes, free: Optional[Worker], seconds: Optional[float], tries: int = 3
+    ) -> tuple[int, bytes]:
+        """The answer of a free process; or of a new one, if there is none, it has ended, or it was killed meanwhile."""
         worker = free or self.begun(seconds)
         try:
             status, line = worker.ask(request, seconds)
@@ -150,8 +136,8 @@ class Server:
             code = worker.stop()
             if worker.is_late:
                 return TOO_LATE, b""
-            if free:  # others that are free may have ended with it, as for want of the machine's memory
-                return self.answered(request, None, seconds)
+            if free or code < 0 and tries > 1:  # others that are free may have ended with it, as for want of memory
+                return self.answered(request, None, seconds, tries if free else tries - 1)
             raise Fault(f"{' '.join(self.command)} ended with {code} before it answered", code) from None
         except BaseException:  # as Ctrl-C: its answer would be taken for that of the next request
             worker.kill()
@@ -199,6 +185,5 @@ def begin_anew(server: weakref.ref[Server]) -> None:
 
 
 def stop_all(workers: list[Worker], owner: int) -> None:
-    """Ends the processes of this process."""
     while workers and os.getpid() == owner:
         workers.pop().stop()

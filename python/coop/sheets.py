@@ -8,6 +8,7 @@ from __future__ import annotations
 
 import csv
 import io
+import os
 import re
 import unicodedata
 from dataclasses import dataclass, replace
@@ -16,6 +17,7 @@ from typing import Collection, Iterator, NamedTuple, Optional, Sequence
 
 from .amounts import fraction_of
 from .errors import BadInput
+from .vectors import groups_in
 
 SEPARATORS = {"tab": "\t", "semicolon": ";", "comma": ",", "blank": " "}
 MARKS = {"point": ".", "comma": ","}
@@ -23,7 +25,7 @@ OTHER = {".": ",", ",": "."}
 NUMBER = re.compile(r"-?([0-9]+)((?:[.,][0-9]+)+)(?:[eE][-+]?[0-9]+)?")
 PARTED = re.compile(r"-?[0-9]{1,3}(?:([ \u00a0\u2009\u202f'\u2019])[0-9]{3})(?:\1[0-9]{3})*(?:[.,][0-9]+)?")
 WHOLE = re.compile(r"-?[0-9]+(?:/[0-9]+)?")
-HEAD = "; if this line has headings, use --head"
+HEAD = "; if this line has headings, use Layout(has_head=True)"
 UNIT = "; leave out units and currency signs"
 LEFT_OUT = "left out the first row and the first column, which have names"
 
@@ -57,8 +59,8 @@ class Sheet(NamedTuple):
 
 @dataclass(frozen=True)
 class Layout:
-    """How a file is laid out, as far as it is told: the sign between cells and the mark in front of decimals by their
-    names, whether the first row has headings, and how many columns in front are left out."""
+    """What is told of a file: the names of the sign between cells and of the decimal mark, whether the first row has
+    headings, and how many columns in front are left out."""
 
     separator: Optional[str] = None
     decimal: Optional[str] = None
@@ -85,14 +87,15 @@ def cells_of(text: str, separator: str) -> Iterator[Row]:
 
 
 def told_sign(text: str) -> tuple[str, Optional[str]]:
-    """The text, and the sign between cells where a first line names it, as Excel's "sep=;" does; that line is
-    emptied."""
+    """The text, and the sign between cells where a first line names it, as Excel's "sep=;", which is emptied then."""
     match = re.match(r'"?sep=(.)"?\r?\n', text, re.IGNORECASE)
     return ("\n" + text[match.end() :], match[1]) if match else (text, None)
 
 
 def signs_in(text: str, layout: Layout, may_be_blank: bool) -> tuple[str, list[str]]:
     """The text, and the signs that may stand between its cells, the likeliest first."""
+    if isinstance(text, os.PathLike) or "\n" not in text and os.path.isfile(text):
+        raise BadInput(f"{str(text)!r} is the name of a file: give its text, such as open({str(text)!r}).read()")
     text, told = told_sign(text)
     if layout.separator or told:
         return text, [SEPARATORS[layout.separator] if layout.separator else told or ","]
@@ -102,15 +105,13 @@ def signs_in(text: str, layout: Layout, may_be_blank: bool) -> tuple[str, list[s
 
 
 def sheet_of(text: str, widths: Collection[int], layout: Layout) -> Sheet:
-    """A text by the first sign by which all rows have one of these numbers of cells, or else by the first that is
-    there."""
+    """A text by the first sign by which all rows have one of these numbers of cells, or else by the first there is."""
     text, signs = signs_in(text, layout, False)
     sheets = [parted(text, sign, widths, layout) for sign in signs]
     return next((sheet for sheet in sheets if sheet.has_width(widths)), sheets[0])
 
 
 def parted(text: str, sign: str, widths: Collection[int], layout: Layout) -> Sheet:
-    """A text by a sign between cells."""
     rows = list(cells_of(text, sign))
     counted = rows[1:] if layout.has_head else rows
     most = max((k + 1 for row in counted for k, cell in enumerate(row.cells) if cell), default=0)
@@ -148,13 +149,19 @@ def are_counted(cells: Sequence[str]) -> bool:
     return len(cells) > 1 and any(list(cells) == [str(i + k) for i in range(len(cells))] for k in (0, 1))
 
 
-def without_names(rows: list[Row], layout: Layout) -> tuple[list[Row], Layout]:
+def without_names(rows: list[Row], layout: Layout) -> tuple[list[Row], Layout, list[str]]:
     """The rows without a head, and without a first column of names where the head has no word above it, as R and
-    pandas save them; and the layout that was found."""
-    if len(rows) > 1 and (rows[0].cells[0] == "" or len(rows[0].cells) + 1 == len(rows[1].cells)):
-        layout = replace(layout, has_head=True, skip=layout.skip or 1)
+    pandas save them, or where the other headings name the groups; the layout that was found, and the headings."""
+    first, second = ([row.cells for row in rows] + [[]] * 2)[:2]
+    if second and len(first) + 1 == len(second):
+        first = ["", *first]
+    skips = [layout.skip, layout.skip or 1] if len(first) > 2 and not any(map(is_number, first)) else []
+    skips = [layout.skip or 1] if first[:1] == [""] else [skip for skip in skips if groups_in(first[skip:])]
+    if second and skips:
+        layout = replace(layout, has_head=True, skip=skips[0])
     kept = rows[1:] if layout.has_head else rows
-    return [Row(row.line, row.cells[layout.skip :]) for row in kept], layout
+    below = [Row(row.line, row.cells[layout.skip :]) for row in kept]
+    return below, layout, first[layout.skip :] if layout.has_head else []
 
 
 def require_width(sheet: Sheet, widths: Collection[int], example: str) -> None:
@@ -163,27 +170,24 @@ def require_width(sheet: Sheet, widths: Collection[int], example: str) -> None:
         raise BadInput("the file has no lines")
     for row in sheet.rows:
         if len(row.cells) not in widths or len(row.cells) != len(sheet.rows[0].cells):
-            raise BadInput(f"line {row.line} {told_width(sheet, row, widths)}: {advice_on_width(sheet, row, example)}")
+            count = "1 column" if len(row.cells) == 1 else f"{len(row.cells)} columns"
+            width = len(sheet.rows[0].cells)
+            wanted = width if width in widths else " or ".join(map(str, widths))
+            advice = advice_on_width(sheet, row, example)
+            raise BadInput(f"line {row.line} has {count} instead of {wanted}: {advice}")
         if sheet.sign == "," and re.search(r";\s*-?[0-9.]*$", row.cells[0]):
             raise BadInput(f"line {row.line} has a semicolon: write {example}, or use semicolons in all lines")
-
-
-def told_width(sheet: Sheet, row: Row, widths: Collection[int]) -> str:
-    """How many columns a row has, and how many it should have."""
-    count = "1 column" if len(row.cells) == 1 else f"{len(row.cells)} columns"
-    wanted = len(sheet.rows[0].cells)
-    return f"has {count} instead of {wanted if wanted in widths else ' or '.join(map(str, widths))}"
 
 
 def advice_on_width(sheet: Sheet, row: Row, example: str) -> str:
     """What may be done about a row of another number of cells."""
     firsts = [other.cells[0] for other in sheet.rows if other.cells]
     if are_counted(firsts) or are_counted(firsts[1:]):
-        return "is the first one the number of the row? Then leave it out with --skip 1"
+        return "is the first one the number of the row? Then leave it out with Layout(skip=1)"
     if sheet.sign == "," and len(row.cells) > 2 and all(cell.isdigit() for cell in row.cells[-2:]):
         both = ",".join(row.cells[-2:])
         return f"is {both} one number, with a decimal comma? Then write semicolons between cells"
-    skip = ", or leave out the first columns with --skip" * (len(row.cells) > 2)
+    skip = ", or leave out the first columns with Layout(skip=..)" * (len(row.cells) > 2)
     return f"write {example}, or the same with semicolons or tabs{skip}"
 
 
@@ -195,13 +199,14 @@ def fixed_rows(text: str, columns: int, example: str, layout: Layout, beside: Se
     return marked(sheet.rows, [(f"line {row.line}", row.cells[1]) for row in sheet.rows], sheet.sign, layout, beside)
 
 
-def rows_of_numbers(text: str, layout: Layout) -> tuple[list[Row], Layout]:
-    """The rows of a text that has only numbers, and how it is laid out: a head and names in front are left out."""
+def rows_of_numbers(text: str, layout: Layout) -> tuple[list[Row], Layout, list[str]]:
+    """The rows of a text that has only numbers, how it is laid out, and its headings: names in front are left out."""
     text, signs = signs_in(text, layout, True)
-    rows, found = without_names(list(cells_of(text, signs[0])), layout)
+    rows, found, head = without_names(list(cells_of(text, signs[0])), layout)
     if not rows:
         raise BadInput("the file has no lines")
-    return marked(rows, [(f"line {row.line}", cell) for row in rows for cell in row.cells], signs[0], layout), found
+    cells = [(f"line {row.line}", cell) for row in rows for cell in row.cells]
+    return marked(rows, cells, signs[0], layout), found, head
 
 
 # ---- Decimals
@@ -237,7 +242,7 @@ def mark_in(cells: Sequence[Cell]) -> str:
     if not found and unsure:
         place, cell = unsure
         part, whole = two_ways(cell)
-        advice = "name the decimal mark (--decimal point, or comma)"
+        advice = "name the decimal mark (Layout(decimal=..), point or comma)"
         raise BadInput(f"{place}: {cell} may be {part} or {whole}: {advice}")
     return next(iter(found), ".")
 
@@ -264,7 +269,6 @@ def hint_at(row: Row, rows: Sequence[Row], layout: Layout) -> str:
 
 
 def amount_of(row: Row, place: int, digits: Optional[int], hint: str = "") -> Fraction:
-    """The number of a cell."""
     try:
         return by_mark(row.cells[place], row.mark, digits)
     except BadInput as fault:
@@ -285,7 +289,6 @@ def unparted(cell: str) -> str:
 
 
 def by_mark(cell: str, mark: str, digits: Optional[int]) -> Fraction:
-    """The number of a text, by the mark in front of decimals."""
     cell, other = unparted(cell), OTHER[mark]
     if re.fullmatch(rf"-?[0-9]{{1,3}}([{other}][0-9]{{3}})+([{mark}][0-9]+)?", cell):
         cell = cell.replace(other, "")

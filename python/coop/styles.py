@@ -7,8 +7,7 @@ from math import floor
 from typing import Any, Optional, Sequence
 
 MOST_PLACES = 12
-MARKS = {".": ",", ",": "."}
-"""The decimal marks, each with the sign between thousands that goes with it."""
+MARKS = {".": ",", ",": "."}  # the decimal marks, each with the sign between thousands that goes with it
 
 
 @dataclass(frozen=True)
@@ -20,29 +19,29 @@ class Style:
     mark: str = "."
 
     def __call__(self, value: Fraction) -> str:
-        """The number in this style."""
         return (str(value) if self.places is None else self.decimal(steps_of(value, self.places))) + self.behind
 
     def decimal(self, steps: int) -> str:
-        """So many steps of the last place."""
         return decimal(steps, self.places or 0, MARKS[self.mark], self.mark)
 
     @property
     def behind(self) -> str:
-        """What stands behind each number."""
         return f" {self.unit}" if self.unit else ""
-
-    def about(self, value: Fraction) -> str:
-        """The number in this style, as one that others on the paper may not give: "about" where it is rounded."""
-        return "about " * self.is_rounded(value) + self(value)
-
-    def is_rounded(self, value: Fraction) -> bool:
-        """Whether the number shown isn't the exact one."""
-        return self.places is not None and (value * 10**self.places).denominator > 1
 
     def spelling(self) -> dict[str, Any]:
         """The same as the page's modules are told it."""
         return {"places": self.places, "unit": self.unit, "mark": self.mark, "thousands": MARKS[self.mark]}
+
+
+@dataclass(frozen=True)
+class Plainly(Style):
+    """Where no places are named, as many as are exact, and two or none at least; a fraction where there are none."""
+
+    def __call__(self, value: Fraction) -> str:
+        if self.places is not None or (value * 10**MOST_PLACES).denominator > 1:
+            return super().__call__(value)
+        places = next(k for k in (0, *range(2, MOST_PLACES + 1)) if (value * 10**k).denominator == 1)
+        return decimal(steps_of(value, places), places) + self.behind
 
 
 EXACT = Style()
@@ -57,7 +56,6 @@ def steps_of(value: Fraction, places: int) -> int:
 
 
 def decimal(steps: int, places: int, separator: str = ",", mark: str = ".") -> str:
-    """So many steps of the last place as a decimal, with thousands separated."""
     digits = str(abs(steps)).rjust(places + 1, "0")
     whole = f"{int(digits[:len(digits) - places]):,}".replace(",", separator)
     return "-" * (steps < 0) + whole + (mark + digits[len(digits) - places :] if places else "")

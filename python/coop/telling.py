@@ -10,6 +10,7 @@ from dataclasses import dataclass
 from typing import Any, Optional
 
 from .errors import BadInput, Fault, NotFound, Slip
+from .game import bytes_of
 from .program import page_server
 
 MOST = 32 * 1024 * 1024  # bytes of what is asked at once
@@ -49,7 +50,6 @@ class Sameness:
 
 
 def told(words: list[str], document: bytes) -> Any:
-    """What is told of a document, as a tree."""
     if len(document) > MOST:
         raise BadInput(f"these are {len(document):,} bytes, and at most {MOST:,} are told of")
     server = page_server()
@@ -80,22 +80,20 @@ def asked(task: str, settings: dict[str, Any], *texts: str) -> Any:
 
 
 def slips(document: bytes, command: str = "nucleolus") -> tuple[Optional[Slip], Optional[Twice]]:
-    """The first refusal of a command, which is the program's, and the first key that stands twice, where there are
-    some."""
+    """The first refusal of a command, which is the program's, and the first key that stands twice, if there are any."""
     found = told(["slip", command], document)
     slip, twice = found.get("slip"), found.get("twice")
     return slip and Slip(**slip), twice and Twice(**twice)
 
 
-def same(line: str, agreed: str) -> Sameness:
-    """What the game of a line, or of any document, is to the agreed one."""
-    found = asked("same", {}, line, agreed)
+def same(line: Any, agreed: Any) -> Sameness:
+    """What the game of a line, or of any document, is to the agreed one. Each is a text, bytes, an answer or a game."""
+    found = asked("same", {}, *(bytes_of(told).decode("utf-8", "replace") for told in (line, agreed)))
     return Sameness(found["outcome"], found["sentence"], found["items"], found["entries"])
 
 
 def mailed(text: str) -> str:
-    """What mail has done to a text that is no JSON, and what to do about it, to stand behind another sentence; nothing
-    if it has done nothing, or if nobody can look."""
+    """The end of a sentence on a text that is no JSON: what mail has done to it, and what to do; "" if unknown."""
     try:
         found = asked("mail", {}, text)
     except (Fault, NotFound, BadInput):
@@ -112,19 +110,8 @@ def parts(line: str, document: str, verdict: str, settings: dict[str, Any]) -> l
     return found
 
 
-def odds(table: dict[str, Any], settings: dict[str, Any]) -> list[dict[str, Any]]:
-    """Which numbers of a table can hardly be meant; runtime/telling.mjs has what it is told."""
-    found: list[dict[str, Any]] = asked("odds", settings, json.dumps(table))["odds"]
-    return found
-
-
 def of_game(task: str, game: str, about: dict[str, Any], settings: dict[str, Any]) -> dict[str, Any]:
     """What is told of a game by what stands beside it: a picture of shares, a comparison of divisions, margins, rules.
     The modules of runtime/ say what each is told, and answers."""
     found: dict[str, Any] = asked(task, settings, game, json.dumps(about))
     return found
-
-
-def report(line: str, printed: str, about: dict[str, Any], settings: dict[str, Any]) -> str:
-    """A line whose certificate was checked as a paper of HTML; runtime/report.mjs has what it is told about it."""
-    return str(asked("report", settings, line, printed, json.dumps(about))["html"])

@@ -7,19 +7,16 @@ from typing import Any, Collection, Optional
 from .amounts import Amount, fraction_of
 from .errors import BadInput
 from .game import LISTS, MOST_IN_A_TABLE, Game
-from .games import made
+from .games import made, player_of
 from .masks import mask_of, members
-from .names import looks, shown
 
 
-def without(game: Game, leaving: Collection[str]) -> Game:
+def without(game: Game, leaving: Collection[Any]) -> Game:
     """The game of those who stay: each of their groups is worth, or costs, what it was."""
-    for name in leaving:
-        if name not in game.names:
-            near = next((own for own in game.names if looks(own) == looks(name)), None)
-            told = f"{shown(near)} looks like it ({shown(name)})" if near else f"there are {', '.join(game.names)}"
-            raise BadInput(f"{name} isn't a player: {told}")
-    stay = [i for i, name in enumerate(game.names) if name not in leaving]
+    if isinstance(leaving, str):
+        raise BadInput(f"{leaving!r} isn't a list of names: write [{leaving!r}]")
+    left = {player_of(name, game.names) for name in leaving}
+    stay = [i for i in range(game.n) if i not in left]
     if not stay:
         raise BadInput("no player stays")
     names = [game.names[i] for i in stay] if game.named else None
@@ -33,12 +30,10 @@ def made_of(game: Game, kind: str, parts: dict[str, Any], names: Optional[list[s
 
 
 def divided(part: Any, factor: int) -> Any:
-    """A number, or a list of some, by a factor."""
     return [divided(item, factor) for item in part] if isinstance(part, list) else part / factor
 
 
 def parts_of(game: Game, stay: list[int]) -> dict[str, Any]:
-    """The numbers of those who stay."""
     if game.is_table:
         groups = (mask_of(stay[k] for k in members(group)) for group in range(1, 2 ** len(stay)))
         return {"players": len(stay), "worths": [game.amounts[group] for group in groups]}

@@ -11,10 +11,13 @@ from typing import Callable, Optional, Sequence
 
 from .classes import CLASSES
 from .errors import BadInput
-from .masks import by_mask, by_size
+from .masks import by_mask, by_size, mask_of
 
 ORDERS: dict[str, Callable[[int], list[int]]] = {"mask": by_mask, "size": by_size}
 """The groups in each order, for a number of players."""
+
+EMPTY = ("", "0", "{}", "()", "\u2205")
+"""Headings of the empty group."""
 
 MOST_PLAYERS: int = CLASSES["table"]["players"][1]
 
@@ -30,9 +33,26 @@ def players_of(length: int) -> int:
     return players
 
 
-def in_mask_order(vector: Sequence[Fraction], order: Optional[str]) -> list[Fraction]:
+def groups_in(headings: Sequence[str]) -> Optional[tuple[list[str], list[int]]]:
+    """The players that the headings of a vector name, and the group of each number: Ann, Bob, Ann+Bob, or 1, 2, 12. One
+    number more is that of the empty group, first. None unless each group is there once."""
+    own = headings[1:] if headings and headings[0] in EMPTY else headings
+    has_plus = any("+" in cell for cell in own)
+    groups = [[member.strip() for member in (cell.split("+") if has_plus else cell)] for cell in own]
+    names = [group[0] for group in groups if len(group) == 1]
+    if not names or len(own) != 2 ** len(names) - 1:
+        return None
+    if any(len(set(group)) < len(group) or not set(group) <= set(names) for group in groups):
+        return None
+    masks = [mask_of(map(names.index, group)) for group in groups]
+    return (names, masks) if sorted(masks) == list(range(1, 2 ** len(names))) else None
+
+
+def in_mask_order(
+    vector: Sequence[Fraction], order: Optional[str], told: Optional[list[int]] = None
+) -> list[Fraction]:
     """The vector in mask order, without the empty group, which may stand first with 0. From three players on the order
-    has to be named."""
+    has to be named, unless headings have told the group of each number; these have to agree."""
     if order is not None and order not in ORDERS:
         raise BadInput(f"{order!r} isn't an order: use {', '.join(ORDERS)}")
     numbers = list(vector)
@@ -41,9 +61,12 @@ def in_mask_order(vector: Sequence[Fraction], order: Optional[str]) -> list[Frac
             raise BadInput(f"a vector of {len(numbers)} numbers has that of the empty group first, and it isn't 0")
         del numbers[0]
     players = players_of(len(numbers))
-    if order is None and players > 2:
-        raise BadInput("name the order of the vector: size is 1, 2, 3, 12, 13, .., and mask is 1, 2, 12, 3, 13, ..")
+    if order is None and players > 2 and not told:
+        raise BadInput("name the `order` of the vector: size is 1, 2, 3, 12, 13, .., and mask is 1, 2, 12, 3, 13, ..")
     groups = ORDERS[order or "mask"](players)
+    if told and order and told != groups:
+        raise BadInput(f"the headings name the groups in another order than {order}: leave `order` out to read them")
+    groups = told or groups
     place = dict(zip(groups, numbers))
     return [place[group] for group in range(1, len(numbers) + 1)]
 

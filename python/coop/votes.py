@@ -9,22 +9,24 @@ digit v in base 2**bits. So a voter joins by one shift and one sum.
 from __future__ import annotations
 
 from fractions import Fraction
-from math import factorial, gcd
+from math import factorial, gcd, lcm
 from typing import Mapping, Optional, Sequence, Union
 
-from .amounts import Amount, common_denominator, fraction_of, fractions_of, named_items
+from .amounts import Amount, amounts_of, fraction_of, fractions_of, label_of, named_items
 from .errors import BadInput
 
 MOST_VOTERS, MOST_WORK = 1000, 1 << 31  # bits of all counts
 
 
-def shapley(quota: Amount, votes: Union[Mapping[str, Amount], Sequence[Amount]]) -> dict[str, Fraction]:
+def shapley(
+    quota: Amount, votes: Union[Mapping[str, Amount], Sequence[Amount]], *, digits: Optional[int] = None
+) -> dict[str, Fraction]:
     """In what part of all orders of joining each voter decides; those of a list are numbered from 1. A coalition wins
     if its votes reach the quota; votes may have decimals."""
     items = named_items(votes)
-    amounts = fractions_of(votes if items is None else [vote for _, vote in items], None)
-    names = [str(k + 1) for k in range(len(amounts))] if items is None else [name for name, _ in items]
-    need, whole = whole_votes(quota, amounts)
+    amounts = fractions_of(votes, digits) if items is None else amounts_of(votes, items, digits)
+    names = [str(k + 1) for k in range(len(amounts))] if items is None else [label_of(label) for label, _ in items]
+    need, whole = whole_votes(fraction_of(quota, digits), amounts)
     n, total = len(whole), sum(whole)
     if n > MOST_VOTERS:
         raise BadInput(f"{n} voters: at most {MOST_VOTERS} are counted")
@@ -48,18 +50,18 @@ def shapley(quota: Amount, votes: Union[Mapping[str, Amount], Sequence[Amount]])
     return {name: power[vote] for name, vote in zip(names, whole)}
 
 
-def whole_votes(quota: Amount, votes: Sequence[Amount], digits: Optional[int] = None) -> tuple[int, list[int]]:
+def whole_votes(quota: Amount, votes: Sequence[Amount]) -> tuple[int, list[int]]:
     """The least whole quota and votes by which exactly the same coalitions win, that are multiples of those given. All
     are multiplied by a common denominator, and divided by what divides all votes; a quota between two sums of votes is
     the one above."""
-    need, parts = fraction_of(quota, digits), [fraction_of(vote, digits) for vote in votes]
+    need, parts = fraction_of(quota), [fraction_of(vote) for vote in votes]
     if not parts:
         raise BadInput("there are no votes")
     if min(parts) < 0:
         raise BadInput(f"{min(parts)} is below 0")
     if not 0 < need <= sum(parts):
         raise BadInput(f"a quota of {need}, and votes of {sum(parts)} together: it has to be above 0, and within reach")
-    scale = common_denominator(parts)
+    scale = lcm(*(part.denominator for part in parts))
     whole = [int(part * scale) for part in parts]
     common = gcd(*whole)
     return -(-(need * scale).numerator // ((need * scale).denominator * common)), [vote // common for vote in whole]

@@ -73,15 +73,16 @@ class Lists(unittest.TestCase):
     def test_what_is_refused(self) -> None:
         for text, layout, sentence in (
             ("Aer,20,50,3\nBee,40,25,2\n", Layout(), "line 1: is 20,50 one number, with a decimal comma"),
-            ("1;Aer;20;3\n2;Bee;40;2\n", Layout(), "line 1: is 1 the number of the row.*--skip 1"),
-            ("id;airline;need;n\n0;Aer;20;3\n1;Bee;40;2\n", HEADED, "line 2: is 0 the number of the row.*--skip 1"),
+            ("1;Aer;20;3\n2;Bee;40;2\n", Layout(), "line 1: is 1 the number of the row.*skip=1"),
+            ("id;airline;need;n\n0;Aer;20;3\n1;Bee;40;2\n", HEADED, "line 2: is 0 the number of the row.*skip=1"),
             ("Aer,A320,20.50,3\n", Layout(), "20.50 isn't a number of landings; four columns are airline, type, land"),
             ("Aer,20,3\nAer,40,2\n", Layout(), "line 2: Aer is already in line 1; .* give their types"),
             ("Aer,A,3,20\n,B,3,20\n", Layout(), "line 2 has no name"),
             ('Aer,"A320, neo",3,20\n', Layout(), "line 1: the type A320, neo has a comma"),
             ('"Aer, Ltd",,3,20\nBee,B,1,2\n', Layout(), "line 1: Aer, Ltd has a comma but no type"),
             ("Aer,20\n", Layout(), "line 1 has 2 columns instead of 3 or 4"),
-            ("Aer,A,3,20,x\n", Layout(), "line 1 has 5 columns instead of 3 or 4.*--head"),
+            ("Aer,A,3,20,x\n", Layout(), "line 1 has 5 columns instead of 3 or 4.*has_head=True"),
+            ("Aer,3,20\nBee,4,10\n", Layout(), "are 20 the landings of Aer, and does one need 3. Name the columns"),
             (
                 "Airline,Landings,Cost\nAer,3,20\n",
                 Layout(),
@@ -100,6 +101,8 @@ class Lists(unittest.TestCase):
         self.assertEqual(games.landings([("a", 1, 1), ("a", 2, 1)]).names, ["a 1", "a 2"])
         paid = runways.nucleolus((row.airline, row.need, row.landings) for row in landings_in(FEW))
         self.assertEqual((list(paid), sum(paid.values())), (["Aer", "Bee", "Cargo"], 60))
+        with self.assertRaisesRegex(BadInput, "a label is missing"):
+            runways.shapley([(None, 1, 2)])  # type: ignore[list-item]
 
 
 class Sums(unittest.TestCase):

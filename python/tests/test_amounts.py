@@ -94,8 +94,6 @@ class Shown(unittest.TestCase):
         self.assertEqual(Style(2, "EUR")(value), "251,435.71 EUR")
         self.assertEqual(Style(0)(-value), "-251,436")
         self.assertEqual([Style(1)(Fraction(text)) for text in ("1/20", "-1/20", "1/25")], ["0.1", "-0.1", "0.0"])
-        self.assertTrue(Style(2).is_rounded(Fraction(1, 3)))
-        self.assertFalse(Style(2).is_rounded(Fraction(1, 4)) or Style().is_rounded(Fraction(1, 3)))
 
     def test_decimals(self) -> None:
         self.assertEqual(decimal(123456789, 2), "1,234,567.89")

@@ -7,6 +7,7 @@ import re
 import time
 import unittest
 from concurrent.futures import ThreadPoolExecutor
+from dataclasses import replace
 from fractions import Fraction
 from typing import Any, Iterator, Union
 
@@ -38,6 +39,14 @@ class Calls(unittest.TestCase):
         lines: list[Union[str, bytes, answers.Nucleolus]] = [answer, answer.line, answer.line.encode()]
         for line in lines:
             self.assertIsInstance(coop.check(line), answers.Yes)
+        spoilt = replace(answer, shares=dict(answer.shares))
+        spoilt.shares["light"] = Fraction(99)
+        self.assertIsInstance(coop.check(spoilt), answers.No)
+        spoilt.shares["light"] = 1.0  # type: ignore[assignment]
+        with self.assertRaisesRegex(coop.BadInput, "light: 1.0 is a float"):
+            coop.check(spoilt)
+        with self.assertRaisesRegex(coop.BadInput, "int isn't a line, a document, an answer or a game"):
+            coop.check(1)  # type: ignore[arg-type]
         no = coop.check(answer.line.replace('"-1"', '"-2"'))
         assert isinstance(no, answers.No)
         self.assertEqual((no.reason, no.level, no.coalition, bool(no)), (3, 1, ("light",), False))

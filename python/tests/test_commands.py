@@ -85,7 +85,11 @@ class Scripts(unittest.TestCase):
         self.assertIn("--over 1000000000", errors)
         per_head = script("from-vector", "--order", "mask", "--per-head", text="1,2,4\n")[1]
         self.assertEqual(json.loads(per_head)["game"]["excess"], "per-head")
-        self.refused(script("from-vector", text="1,2,4\n"), "--order")
+        self.refused(script("from-vector", text="0,0,0,6,2,2,12\n"), "name the --order of the vector")
+        headed = script("from-vector", text="P,A,B,A+B\n1,1,2,4\n")
+        self.assertEqual(json.loads(headed[1])["game"]["names"], ["A", "B"])
+        self.assertIn("left out the first column, which has names", headed[2])
+        self.refused(script("from-vector", "--order", "size", text="a,b\n1,2\n"), "has headings, use --head")
         self.refused(script("from-vector", "--order", "mask", text="1,2,0.00001\n"), "--digits 4", "--scaled")
         self.refused(
             script("from-vector", "--order", "mask", "--scaled", text="1,2,0.00001\n1,2,3\n"), "different factors"
@@ -351,6 +355,12 @@ class Scripts(unittest.TestCase):
                         json.dump({"game": one}, file)
                     found = script("same-game", "-", path, text=json.dumps({"game": other}))
                     self.assertEqual((found[0], found[1][:40]), (2, "Nobody can say: the program refuses the "), told)
+            named = {**table, "players": 3, "names": ["a", "b", "c"], "sparse": [[["a", "b"], 4], [["b", "c"], 5]]}
+            with open(path, "w", encoding="utf-8") as file:
+                json.dump({"game": named}, file)
+            found = script("same-game", "-", path, text=json.dumps({"game": {**named, "names": ["a", "b", "d"]}}))
+            self.assertIn("they differ at:\n  Name 3: the line has “d”, the agreed file “c”.\n", found[1])
+            self.assertNotIn("the group", found[1])
 
     def test_a_share_of_many_zeros(self) -> None:
         """It is no fraction, and no traceback with the status of a no."""

@@ -50,6 +50,8 @@ class Excesses(unittest.TestCase):
         listed = [(str(entry.excess), entry.group) for entry in excess_list(AIRPORT, NUCLEOLUS.shares)]
         self.assertEqual(listed, [("-1", 1), ("-1", 6), ("-3/2", 3), ("-3/2", 5), ("-5/2", 2), ("-5/2", 4)])
         fine = coop.cost_table({"a": "1.0000001", "b": 2, "a+b": "2.5"})  # whose document has 10^7 times these numbers
+        by_name = dict(zip(reversed(AIRPORT.names), reversed(NUCLEOLUS.shares)))
+        self.assertEqual(excess_list(AIRPORT, by_name), excess_list(AIRPORT, NUCLEOLUS.shares))
         self.assertEqual(excess_list(fine, [Fraction("1.0000001"), Fraction("1.4999999")])[0], Entry(Fraction(0), 1))
         per_head = coop.table([0, 0, 6, 0, 2, 2, 12], order="mask", per_head=True)
         self.assertEqual(excess(per_head, [Fraction(5), Fraction(5), Fraction(2)], 3), -2)

@@ -17,6 +17,8 @@ EXAMPLE = os.path.join(TOP, "python", "examples", "data_frame.py")
 # What readers tried: a Series in another order, and a frame whose column labels are numbers.
 TRIED = """
 import coop, numpy, pandas
+from coop import sensitivity, runways, variants
+estate = coop.bankruptcy(5, pandas.Series([3, 7], index=[17, 3]))
 game = coop.airport({"light": 2, "medium": 4, "heavy": 6})
 shares = pandas.Series(["1", "3/2", "7/2"], index=game.names)
 print(coop.propose(game, shares), coop.propose(game, shares.sort_values(ascending=False)))
@@ -26,12 +28,22 @@ frame = pandas.DataFrame([[1.0, 2, 3.5], [4, 5, 9.25]])
 ways = [lambda: coop.table(frame, order="mask"), lambda: coop.airport(frame), lambda: coop.propose(game, frame),
         lambda: coop.table(frame.to_numpy(), order="mask", digits=2), lambda: coop.tree(frame),
         lambda: coop.landings(frame), lambda: coop.table(groups, order="size"),
-        lambda: coop.airport(pandas.Series([1.0, float("nan")], index=["a", "b"]), digits=2)]
+        lambda: coop.airport(pandas.Series([1.0, float("nan")], index=["a", "b"]), digits=2),
+        lambda: coop.table(pandas.Series([1.0, float("nan")], ["Bray", "Bray+Dart"], name="P017"), digits=2),
+        lambda: coop.table(numpy.array([1.0, float("nan"), 3]), digits=2),
+        lambda: coop.airport(pandas.Series([1, 2], index=[1.5, float("nan")])),
+        lambda: coop.landings([("a", 1, numpy.int64(0))]),
+        lambda: sensitivity.along(estate, ("claim", numpy.int64(1)), -1, 1)]
 for way in ways:
     try:
         print("taken:", way())
     except coop.BadInput as fault:
         print(fault)
+path = sensitivity.along(estate, ("claim", estate_label := pandas.Index([17, 3])[0]), -1, 1)
+three = numpy.int64(3)
+print(estate_label, path.at(0) == sensitivity.along(estate, ("claim", "17"), -1, 1).at(0),
+      variants.without(estate, [17]).names, coop.landings([("Aer", 2, three)]).names,
+      runways.shapley([("Aer", 2, three)]))
 objects = numpy.array(["1/2", 3, None], dtype=object)
 print(coop.airport(objects[:2]).amounts, coop.airport(numpy.float32([0.5, 2]), digits=1).amounts)
 """
@@ -44,7 +56,13 @@ a ndarray of 2 x 3 isn't a list of numbers: one row is one game
 a data frame isn't a list of rows: give the rows that frame.to_numpy().tolist() has
 a data frame isn't a list of rows: give the rows that frame.to_numpy().tolist() has
 `order` is for a vector, not for a mapping; the labels of a Series name the groups: give its .to_numpy()
-nan isn't a number
+b: nan isn't a number
+P017, Bray+Dart: nan isn't a number
+number 2: nan isn't a number
+a label is missing (nan): each number needs a name
+a: 0 isn't a number of landings: give 1 or more
+1 isn't a player: there are 17, 3; give a name, not a place
+17 True ['3'] ['Aer 1', 'Aer 2', 'Aer 3'] {'Aer': Fraction(2, 1)}
 [Fraction(1, 2), Fraction(3, 1)] [Fraction(1, 2), Fraction(2, 1)]
 """
 

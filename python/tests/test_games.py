@@ -77,7 +77,10 @@ class Constructors(unittest.TestCase):
 
     def test_what_is_refused(self) -> None:
         cases: list[tuple[str, Callable[[], Game]]] = [
-            ("missing", lambda: coop.table({"Ann": 1, "Bob": 2})),
+            ("Ann.Bob is missing$", lambda: coop.table({"Ann": 1, "Bob": 2})),
+            ("and 7 more; is x a player. Only one group", lambda: coop.table(
+                {"a": 1, "b": 1, "c": 1, "a+b": 2, "a+c": 2, "b+x": 2, "a+b+c": 3}
+            )),
             ("twice", lambda: coop.table({("Ann", "Bob"): 1, ("Bob", "Ann"): 2}, default=0)),
             ("twice", lambda: coop.table({("Ann", "Ann"): 1}, default=0)),
             ("empty group", lambda: coop.table({(): 1, "Ann": 1})),
@@ -90,6 +93,12 @@ class Constructors(unittest.TestCase):
             ("17 players", lambda: coop.table({str(i): 1 for i in range(17)}, default=0)),
             ("is a float", lambda: coop.airport([0.5])),
             ("below 0", lambda: coop.airport([-1])),
+            ("^b: -1 is below 0", lambda: coop.airport({"a": 1, "b": -1})),
+            ("^the estate: -1 is below 0", lambda: coop.bankruptcy(-1, [1])),
+            ("^b: 'n/a' isn't a number", lambda: coop.voting(1, {"a": 1, "b": "n/a"})),
+            ("^number 2: 0.5 is a float", lambda: coop.airport([1, 0.5])),
+            ("1 isn't a player: there are 2, 17; give", lambda: coop.table({(1,): 1, (2,): 2, (1, 2): 3}, ["2", "17"])),
+            ("a label is missing .None.", lambda: coop.airport({None: 1})),  # type: ignore[dict-item]
             ("is given twice", lambda: coop.airport([1, 2], ["a", "a"])),
             ("no name", lambda: coop.airport([1, 2], ["a", "ü" * 33])),
             ("no name", lambda: coop.airport([1, 2], ["a", ""])),
@@ -99,8 +108,10 @@ class Constructors(unittest.TestCase):
             ("as many columns", lambda: coop.tree([[0, 1]])),
             ("rows of the same length", lambda: coop.assignment([[1, 2], [3]])),
             ("1.5 is a float", lambda: coop.voting(1.5, [1, 2])),
+            ("reach", lambda: coop.voting(1.5, [0.25, 0.5], digits=2)),
             ("64 landings", lambda: coop.landings([("Aer", 1, 65)])),
             ("number of landings", lambda: coop.landings([("Aer", 1, 0)])),
+            ("a label is missing .None.", lambda: coop.landings([(None, 1, 2)])),  # type: ignore[list-item]
             ("2.40", lambda: coop.airport([2**40])),
         ]
         for sentence, make in cases:

@@ -126,7 +126,7 @@ class Pandas(unittest.TestCase):
             answer.to_pandas(places=2)
         names = ["a", "b", "c"]
         self.assertEqual(made[0], ([Fraction(1, 3)] * 3, names, "shapley", object))
-        self.assertEqual(made[1], ([0.33, 0.33, 0.33], names, "shapley", float))
+        self.assertEqual(made[1], ([0.34, 0.33, 0.33], names, "shapley", float))
 
     def test_what_has_no_shares(self) -> None:
         """An empty Series, so that rows of all kinds make a data frame."""

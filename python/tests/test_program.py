@@ -13,7 +13,7 @@ from typing import Any
 
 from coop import Fault, NotFound
 from coop.library import Call, Library, _running, end_calls
-from coop.machine import run_elsewhere, spawned, which
+from coop.machine import spawned, which
 from coop.program import TOP, Command, find, named, said
 from coop.version import VERSION
 
@@ -195,10 +195,9 @@ class Running(unittest.TestCase):
         with tempfile.TemporaryDirectory() as folder:
             echo = executable(folder, "echo", 'printf "%s:" "$@"; cat; exit 3')
             long = os.urandom(1 << 20)
-            for run in (spawned, run_elsewhere):
-                self.assertEqual(run([echo, "a", "b c"], long), (3, b"a:b c:" + long))
-                self.assertEqual(run([executable(folder, "killed", "kill -9 $$")], b""), (-9, b""))
-                self.assertEqual(run([executable(folder, "deaf", "exit 7")], long), (7, b""))
+            self.assertEqual(spawned([echo, "a", "b c"], long), (3, b"a:b c:" + long))
+            self.assertEqual(spawned([executable(folder, "killed", "kill -9 $$")], b""), (-9, b""))
+            self.assertEqual(spawned([executable(folder, "deaf", "exit 7")], long), (7, b""))
             open_before = len(os.listdir("/proc/self/fd")) if os.path.exists("/proc/self/fd") else 0
             for _ in range(5):
                 spawned([echo], b"x")

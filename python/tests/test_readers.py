@@ -2,6 +2,7 @@
 import unittest
 from fractions import Fraction
 from itertools import combinations
+from pathlib import Path
 from random import Random
 from typing import Callable, Iterable
 from unittest.mock import patch
@@ -9,11 +10,10 @@ from unittest.mock import patch
 from coop import BadInput
 from coop.desk.costing import doubts, remarks, told
 from coop.filling import above_larger, cheapest, cheapest_cover
-from coop.desk.plainly import Plainly
 from coop.readers import claims, groups, landings, left_out, vectors
 from coop.sheets import Layout, notes
 from coop.desk.typed import number
-from coop.styles import EXACT
+from coop.styles import EXACT, Plainly
 
 from .asking import needs_node
 
@@ -48,6 +48,7 @@ class Readers(unittest.TestCase):
             ("a,3\nb,4\na & b,6\n", False, "; is a & b, in line 3, the group a\\+b\\? Write \\+ between members"),
             ("a;3\nb;4\na und b;6\n", True, "; is a und b, in line 3, the group a\\+b"),
             ("a,3\nb,4\na+b,6\nTotal,13\n", False, "; is Total, in line 4, the row of the sum"),
+            ("a,3\nb,4\nc,4\na+b,6\nAll,9\n", False, "; is All, in line 5, all of them together\\? Write a\\+b\\+c"),
             ("a,3\nb,4\n", False, "takes the cheapest split\\)$"),
         ):
             with self.assertRaisesRegex(BadInput, sentence):
@@ -152,6 +153,30 @@ class Readers(unittest.TestCase):
         self.assertEqual([game.tree["worths"] for game in with_head], [[1, 2, 4]])
         self.assertEqual(next(vectors("0.25,1,1", "mask", digits=1, kind="cost-table")).tree["worths"], ["1/5", 1, 1])
 
+    def test_headings_that_name_the_groups(self) -> None:
+        """As a pivot has them by the alphabet: they give names and order, or are refused, and are never left out."""
+        head, row = "A,A+B,A+B+C,A+C,B,B+C,C", "1,12,123,13,2,23,3"
+        by_mask = [1, 2, 12, 3, 13, 23, 123]
+        for text, order in (
+            (f"{head}\n{row}", None), (f",{head}\nP1,{row}", None), (f"project,{head}\nP1,{row}", None),
+            (f"{head}\n0,{row}".replace(",", " "), None), (f"{{}},{head}\n0,{row}", None),
+            ("A,B,C,A+B,A+C,B+C,A+B+C\n1,2,3,12,13,23,123", "size"), ("A,B,AB,C,AC,BC,ABC\n1,2,12,3,13,23,123", "mask"),
+        ):
+            game, = vectors(text, order)
+            self.assertEqual((game.names, game.tree["worths"]), (["A", "B", "C"], by_mask), text)
+        digits, = vectors(",1,12,2\nP1,1,4,2", names=["Ann", "Bob"])
+        self.assertEqual((digits.names, digits.tree["worths"]), (["Ann", "Bob"], [1, 2, 4]))
+        for text, order, names, sentence in (
+            (f",{head}\nP1,{row}", "size", None, "the headings name the groups in another order than size: leave"),
+            (f",{head}\nP1,{row}", None, ["A", "B", "D"], "the headings name other players: A, B, C"),
+            (",Ash,Bray,Ash.Bray\nP1,1,2,4", "size", None, "the headings don't name the groups .Ash, Bray, Ash.Bray"),
+            (",A,B,A+C\nP1,1,2,4", "size", None, "name each group once, as Ann, Bob, Ann.Bob, or leave the row of"),
+            (f"{head}\n{row},4,5", None, None, "9 numbers below 7 headings"),
+            (f",V1,V2,V3,V4,V5,V6,V7\nP1,{row}", None, None, "name the `order` of the vector"),
+        ):
+            with self.assertRaisesRegex(BadInput, sentence):
+                list(vectors(text, order, names=names))
+
     def test_claims_and_landings(self) -> None:
         estate = claims("Adler,1200.50\nBrandt,800\n", "2000")
         tree = {
@@ -165,6 +190,7 @@ class Readers(unittest.TestCase):
         self.assertEqual(landings("Aer,20,2\nBee,40,1\n").tree["names"], ["Aer 1", "Aer 2", "Bee 1"])
 
     def test_what_is_refused(self) -> None:
+        name = Path(__file__).name
         cases: list[tuple[str, Callable[[], object]]] = [
             ("line 1 has a semicolon", lambda: groups("Sales;7,50\nOps,8\n")),
             ("line 1: 'cost' isn't a number.*; if this line has headings", lambda: groups("group,cost\na,1\n")),
@@ -180,6 +206,10 @@ class Readers(unittest.TestCase):
             ("line 2: 5 numbers: a vector has", lambda: list(vectors("1,2,3\n1,2,3,4,5\n", "mask"))),
             ("line 1: .* isn't a number", lambda: list(vectors("v1,v2,v3\n1,2,3\n", "mask"))),
             ("no line", lambda: list(vectors("\n", "mask"))),
+            (f"is the name of a file: give its text, such as open.*{name}", lambda: list(vectors(__file__, "mask"))),
+            (f"is the name of a file: give its text, such as open.*{name}", lambda: groups(__file__)),
+            (f"is the name of a file: give its text, such as open.*{name}", lambda: landings(__file__)),
+            ("is the name of a file", lambda: claims(Path(__file__), 1)),  # type: ignore[arg-type]
         ]
         for sentence, read in cases:
             with self.assertRaisesRegex(BadInput, sentence):
@@ -236,7 +266,7 @@ class Sheets(unittest.TestCase):
         ):
             self.assertEqual(claims(text, estate, layout=layout).tree["estate"], wanted, (text, estate))
         for text, estate, layout, sentence in (
-            ("A,480\nB,400\n", "400.000", Layout(), "the estate: 400.000 may be 400 or 400000.*--decimal"),
+            ("A,480\nB,400\n", "400.000", Layout(), "the estate: 400.000 may be 400 or 400000.*decimal=.."),
             ("A;480\nB;400\n", "1.500", Layout(), "the estate: 1.500 may be 1.5 or 1500"),
             ("A;480.000\nB;400.000\n", "500.000", Layout(), "line 1: 480.000 may be"),
             (
@@ -296,13 +326,13 @@ class Sheets(unittest.TestCase):
             self.assertIn("left out the first row and the first column", notes(text, 2, Layout())[0])
         self.assertEqual(self.claims("1,Adler,1200.5\n2,Brandt,800\n", Layout(skip=1)), wanted)
         for text, sentence in (
-            ("1,Adler,1200.5\n2,Brandt,800\n", "line 1 has 3 columns instead of 2: is the first one .* --skip 1"),
+            ("1,Adler,1200.5\n2,Brandt,800\n", "line 1 has 3 columns instead of 2: is the first one .*skip=1"),
             (",5,7\nAdler,1,2\n", "line 1 has 3 columns instead of 2: is 5,7 one number, with a decimal comma"),
             (
                 "Adler,1200,50\nBrandt,800\n",
                 "line 1 has 3 columns instead of 2: is 1200,50 one number, with a decimal comma",
             ),
-            ("2024-01-15,Adler,1200\n", "line 1 has 3 columns instead of 2: write Adler.* --skip"),
+            ("2024-01-15,Adler,1200\n", "line 1 has 3 columns instead of 2: write Adler.*Layout.skip="),
             (",name,claim\nAdler,1\n", "line 1 has 3 columns"),
         ):
             with self.assertRaisesRegex(BadInput, sentence):
@@ -330,13 +360,13 @@ class Sheets(unittest.TestCase):
         for cell in ("1.200,50 \u20ac", "\u20ac 12", "12 EUR", "$12"):
             with self.assertRaisesRegex(BadInput, "isn't a number.*; leave out units and currency signs"):
                 self.claims(f"A;{cell}\n")
-        for text, sentence in (("Cost 2024;x\nA;1\n", "'x' isn't a .* --head$"), ("A;2024-01-15\n", "--head$")):
+        for text, sentence in (("Cost 2024;x\nA;1\n", "'x' isn't a .*has_head=True.$"), ("A;2024-01-15\n", "=True.$")):
             with self.assertRaisesRegex(BadInput, sentence):
                 self.claims(text)
         with self.assertRaisesRegex(BadInput, "65 claims: an estate has at most 64"):
             self.claims("".join(f"p{i};1\n" for i in range(65)))
         dated = "date,v1,v2,v3\n2024-01-15,1,2,4\n"
-        with self.assertRaisesRegex(BadInput, "line 2: '2024-01-15' isn't a number.* --skip 1$"):
+        with self.assertRaisesRegex(BadInput, "line 2: '2024-01-15' isn't a number.*skip=1.$"):
             list(vectors(dated, "size", layout=Layout(has_head=True)))
         vector = next(vectors("sep=;\n1;2;1\u00a0200,5\n", "mask"))
         self.assertEqual(vector.tree["worths"], [1, 2, "2401/2"])
@@ -359,10 +389,14 @@ class Sheets(unittest.TestCase):
         for text, layout in tables:
             self.assertEqual([game.tree["worths"] for game in vectors(text, "size", layout=layout)], wanted, text)
         self.assertIn("left out the first row and the first column", left_out(tables[0][0], Layout())[0])
-        counted = left_out("0,1,2,3,4,5,6\n" + rows[1], Layout())[0]
-        self.assertIn("the first row, 0, 1, 2, .., is read as a game", counted)
+        for first in ("0,1,2,3,4,5,6", "1,2,12,3,13,23,123"):
+            with self.assertRaisesRegex(BadInput, "line 1: are [01], [12], (2|12), .. headings, and no game"):
+                list(vectors(f"{first}\n{rows[1]}", "size"))
         self.assertEqual(left_out("\n".join(rows), Layout()), [])
-        with self.assertRaisesRegex(BadInput, "it isn't 0; if the first column has names, use --skip 1"):
+        self.assertEqual(left_out("project,Ann,Bob,Ann+Bob\nP1,1,2,4\n", Layout()), [
+            "left out the first column, which has names"
+        ])
+        with self.assertRaisesRegex(BadInput, "it isn't 0; if the first column has names, use Layout.skip=1"):
             list(vectors("\n".join(named), "size"))
 
 

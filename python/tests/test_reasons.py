@@ -4,6 +4,7 @@ import unittest
 from typing import Any, Optional
 
 from coop.desk.reasons import checked, reasons
+from coop.desk.report import report
 from coop.styles import EXACT, Style
 from coop import BadInput
 
@@ -66,8 +67,10 @@ def spoilt(level: int, **changes: Any) -> dict[str, Any]:
     return document
 
 
-PAIRS = {"excess": "-2", "coalitions": [[[1, 2], 1], [[1, 3], 1], [[2, 3], 1]], "earlier": [], "bounds": [], "total": 2}
-THIRDS = {
+PAIRS: dict[str, Any] = {
+    "excess": "-2", "coalitions": [[[1, 2], 1], [[1, 3], 1], [[2, 3], 1]], "earlier": [], "bounds": [], "total": 2
+}
+THIRDS: dict[str, Any] = {
     "answer": "nucleolus",
     "certificate": {"mode": "span", "levels": [PAIRS]},
     "game": {"class": "table", "players": 3, "worths": [0, 0, 0, 0, 0, 0, 3]},
@@ -143,9 +146,9 @@ SENTENCES: list[tuple[Any, Any, str]] = [
         {"answer": "not prekernel", "i": 1, "ij": "-95/6", "j": 2, "ji": "-40/3"},
         {"game": TRIO, "shares": ["125/3", "325/6", "145/6"]},
         (
-            "p has a better hold on s. Of the groups with s and without p the greatest excess is −95/6 (about −15.83) "
-            "(s and d together); of those with p and without s the greatest excess is −40/3 (about −13.33) (p and d "
-            "together)."
+            "p has a better hold on s. Of the groups with s and without p the greatest excess is −15.83 (exactly "
+            "−95/6) (s and d together); of those with p and without s the greatest excess is −13.33 (exactly −40/3) (p "
+            "and d together)."
         ),
     ),
     (
@@ -285,7 +288,7 @@ class Reasons(unittest.TestCase):
         self.assertIn("- medium pays 1.50 EUR, 0.50 EUR more than the earlier ones.", text)
         self.assertNotIn("rounded", text)
         self.assertIn("medium pays 1,5 kr, ", said(solved(), say=Style(1, "kr", ","))[0])
-        self.assertIn("Rounding. Each number is rounded by itself", said(FOUR, say=Style(0))[0])
+        self.assertIn("Rounding. The shares are rounded so that they add up", said(FOUR, say=Style(0))[0])
 
     def test_a_share_is_rounded_once(self) -> None:
         """The shares of an answer have the table's decimals, which add up."""
@@ -294,6 +297,24 @@ class Reasons(unittest.TestCase):
         beside = {"game": {**AIRPORT, "costs": [6, 6, 2]}, "shares": ["2/3", "8/3", "8/3"]}
         blocked = said({"answer": "blocked", "coalition": [3], "excess": "2/3"}, beside, Style(0))[0]
         self.assertIn("It pays 2, where", blocked)
+        thirds = {**THIRDS, "game": {**THIRDS["game"], "worths": [0] * 6 + [10]}, "shares": ["10/3"] * 3}
+        alone: dict[str, Any] = {"coalitions": [[[1], 1], [[2], 1], [[3], 1]], "excess": "-10/3"}
+        thirds["certificate"] = {"mode": "span", "levels": [{**PAIRS, **alone, "total": 1}]}
+        told = said(thirds, say=Style(2))[0]
+        self.assertIn("gets at least about 3.33 more than it is worth by itself. Among the worst off of these:", told)
+        self.assertIn("is settled: player 1 gets 3.34; player 2 and player 3 get 3.33 each.", told)
+        paper = report(thirds, "", Style(2))
+        self.assertIn("player 1 gets 3.34; player 2 and player 3 get 3.33 each.", paper)
+        self.assertIn("<td>3.34</td><td>10/3</td>", paper)
+
+    def test_a_rule_is_rounded_once(self) -> None:
+        """The parts of a runway's rule are those of the table, and what is rounded is about so much."""
+        costs = {**AIRPORT, "costs": [2, 4, 5]}
+        told = said({**solved(), "game": costs, "shares": ["1", "3/2", "5/2"]}, say=Style(0))
+        self.assertEqual(told[1], 0)
+        self.assertIn("- medium pays 2, about 1 more than the earlier ones. A runway", told[0])
+        self.assertIn("- heavy pays 2, about 1 more than the earlier ones. The runway for all costs 5. "
+                      "The 2 earlier ones pay about 3, so about 3 is left.", told[0])
 
     def test_shares_that_werent_judged(self) -> None:
         blocked = {"answer": "blocked", "coalition": [1], "excess": "1"}

@@ -46,12 +46,16 @@ class Runways(unittest.TestCase):
         for rule in (runways.nucleolus, runways.shapley):
             self.assertEqual(sum(rule(rows).values()), 1000 + 47 * 47)
 
+    def test_floats(self) -> None:
+        for rule in (runways.nucleolus, runways.shapley):
+            self.assertEqual(rule([("a", 0.1 + 0.2, 1)], digits=1), {"a": Fraction(3, 10)})
+
     def test_what_is_refused(self) -> None:
         for rows, sentence in (
             ([], "the list has no landing"),
             ([("a", 1, 0)], "a: 0 isn't a number of landings"),
-            ([("a", -1, 1)], "-1 is below 0"),
-            ([("a", 1.5, 1)], "1.5 is a float"),
+            ([("a", -1, 1)], "a: -1 is below 0"),
+            ([("a", 1.5, 1)], "a: 1.5 is a float"),
         ):
             for rule in (runways.nucleolus, runways.shapley):
                 with self.assertRaisesRegex(BadInput, sentence):

@@ -11,6 +11,7 @@ from coop.amounts import Amount
 from coop.answers import answer_of
 from coop.errors import BadInput, Fault
 from coop.desk.grounds import told
+from coop.families import game as game_of
 from coop.masks import members
 from coop.moving import Moving
 from coop.places import what_moves
@@ -23,6 +24,7 @@ from .test_excesses import drawn_games
 
 RUNWAY = coop.airport({"light": 2, "medium": 4, "heavy": 6})
 ESTATE = coop.bankruptcy(200, {"Anna": 100, "Bert": 200, "Cleo": 300})
+LABELLED = coop.bankruptcy(200, {0: 100, 1: 200, 2: 300})  # type: ignore[dict-item]
 NETWORK = coop.tree([[0, 10, 10], [10, 0, 1], [10, 1, 0]], ["harbour", "mill"])
 MARKET = coop.assignment([[8, 5], [7, 6]], ["Ann", "Ben", "house", "flat"])
 AIRLINES = coop.landings([("Aer", 2, 3), ("Bee", 4, 1)])
@@ -256,14 +258,17 @@ class Paths(unittest.TestCase):
     def test_what_is_refused(self) -> None:
         cases: list[tuple[str, coop.Game, Any, Amount, Amount, str]] = [
             ("17 players: a table has at most 16", coop.voting(2, [1] * 17), "1", 0, 1, "nucleolus"),
-            ("'quota' isn't a player; of a vote name a group: who wins jumps", VOTE, "quota", 0, 1, "nucleolus"),
-            ("'votes' isn't a player; of a vote", VOTE, ("votes", "a"), 0, 1, "nucleolus"),
+            ("quota isn't a player: there are a, b, c; of a vote name a group: who", VOTE, "quota", 0, 1, "nucleolus"),
+            ("votes isn't a player: .*; of a vote", VOTE, ("votes", "a"), 0, 1, "nucleolus"),
             ("no pair of a buyer and a seller", coop.market([[1]]), ("pair", "2", "1"), 0, 1, "nucleolus"),
             ("2 isn't below 2", ESTATE, "estate", 2, 2, "nucleolus"),
             ("2 isn't below 1", ESTATE, "estate", 2, 1, "nucleolus"),
             ("after a change of -1 there is no imputation", NO_DIVISION, "a", -1, 0, "nucleolus"),
             ("a member of 'n.n' is there twice", VALLEY, "n+n", 0, 1, "nucleolus"),
-            ("a member of .* is there twice", VALLEY, ("n", 1), 0, 1, "nucleolus"),
+            ("1 isn't a player: there are n, f, p; give a name, not a place", VALLEY, ("n", 1), 0, 1, "nucleolus"),
+            ("1 isn't a player: there are light, ", RUNWAY, ("cost", 1), 0, 1, "nucleolus"),
+            ("1 isn't a player: there are harbour, ", NETWORK, ("link", 0, 1), 0, 1, "nucleolus"),
+            ("True isn't a player", coop.airport([1, 2]), ("cost", True), 0, 1, "nucleolus"),
             ("'f.n' is a number that was named before", VALLEY, {"n+f": 1, "f+n": 1}, 0, 1, "nucleolus"),
             ("'Aer 1' is a number that was named before", AIRLINES, {"Aer": 1, "Aer 1": 1}, 0, 1, "nucleolus"),
             ("is no number of such a game", ESTATE, (), 0, 1, "nucleolus"),
@@ -277,7 +282,7 @@ class Paths(unittest.TestCase):
             ("the cost of light is below 0", RUNWAY, "light", -3, 0, "nucleolus"),
             ("the link of harbour and mill is below 0", NETWORK, ("link", "harbour", "mill"), -2, 0, "nucleolus"),
             ("after a change of 200000 there is no imputation", VALLEY, "n+f+p", 0, 200000, "nucleolus"),
-            ("'x' isn't a player", ESTATE, ("claim", "x"), 0, 1, "nucleolus"),
+            ("x isn't a player: there are Anna", ESTATE, ("claim", "x"), 0, 1, "nucleolus"),
             ("is no number of such a game", ESTATE, ("cost", "Anna"), 0, 1, "nucleolus"),
             ("needs two ends", NETWORK, ("link", "mill", "mill"), 0, 1, "nucleolus"),
             ("no pair of a buyer and a seller", MARKET, ("pair", "house", "Ann"), 0, 1, "nucleolus"),
@@ -308,9 +313,13 @@ class Ranges(unittest.TestCase):
     def test_names(self) -> None:
         """However a number is asked for, it has the names of `what_moves`."""
         asked: list[tuple[coop.Game, Any, tuple[str, ...]]] = [
-            (ESTATE, "Anna", ("claim", "Anna")), (ESTATE, ["claim", 1], ("claim", "Anna")), (VALLEY, "p+n", ("n", "p")),
+            (ESTATE, "Anna", ("claim", "Anna")), (ESTATE, ["claim", "Bert"], ("claim", "Bert")),
+            (VALLEY, "p+n", ("n", "p")),
             (NETWORK, ("link", "mill", 0), ("link", "source", "mill")), (AIRLINES, "Aer", ("cost", "Aer")),
-            (MARKET, ("pair", 2, "flat"), ("pair", "Ben", "flat")),
+            (MARKET, ("pair", "Ben", "flat"), ("pair", "Ben", "flat")), (LABELLED, ("claim", 1), ("claim", "1")),
+            (LABELLED, 0, ("claim", "0")),
+            (coop.landings([("17", 2, 2), ("3", 4, 1)]), ("cost", 17), ("cost", "17")),
+            (coop.assignment([[1]]), ("pair", 1, 2), ("pair", "1", "2")),
         ]
         for game, what, names in asked:
             self.assertEqual([found.what for found in ranges(game, [what])], [names])
@@ -324,6 +333,7 @@ class Ranges(unittest.TestCase):
             ("'Aer' is several numbers", unlike, ["Aer"]),
             ("before the change there is no imputation", NO_DIVISION, ["a"]),
             ("str isn't a game", "game", None),  # type: ignore[list-item]
+            ("the game has 65535 numbers, and at most 255 are moved unasked: name some", game_of("III", 16, 1), None),
         ]
         for sentence, game, some in cases:
             with self.assertRaisesRegex(BadInput, sentence):

@@ -3,6 +3,7 @@ import contextlib
 import os
 import pickle
 import shutil
+import shlex
 import signal
 import subprocess
 import sys
@@ -218,6 +219,19 @@ class Ends(unittest.TestCase):
             Server(["sleep", "30"], 1, seconds=0.3).run(["core"], AIRPORT)
         self.assertEqual(found.exception.status, 124)
         self.assertLess(time.monotonic() - begun, 20)
+
+    def test_killed_within_its_first_request(self) -> None:
+        """A new process is asked in its place, unless it happens each time."""
+        killed = "os.read(0, 8); os.kill(os.getpid(), 9)"
+        with tempfile.TemporaryDirectory() as folder:
+            first = shlex.join(speaking(killed))
+            once = f"mkdir {folder}/once 2>/dev/null && exec {first}; exec {shlex.join(COMMAND)}"
+            server = Server(["sh", "-c", once], 1)
+            self.assertEqual(server.run(["core"], AIRPORT), (0, CORE))
+            server.close()
+        with self.assertRaises(Fault) as found:
+            Server(speaking(killed), 1).run(["core"], AIRPORT)
+        self.assertEqual(found.exception.status, -9)
 
     def test_killed_while_it_begins(self) -> None:
         """It is begun again, unless it happens each time."""

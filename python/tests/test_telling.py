@@ -10,12 +10,14 @@ from typing import Any
 from subprocess import PIPE
 from unittest.mock import patch
 
-from coop import BadInput, Fault, NotFound, telling
+from coop import BadInput, Fault, Game, NotFound, checking, telling
+from coop.answers import answer_of
+from coop.desk.reasons import reasons
 from coop.program import TOP
 from coop.server import Server
 
 from .asking import needs_node
-from .test_reasons import solved
+from .test_reasons import AIRPORT, solved
 
 ANSWERS = (
     "import os, struct\nos.write(1, bytes(8))\nwhile head := os.read(0, 8):\n"
@@ -27,6 +29,22 @@ ANOTHER = "line = b'{\"usage\":\"words\"}'; os.write(1, struct.pack('<II', 2, le
 def by(code: str) -> Any:
     """The processes of Node in the place of which one of Python runs some code at each request."""
     return patch("coop.telling.page_server", lambda: Server([sys.executable, "-c", ANSWERS.format(code)]))
+
+
+class Told(unittest.TestCase):
+    @needs_node
+    def test_however_it_is_given(self) -> None:
+        """A line or a game as a text, as bytes, as an answer or as itself."""
+        line = json.dumps(solved())
+        game = Game(AIRPORT)
+        answer = answer_of(line, 0, game)
+        things: list[Any] = [line, line.encode(), answer]
+        for thing in things:
+            self.assertTrue(telling.same(game, thing))
+            self.assertEqual(checking.verdict(thing)["answer"], "yes")
+            self.assertEqual(reasons(thing), reasons(line.encode()))
+        with self.assertRaisesRegex(BadInput, "NoneType isn't a line, a document, an answer or a game"):
+            telling.same(game, None)
 
 
 class Processes(unittest.TestCase):
@@ -125,8 +143,8 @@ class Texts(unittest.TestCase):
         line, document = '{"answer":"blocked","coalition":[1],"excess":"4/3"}', json.dumps({"game": solved()["game"]})
         spelled: list[dict[str, Any]] = [{"places": 1, "unit": "kr", "mark": ",", "thousands": "."}, {}]
         first, second = (telling.parts(line, document, "", settings)[0]["sentences"][0] for settings in spelled)
-        self.assertEqual(first, "light alone could do better without the others, by 1,3 kr.")
-        self.assertEqual(second, "light alone could do better without the others, by 4/3 (about 1.33).")
+        self.assertEqual(first, "light alone could do better without the others, by about 1,3 kr.")
+        self.assertEqual(second, "light alone could do better without the others, by 1.33 (exactly 4/3).")
 
     def test_a_document_of_8_mb(self) -> None:
         """Of a line as long as any there may be, and one that is longer."""

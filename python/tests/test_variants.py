@@ -2,6 +2,7 @@
 import random
 import unittest
 from fractions import Fraction
+from typing import Any
 
 import coop
 from coop.masks import mask_of, members
@@ -33,7 +34,10 @@ class Variants(unittest.TestCase):
         self.assertEqual(without(coop.airport([2, 4]), ["1"]).tree, {"class": "airport", "costs": [4]})
         with self.assertRaisesRegex(coop.BadInput, r"isn't a player: \\u03ac looks like it \(\\u03b1\\u0301\)"):
             without(coop.airport({"\u03ac": 1, "b": 2}), ["\u03b1\u0301"])
-        cases = [(["x"], "x isn't a player"), (game.names, "no player stays")]
+        cases: list[tuple[Any, str]] = [
+            (["x"], "x isn't a player"), (game.names, "no player stays"), ("heavy", "isn't a list of names"),
+            ([1], "1 isn't a player: there are light, medium, heavy; give a name, not a place"),
+        ]
         for leaving, sentence in cases:
             with self.assertRaisesRegex(coop.BadInput, sentence):
                 without(game, leaving)

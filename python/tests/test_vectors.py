@@ -49,7 +49,7 @@ class Orders(unittest.TestCase):
     def test_the_order_has_to_be_named(self) -> None:
         """The numbers of savings-per-head.json, by size: of the two orders only one is that game."""
         for make in (coop.table, coop.cost_table):
-            with self.assertRaisesRegex(BadInput, "name the order"):
+            with self.assertRaisesRegex(BadInput, "name the `order` of the vector"):
                 make([0, 0, 0, 6, 2, 2, 12])
             with self.assertRaisesRegex(BadInput, "`order` is for a vector"):
                 make({1: 1}, order="mask")

@@ -52,6 +52,17 @@ class Version(unittest.TestCase):
         places = {**maker().REPEATED, **MADE}
         self.assertEqual(numbers_in(TOP, places), {name: [VERSION] for name in places})
 
+    def test_the_sums(self) -> None:
+        """If the newest section of the changelog has sums, they are those of what the repository has."""
+        with open(os.path.join(TOP, "CHANGELOG.md"), encoding="utf-8") as file:
+            newest = file.read().split("\n## ")[1]
+        written = dict(re.findall(r"^\| (.*) \| `(\w+)` \|$", newest, re.MULTILINE))
+        if "### Checksums" in newest:
+            self.assertIn("the program", written)
+            found = maker().data_inside(TOP, VERSION).items()
+            sums = {name: hashlib.sha256(data).hexdigest() for name, data in found}
+            self.assertEqual({**written, **sums}, written, "tools/make/make-version --sums writes them")
+
 
 class Making(unittest.TestCase):
     def setUp(self) -> None:

@@ -42,6 +42,8 @@ class Votes(unittest.TestCase):
         })
         self.assertEqual(votes.shapley("0.5", {"a": "0.3", "b": "0.7"}), {"a": 0, "b": 1})
         self.assertEqual(set(votes.shapley(2, [1, "1.5", 1]).items()), {(name, Fraction(1, 3)) for name in "123"})
+        self.assertEqual(votes.shapley(0.5, [0.3, 0.7], digits=1), {"1": 0, "2": 1})
+        self.assertEqual(coop.voting(0.5, [0.3, 0.7], digits=1), coop.voting(5, [3, 7]))
         hundred = votes.shapley(51, {str(k): 1 for k in range(100)})
         self.assertEqual(set(hundred.values()), {Fraction(1, 100)})
         refused: list[tuple[str, int, dict[str, Amount]]] = [

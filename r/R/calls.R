@@ -8,9 +8,11 @@ core <- function(game, ...) answer_or_stop("core", as_game(game, ...))
 convex <- function(game, ...) answer_or_stop("convex", as_game(game, ...))
 matching <- function(game, ...) answer_or_stop("matching", as_game(game, ...))
 propose <- function(game, shares, ..., share_digits = 4)
-  answer_or_stop("propose", as_game(game, ...), proposed(shares, share_digits))
+  judged("propose", as_game(game, ...), shares, share_digits)
 kernel <- function(game, shares, ..., share_digits = 4)
-  answer_or_stop("kernel", as_game(game, ...), proposed(shares, share_digits))
+  judged("kernel", as_game(game, ...), shares, share_digits)
+judged <- function(command, game, shares, digits)
+  answer_or_stop(command, game, proposed(shares, digits, game$names))
 
 check <- function(answer) {
   line <- if (is.character(answer)) answer else attr(answer, "line")
@@ -52,9 +54,15 @@ asked <- function(command, document) {
 document_of <- function(game, shares = NULL)
   sprintf('{"game":%s%s}', game$text, if (is.null(shares)) "" else paste0(',"shares":', array_of(shares)))
 
-# Shares that are proposed: those of an answer, as exact as they are; texts; or numbers, rounded to so many digits.
-proposed <- function(shares, digits) {
+# Shares that are proposed: those of an answer, as exact as they are; texts; or numbers, rounded to so many digits. Those
+# with names are the players' of these names; of a game without names as they come.
+proposed <- function(shares, digits, players) {
   texts <- if (!is.null(exact(shares))) exact(shares) else shares
+  called <- names(texts)
+  if (!is.null(called) && setequal(called, players) && length(called) == length(players))
+    texts <- texts[match(players, called)]
+  else if (!is.null(called) && !identical(players, as.character(seq_along(players))))
+    stop("give a share to each of these names, each once: ", paste(players, collapse = ", "))
   numbers_of(unname(texts), if (is.character(texts)) 0 else digits)
 }
 
@@ -121,6 +129,14 @@ print.coop_shares <- function(x, ...) {
   values <- stats::setNames(as.numeric(x), names(x))[i]
   structure(values, exact = exact(x)[i], class = "coop_shares")
 }
+
+# What is changed in shares, or computed of them, is numbers: fractions and line were those of the answer.
+plain <- function(x) if (inherits(x, "coop_shares")) stats::setNames(as.numeric(x), names(x)) else x
+`[<-.coop_shares` <- function(x, i, value) `[<-`(plain(x), i, value)
+`[[<-.coop_shares` <- function(x, i, value) `[[<-`(plain(x), i, value)
+Math.coop_shares <- function(x, ...) get(.Generic)(plain(x), ...)
+Ops.coop_shares <- function(e1, e2)
+  if (missing(e2)) get(.Generic)(plain(e1)) else get(.Generic)(plain(e1), plain(e2))
 
 print.coop_answer <- function(x, ...) {
   cat(attr(x, "line"), "\n", sep = "")

@@ -3,6 +3,7 @@
 table_game <- function(v, names = NULL, costs = FALSE, digits = 0, per_head = FALSE) {
   n <- log2(length(v) + 1)
   if (n != round(n) || n < 1 || n > 16) stop("a vector has 2^n - 1 numbers, n from 1 to 16, without the empty group")
+  if (any(grepl("+", base::names(v), fixed = TRUE))) stop("names of groups aren't read: give unname(v), by size")
   fields <- sprintf('"players":%d,"worths":%s', n, array_of(numbers_of(v[by_mask(n)], digits)))
   game_of(if (costs) "cost-table" else "table", fields, n, names, per_head, costs)
 }

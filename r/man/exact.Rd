@@ -10,7 +10,8 @@ holds(x)
 \arguments{
   \item{x}{an answer.}
 }
-\value{\code{exact}: texts such as \code{"9/2"}, by the names of the players. \code{holds}: true or false.}
+\value{\code{exact}: texts such as \code{"9/2"}, by the names of the players; \code{NULL} of shares that were
+changed or computed with. \code{holds}: true or false.}
 \examples{
 exact(nucleolus(c(0, 0, 0, 6, 2, 2, 12)))
 }

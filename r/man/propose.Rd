@@ -16,7 +16,8 @@ check(answer)
 }
 \arguments{
   \item{game}{a game, or a vector by size, as in \code{\link{nucleolus}}.}
-  \item{shares}{an answer, whose exact fractions are taken; texts such as \code{"9/2"}; or numbers.}
+  \item{shares}{an answer, whose exact fractions are taken; texts such as \code{"9/2"}; or numbers. Those with names are
+  the shares of these players of a game with names, in whatever order.}
   \item{...}{for a vector, the further arguments of \code{\link{table_game}}.}
   \item{share_digits}{to how many decimals shares that are numbers are rounded.}
   \item{answer}{the answer of \code{nucleolus} or \code{prenucleolus}, or its line.}

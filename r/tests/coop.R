@@ -12,6 +12,15 @@ stopifnot(!holds(check(sub('"9/2","9/2","3"', '"9/2","7/2","4"', attr(shares, "l
 stopifnot(identical(unname(exact(shares["Cem"])), "3"))
 near(prenucleolus(three), c(4.5, 4.5, 3))
 
+# Shares go by their names, and are plain numbers once they are changed or computed with.
+runway <- airport_game(c(light = 2, medium = 4, heavy = 6))
+stopifnot(holds(propose(runway, c(heavy = 3.5, light = 1, medium = 1.5))), holds(propose(runway, rev(nucleolus(runway)))))
+stopifnot(grepl("each of these names", said(propose(runway, c(a = 3.5, b = 1, c = 1.5)))))
+changed <- nucleolus(runway)
+changed["light"] <- 99
+stopifnot(is.null(exact(changed)), is.null(exact(round(shares))), is.null(exact(shares * 2)), identical(shares[[3]], 3))
+stopifnot(grepl("what is checked", said(check(changed))), grepl("aren't read", said(nucleolus(c(a = 1, b = 1, "a+b" = 3)))))
+
 # Digits: the fractions are those of the numbers that were given.
 tenths <- shapley(c(0.25, 1.5, 3.1), digits = 2)
 near(tenths, c(0.925, 2.175))

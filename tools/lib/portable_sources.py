@@ -1,8 +1,8 @@
 """The program as portable C: what wasm2c makes of the module inside page/coop.html, and its host, c/portable.
 
-wasm2c is that of Debian's package wabt, in a version that is known here, since what the C is called differs between
-versions. Two things are put into what it writes: that nothing is asserted, so that the C has no state of its own, and
-TURN (c/portable/wasm-rt.h) at the head of each loop.
+wasm2c is of the version that is known here, since what the C is called differs between versions. Two things are put
+into what it writes: that nothing is asserted, so that the C has no state of its own, and TURN (c/portable/wasm-rt.h) at
+the head of each loop.
 """
 from __future__ import annotations
 
@@ -13,7 +13,8 @@ import subprocess
 
 from program import TOP
 
-KNOWN = ("1.0.32",)
+KNOWN = "1.0.32"
+WHERE = f"It has to be wasm2c {KNOWN}, of Debian 12's package wabt, or of that release of github.com/WebAssembly/wabt."
 LIBRARY_FILES = ("c/coop.h", "c/portable/portable.h", "c/portable/wasm-rt.h", "c/portable/host.c")
 """What the library is built from, beside module.c and module.h."""
 PROGRAM_FILES = ("c/portable/main.c", "c/portable/Makefile")
@@ -31,12 +32,13 @@ class NotMade(Exception):
 
 def write_sources(folder: str) -> None:
     """Writes what the library is built from to a folder: module.c, module.h, and LIBRARY_FILES."""
-    for command in ("node", "wasm2c"):
-        if not shutil.which(command):
-            raise NotMade(f"there is no {command}")
+    if not shutil.which("node"):
+        raise NotMade("there is no node")
+    if not shutil.which("wasm2c"):
+        raise NotMade(f"there is no wasm2c. {WHERE}")
     said = subprocess.run(["wasm2c", "--version"], stdout=subprocess.PIPE, text=True, check=True).stdout.split()
-    if not said or said[0] not in KNOWN:
-        raise NotMade(f"wasm2c {' '.join(said)} isn't known here, but {', '.join(KNOWN)}")
+    if said[:1] != [KNOWN]:
+        raise NotMade(f"wasm2c is {' '.join(said)}. {WHERE}")
     copy_to(folder, LIBRARY_FILES)
     module, made = os.path.join(folder, "module.wasm"), os.path.join(folder, "module.c")
     write_module(module)

@@ -20,6 +20,8 @@ import { cellNumber, readNumber } from "../exact/decimals.js";
 import { mostOf } from "../game/classes.js";
 import { isSumWord, withEscapes } from "../game/names.js";
 import { plural } from "../game/words.js";
+import { blockOf, isText, withoutSums } from "./block.js";
+import { unframed } from "./frames.js";
 import { SPOILT } from "./pasting.js";
 import { withoutUnits } from "./units.js";
 
@@ -29,19 +31,20 @@ const SOURCE = new RegExp("\\b(source|reservoir|plant|water ?works?|works|supply
   + "(sub|power|pump(ing)?) ?station|station|well|spring|tank|tower|server|exchange|head ?end|quelle|[a-zäöü]*werk|"
   + "zentrale|speicher|pumpwerk|réservoir|centrale|usine|château d’eau|château d'eau)\\b", "iu");
 const HEADS = [
-  /^(from|von|de|start|begin|source|node ?1|point ?1|end ?1|place ?1|a|i|tail)\b/iu,
-  /^(to|nach|bis|à|vers|target|node ?2|point ?2|end ?2|place ?2|b|j|head)\b/iu,
+  /^(from|von|van|desde|de|start|begin|source|node ?1|point ?1|end ?1|place ?1|a|i|tail)(?!\p{L})/iu,
+  /^(to|nach|naar|hasta|bis|à|vers|target|node ?2|point ?2|end ?2|place ?2|b|j|head)(?!\p{L})/iu,
   /cost|price|amount|kosten|preis|betrag|co[uû]t|prix|montant|\p{Sc}/iu,
 ];
 const LIKE_COST = /weight|length|distance|value|gewicht|länge|longueur|valeur/iu; // where no heading names a cost
 
 const isNone = (text = "") => NONE.test(text.trim());
+const isNameless = (text = "") => /^[-–—.]?$/.test(text.trim());
 const clean = (text) => text.normalize("NFC").trim();
 
 /** Tells numbers, names and missing links apart, by a decimal mark. */
 function judgeOf(mark) {
   const isNumber = (text = "") => text !== "" && !cellNumber(text, mark).fault;
-  const isName = (text = "") => !isNone(text) && !isNumber(text) && !SPOILT.test(text);
+  const isName = (text) => !isNameless(text) && !isNumber(text) && !SPOILT.test(text);
   const valueOf = (text) => cellNumber(text, mark).value;
   const isZero = (text) => isNumber(text) && valueOf(text).isZero();
   const isSame = (one, other) => one === other || (isNumber(one) && isNumber(other)
@@ -57,30 +60,43 @@ function padded(rows) {
 
 /** What a pasted block says of a whole network: {points, source, links, said}, `links` by "i-j" of the points; {fault}
  * if it contradicts itself; {product} if one of its columns is a price for each of another, and nobody said `isTimes`,
- * whether the two are to be multiplied; null if it is a block of numbers for the cells where it was pasted. */
+ * whether the two are to be multiplied; null if it is numbers alone, or names alone, for the cells where it was
+ * pasted. */
 export function networkOf(pasted, { mark = ".", source = "", isTimes } = {}) {
-  const { rows: bare, units = [], fault: several } = withoutUnits(padded(withEnds(pasted)), 1);
-  if (several) return { fault: several };
-  const product = productOf(bare, mark), judge = judgeOf(mark);
-  if (product && isTimes === undefined) return { product };
-  const rows = product && isTimes ? multiplied(bare, product) : bare;
-  if (rows.length < 2) return null;
-  const found = listOf(rows, judge) ?? labelledOf(rows, judge) ?? namedOf(rows, judge) ?? squareOf(rows, judge);
-  if (!found || found.fault) return found;
+  const block = blockOf(pasted), rows = withEnds(block.rows), { rows: framed, left: texts } = unframed(rows);
+  const ways = [rows, framed].map((some) => readOf(some, { mark, isTimes })), [whole] = ways;
+  const found = ways.find((one) => one && !one.fault) ?? whole;
+  if (!found || block.loose) {
+    const isMixed = rows.flat().some(isText) && rows.flat().some((text) => /\d/.test(text) && !isText(text));
+    return isMixed || block.loose ? { fault: NO_SHAPE } : null;
+  }
+  if (found.fault || found.product) return found;
   const { points, shape, left = [] } = found, twice = points.find((name, i) => name && points.indexOf(name) < i);
   if (twice) return { fault: `“${withEscapes(twice)}” is there twice.` };
   if (points.length > MOST_POINTS) {
     const most = `A network has at most ${MOST_POINTS - 1} places and the source.`;
     return { fault: `These are ${points.length} points. ${most}` };
   }
-  const { links, fault } = joined(found, judge);
+  const { links, fault } = joined(found, found.judge), out = whole === found ? [] : texts.map((text) => `“${text}”`);
   if (fault) return { fault };
-  if (!Object.values(links).some(judge.isNumber)) return { fault: "No link has a number." };
-  const out = [...left, ...units.map((unit) => `“${unit}”, the unit`)];
+  out.push(...left, ...found.units.map((unit) => `“${unit}”, the unit`));
   return { points, links, shape, left: out, ...sourceOf(points, found, source) };
 }
 
-const ENDS = /^(.+?)\s*(?: [-–—] |[–—]|->|→|(?<=\S)-(?=\S))\s*([^:]+?)\s*:\s*(\S.*)$/u;
+/** A block as the first shape that fits, or {fault} or {product}; null for others, and where no number is. */
+function readOf(given, { mark, isTimes }) {
+  const hasNames = given.flat().some(isText), kept = given.filter((row) => !hasNames || row.some(Boolean));
+  const { rows: bare, units = [], fault } = withoutUnits(padded(kept), 1), judge = judgeOf(mark);
+  if (fault) return { fault };
+  const product = productOf(bare, mark), rows = product && isTimes ? multiplied(bare, product) : bare;
+  if (product && isTimes === undefined) return { product };
+  if (rows.length < 2 || !rows.flat().some(judge.isNumber)) return null;
+  const found = listOf(rows, judge) ?? labelledOf(rows, judge) ?? namedOf(rows, judge) ?? squareOf(rows, judge);
+  return found && { ...found, units, judge };
+}
+
+const NO_SHAPE = "This is no list of from, to and cost, and no square or triangle with names.";
+const PAIR = /^(.{1,99}?)(?: (?:to|[-–—/]) |\s?(?:[–—→]|->)\s?|(?<=\S)-(?=\S))(.{1,99})$/u;
 
 const PRICE = /\b(per|pro|je|par|each|price|rate|preis|prix|tarif)\b|\p{L}\s*\/\s*\p{L}/iu;
 const SIZE = /length|distance|metres?\b|meters?\b|\bk?m\b|länge|entfernung|longueur|quantity|menge/iu;
@@ -105,14 +121,17 @@ function multiplied([heads, ...below], product) {
   })];
 }
 
-/** Lines as "Alby-Brook: 12" as rows of two ends and a number, where all are such. */
-function withEnds(rows) {
-  const kept = rows.filter((row) => row.some(Boolean));
-  const lines = kept.map((row) => row.filter(Boolean)).map(([one = "", ...others]) => {
-    return ENDS.exec(others.length ? `${one}${one.endsWith(":") ? "" : ":"} ${others.join(" ")}` : one);
+/** Rows as "Alby-Brook" and 12, in a cell or two, as rows of two ends and a number, if all are such below a heading and
+ * some place has several links: "Anne-Marie" and "Jean-Luc" are places. */
+export function withEnds(given) {
+  const rows = given.filter((row) => row.some(Boolean)).map((row) => {
+    return row.length > 1 ? row : row[0].split(/\s*:\s*(?=\d)/);
   });
-  const isAll = kept.length > 1 && kept.every((row) => row.filter(Boolean).length <= 2) && lines.every(Boolean);
-  return isAll ? lines.map(([, from, to, cost]) => [from, to, cost]) : rows;
+  const ends = rows.map(([one]) => PAIR.exec(one)?.slice(1).map(clean)), below = ends.slice(ends[0] ? 0 : 1);
+  const all = below.flat(), isWord = (text) => isText(text) && /^\p{L}/u.test(text);
+  const isPlain = rows.slice(1).every(([, ...others]) => !others.some(isWord));
+  if (!isPlain || below.length < 2 || !below.every(Boolean) || new Set(all).size === all.length) return given;
+  return rows.map(([, ...others], k) => [...(ends[k] ?? ["From", "To"]), ...others]);
 }
 
 /** The source: the point that has its name already, or a name that says so, or else the first. */
@@ -164,11 +183,12 @@ function listOf(rows, judge) {
   const costs = columns.filter((c) => !names.includes(c) && all(c, (text) => judge.isNumber(text) || isNone(text))
     && below.some((row) => judge.isNumber(row[c])));
   const isPlain = names.length === 2 && costs.length > 0 && (wide === 3 || costs.length <= 2);
-  if (!isHeaded && !isPlain) return null;
-  const priced = costs.filter((c) => !below.every((row, k) => Number(row[c]) === k + 1)); // and no row numbers
+  if (!isHeaded && (!isPlain || below.every((row) => /[–—→]|->| to /.test(row[names[0]])))) return null;
+  const own = costs.filter((c) => !below.every((row, k) => Number(row[c]) === k + 1)); // and no row numbers
+  const priced = own.includes(headed[2]) ? [headed[2]] : own;
   if (!isHeaded && priced.length > 1) return { fault: "Two columns are numbers. Give the cost’s a heading: Cost." };
   const [from, to, cost] = isHeaded ? headed : [...names, priced[0] ?? costs[0]];
-  const loose = below.find((row) => isNone(row[from]) || isNone(row[to]));
+  const loose = below.find((row) => isNameless(row[from]) || isNameless(row[to]));
   if (loose) return { fault: `In “${withEscapes(loose.filter(Boolean).join("; "))}” a link has one end only.` };
   const points = [...new Set(below.flatMap((row) => [row[from], row[to]]))], place = (name) => points.indexOf(name);
   const entries = below.map((row) => [place(row[from]), place(row[to]), row[cost]]).map(([i, j, text]) => {
@@ -179,29 +199,23 @@ function listOf(rows, judge) {
   return { points, entries, shape: "a list of from, to, cost", left: [...left, ...lost] };
 }
 
-/** The rows of a list without the last one, if it is named as a sum, or has a number and one end at most. */
-function withoutSum(rows, { isNumber, isName }) {
-  const last = rows.at(-1) ?? [], hasNumber = last.some(isNumber), names = last.filter(isName);
-  return rows.length > 1 && hasNumber && (names.length < 2 || isSumWord(last.find(Boolean))) ? rows.slice(0, -1) : rows;
-}
-
-/** A block with names above and before, without a row and a column of sums: {rows, left}. */
-function withoutSums([heads, ...below], { isName }) {
-  const isSum = (name = "") => isName(name) && isSumWord(name);
-  const columns = heads.map((name, c) => c === 0 || !isSum(name));
-  const rows = [heads, ...below.filter(([name]) => !isSum(name))];
-  const left = [...new Set([...heads.slice(1), ...below.map(([name]) => name)].filter(isSum))];
-  return { rows: rows.map((row) => row.filter((_, c) => columns[c])), left: left.map((name) => `“${name}”, a sum`) };
+/** The rows of a list without the last one, if it is named as a sum, or has a number and lacks an end. */
+function withoutSum(rows, { isNumber }) {
+  const last = rows.at(-1) ?? [], isShort = last.filter(Boolean).length < 3 && last.some(isNumber);
+  return rows.length > 1 && (isShort || isSumWord(last.find(Boolean) ?? "")) ? rows.slice(0, -1) : rows;
 }
 
 /** Names above and names before each row: what they share says how the block is to be read. */
 function labelledOf(given, { isNumber, isName, isZero }) {
-  const { rows: [heads, ...below], left } = withoutSums(given, { isName });
+  const { rows: [heads, ...below], left } = withoutSums(given);
   const columns = heads.slice(1), lines = below.filter((row) => row.some(Boolean)), names = lines.map(([name]) => name);
-  const isCounted = heads[0] === "" && String(columns) === String(names)
-    && columns.every((text, k) => Number(text) === Number(columns[0]) + k) && ["0", "1"].includes(columns[0]);
+  const isSame = heads[0] === "" && String(columns) === String(names) && columns.every(Boolean);
+  const isCount = columns.every((text, k) => Number(text) === Number(columns[0]) + k) && /^[01]$/.test(columns[0]);
+  const isCounted = isSame && (isCount || columns.some(isName) || lines.every((row, k) => row[k + 1]));
   const isLabelled = columns.length > 0 && (columns.every(isName) || isCounted);
   const isNamed = names.every(isName) || isCounted;
+  const hasWords = lines.some((row) => row.slice(1).some((text) => isName(text) && !isNone(text)));
+  if (hasWords || (columns.length === 1 && heads[0] && !names.includes(columns[0]))) return null;
   if (!isLabelled || !isNamed || !lines.some((row) => row.slice(1).some(isNumber))) return null;
   const first = names.includes(columns[0]) ? [...names, ...columns] : [...columns, ...names];
   for (const some of [columns, names]) {
@@ -219,13 +233,15 @@ function labelledOf(given, { isNumber, isName, isZero }) {
 }
 
 /** Names before each row alone: a square, or a triangle whose first row is the source’s. */
-function namedOf(rows, judge) {
+function namedOf(given, judge) {
+  const { rows, left } = withoutSums(given);
   const isHeading = rows[0][0] !== "" && rows[0].slice(1).every((text) => judge.isName(text) || !text)
     && rows[0].slice(1).some(Boolean);
   const lines = rows.slice(isHeading ? 1 : 0), points = lines.map(([name]) => name);
   if (!points.every(judge.isName) || isHeading) return null;
   const block = lines.map((row) => row.slice(1)), n = points.length;
-  return blockOf(block, n, points, judge);
+  const found = halfOf(block, n, points, judge);
+  return found && { ...found, left };
 }
 
 /** Numbers alone: a square. Its points have no names. */
@@ -246,7 +262,7 @@ function squareWith(block, points) {
 }
 
 /** A block of `n` rows with the names of its points. */
-function blockOf(block, n, points, judge) {
+function halfOf(block, n, points, judge) {
   const wide = block[0].length;
   const isOpen = (is) => block.every((row, i) => row.every((text, c) => is(i, c) || isNone(text)));
   const entriesBy = (place) => block.flatMap((row, i) => row.map((text, c) => [i, place(i, c), text]))

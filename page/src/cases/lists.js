@@ -7,15 +7,18 @@ import { labelsOf, landingsOf, rowsOfLandings } from "./landings.js";
 import { Reading } from "./reading.js";
 import { bytesOf } from "../game/words.js";
 import { askOfSum, isEmpty } from "./sum-row.js";
+import { askOfTwice } from "./twice.js";
 
 // words in the headings of columns, in English, German and French
 const MONEY = "\\b(?:eur|usd|gbp|chf)\\b|\\p{Sc}";
 const COST = new RegExp("cost|need|price|fee|charge|amount|kosten|preis|betrag|gebühr|bedarf|co[uû]t|prix|montant|"
   + MONEY, "iu");
 const heads = (words) => new RegExp(`^(?!.*(${COST.source})).*(${words})`, "iu"); // and no word of a cost
-const CREDITOR = /creditor|claimant|lender|party|name|gläubiger|créancier/iu;
-const CLAIM = new RegExp("claim(?!ant)|amount|owed|debt|due\\b|forderung|betrag|schuld|créance|montant|" + MONEY, "iu");
-const ESTATE = /^(the |die )?(estate|assets|available|(insolvenz|teilungs)?masse|actif)( \(.*\))?[:.]?$/iu;
+const CREDITOR = /creditor|claimant|lender|party|name|gläubiger|schuldeis|créancier|acreedor/iu;
+const CLAIM = new RegExp("claim(?!ant)|amount|owed|debt|due\\b|forderung|betrag|schuld(?!n|eis)|créance|montant|"
+  + MONEY, "iu");
+const ESTATE = new RegExp("^(the |die )?((net |total |available )?(estate|assets)|available|(insolvenz|teilungs)?masse"
+  + "|actif|to (distribute|divide))( value| net(to)?)?( \\(.*\\))?[:.]?$", "iu");
 const MOST_LANDINGS = mostOf("airport"), MOST_CLAIMS = mostOf("bankruptcy"), MOST_NAME = LIMITS["bytes of a name"];
 
 export const runway = {
@@ -38,7 +41,6 @@ export const runway = {
       heads: heads("landings|flights|movements|number|count|landungen|flüge|anzahl|atterri|vols|mouvements|nombre"),
     },
   ],
-  ofFour: ["name", "type", "cost", "count"], // what four columns without headings are
   help: "One row for each airline and type, with the cost of a runway for such a landing only.",
   most: 500,
   example: () => ({
@@ -54,6 +56,8 @@ export const runway = {
     const reading = new Reading(mark, state), kept = readLandings(state, reading);
     reading.remark([...new Set(kept.map(({ airline }) => airline))]);
     askOfSum(reading, state, ["cost", "count"]);
+    faultOfGroups(reading, state);
+    askOfTwice(reading, state);
     askOfOrder(reading, state);
     reading.askOfEither(state);
     const all = kept.reduce((sum, { count }) => sum + count, 0);
@@ -74,6 +78,17 @@ export const runway = {
     }),
   }),
 };
+
+/** A row of which other rows are the members is a group, and no person. */
+function faultOfGroups(reading, { rows }) {
+  const names = rows.map(({ name = "" }) => name.trim()), r = names.findIndex((name) => {
+    const members = name.split(/\s*(?:[+&,;]|\b(?:and|und|et|y|en)\b)\s*/u);
+    return members.length > 1 && members.every((one) => one && names.includes(one));
+  });
+  if (r < 0) return;
+  reading.fault(`rows.${r}.name`, `“${shownName(names[r])}” is a group of other rows. “Costs of each group” and “Gains `
+    + "of each group” take groups.");
+}
 
 /** Costs that were pasted where landings belong make another runway, and look like one: if they came without headings
  * (`isUnordered`), and the landings of two rows or more all exceed all costs, or alone have decimals, it is asked. */
@@ -134,12 +149,16 @@ export const estate = {
   read(state, mark) {
     const { reading, rows, names, named, values, cells } = readList(state, mark, "claim", "The claim", "Claimant");
     if (!askOfSum(reading, state, ["claim"])) reading.notes.push(...sumRow(names, values));
+    askOfTwice(reading, state, ["claim"]);
+    faultOfGroups(reading, state);
     const whole = reading.number("estate", state.estate, "The estate");
     reading.close();
     if (whole && reading.isRight() && Rational.sum(values).less(whole)) {
       const rest = shortText(whole.minus(Rational.sum(values)));
-      reading.pause(`So far the claims add to less than the estate. If no others come, each gets its claim, ${rest} is `
-        + "left, and no rule is needed.");
+      const isPart = values.every((value) => !Rational.of(1).less(value)) && Rational.of(10).less(whole);
+      reading.pause("So far the claims add to less than the estate. " + (isPart
+        ? `If they are parts of it, write products, as 1/2 * ${shortText(whole)}.`
+        : `If no others come, each gets its claim, ${rest} is left, and no rule is needed.`));
     }
     if (values.length > MOST_CLAIMS) {
       reading.fault(cells.at(-1), `These are ${values.length} claims, and the program takes ${MOST_CLAIMS}.`);
@@ -171,7 +190,7 @@ export function readList(state, mark, key, what, word) {
   const reading = new Reading(mark, state), values = [], cells = [];
   const kept = state.rows.map((row, r) => ({ row, r })).filter(({ row }) => !isEmpty(row));
   const names = reading.names(kept.map(({ row, r }) => ({ typed: row.name, cell: `rows.${r}.name` })), word,
-    state.isNamed);
+    { isNamed: state.isNamed, isList: true });
   for (const { row, r } of kept) {
     const value = reading.number(`rows.${r}.${key}`, row[key], what);
     values.push(value ?? Rational.of(0));

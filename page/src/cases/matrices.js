@@ -2,10 +2,15 @@
 import { typedText } from "../exact/decimals.js";
 import { CLASSES, mostOf } from "../game/classes.js";
 import { withEscapes } from "../game/names.js";
+import { blockOf, isText, isValue, withoutSums } from "./block.js";
+import { UNKNOWN } from "./columns.js";
 import { filledLinks } from "./filled-cells.js";
+import { leftText, unframed } from "./frames.js";
+import { withEnds } from "./links.js";
 import { rowsOf } from "./lists.js";
 import { detoursOf } from "./detours.js";
 import { Reading } from "./reading.js";
+import { unitsText, withoutUnits } from "./units.js";
 
 export const network = {
   id: "network",
@@ -112,3 +117,76 @@ export const market = {
     values: game.rows.map((row) => row.map((value) => typedText(value))),
   }),
 };
+
+const SIDE = (words) => new RegExp(`^(${words})(\\s*[\\\\/|].*)?$`, "iu"); // in the corner, alone or above the other
+const SELLER = SIDE("sellers?|verkäufer|vendeurs?|vendedor|verkoper");
+const BUYER = SIDE("buyers?|bidders?|käufer|bieter|acheteurs?|comprador|koper");
+const ASKING = new RegExp("^(reserve|reservation|asking|minimum|lowest|least|seller wants|mindest|precio m|prix mini)"
+  + "[\\p{L} ]*( price|preis|wants)?$", "iu");
+const NO_MARKET = "This is no table of gains. Give the sellers’ names above, each buyer’s name before its row, and in "
+  + "it what the two gain together, as a number, or nothing.";
+
+/** What a pasted block says of a market: {buyers, sellers, values, notes} with those of the three that are there, or
+ * {names, notes}; or {fault} in words. */
+export function marketOf(pasted) {
+  const block = blockOf(pasted), { rows: framed, left } = unframed(block.rows);
+  const asked = framed.flat().find((text) => ASKING.test(text));
+  const { rows: given, units = [], fault } = withoutUnits(framed.filter((row) => row.some(Boolean)), 1);
+  if (asked || fault || block.loose) return { fault: asked ? notGains(asked) : fault ?? NO_MARKET };
+  const { rows: bare, left: sums } = withoutSums(given), [[corner = ""]] = bare, isTurned = SELLER.test(corner);
+  const wide = bare.reduce((most, { length }) => Math.max(most, length), 0);
+  const whole = bare.map((row) => Array.from({ length: wide }, (_, c) => row[c] ?? ""));
+  const { rows: even, left: texts } = withoutTexts(whole), pairs = pairsOf(bare);
+  const shape = pairs ?? shapeOf(isTurned ? even[0].map((_, c) => even.map((row) => row[c])) : even);
+  const out = [...sums, ...(pairs ? [] : texts)];
+  const notes = [leftText(left), ...block.notes, out.length > 0 && `Left out: ${out.join(", ")}.`, pairs && AS_PAIRS,
+    unitsText(units), isTurned && !pairs && `“${corner}”: the rows are sellers.`].filter(Boolean);
+  const isHeadless = !shape?.sellers && left.some((text) => text.split(/\s+/).length === wide - 1);
+  return shape && !isHeadless ? { ...shape, notes } : { fault: NO_MARKET };
+}
+
+/** A table without columns that have only texts below their heading, as remarks: {rows, left}. */
+function withoutTexts([heads, ...below]) {
+  const isOut = heads.map((head, c) => c > 0 && isText(head) && below.some((row) => row[c])
+    && below.every((row) => row[c] === "" || !isValue(row[c])));
+  const left = heads.filter((_, c) => isOut[c]).map((head) => `“${withEscapes(head)}”`);
+  return { rows: [heads, ...below].map((row) => row.filter((_, c) => !isOut[c])), left };
+}
+
+const AS_PAIRS = "Taken as a list of buyer, seller and what they gain together.";
+
+/** A list of pairs with what each gains; null for other rows. A pair that isn’t there has no number. */
+function pairsOf(given) {
+  const rows = withEnds(given), hasHeads = !isValue(rows[0]?.[2]), below = rows.slice(hasHeads ? 1 : 0);
+  const isPair = (row) => row.length === 3 && isText(row[0]) && isText(row[1]) && row[2] && isValue(row[2]);
+  if (below.length < (hasHeads ? 1 : 2) || !below.every(isPair)) return null;
+  const isTurned = hasHeads && SELLER.test(rows[0][0]), [one, other] = isTurned ? [1, 0] : [0, 1];
+  const [buyers, sellers] = [one, other].map((c) => [...new Set(below.map((row) => row[c]))]);
+  const worths = new Map(below.map((row) => [`${row[one]}\t${row[other]}`, row[2]]));
+  if (worths.size < below.length || buyers.some((name) => sellers.includes(name))) return null;
+  const values = buyers.map((buyer) => sellers.map((seller) => worths.get(`${buyer}\t${seller}`) ?? ""));
+  return { buyers, sellers, values };
+}
+
+/** Names above and before the rows, or either alone, or neither; or names alone. Null for other blocks. */
+function shapeOf(rows) {
+  const [heads, ...below] = rows, [corner, ...above] = heads, isName = (text) => text && !isValue(text);
+  const front = rows.map(([name]) => name), names = front.slice(1), others = rows.map((row) => row.slice(1));
+  const hasValues = (some) => some.length > 0 && some.flat().every(isValue);
+  const values = (some) => some.map((row) => row.map((text) => (UNKNOWN.test(text) ? "" : text)));
+  if (rows.flat().every(isName) && (!below.length || !above.length)) return { names: rows.flat() };
+  const isCorner = /^[^\p{L}\d]*$/u.test(corner) || BUYER.test(corner) || SELLER.test(corner)
+    || [...above, ...names].every(isName);
+  if (above.length && isCorner && [...above, ...names].every(Boolean) && hasValues(others.slice(1))) {
+    return { sellers: above, buyers: names, values: values(others.slice(1)) };
+  }
+  if (hasValues(rows)) return { values: values(rows) };
+  if (above.length > 1 && front.every(isName) && hasValues(others)) return { buyers: front, values: values(others) };
+  return heads.every(isName) && hasValues(below) ? { sellers: heads, values: values(below) } : null;
+}
+
+/** Why a block with what sellers want isn't taken. */
+function notGains(text) {
+  return `“${withEscapes(text)}” looks like what sellers want. Here each pair has what it gains together: what the `
+    + "thing is worth to the buyer, less that. Take it off, and leave that row out.";
+}

@@ -1,28 +1,42 @@
 // A quota as people say it: a part of all votes, in per cent, as a fraction, or in words.
 import { readNumber } from "../exact/decimals.js";
-import { lcm, Rational } from "../exact/rational.js";
+import { lcm, Rational, ZERO } from "../exact/rational.js";
 
-const MORE = /^(more than|over|above|mehr als|über|plus de|>(?!=))\s*/;
-const LEAST = /^(at least|mindestens|au moins|>=|≥)\s*/;
-const OF_ALL = "of (?:all|the)|of (?:all |the )*(?:votes|seats|shares|capital)(?: present| cast)?";
-const BEHIND = new RegExp(`\\s*(?:${OF_ALL}|(?:aller|der) stimmen|des voix)$`);
-const MAJORITY = /^((simple|absolute|einfache) )?(majority|mehrheit|majorité( simple| absolue)?)$/;
+const MORE = /^(more than|over|above|mehr als|über|plus de|meer dan|>(?!=))\s*/;
+const LEAST = /^(at least|mindestens|au moins|minstens|>=|≥)\s*/;
+const NAME = "(?:the |die )?(?:(?:simple|absolute|qualified|two-thirds|2/3|einfache|erforderliche|nötige)[ -])?(?:"
+  + "quota|quorum|threshold|majority|mehrheit|majorité|benötigt|erforderlich|(?:votes |seats )?(?:needed|required))"
+  + "(?: needed| required| absolue)?(?: (?:for|to) [^:]*)?(?: \\(.*\\))?";
+const NAMED = new RegExp(`^${NAME}\\s*[:=]\\s*`, "iu");
+const WHOM = "votes|seats|shares|capital|members|stimmen|sitze|anteile|aktien|mitglieder|voix|sièges|stemmen|zetels";
+const BEHIND = new RegExp("\\s*(?:of (?:all|the)|(?:of (?:all |the )*|aller |der |des |van (?:de |alle )?)?"
+  + `(?:${WHOM})(?: present| cast)?)$`, "iu");
+const MAJORITY = /^((the|a|die|la) )?((simple|absolute|einfache) )?(majority|mehrheit|majorité( simple| absolue)?)$/;
 const UNANIMOUS = /^(all|everybody|unanim(ity|ous)|alle|einstimmig|unanimité)$/;
 const SIGNS = { "½": "1/2", "⅓": "1/3", "⅔": "2/3", "¼": "1/4", "¾": "3/4", "⅗": "3/5", "⅘": "4/5" };
 const COUNTS = { one: 1, two: 2, three: 3, four: 4, ein: 1, zwei: 2, drei: 3, un: 1, deux: 2, trois: 3, a: 1 };
-const PARTS = [/^(half|hälfte|moitié)$/, /^(thirds?|drittel|tiers)$/, /^(quarters?|viertel|quarts?)$/,
+const PARTS = [/^(half|hälfte|moitié|helft)$/, /^(thirds?|drittel|tiers)$/, /^(quarters?|viertel|quarts?)$/,
   /^(fifths?|fünftel)$/];
 const PER_CENT = /^(.*?)\s*(?:%|per ?cent|prozent|pour cent)$/;
 const FRACTIONS = [3, 6, 7].flatMap((den) => Array.from({ length: den - 1 }, (_, k) => [k + 1, den]));
 
+/** What names the quota above a list of votes. */
+export const QUOTA = new RegExp(`^${NAME}[:.]?$`, "iu");
+
+/** A quota without its name, and without whose votes it is a part of. */
+export const bareQuota = (typed = "") => typed.trim().replace(/\s+/g, " ").replace(NAMED, "").replace(BEHIND, "");
+
+/** Whether a text says a quota. */
+export const isQuota = (text) => !readNumber(text).fault || partIn(text, ".", []) !== null;
+
 /** What part of all votes a text says: {part, isMore}; null for another text, such as a number of votes. */
-function partIn(typed, mark) {
-  const text = typed.trim().toLowerCase().replace(/\s+/g, " ").replace(BEHIND, "");
+function partIn(typed, mark, votes) {
+  const text = bareQuota(typed).toLowerCase();
   const isOneMore = /\S ?(\+ ?1|plus one|plus eins|plus un)$/.test(text), isMore = MORE.test(text) || isOneMore;
   const bare = text.replace(MORE, "").replace(LEAST, "").replace(/ ?(\+ ?1|plus one|plus eins|plus un)$/, "");
   if (MAJORITY.test(bare)) return { part: Rational.of("1/2"), isMore: true };
   if (UNANIMOUS.test(bare)) return { part: Rational.of(1), isMore: false };
-  const short = bare.replace(/[ -]*(majority|mehrheit)$/, ""), part = ofWords(short) ?? ofNumbers(short, mark);
+  const short = bare.replace(/[ -]*(majority|mehrheit)$/, ""), part = ofWords(short) ?? ofNumbers(short, mark, votes);
   return part && { part, isMore };
 }
 
@@ -30,15 +44,19 @@ function partIn(typed, mark) {
 function ofWords(text) {
   if (SIGNS[text]) return Rational.of(SIGNS[text]);
   const count = Object.keys(COUNTS).find((word) => text.startsWith(word)) ?? /^\d+(?=[ -]\p{L})/u.exec(text)?.[0];
-  const rest = text.slice(count?.length ?? 0).replace(/^[ -]+|^(die|la) /, "");
+  const rest = text.slice(count?.length ?? 0).replace(/^[ -]+|^(die|la|de) /, "");
   const den = PARTS.findIndex((one) => one.test(rest)) + 2;
   return den > 1 ? Rational.of(`${COUNTS[count] ?? count ?? 1}/${den}`) : null;
 }
 
-/** "60 %", "66 2/3 %", "2/3": a fraction below 1 is a part. */
-function ofNumbers(text, mark) {
+/** "60 %", "66 2/3 %", "2/3": a fraction below 1 is a part, and so is a decimal that is below each vote. */
+function ofNumbers(text, mark, votes) {
   const [, percent] = PER_CENT.exec(text) ?? [], isFraction = /^\d+ ?\/ ?\d+$/.test(text);
-  if (percent === undefined && !isFraction) return null;
+  if (percent === undefined && !isFraction) {
+    const { value } = readNumber(text, mark), given = votes.filter((one) => !one.isZero());
+    return value && ZERO.less(value) && [Rational.of(1), ...given].every((one) => value.less(one)) && given.length > 1
+      ? value : null;
+  }
   const [, whole = "0", rest = percent ?? text] = /^(\d+) (\d+ ?\/ ?\d+)$/.exec(percent ?? "") ?? [];
   const sign = SIGNS[rest.at(-1)], { value } = readNumber(sign ? rest.slice(0, -1).trim() || "0" : rest, mark);
   if (!value) return null;
@@ -50,7 +68,7 @@ function ofNumbers(text, mark) {
 /** The least number of votes that reaches the part of `all` that a text says, among the sums that votes can have; null
  * for another text. */
 export function leastOf(typed, votes, mark, all = Rational.sum(votes)) {
-  const said = partIn(typed ?? "", mark);
+  const said = partIn(typed ?? "", mark, votes);
   if (!said) return null;
   const unit = Rational.of(votes.reduce((den, one) => lcm(den, one.den), 1n)), steps = all.times(said.part).times(unit);
   return Rational.of(said.isMore ? steps.floor() + 1n : -steps.negated().floor()).over(unit);

@@ -12,6 +12,14 @@ const MOST_TOLD = 3; // numbers that are worked out, of which that is told
 const MOST_SHOWN = 40; // letters of what is no number
 const MOST_KEPT = 200; // faults that are kept with their cells; of the others only the number
 
+const DATE = /^\s*(0\d\/\d{1,2}|\d{1,2}\/0\d)\s*$/;
+
+/** What to write in the place of some texts. */
+function hintOf(text) {
+  if (/^[-–—]$/.test(text)) return " Write 0, or remove it.";
+  return /^[\d.,]+ ?%$/.test(text) ? " Write the amount, or a product such as 1/4 * 1000." : "";
+}
+
 /** All cells are read by one mark: where some show which, that one settles those that can be read both ways, unless the
  * user chose how these are read, by a `mark` of none or of both. `read(mark)` gives {reading, ..}. */
 export function byOneMark(read, mark) {
@@ -70,18 +78,30 @@ export class Reading {
     return null;
   }
 
-  /** The value of a cell, or null. */
-  number(cell, typed, what, { canBeNegative = false } = {}) {
+  /** Whether a cell is still empty, or something is asked of those that are read: before that no sum is known. */
+  isAsking(isMarked) {
+    this.askOfMixed(isMarked);
+    this.askOfUnsure(isMarked);
+    return Boolean(this.asked || this.mixed || this.unsure || this.empty.count);
+  }
+
+  /** The value of a cell, or null; `hint` says what to write instead. */
+  number(cell, typed, what, { canBeNegative = false, hint = "" } = {}) {
     const { value, fault, doubt, by } = this.known(typed);
     if (doubt) this.doubt(doubt, typed, value);
     if (by && !this.shown.has(by)) this.shown.set(by, typed);
     if (fault === "is empty") return this.open(cell);
+    if (DATE.test(typed)) return this.fault(cell, `${what} looks like a date: “${typed.trim()}”.`);
     if (fault) {
-      const text = typed.trim(), short = text.length > MOST_SHOWN ? `${text.slice(0, MOST_SHOWN)}…` : text;
+      const text = typed.trim().replace(/\s+/g, " ");
+      const short = text.length > MOST_SHOWN ? `${text.slice(0, MOST_SHOWN)}…` : text;
       const shown = fault === "is no number" ? `: “${withEscapes(short)}”` : "";
-      return this.fault(cell, `${what} ${fault}${shown}.`);
+      return this.fault(cell, `${what} ${fault}${shown}.${hint}${hintOf(text)}`);
     }
-    if (value.isNegative() && !canBeNegative) return this.fault(cell, `${what} can’t be negative.`);
+    if (value.isNegative() && !canBeNegative) {
+      const read = /^\(/.test(typed.trim()) ? `: “${typed.trim()}” is ${shortText(value)}` : "";
+      return this.fault(cell, `${what} can’t be negative${read}.`);
+    }
     const money = moneyIn(typed);
     if (money && this.money && money !== this.money) {
       return this.fault(cell, `${what} is in ${money}, and another number in ${this.money}.`);
@@ -167,7 +187,7 @@ export class Reading {
   }
 
   /** Names, each with its cell; an empty one is the word with its number, or, in a list with names, still open. */
-  names(cells, word, isNamed = false) {
+  names(cells, word, { isNamed = false, isList = false } = {}) {
     const names = cells.map(({ typed, fallback }, i) => this.nameOf(typed) || (fallback ?? `${word} ${i + 1}`));
     const first = new Map();
     for (const { typed, cell } of isNamed ? cells : []) if (!typed.trim()) this.open(cell);
@@ -175,7 +195,8 @@ export class Reading {
       if (bytesOf(name) > MOST_NAME) {
         this.fault(cells[i].cell, `A name has at most ${MOST_NAME} letters (${MOST_NAME / 2} with accents).`);
       }
-      if (first.has(name)) this.fault(cells[i].cell, `The name “${withEscapes(name)}” occurs twice.`);
+      const isTwice = first.has(name) && !isList;
+      if (isTwice) this.fault(cells[i].cell, `The name “${withEscapes(name)}” occurs twice.`);
       else first.set(name, i);
     });
     this.remark(names);

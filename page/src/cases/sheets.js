@@ -1,42 +1,80 @@
 // A table that was pasted into a list: what stands around it goes, and each of its columns finds the one it is for.
 import { readNumber } from "../exact/decimals.js";
+import { blockOf, looseText, PAGES } from "./block.js";
+import { columnsFor, isKnownHead, knownHeads, widthFault } from "./columns.js";
 import { leftText, unframed } from "./frames.js";
-import {
-  columnsFor, headingsOf, partedLines, pastedText, rivalsFor, ROW_NUMBERS, widthFault, withoutRowNumbers,
-} from "./pasting.js";
+import { headingsOf, pastedText } from "./pasting.js";
+import { singleOf, withSingle } from "./single.js";
 import { unitsText, withoutUnits } from "./units.js";
+
+const MOST_NAME = 80; // letters
+const PROSE = /\d[^\t]*\s\p{L}{2,}\s[^\t]*\s\d+ ?\S*, /u;
+const SENTENCE = "This is one sentence. Give each a line: the name, a tab and the number.";
+const PAGE = new RegExp(`^\\P{L}*(${PAGES}) ?\\d+(( ?/| \\p{L}+) ?\\d+)?\\P{L}*$`, "iu");
 
 /** Pasted rows for the `columns` from a cell on, of which `usual` go without saying: {rows, targets, headings, notes},
  * the rows below the headings, the column that each cell is for, and what has to be told. Or {fault}, in words; or
- * {rivals}, columns of which the user has to choose one: then it is asked again `without` the others too. A row with
- * the number above the list (`single`) is no row of it. */
-export function sheetOf(pasted, columns, { mark, ofFour, single, usual, isFirst = true, without = [] }) {
-  const { rows: lines, left } = unframed(isFirst ? partedLines(pasted) : pasted);
-  const { rows: bare, units = [], fault } = withoutUnits(lines.filter((row) => row.some(Boolean)), 1);
-  if (fault) return { fault };
-  const all = withoutRowNumbers(bare), usually = columns.filter(({ optional }) => !optional);
-  const from = usually.findIndex(({ number }) => number);
-  const heads = headingsOf(all, Math.max(0, from), mark), cut = (row) => row.filter((_, c) => !without.includes(c));
-  const above = single ? singleRow(all, single) : undefined, rows = all.filter((row) => row !== above).map(cut);
-  const headings = heads && cut(heads), rivals = rivalsFor(columns, headings, { rows, mark });
-  const places = (heads ?? []).map((_, c) => c).filter((c) => !without.includes(c));
-  if (rivals) return { rivals: { ...rivals, at: rivals.at.map((k) => places[k]), headings: heads } };
-  const targets = columnsFor(columns, headings, { rows, mark, ofFour });
-  const lost = widthFault(rows, headings, targets, columns);
+ * {asked}, if the user has to choose columns, or to say whether the first row has their `heads`: then it is asked
+ * again with what was chosen (`choice`, `out`, `isHead`). A row with the number above the list (`single`) is none. */
+export function sheetOf(pasted, columns, { mark, single, usual, isFirst = true, isHead, choice, out = [] }) {
+  const { rows: paged, pages } = isFirst ? withoutPages(pasted) : { rows: pasted, pages: [] };
+  const { rows: parted, notes: counted, loose } = isFirst ? blockOf(paged) : { rows: pasted, notes: [] };
+  const odd = loose ?? (isFirst ? noName(parted) : undefined);
+  if (odd !== undefined) return { fault: looseText(odd) };
+  if (pasted.length === 1 && PROSE.test(pasted[0].join(", "))) return { fault: SENTENCE };
+  const { rows: lines, left } = unframed(single ? withSingle(parted, single) : parted);
+  const { rows: all, found: units, fault } = withoutUnits(lines.filter((row) => row.some(Boolean)), 1);
+  const { above, word, number, fault: several } = !fault && single ? singleOf(all, single) : {};
+  if (fault || several) return { fault: fault ?? several };
+  const usually = columns.filter(({ optional }) => !optional), from = usually.findIndex((column) => column.number);
+  const rows = all.filter((row) => row !== above), headings = isHead === false ? null
+    : headingsOf(rows, Math.max(0, from), mark) ?? knownHeads(rows, columns);
+  const heads = isFirst && isHead === undefined && headings && unknownHeads(headings, rows, columns);
+  if (heads) return { asked: { heads } };
+  if (headings && isAcross(rows, columns)) return { fault: "Here names stand side by side. Give each a row." };
+  const found = columnsFor(columns, headings, { rows, mark, choice, out }), { targets, asked, isGuess } = found;
+  if (asked) return { asked };
+  const lost = widthFault(rows, headings, found, columns);
   if (lost) return { fault: lost };
-  const [word, number] = above?.filter(Boolean) ?? [], out = without.map((c) => `“${heads[c]}” was left out.`);
+  const own = [...units].filter(([c]) => targets[c]).map(([, unit]) => unit);
+  const isPercent = own.includes("%") || targets.some((column, c) => column?.number && /%/.test(headings?.[c] ?? ""));
   const notes = [
-    leftText(left), all !== bare && ROW_NUMBERS, pastedText(rows, headings, targets, usual), ...out,
-    unitsText(units), above && `“${word}”, ${number}, was taken as ${single.title.toLowerCase()}.`,
+    leftText([...left, ...pages]), ...counted, pastedText(rows, headings, targets, usual),
+    unitsText([...new Set(own)]), above && `“${word}”, ${number}, was taken as ${single.title.toLowerCase()}.`,
   ].filter(Boolean);
-  return { rows: headings ? rows.slice(1) : rows, targets, headings, notes, number, isPercent: units.includes("%") };
+  return { rows: headings ? rows.slice(1) : rows, targets, headings, notes, number, isGuess, isPercent };
 }
 
-/** The one row that names the number above the list, and has one number; undefined where none has, or several. */
-function singleRow(rows, { heads }) {
-  const [row, other] = rows.filter((one) => {
-    const [word, number, more] = one.filter(Boolean);
-    return more === undefined && number !== undefined && heads.test(word) && !readNumber(number).fault;
-  });
-  return other ? undefined : row;
+/** A first row that may be a person as well as headings: no word of it is known, and one at most is above numbers. */
+function unknownHeads(headings, [, ...rows], columns) {
+  const isAbove = (_, c) => rows.some((row) => /^\P{L}*\d/u.test(row[c] ?? ""));
+  const isKnown = headings.filter(isAbove).length > 1 || headings.some((text) => isKnownHead(text, columns));
+  return !isKnown && headings.filter(Boolean).join("; ");
+}
+
+/** Whether names are the headings of one row of numbers. */
+function isAcross([[, ...names], [first = "", ...numbers], ...others], columns) {
+  const isAmount = (text) => !readNumber(text).fault, isOf = isAmount(first) || isKnownHead(first, columns);
+  return !others.length && isOf && numbers.length > 1 && numbers.every(isAmount)
+    && !names.some((text) => isKnownHead(text, columns));
+}
+
+const AMOUNT = /(?:^|\s)[(\p{Sc}]?\d[\d.,'’]*[%)\p{Sc}]*$|^\p{Sc}?\d[\d.,'’]*[%\p{Sc}]*(?=\s)/u;
+
+/** The first of lines of one cell each that are no names: a sentence, or names with a number in front or behind that
+ * isn't theirs, as theirs is in "Lot 1". */
+function noName(rows) {
+  const texts = rows.flatMap((row) => row.filter(Boolean)), found = texts.map((text) => AMOUNT.exec(text)?.[0]);
+  if (rows.some((row) => row.filter(Boolean).length > 1)) return undefined;
+  const names = new Set(texts.map((text) => text.replace(AMOUNT, ""))), isWord = (name) => /\p{L}/u.test(name);
+  const isAll = names.size > 1 && found.every(Boolean) && [...names].every(isWord);
+  const isCount = found.every((text, k) => Number(text) === k + 1);
+  return texts.find(({ length }) => length > MOST_NAME) ?? (isAll && !isCount ? texts[0] : undefined);
+}
+
+/** Rows without the numbers of pages between them: {rows, pages}. */
+function withoutPages(all) {
+  const isPage = (row) => row.filter(Boolean).length === 1 && PAGE.test(row.join(""));
+  const rows = all.filter((row) => !isPage(row)), isTable = rows.filter((row) => row.some(Boolean)).length > 1;
+  return isTable ? { rows, pages: all.filter(isPage).flatMap((row) => row.filter(Boolean)) } : { rows: all, pages: [] };
 }

@@ -6,30 +6,44 @@ import { isSumWord } from "../game/names.js";
 const PARTIAL = new RegExp("^((grand |sub)?[ -]?tota+l|sum\\b|(zwischen)?summe|gesamt|sous-total|somme|carried|"
   + "report\\b|übertrag)", "iu");
 
+const CARRIED = /^(carried|brought) (forward|over|down)|^(übertrag|vortrag|report)\b/iu;
+const ALL = /^([Σ∑]|all|alle|ensemble)$/iu;
+
 export const isEmpty = (row) => Object.values(row).every((text) => !text.trim());
 
-/** Asks of a row that is named as a sum, or of the last one, if it has no name below names and a number of it is the
- * sum of those above, or the greatest. `keys` are the columns of numbers; `state.notSums` are the names of which it was
- * said already, or true for all. Whether it was asked. */
+/** Asks of a row that is named as a sum, of one whose numbers are the sums of all others, or of the last one, if it has
+ * no name below names and a number of it is the sum of those above, or the greatest. A row that is only the sum of all
+ * others by its numbers is asked about in a list that was pasted. `keys` are the columns of numbers;
+ * `state.notSums` are the names of which it was said already, or true for all. Whether it was asked. */
 export function askOfSum(reading, state, keys) {
   const kept = state.rows.map((row, r) => ({ row, r })).filter(({ row }) => !isEmpty(row)), last = kept.at(-1);
   if (kept.length < 2) return false;
   const nameOf = ({ row }) => row.name.trim() || (row.type ?? "").trim(), { notSums = [] } = state;
   const isPartial = (one, k) => PARTIAL.test(nameOf(one)) && isOfRowsAbove(reading, kept, k, keys);
-  const isSum = (one, k) => isSumWord(nameOf(one)) || isPartial(one, k);
+  const others = (one, key) => kept.filter((other) => other !== one).map(({ row }) => row[key] ?? "");
+  const isOfAll = (one) => keys.every((key) => isSumOf(reading, one.row[key] ?? "", others(one, key)));
+  const least = keys[0] === "votes" ? 3 : 2; // others: of two voters one often has as many votes as two more
+  const isWhole = (one) => (one === last || PARTIAL.test(nameOf(one))) && kept.length > least && isOfAll(one);
+  const isChance = (one) => !state.isPasted && !PARTIAL.test(nameOf(one)); // as the Talmud's 100, 200 and 300, typed
+  const isWord = (name) => isSumWord(name) || [ALL, CARRIED].some((words) => words.test(name));
+  const isSum = (one, k) => isWord(nameOf(one)) || isPartial(one, k) || (isWhole(one) && !isChance(one));
   const named = kept.filter((one, k) => isSum(one, k) && notSums !== true && !notSums.includes(nameOf(one)));
-  const above = kept.slice(0, -1).map(({ row }) => row);
-  const isNew = notSums !== true && !notSums.includes(nameOf(last)), isSumIn = (key) => {
-    return isSumOf(reading, last.row[key] ?? "", above.map((row) => row[key] ?? ""));
-  };
-  const isAllSums = isNew && keys.length > 1 && above.length > 1 && keys.every(isSumIn);
-  const isAsked = named.length > 0 || isAllSums || (!nameOf(last) && Boolean(state.isNamed)
-    && keys.some((key) => isAbove(reading, last.row[key], above.map((row) => row[key]))));
+  const isAsked = named.length > 0 || (!nameOf(last) && Boolean(state.isNamed)
+    && keys.some((key) => isAbove(reading, last.row[key], others(last, key))));
   if (!isAsked) return false;
   reading.notes = reading.notes.filter((note) => !note.includes("Is it the sum of the others?")); // it is asked instead
-  const { r } = named.at(-1) ?? last;
-  reading.asked = { r, name: nameOf({ row: state.rows[r] }), isLast: r === last.r };
+  const one = named.at(-1) ?? last, { r } = one;
+  const isOff = isSumWord(nameOf(one)) && !isPartial(one, kept.indexOf(one));
+  const said = isOff && keys.map((key) => offBy(reading, one.row[key] ?? "", others(one, key)));
+  reading.asked = { r, name: nameOf(one), isLast: r === last.r, off: (said || []).find(Boolean) };
   return true;
+}
+
+/** What a sum says and what the others add to, if all are numbers and these differ. */
+function offBy(reading, typed, others) {
+  const [own, ...values] = [typed, ...others].map((text) => reading.known(text).value);
+  const sum = values.every(Boolean) && Rational.sum(values);
+  return own && sum && !own.equals(sum) ? [own, sum].map(String) : undefined;
 }
 
 /** Whether a number of a row is the sum of two or more rows right above it. */

@@ -4,11 +4,13 @@ import { mostOf } from "../game/classes.js";
 import { maskOf, masksBySize, membersOf } from "../game/groups.js";
 import { isSumWord, withEscapes } from "../game/names.js";
 import { listed } from "../game/words.js";
+import { blockOf, looseText } from "./block.js";
 import { filledGroups } from "./filled-cells.js";
 import { rowsOf } from "./lists.js";
 import { oddsOf } from "./odds.js";
+import { UNKNOWN } from "./columns.js";
 import { leftText, unframed } from "./frames.js";
-import { cellsOf, headingsOf, ROW_NUMBERS, withoutRowNumbers } from "./pasting.js";
+import { cellsOf, headingsOf } from "./pasting.js";
 import { Reading } from "./reading.js";
 import { unitsText, withoutUnits } from "./units.js";
 import { headingOf, manyBelow, numbersIn, vectorOf } from "./vectors.js";
@@ -122,26 +124,46 @@ export function withoutPlayer(state, player) {
 }
 
 /** A table from a pasted text: lines of a group, with + between its members, and its number; or numbers alone, in the
- * order of the masks or by size: {state}, or {fault} in words. `told` says how it was read, `remark` what was left
- * out. Its lines may have other numbers than their own (`lines`), where others were left out. */
-export function tableOf(text, names = [], order = "size", mark = ".", lines = undefined) {
-  const numbers = numbersIn(text), heading = numbers ? null : headingOf(text);
-  if (numbers) return ofNumbers(numbers, names, order, mark);
-  const below = heading !== null && numbersIn(text.trimStart().slice(heading.length));
-  const found = below ? ofNumbers(below, names, order, mark) : {};
-  if (found.state) return { ...found, remark: `${headingText(heading)}${found.remark}` };
-  const all = cellsOf(text), { rows, left } = unframed(all), kept = rows.filter((row) => row.some(Boolean));
-  const many = kept.length > 0 && manyBelow(below ? [[], ...below] : kept);
-  if (many) return { fault: many };
-  const plain = withoutRowNumbers(kept), { rows: bare, units = [], fault } = withoutUnits(plain, 1);
-  if (fault) return { fault };
-  const places = new Map(all.map((row, k) => [row, lines?.[k] ?? k + 1])), own = kept.map((row) => places.get(row));
-  if (left.length || bare !== kept) {
-    const inside = tableOf(bare.map((row) => row.join("\t")).join("\n"), names, order, mark, own);
-    const told = [leftText(left), plain !== kept && ROW_NUMBERS, unitsText(units)].filter(Boolean).join(" ");
-    return inside.state ? { ...inside, remark: ` ${told}${inside.remark}` } : inside;
-  }
-  return kept.length ? listOf(kept, own, mark) : { fault: "There is nothing in this list." };
+ * order of the masks or by size: {state}, or {fault} in words; or {asked, count}, a line that may be the group of all:
+ * then it is read again with what was said of it (`isWhole`). `told` says how it was read, `remark` what was left
+ * out. */
+export function tableOf(text, names = [], order = "size", mark = ".", isWhole = undefined) {
+  const block = blockOf(cellsOf(text)), { rows, left } = unframed(block.rows);
+  if (block.loose) return { fault: looseText(block.loose) };
+  const kept = rows.filter((row) => row.some(Boolean)), joined = joinedMembers(kept);
+  const isList = joined !== kept || isGroups(kept);
+  const found = isList ? {} : vectorIn(text, names, order, mark);
+  if (found.state || found.isAll) return found;
+  const { rows: bare, units = [], fault = found.many } = withoutUnits(joined, 1);
+  if (fault || !kept.length) return { fault: fault || "There is nothing in this list." };
+  const told = [leftText(left), ...block.notes, unitsText(units)].filter(Boolean).map((words) => ` ${words}`).join("");
+  const plain = told && !isList ? vectorIn(bare.map((row) => row.join("\t")).join("\n"), names, order, mark) : {};
+  const places = new Map(block.rows.map((row, k) => [row, block.lines[k]])), lines = kept.map((row) => places.get(row));
+  const isVector = plain.state || plain.isAll || plain.many, more = { mark, isWhole };
+  const read = isVector ? { ...plain, fault: plain.fault ?? plain.many } : listOf(bare, lines, more);
+  return read.state ? { ...read, remark: told + read.remark } : read;
+}
+
+/** A table of numbers alone in a text, below a heading or without: {state}; or {fault}, with `isAll` where nothing else
+ * is there, and with `many` where rows have a game each. */
+function vectorIn(text, names, order, mark) {
+  const all = numbersIn(text), heading = all ? null : headingOf(text), cells = cellsOf(text);
+  const rows = all ?? (heading === null ? null : numbersIn(text.trimStart().slice(heading.length)));
+  const many = cells.length > 1 && manyBelow(rows ? [[], ...rows] : cells.filter((row) => row.some(Boolean)));
+  if (!rows || many) return { many: many || undefined };
+  const isTable = /[\t;]/.test(text) && rows.length > 1 && rows[0].length > 1;
+  if (isTable) return all ? { isAll: true, fault: SEVERAL } : {};
+  const found = ofNumbers(rows, names, order, mark);
+  return all ? { ...found, isAll: true } : { ...found, remark: headingText(heading) + found.remark };
+}
+
+const SEVERAL = "These lines have several numbers. Give lines of a group and its number, or one number a line.";
+
+/** Whether groups of players who are numbers stand in front: one has several of them, or braces. */
+function isGroups(rows) {
+  const isGroup = ([group]) => /^[{([]?\d+(\W{1,3}\d+)*[)}\]]?$/.test(group);
+  const isAll = rows.length > 2 && rows.every((row) => row.length === 2 && isGroup(row));
+  return isAll && rows.some(([group]) => /\D/.test(group));
 }
 
 /** A table of numbers alone, as other programs have it. */
@@ -203,65 +225,100 @@ function pairsOf(all, allLines, mark) {
   return { rows: rows.map((row) => [row[0], row[at] ?? ""]), lines, told: told + out.join("") };
 }
 
-/** What says that nobody knows a number. */
-const UNKNOWN = /^(\?+|n\/?a|n\.a\.|k\. ?a\.|[-–—]|unknown|unbekannt|inconnu|tb[cd])$/i;
+const IN = /^(1|x|✓|y|yes|ja|j|oui|sí)$/i, OUT = /^(0|no?|nein|non|nee|[-–—.]?)$/i;
+
+/** Rows of a group and its number, from rows below names that say with 1 and 0, x or yes, who is in the group; the same
+ * rows if they are others. */
+function joinedMembers(rows) {
+  const [heads = [], ...below] = rows, names = heads.slice(0, -1), n = names.length;
+  const isMark = (text = "") => IN.test(text) || OUT.test(text);
+  const hasMarks = (row) => names.every((_, c) => isMark(row[c]));
+  const isOf = n > 1 && names.every((name) => name && !isMark(name)) && below.every(hasMarks);
+  if (!isOf || below.every((row) => isMark(row[n]))) return rows;
+  return [["", heads[n]], ...below.map((row) => [names.filter((_, c) => IN.test(row[c])).join("+"), row[n]])];
+}
 
 /** A table of rows of a group and its number; `allLines` are the numbers of their lines. */
-function listOf(all, allLines, mark) {
-  const { rows, lines, told, fault } = pairsOf(all, allLines, mark), lineOf = (k) => `Line ${lines[k]}: `;
+function listOf(given, allLines, { mark, isWhole }) {
+  const { rows, lines, told, fault } = pairsOf(given, allLines, mark), lineOf = (k) => `Line ${lines[k]}: `;
   if (fault) return { fault };
-  const isNumber = ([group]) => !readNumber(group).fault;
-  if (rows.some(isNumber) && rows.every((row) => !row[1])) {
-    const k = rows.findIndex((row) => !isNumber(row)), other = withEscapes(rows[k][0].slice(0, 40));
-    return { fault: `${lineOf(k)}“${other}” is no number, and the others have no group beside them.` };
+  if (!rows.some(([, number = ""]) => /\d/.test(number))) {
+    const texts = rows.map(([group, number]) => withEscapes((number || group).slice(0, 40)));
+    const k = Math.max(0, texts.findIndex((text) => readNumber(text).fault));
+    return { fault: `${lineOf(k)}“${texts[k]}” is no number, and no group has one beside it.` };
   }
   const long = rows.findIndex(([group]) => group.length > MOST_LETTERS);
   if (long >= 0) return { fault: `${lineOf(long)}A group of ${rows[long][0].length} letters is none.` };
-  const open = new Set();
-  const read = rows.map(([group, given = ""], k) => {
-    const members = group.normalize("NFC").split("+").map((member) => member.trim());
-    if (UNKNOWN.test(given)) open.add(given);
-    return { members, number: UNKNOWN.test(given) ? "" : given, line: lineOf(k) };
+  const open = new Set(), read = rows.map(([group, number = ""], r) => {
+    if (UNKNOWN.test(number)) open.add(number);
+    return { members: membersIn(group), number: UNKNOWN.test(number) ? "" : number, line: lineOf(r) };
   });
-  const grouped = inOtherWords(read);
+  const unknown = open.size ? ` A cell with ${listed([...open].map((text) => `“${text}”`))} is empty.` : "";
+  const found = inOtherWords(read, isWhole), table = found.read ? placedList(found.read) : found;
+  return table.state ? { ...table, remark: told + found.told + unknown } : table;
+}
+
+/** The members of a group, as A+B, {A, B} or v(A, B). */
+function membersIn(group) {
+  const [, inside] = /^[vc]?[({[]+([^(){}[\]]*)[)}\]]+$/i.exec(group) ?? [], text = (inside ?? group).normalize("NFC");
+  return text.split(inside === undefined ? /[+∪]/ : /[+∪,;&|]/).map((member) => member.trim());
+}
+
+const NOBODY = /^(∅|none|nobody|no ?one|empty( set)?|niemand|personne|[-–—]|0|)$/i;
+const AND = /\s*(?:[&,/;|]|\b(?:and|und|et|y|e|en|och|with|mit)\b)\s*/u;
+const ALL = new RegExp("^((all|everybody|everyone|alle|tous|toutes|todos|todas|allemaal)( (of them|together|zusammen|"
+  + "ensemble|three|four|five|six|drei|vier|trois|quatre))?|[Σ∑]|ensemble|grand coalition)$", "i");
+
+/** Finds groups that are written without +, as "North & South" where both have a line, or "All", and leaves out that of
+ * nobody: {read, told}, or {fault}, or {asked, count}. */
+function inOtherWords(all, isWhole) {
+  const used = new Set(all.flatMap(({ members }) => (members.length > 1 ? members : [])));
+  const alone = all.filter(({ members: [one, other] }) => other === undefined && !used.has(one));
+  const nobody = alone.find(({ members: [one] }) => NOBODY.test(one)), read = all.filter((line) => line !== nobody);
+  if (nobody && /[1-9]/.test(nobody.number)) return { fault: `${nobody.line}Here is a number without a group.` };
+  const lines = new Set(read.flatMap(({ members: [one, other] }) => (other === undefined ? one : [])));
+  for (const line of alone) {
+    const [text] = line.members, parts = text.split(AND).filter(Boolean);
+    const isGroup = parts.length > 1 && parts.every((part) => lines.has(part));
+    if (isGroup) Object.assign(line, { members: parts, words: text });
+  }
+  const { asked, count, fault } = wholeOf(read, isWhole), told = read.map(({ words }) => words).filter(Boolean);
+  if (asked || fault) return { asked, count, fault };
+  const quoted = told.slice(0, MOST_TOLD).map((text) => `“${withEscapes(text)}”`).join(", ");
+  const alike = told.length > 1 ? "are groups" : "is a group";
+  return { read, told: (told.length ? ` ${quoted}${told.length > MOST_TOLD ? " and others" : ""} ${alike}.` : "")
+    + (nobody ? " The group of nobody was left out." : "") };
+}
+
+/** Puts all players into the place of a line for all together: one that says so, or, if somebody said so (`isWhole`),
+ * the one line that is left where all other groups are there. */
+function wholeOf(read, isWhole) {
+  const lone = read.filter(({ members }) => members.length === 1), n = lone.length - 1;
+  const inside = new Set(read.flatMap(({ members }) => (members.length > 1 ? members : [])));
+  const free = lone.filter(({ members: [one] }) => !inside.has(one));
+  const named = free.find(({ members: [one] }) => ALL.test(one) || isSumWord(one));
+  const isLast = n > 2 && free.length === 1 && read.length === 2 ** n - 1;
+  const line = named ?? (isLast ? free[0] : undefined), [text] = line?.members ?? [];
+  if (!line || n < 2) return {};
+  if (read.some(({ members }) => members.length === n)) {
+    return { fault: named && `${line.line}“${withEscapes(text)}” is none: all together have a line. Leave it out.` };
+  }
+  if (!named && isWhole === undefined) return { asked: text, count: n };
+  const others = lone.filter((one) => one !== line).map(({ members: [one] }) => one);
+  if (named || isWhole) Object.assign(line, { members: others, words: text });
+  return {};
+}
+
+function placedList(read) {
   const names = [...new Set(read.filter(({ members }) => members.length === 1).map(({ members }) => members[0]))];
   if (!names.length) return { fault: "There is no line of a player alone. A group is its members with + between." };
   if (names.length > MOST_PLAYERS) {
     return { fault: `These are ${names.length} players, and a table has at most ${MOST_PLAYERS}. A group of several is `
       + "its members with + between, as Sales+Ops." };
   }
-  const unknown = open.size ? ` A cell with ${listed([...open].map((text) => `“${text}”`))} is empty.` : "";
-  return { ...placedList(read, names), remark: told + grouped + unknown };
-}
-
-const AND = /\s*(?:&|,|\/|\b(?:and|und|et|y|e|en|och)\b)\s*/u;
-const ALL = new RegExp("^(all|everybody|everyone|alle|tous)( (of them|together|zusammen|ensemble|three|four|five|six|"
-  + "drei|vier|trois|quatre))?$", "i");
-
-/** Finds groups that are written without +, as "North & South" where both have a line, or "All": their members are put
- * in place. What is told of it. */
-function inOtherWords(read) {
-  const alone = read.filter(({ members }) => members.length === 1), told = [];
-  const lines = new Set(alone.map(({ members: [one] }) => one));
-  for (const line of alone) {
-    const [text] = line.members, parts = text.split(AND);
-    if (parts.length < 2 || !parts.every((part) => lines.has(part))) continue;
-    line.members = parts;
-    told.push(text);
-  }
-  const isWhole = ({ members: [text, other] }) => other === undefined && (ALL.test(text) || isSumWord(text));
-  const whole = read.find(isWhole), players = alone.filter(({ members: [, other] }) => other === undefined)
-    .filter((line) => line !== whole).map(({ members: [one] }) => one);
-  if (whole && players.length > 1 && read.every(({ members }) => members.length < players.length)) {
-    told.push(whole.members[0]);
-    whole.members = players;
-  }
-  const quoted = told.slice(0, MOST_TOLD).map((text) => `“${withEscapes(text)}”`).join(", ");
-  const more = told.length > MOST_TOLD ? " and others" : "";
-  return told.length ? ` ${quoted}${more} ${told.length > 1 ? "are groups" : "is a group"}.` : "";
-}
-
-function placedList(read, names) {
+  const isBare = names.length === read.length && Number.isInteger(Math.log2(names.length + 1));
+  const joint = isBare && names.find((one) => names.filter((other) => one.includes(other)).length > 2);
+  if (joint) return { fault: `Is “${withEscapes(joint)}” a group? Then put + between its members.` };
   const numbers = Array(2 ** names.length).fill(""), places = new Map(names.map((name, i) => [name, i]));
   for (const { members, number, line } of read) {
     const stranger = members.find((member) => !places.has(member)), group = withEscapes(members.join(" + "));

@@ -22,7 +22,7 @@ export function withoutUnits(rows, from = 0) {
     found.set(c, unit);
   }
   const bare = (text, c) => (found.has(c) ? parted(text ?? "")?.number ?? text : text);
-  return { rows: found.size ? rows.map((row) => row.map(bare)) : rows, units: [...new Set(found.values())] };
+  return { rows: found.size ? rows.map((row) => row.map(bare)) : rows, units: [...new Set(found.values())], found };
 }
 
 /** What is told of units that were left out. */

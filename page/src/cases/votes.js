@@ -5,16 +5,20 @@ import { LIMITS, mostOf } from "../game/classes.js";
 import { membersOf } from "../game/groups.js";
 import { withEscapes } from "../game/names.js";
 import { numbersMapped, readList } from "./lists.js";
-import { leastOf, roundedPart } from "./quota.js";
+import { bareQuota, isQuota, leastOf, QUOTA, roundedPart } from "./quota.js";
 import { askOfSum } from "./sum-row.js";
+import { askOfTwice } from "./twice.js";
 
 const MOST = mostOf("voting"), MOST_IN_TABLE = mostOf("table");
 const MOST_VOTES = BigInt(LIMITS.votes);
 const HUNDRED = Rational.of(100);
 const BOTH_WIN = "Two groups without a common voter can both reach this quota. A majority is “more than 1/2”.";
+const WRITE = " Write a number of votes, or a part such as 2/3, 60 % or “more than 1/2”.";
+const WHOLE = "a whole number, the least number of votes that is enough; or a part, as 2/3 or 60 %.";
 const VOTER = new RegExp("voter|state|party|member|country|holder|owner|name|staat|land|partei|mitglied|aktion|"
   + "eigentümer|état|pays|parti|propriét", "iu");
-const VOTES = /vote|seat|share|weight|stimme|sitz|anteil|voix|siège|part\b|population|bevölkerung/iu;
+const VOTES = new RegExp("vote|seat|share|weight|stimme|sitz|anteil|voix|siège|part\\b|zetel|\\bstem|voto|escaño|seggi|"
+  + "population|bevölkerung", "iu");
 
 export const votes = {
   id: "votes",
@@ -27,7 +31,7 @@ export const votes = {
   isVote: true,
   places: 3,
   single: {
-    key: "quota", title: "Votes needed",
+    key: "quota", title: "Votes needed", heads: QUOTA, reads: isQuota,
     help: "The least number that is enough, or a part of all votes: 2/3, 60 %, more than 1/2.",
   },
   columns: [
@@ -36,7 +40,7 @@ export const votes = {
   ],
   second: {
     single: { key: "secondQuota", title: "Needed of the second", help: "A motion has to reach both." },
-    column: { key: "second", title: "Second votes", number: true, grey: "1" },
+    column: { key: "second", title: "Second votes", number: true, grey: "1", heads: VOTES },
   },
   help: "One row for each voter, party or shareholder.",
   most: MOST,
@@ -52,7 +56,7 @@ export const votes = {
     const rows = state.rows.map(({ name, votes }) => ({ name, votes }));
     const { opened, isUnnamed } = state, own = { rows, opened, isUnnamed };
     const list = readList(own, mark, "votes", "The number of votes", "Voter"), { reading, names } = list;
-    askOfSum(reading, state, isDouble ? ["votes", "second"] : ["votes"]);
+    for (const ask of [askOfSum, askOfTwice]) ask(reading, state, isDouble ? ["votes", "second"] : ["votes"]);
     const ballots = [readBallot(reading, state.quota, "quota", "The quota", list, state)], [{ quota }] = ballots;
     const isLow = !isDouble && quota && !Rational.sum(list.values).less(quota.plus(quota));
     if (isLow) reading.notes.push(BOTH_WIN);
@@ -77,26 +81,31 @@ export const votes = {
   }),
 };
 
-/** The quota of some votes: a number, or a part of all. With decimals it may have some, too. */
-function readBallot(reading, typed, cell, what, { values }, { exactParts = [], isPercent = false }) {
+/** The quota of some votes: a number, or a part of all. With decimals it may have some, too. As long as other cells
+ * can't be read, or a row is asked about, nothing is said of it. */
+function readBallot(reading, typed, cell, what, { values }, state) {
+  const isKnown = !reading.count && !reading.isAsking(state.isMarked), bare = bareQuota(typed);
+  const part = leastOf(typed, values, reading.mark);
+  const quota = part ?? reading.number(cell, bare, what, { hint: WRITE });
+  if (!quota || !isKnown) return { values };
+  if (part) tellPart(reading, { typed, cell, what, values, part }, state);
   const all = Rational.sum(values), isWhole = values.every((value) => value.isWhole());
-  const part = leastOf(typed, values, reading.mark), quota = part ?? reading.number(cell, typed, what);
-  if (part) {
-    const rounded = !exactParts.includes(typed) && roundedPart(typed, values, reading.mark);
-    if (rounded) reading.part = { cell, typed, ...rounded };
-    const [told, least] = [all, part].map(shortText);
-    if (isPercent && all.less(HUNDRED)) reading.rest = restOf(cell, typed, values, reading.mark);
-    reading.notes.push(`${what}: ${withEscapes(typed.trim())} of ${told} votes, so at least ${least}.`);
-  }
-  if (!quota) return { values };
-  if (isWhole && !quota.isWhole()) {
-    reading.fault(cell, `${what} is a whole number, the least number of votes that is enough; or a part, as 2/3 or `
-      + "60 %.");
-  } else if (quota.isZero() || quota.isNegative() || all.less(quota)) {
-    const least = isWhole ? `from 1 to ${all}` : `above 0, and at most ${shortText(all)}`;
-    reading.fault(cell, `${what} is ${least}, the votes of all.`);
-  }
-  return { votes: values, quota };
+  const fault = isWhole && !quota.isWhole() ? WHOLE
+    : quota.isZero() || quota.isNegative() || all.less(quota)
+      ? `${isWhole ? `from 1 to ${all}` : `above 0, and at most ${shortText(all)}`}, the votes of all.` : null;
+  if (!fault) return { votes: values, quota };
+  reading.fault(cell, `${what} is ${fault}`);
+  return { values };
+}
+
+/** Says how many votes a part of all is, and asks what it is a part of. */
+function tellPart(reading, { typed, cell, what, values, part }, { exactParts = [], isPercent = false }) {
+  const all = Rational.sum(values), [told, least] = [all, part].map(shortText);
+  const rounded = !exactParts.includes(typed) && roundedPart(typed, values, reading.mark);
+  if (rounded) reading.part = { cell, typed, ...rounded };
+  if (isPercent && !all.equals(HUNDRED)) reading.rest = restOf(cell, typed, values, reading.mark);
+  if (reading.part || reading.rest) return; // the question says it
+  reading.notes.push(`${what}: ${withEscapes(bareQuota(typed))} of ${told} votes, so at least ${least}.`);
 }
 
 /** A ballot in whole numbers. */
@@ -120,7 +129,7 @@ function readSecond(reading, state, mark, names) {
   return readBallot(reading, state.secondQuota, "secondQuota", "The second quota", { values, cells }, own);
 }
 
-/** Votes in per cent that are fewer than 100 together: a part may be of these, or of 100. */
+/** Votes in per cent that aren't 100 together: a part may be of these, or of 100. */
 function restOf(cell, typed, values, mark) {
   const ways = [HUNDRED, Rational.sum(values)].map((all) => [all, leastOf(typed, values, mark, all)]);
   return { cell, typed, ways: ways.map((way) => way.map(String)) };
@@ -133,7 +142,7 @@ function votingGame(reading, { named }, ballot) {
   // votes alone decide which sums are reached, so the quota is rounded up where only the votes have a common divisor
   const ofVotes = votes.reduce(gcd, 0n) || 1n, by = all > MOST_VOTES ? ofVotes : 1n;
   if (all / by > MOST_VOTES) {
-    reading.notes.push("Power is counted over all groups: the document lists which groups win, and not the votes.");
+    reading.notes.push("The votes have too many digits for a document: it lists which groups win, and not the votes.");
     return null;
   }
   if (by > 1n) {

@@ -68,5 +68,6 @@ function byType({ amounts }, rows) {
 
 export function tickText(tick) {
   const spelled = (sign) => (sign === "," ? spoken.thousands : spoken.mark);
-  return Number(tick.toPrecision(10)).toLocaleString("en").replace(/[,.]/g, spelled).replace("-", "−");
+  const useGrouping = spoken.least === 3 ? "always" : "min2"; // as in the table
+  return Number(tick.toPrecision(10)).toLocaleString("en", { useGrouping }).replace(/[,.]/g, spelled).replace("-", "−");
 }

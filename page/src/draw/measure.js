@@ -19,6 +19,17 @@ export function widthOf(text, size = 14, weight = 400) {
   return measure(text, size, weight);
 }
 
+/** A text in lines for which there is room. */
+export function wrapped(text, room) {
+  const lines = [];
+  for (const word of text.split(" ")) {
+    const longer = lines.length ? `${lines.at(-1)} ${word}` : "";
+    if (longer && widthOf(longer) <= room) lines[lines.length - 1] = longer;
+    else lines.push(word);
+  }
+  return lines.map((line) => fitted(line, room));
+}
+
 /** A text that is cut, with "…" behind it, where it is wider than there is room. */
 export function fitted(text, room, size = 14, weight = 400) {
   if (widthOf(text, size, weight) <= room) return text;

@@ -30,7 +30,7 @@ export function planPicture(game, links, { show, wide, source = "Source" }) {
   }
   const { spots, rows, deepest } = spotsOf(children), names = [source, ...game.shown];
   const label = Math.min(150, Math.max(...names.map((name) => widthOf(name))) + 24);
-  const step = Math.max(118, Math.min(200, (wide - label - 20) / Math.max(1, deepest)));
+  const step = Math.max(Math.min(118, label - 8), Math.min(200, (wide - label - 36) / Math.max(1, deepest)));
   const x = (point) => 14 + spots.get(point).depth * step, y = (point) => 26 + spots.get(point).row * ROW;
   const curves = links.map(([end, player]) => {
     const [from, to] = [Number(end), Number(player)], bend = x(from) + step * 0.42;

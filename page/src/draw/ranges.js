@@ -22,8 +22,7 @@ export function dealsOf(game, matching, solution) {
     const [buyer, seller] = pair.map((player) => Number(player) - 1);
     const worth = game.rows[buyer][seller - game.rows.length], fair = solution?.shares[seller];
     const who = `${game.shown[buyer]} – ${game.shown[seller]}`;
-    const rule = solution?.title.toLowerCase();
-    return { pair: [buyer, seller], who, worth, low: buyers[seller], high: sellers[seller], fair, rule };
+    return { who, worth, low: buyers[seller], high: sellers[seller], fair, rule: solution?.title };
   });
 }
 
@@ -36,42 +35,58 @@ export function tradesTable(deals, format) {
   const rows = deals.map((deal) => el("tr", {},
     el("th", { scope: "row" }, deal.who), el("td", { class: "number" }, format.show(deal.worth)),
     el("td", { class: "number" }, price(deal).replaceAll(" ", "\u00a0")),
-    hasFair && el("td", { class: "number" }, format.show(deal.fair))));
-  const heads = ["Who trades", "Gain", "The seller gets", ...(hasFair ? [`By the ${deals[0].rule}`] : [])];
+    hasFair && [deal.fair, deal.worth.minus(deal.fair)].map((part) => {
+      return el("td", { class: "number" }, format.show(part));
+    })));
+  const fair = hasFair ? [`${deals[0].rule}: the seller’s`, "the buyer’s"] : [];
+  const heads = ["Who trades", "They gain", "Of it the seller’s", ...fair];
   return tableOf("trades", heads, rows);
 }
 
 const MOST_IDLE = 4; // that the first sentence names
 
-export function trades(game, matching, { solution, wide, ...format }) {
-  const deals = dealsOf(game, matching, solution), traded = new Set(deals.flatMap(({ pair }) => pair));
-  const idle = game.everyone().filter((i) => !traded.has(i)).map((i) => game.shown[i]);
+/** What is said of the parts, wherever they are. */
+export const PRICE = "The price is the seller’s own value and, on top of it, the seller’s part of the gain.";
+
+/** The first sentence, or none if nobody trades. */
+export function tradesLead(deals, idle, value, { show }) {
   const pairs = deals.length > 6 ? `${deals.length} pairs` : listed(deals.map(({ who }) => who));
-  const said = deals.length > 0 && el("p", { class: "lead" }, `${pairs} ${deals.length > 1 ? "trade" : "trades"}: `
-    + `together they gain ${format.show(Rational.of(matching.value))}.`, idle.length > 0 && idle.length <= MOST_IDLE
+  return deals.length > 0 && el("p", { class: "lead" }, `${pairs} ${deals.length > 1 ? "trade" : "trades"}: together `
+    + `they gain ${show(Rational.of(value))}.`, idle.length > 0 && idle.length <= MOST_IDLE
     && ` Without a trade: ${idle.join(", ")}.`);
+}
+
+/** Those without a trade. */
+export function idleOf(game, { pairs }) {
+  const traded = pairs.flat().map((player) => Number(player) - 1);
+  return game.everyone().filter((i) => !traded.includes(i)).map((i) => game.shown[i]);
+}
+
+/** `ties` is what is said of other pairs, and `solution` has the title that all read. */
+export function trades(game, matching, { solution, ties, wide, ...format }) {
+  const deals = dealsOf(game, matching, solution), idle = idleOf(game, matching);
+  const said = tradesLead(deals, idle, matching.value, format);
   const table = [tradesTable(deals, format), el("p", { class: "hint" },
     `Together they gain ${format.show(Rational.of(matching.value))}; no other pairs gain more. `,
-    "What the seller gets is its part of the gain, above its own value. The ranges say how far each can go, ",
-    "not that each can be chosen by itself: one holds the others. Below its range a buyer would be outbid, or ",
+    ties, " ", PRICE, " The ranges say how far each can go, not ",
+    "that each can be chosen by itself: one holds the others. Below its range a buyer would be outbid, or ",
     "the seller rather keep it; above it the seller would be undercut, or the buyer rather not buy.",
     idle.length > 0 && ` Without a trade: ${idle.join(", ")}.`)];
-  const plain = deals.map((deal) => ({ ...deal, rule: "first column" })); // the table there has the rule's name
-  const drawn = deals.length > 0 && pricesPicture(plain, priceOf(format), format.show, wide);
+  const drawn = deals.length > 0 && pricesPicture(deals, priceOf(format), format.show, wide);
   return { said, table, picture: drawn && figure("ranges", "prices", drawn) };
 }
 
 export function pricesPicture(deals, price, show, wide) {
   const hasFair = deals.some(({ fair }) => fair);
   return chart({
-    title: "What each seller may get", low: 0, wide, text: tickText,
+    title: "The sellers’ parts of the gain", low: 0, wide, text: tickText,
     high: Math.max(...deals.map(({ worth }) => worth.toNumber())) || 1,
     legend: [
-      { kind: "span", title: "what the seller may get, so that no pair does better together" },
-      ...(hasFair ? [{ kind: "adds", title: `by the ${deals[0].rule}` }] : []),
+      { kind: "span", title: "what the seller’s part may be" },
+      ...(hasFair ? [{ kind: "adds", title: deals[0].rule }] : []),
     ],
     rows: deals.map((deal) => ({
-      label: deal.who, told: `${deal.who}: gain ${show(deal.worth)}, the seller gets ${price(deal)}`,
+      label: deal.who, told: `${deal.who}: gain ${show(deal.worth)}, the seller’s part ${price(deal)}`,
       spans: [{ low: deal.low.toNumber(), high: deal.high.toNumber(), room: deal.worth.toNumber() }],
       marks: deal.fair ? [{ kind: "adds", value: deal.fair.toNumber() }] : [],
     })),

@@ -7,7 +7,7 @@ import { figure } from "./figure.js";
 import { fitted } from "./measure.js";
 import { markOf, togetherOf } from "./triangle.js";
 
-const [HIGH, LINE] = [420, 24];
+const LINE = 24, highOf = (wide) => Math.min(420, wide * 0.78); // of the frame, above the legend
 export const START = { yaw: 0.5, pitch: 0.3 };
 const R = (2 * Math.SQRT2) / 3;
 const ANGLES = [0, 1, 2].map((k) => (k * 2 * Math.PI) / 3);
@@ -47,8 +47,9 @@ export function tetrahedron(game, points, { wide, view }) {
   const said = saidOf(corners, solid);
   const legend = togetherOf(points), shapes = { spots, solid, points: own3, names: game.shown, legend, wide };
   const drawn = el("svg", {
-    class: "picture turning", viewBox: `0 0 ${wide} ${HIGH + legend.length * LINE + 8}`, width: wide, role: "img",
-    tabindex: "0", "aria-label": `Tetrahedron of the divisions, to be turned by the arrow keys. ${said}`,
+    class: "picture turning", width: wide, role: "img",
+    viewBox: `0 0 ${wide} ${highOf(wide) + legend.length * LINE + 8}`, tabindex: "0",
+    "aria-label": `Tetrahedron of the divisions, to be turned by the arrow keys. ${said}`,
   }, partsOf(shapes, view));
   const worse = game.costs ? "pays more" : "gets less";
   const tree = el("div", {}, figure("triangle tetrahedron", "tetrahedron", drawn, `${said} The frame has all `
@@ -84,9 +85,9 @@ function turned([x, y, z], { yaw, pitch }) {
 // ---- Drawing
 
 function partsOf({ spots, solid, points, names, legend, wide }, view) {
-  const size = Math.min(wide * 0.42, HIGH * 0.54), at = (point) => {
+  const high = highOf(wide), size = high * 0.54, at = (point) => {
     const [x, y, z] = turned(point, view);
-    return { x: wide / 2 + x * size, y: HIGH * 0.56 - y * size * 0.86, z };
+    return { x: wide / 2 + x * size, y: high * 0.56 - y * size * 0.86, z };
   };
   const path = (some) => some.map(at).map(({ x, y }) => `${x.toFixed(1)},${y.toFixed(1)}`).join(" ");
   const frame = CORNERS.map(at), marks = points.map(({ key, at: point }) => ({ key, ...at(point) }));
@@ -94,8 +95,8 @@ function partsOf({ spots, solid, points, names, legend, wide }, view) {
     ...EDGES.map((edge) => edgeOf(edge, frame, view)), ...facesOf(spots, solid, view, path, at),
     ...marks.sort((one, other) => one.z - other.z).map(({ key, x, y }) => markOf(key, x, y)),
     ...frame.map((spot, i) => nameOf(spot, names[i], wide)),
-    ...legend.flatMap(({ key, text }, k) => [markOf(key, 14, HIGH + k * LINE + 4),
-      el("text", { x: 32, y: HIGH + k * LINE + 9 }, fitted(text, wide - 40))]),
+    ...legend.flatMap(({ key, text }, k) => [markOf(key, 14, high + k * LINE + 4),
+      el("text", { x: 32, y: high + k * LINE + 9 }, fitted(text, wide - 40))]),
   ];
 }
 
@@ -124,7 +125,7 @@ function facesOf(spots, solid, view, path, at) {
 }
 
 function nameOf({ x, y }, name, wide) {
-  const anchor = x < wide * 0.4 ? "start" : x > wide * 0.6 ? "end" : "middle", isLow = y > HIGH * 0.56;
+  const anchor = x < wide * 0.4 ? "start" : x > wide * 0.6 ? "end" : "middle", isLow = y > highOf(wide) * 0.56;
   const left = anchor === "start" ? Math.max(4, x - 20) : anchor === "end" ? Math.min(wide - 4, x + 20) : x;
   const place = { x: left, y: y + (isLow ? 20 : -9), "text-anchor": anchor };
   return el("text", { class: "strong apart", ...place }, fitted(name, 130));

@@ -5,7 +5,7 @@ import { shortText } from "../exact/decimals.js";
 import { el } from "./tree.js";
 import { listed } from "../game/words.js";
 import { figure } from "./figure.js";
-import { fitted, widthOf } from "./measure.js";
+import { fitted, widthOf, wrapped } from "./measure.js";
 import { Shape } from "./shape.js";
 
 const LETTERS = "abcdef";
@@ -30,11 +30,12 @@ export function trianglePicture(game, points, { wide, most = 430 }) {
   const isBeside = wide >= BESIDE, width = isBeside ? wide * 0.58 : wide, side = Math.min(most, width - 60);
   const shape = new Shape(game, points, { side, left: (width - side) / 2, top: TOP });
   const { bounds, hidden } = boundsOf(game, shape), bottom = TOP + shape.high + 56;
+  const x = isBeside ? width + 8 : 14;
   const legend = [
     ...togetherOf(points).map(({ key, text }) => ({ mark: (x, y) => markOf(key, x, y), text })),
     ...bounds.map(({ letter, text }) => ({ mark: (x, y) => letterAt(letter, x, y + 5), text })),
-  ];
-  const [x, top] = isBeside ? [width + 8, Math.max(20, (bottom - legend.length * LINE) / 2)] : [14, bottom + 8];
+  ].flatMap(({ mark, text }) => wrapped(text, wide - x - 30).map((line, k) => ({ mark: !k && mark, text: line })));
+  const top = isBeside ? Math.max(20, (bottom - legend.length * LINE) / 2) : bottom + 8;
   const high = Math.max(bottom, top + legend.length * LINE);
   const title = `${GREY[Math.min(shape.core.length, 3)]}.`;
   const drawn = el("svg", {
@@ -44,8 +45,7 @@ export function trianglePicture(game, points, { wide, most = 430 }) {
   }, coreOf(shape), framesOf(shape), bounds.map((bound) => bound.drawn), cornersOf(game, shape, width),
   points.map((point, k) => markOf(point.key, ...shape.place(shape.shares[k]))).reverse(),
   legend.map(({ mark, text }, k) => [
-    mark(x + 8, top + k * LINE),
-    el("text", { x: x + 26, y: top + k * LINE + 5 }, fitted(text, wide - x - 30)),
+    mark && mark(x + 8, top + k * LINE), el("text", { x: x + 26, y: top + k * LINE + 5 }, text),
   ]));
   return { drawn, title, hidden, isImputations: shape.isImputations };
 }

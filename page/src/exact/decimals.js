@@ -63,10 +63,28 @@ export function shortText(value) {
   return bareText(value) + unitText();
 }
 
-/** The same, with the decimals beside a fraction. */
+/** The same, said to be about so much where it is rounded, or one of the numbers that it is worked out of. */
+export function saidText(value, ...of) {
+  return ([value, ...of].some(isRounded) ? "about " : "") + shortText(value);
+}
+
+/** The same; of a fraction the decimals come first, as they are what is read. */
 export function fullText(value) {
   const text = bareText(value);
-  return (text.includes("/") ? `${text} (about ${decimal(value, 2, spoken)})` : text) + unitText();
+  return text.includes("/") ? `${decimal(value, 2, spoken)} (exactly ${text})${unitText()}` : saidText(value);
+}
+
+/** The shares of all as texts, and their sum: decimals of named places are rounded so that they add up. */
+export function columnTexts(shares) {
+  if (spoken.places === null) return [...shares, Rational.sum(shares)].map(shortText);
+  const steps = roundedSteps(shares, spoken.places);
+  const all = [...steps, steps.reduce((sum, step) => sum + step, 0n)];
+  return all.map((step) => decimalOf(step, spoken.places, { least: 3, ...spoken }) + unitText());
+}
+
+/** The shares of all as sentences have them: those of a column, where places are named. */
+export function shareTexts(shares, textOf = fullText) {
+  return spoken.places === null ? shares.map((share) => textOf(share)) : columnTexts(shares).slice(0, -1);
 }
 
 function bareText(value) {
@@ -78,7 +96,7 @@ function bareText(value) {
 }
 
 /** The unit of sentences, with a blank before it. */
-export function unitText() {
+function unitText() {
   return spoken.unit ? ` ${spoken.unit}` : "";
 }
 

@@ -190,12 +190,13 @@ class Reader {
 
 /** A tree as compact JSON, with its keys in their order. */
 export function writeJson(tree) {
+  if (typeof tree === "bigint") return String(tree);
   if (tree instanceof Inexact) return tree.text;
   if (Array.isArray(tree)) return `[${tree.map(writeJson).join(",")}]`;
   if (isObject(tree)) {
     return `{${Object.keys(tree).map((key) => `${JSON.stringify(key)}:${writeJson(tree[key])}`).join(",")}}`;
   }
-  return typeof tree === "bigint" ? String(tree) : JSON.stringify(tree);
+  return JSON.stringify(tree);
 }
 
 /** The path to the first difference of two trees, as ["game", "costs", 2]; null where there is none. */

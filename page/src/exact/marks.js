@@ -33,6 +33,12 @@ export function onlyMark(marks) {
 /** By which mark the numbers of a reading are written: the one that they show, or else the one they were read by. */
 export const writtenBy = ({ settled, mark }) => settled ?? mark;
 
+/** Whether a number of a game has five digits before its decimals. */
+function isLong({ whole, single, amounts, alone, worths, rows }) {
+  const digits = (text) => Number((text ?? "0").split("/")[0]) / Number((text ?? "1").split("/")[1] ?? 1);
+  return [whole, single, amounts, alone, worths, rows].flat(2).some((text) => Math.abs(digits(text)) >= 10000);
+}
+
 /** The marks of the page and its case: by which numbers are shown, and by which those are read that don't show it. */
 export class Marks {
   /** `own` is that of the user's system. */
@@ -44,7 +50,7 @@ export class Marks {
   /** A case is opened. `mark` and `entry` are those of a saved case, or of the cells before a step. A file has no mark
    * of the case before. */
   open({ isFile = false, mark, entry }) {
-    this.thousands = null; // the sign that the typed numbers show
+    Object.assign(this, { thousands: null, isLong: false }); // the sign that the typed numbers show; are some long
     if (mark || isFile) {
       this.shown = mark ?? this.usual();
       this.isChosen = Boolean(mark ?? this.chosen); // by the user, or in the file
@@ -55,10 +61,11 @@ export class Marks {
     this.speak();
   }
 
-  /** How numbers are shown. A sign between thousands that is the decimal mark now gives way to the usual one. */
+  /** How numbers are shown. A sign between thousands that is the decimal mark now gives way to the usual one. Four
+   * digits are parted beside longer ones, in all that is told of a case. */
   spelling() {
     const isClear = this.thousands && this.thousands !== this.shown;
-    return { mark: this.shown, thousands: isClear ? this.thousands : BLANK };
+    return { mark: this.shown, thousands: isClear ? this.thousands : BLANK, least: isClear || this.isLong ? 3 : 4 };
   }
 
   speak() {
@@ -72,6 +79,12 @@ export class Marks {
     this.speak();
   }
 
+  /** The user says by which those are read that can be read both ways: numbers are shown by it, too. */
+  enter(mark) {
+    this.entry = mark;
+    if (isMark(mark) && !this.isChosen) this.shown = mark;
+  }
+
   /** Takes over what a reading says of its marks, and returns the reading: numbers are then shown as the cells show it,
    * if they are typed and no worked example (`isTyped`), by their mark until the user chooses one. */
   take(reading, isTyped) {
@@ -82,6 +95,7 @@ export class Marks {
     this.reading = isOpen ? { ...reading, entry: this.shown, mark: this.shown } : reading;
     if (!this.isChosen && isTyped && settled) this.shown = settled;
     this.thousands = isTyped ? reading.thousands : null;
+    if (reading.facts) this.isLong = isLong(reading.facts);
     this.speak();
     return this.reading;
   }

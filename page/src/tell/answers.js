@@ -1,6 +1,5 @@
 // What each answer of the program says, in sentences, by the names of its game.
-import { decimalOf, fullText, roundedSteps, shortText, unitText } from "../exact/decimals.js";
-import { spoken } from "../exact/marks.js";
+import { columnTexts, fullText, shareTexts } from "../exact/decimals.js";
 import { Rational } from "../exact/rational.js";
 import { times } from "../game/words.js";
 import { surplusOf, unlikeShares } from "./judged.js";
@@ -40,14 +39,6 @@ export function answerTold(tree, game = null, shares = null) {
     if (fault instanceof Untold) throw fault;
     throw new Untold(`this isn’t a whole answer of the program: ${fault.message}`);
   }
-}
-
-/** The shares of all as texts, and their sum: decimals of named places are rounded so that they add up. */
-export function columnTexts(shares) {
-  if (spoken.places === null) return [...shares, Rational.sum(shares)].map(shortText);
-  const steps = roundedSteps(shares, spoken.places);
-  const all = [...steps, steps.reduce((sum, step) => sum + step, 0n)];
-  return all.map((step) => decimalOf(step, spoken.places, { least: 3, ...spoken }) + unitText());
 }
 
 /** What each gets, an item for each; of many players, those with equal shares together. */
@@ -160,10 +151,11 @@ function shapley(about, { shares }) {
   return told([about.game?.kind === "voting" ? power : adds, !about.game && nameless], about.items(shares));
 }
 
-function bird(about, { tree }) {
-  const items = tree.map(([end, player, cost]) => {
+function bird(about, { tree, shares }) {
+  const texts = shareTexts(shares.map(value));
+  const items = tree.map(([end, player]) => {
     const [from, to] = [Number(end) ? about.player(end) : "the source", about.player(player)];
-    return `${from} to ${to}: ${fullText(value(cost))}, which ${to} pays`;
+    return `${from} to ${to}: ${texts[Number(player) - 1]}, which ${to} pays`;
   });
   return told("The cheapest network, link by link. Each link joins a new player, who pays it. No group could do better "
     + "by itself.", items);
@@ -200,9 +192,10 @@ function notPrekernel(about, { i, j, ij, ji }) {
 
 function matching(about, tree) {
   const best = ["buyers best", "sellers best"].map((key) => tree[key].map(value));
+  const texts = best.map((shares) => shareTexts(shares));
   const items = tree.pairs.map(([buyer, seller]) => {
-    const [one, other] = best.map((shares) => shares[Number(seller) - 1]);
-    const [low, high] = (other.less(one) ? [other, one] : [one, other]).map(fullText);
+    const [[one, other], own] = [best, texts].map((lists) => lists.map((list) => list[Number(seller) - 1]));
+    const [low, high] = other.less(one) ? own.reverse() : own;
     const price = one.equals(other) ? `at ${low}` : `at ${low} at least and ${high} at most`;
     return `${about.player(buyer)} with ${about.player(seller)}, ${price}`;
   });

@@ -71,9 +71,9 @@ class Failure {
     if (this.mode === "span") {
       const settled = new Settled(n);
       for (const level of before) settled.addLevel(level);
-      const count = settled.rows.size;
+      const { rank } = settled;
       settled.add(group);
-      return settled.rows.size > count;
+      return settled.rank > rank;
     }
     const listed = before.flatMap(({ coalitions }) => coalitions.map(([some]) => some));
     const bound = before.flatMap(({ bounds }) => bounds.filter(([, weight]) => weight > 0n).map(([some]) => some));

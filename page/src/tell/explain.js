@@ -1,6 +1,6 @@
 // Tells a certificate that was checked, level by level: who is worst off, why nobody can do better, what is settled.
 import { Rational } from "../exact/rational.js";
-import { fullText, isRounded, shortText } from "../exact/decimals.js";
+import { fullText, isRounded, saidText, shareTexts } from "../exact/decimals.js";
 import { without } from "../game/groups.js";
 import { isSplit, levelOf, reducedLevel, Settled } from "./levels.js";
 import { ruleOf } from "./rules.js";
@@ -18,7 +18,7 @@ const WHOLE = {
   voting: "There is a prize of # to divide, which a group wins that reaches the quota.",
 };
 
-const ROUNDED = "Each number is rounded by itself, so they may not add up.";
+const ROUNDED = "The shares are rounded so that they add up, so equal ones may differ in the last place.";
 
 /** Where two levels have one excess: a level names the groups that its proof needs, and not all that are worst off. */
 const AGAIN = "That is the number of the level before: a level names groups enough to settle something, and not all.";
@@ -39,6 +39,7 @@ class Explainer {
     this.game = game;
     this.isAnyDivision = line.answer === "prenucleolus";
     this.shares = line.shares.map(Rational.of);
+    this.texts = shareTexts(this.shares);
     this.levels = line.certificate.levels.map(levelOf);
     this.namer = new Namer(game);
     this.settled = new Settled(game.n);
@@ -61,7 +62,7 @@ class Explainer {
 
   principle() {
     const worse = this.game.costs ? "pays more" : "gets less";
-    const sentences = [WHOLE[this.game.kind].replace("#", shortText(this.game.whole()))];
+    const sentences = [WHOLE[this.game.kind].replace("#", saidText(this.game.whole()))];
     if (!this.isAnyDivision) sentences.push(`Only divisions count in which nobody ${worse} than alone.`);
     const those = this.isAnyDivision ? "Of all divisions of it" : "Of these";
     sentences.push(`${those}, look at the groups that gain least by joining.`);
@@ -133,9 +134,11 @@ class Explainer {
     }
     const more = `${fullText(e.abs())} ${e.isNegative() === this.game.costs ? "less" : "more"}`;
     const perHead = this.perHead ? `,${this.perHead},` : "";
+    const just = more.includes("(") ? "that" : `${more}${this.perHead}`;
+    const those = more.startsWith("about") ? "the worst off of these" : `those with exactly ${just}`;
     return [
       `${who} ${this.gets}${perHead} at ${e.isNegative() ? "least" : "most"} ${more} than it ${alone}.`,
-      `Among those with exactly ${more}${this.perHead}: ${groups}.`,
+      `Among ${those}: ${groups}.`,
     ];
   }
 
@@ -235,11 +238,7 @@ class Explainer {
     return fresh.length ? `With that all is settled: ${this.whatTheyGet(fresh)}.` : "With that all is settled.";
   }
 
-  /** What players get, equal shares together: "A gets 1; B and C get 2 each". */
   whatTheyGet(ids) {
-    return this.namer.equal(this.shares, ids).map(([share, who]) => {
-      const what = who.length > 1 ? `${this.get} ${fullText(share)} each` : `${this.gets} ${fullText(share)}`;
-      return `${this.namer.players(who)} ${what}`;
-    }).join("; ");
+    return this.namer.whatTheyGet(this.texts, ids, this.get);
   }
 }

@@ -26,9 +26,17 @@ const PLAIN = {
 };
 const OF_CLASS = { bankruptcy: "the Talmud’s rule", airport: "Littlechild’s rule" };
 
+/** Points under the titles that all read, with the field's `name`, a `note`, and the `rule` as sentences name it. */
+export function plainPoints(points, game) {
+  return points.map((point) => {
+    const { plain, ...more } = plainNames(point.key, point.title, game, point.key === points[0].key);
+    return { ...point, ...more, title: plain, rule: point.title };
+  });
+}
+
 /** A rule as somebody says it who doesn't know the field, with its name there, and what is said more: {plain, name,
  * note}. The prenucleolus is said by what it differs in, where the nucleolus is beside it. */
-export function plainNames(key, title, { perHead, kind, costs }, isAlone = true) {
+function plainNames(key, title, { perHead, kind, costs }, isAlone) {
   const name = ruleName(key, perHead), other = key === "nucleolus" && !perHead ? OF_CLASS[kind] : "";
   if (key === "proportion") {
     const what = kind === "bankruptcy" ? "the claims" : costs ? "costs alone" : "worth alone";
@@ -36,7 +44,7 @@ export function plainNames(key, title, { perHead, kind, costs }, isAlone = true)
   }
   if (key.endsWith("nucleolus")) {
     const isOther = key === "prenucleolus" && !isAlone;
-    const plain = isOther ? "The same, but some may do worse than alone" : PLAIN.nucleolus;
+    const plain = isOther ? `${PLAIN.nucleolus}, even if some do worse than alone` : PLAIN.nucleolus;
     return { plain: perHead ? `${plain}, per head` : plain, name: other ? `${name}, ${other}` : name };
   }
   return PLAIN[key] ? { plain: PLAIN[key], name } : { plain: title, name: "" };

@@ -1,7 +1,7 @@
 // The rules that give the nucleolus of a runway and of an estate, explained with the numbers of a game. A rule is
 // worked out anew, and explained only if its shares are those of the answer.
 import { Rational, ZERO } from "../exact/rational.js";
-import { decimal, fullText, shortText } from "../exact/decimals.js";
+import { decimal, fullText, isRounded, saidText, shareTexts, shortText } from "../exact/decimals.js";
 import { spoken } from "../exact/marks.js";
 
 /** The rule as {title, sentences, items}; null if the class has none. */
@@ -37,7 +37,7 @@ function partsUpTo(done, end, players) {
 }
 
 function runwayRule(game, shares, namer) {
-  const steps = runwaySteps(game.amounts);
+  const steps = runwaySteps(game.amounts), texts = shareTexts(shares), short = shareTexts(shares, shortText);
   if (steps.some(({ who, part }) => who.some((i) => !shares[i].equals(part)))) return null;
   return {
     title: "The rule (Littlechild 1974)",
@@ -47,25 +47,31 @@ function runwayRule(game, shares, namer) {
       "Split it into equal parts: one for each landing that pays now, and one that is saved.",
       "The next landings that make this part least pay now.",
     ],
-    items: steps.map((step, k) => runwayStep(game, namer, step, steps[k - 1])),
+    items: steps.map((step, k) => ({
+      label: `${namer.whatTheyGet(texts, step.who, "pay")}${moreThan(steps[k - 1], step)}.`,
+      text: runwayStep(game, step, steps.slice(0, k), short),
+    })),
   };
 }
 
-function runwayStep(game, namer, { who, part, done, paid }, before) {
+function runwayStep(game, { who, done, paid }, steps, texts) {
   const end = done + who.length, isLast = end === game.n, several = who.length > 1;
   const cost = game.amounts[who.at(-1)], left = cost.minus(paid), count = partsUpTo(done, end, game.n);
-  const sentences = [`${runway(done, end, game.n)} costs ${shortText(cost)}.`];
-  const those = done === 1 ? "The earlier one pays" : `The ${done} earlier ones pay`;
-  if (done) sentences.push(`${those} ${shortText(paid)}, so ${shortText(left)} is left.`);
+  const sentences = [`${runway(done, end, game.n)} costs ${saidText(cost)}.`];
+  const those = done === 1 ? `The earlier one pays ${texts[steps[0].who[0]]}`
+    : `The ${done} earlier ones pay ${saidText(paid, ...steps.map(({ part }) => part))}`;
+  if (done) sentences.push(`${those}, so ${saidText(left)} is left.`);
   if (isLast) sentences.push(several ? "They share it equally." : "The last pays it.");
   else if (count === 2) sentences.push("Half of it is paid, and half is saved.");
   else sentences.push(`Each pays one of ${count} parts, and one part is saved.`);
-  const more = before && before.part.less(part) ? `, ${fullText(part.minus(before.part))} more than the earlier ones`
-    : "";
-  return {
-    label: `${namer.players(who)} ${several ? "pay" : "pays"} ${fullText(part)}${several ? " each" : ""}${more}.`,
-    text: sentences.join(" "),
-  };
+  return sentences.join(" ");
+}
+
+/** By how much those of a step pay more than those before. */
+function moreThan(before, { part }) {
+  if (!before?.part.less(part)) return "";
+  const by = part.minus(before.part), about = isRounded(part) && !isRounded(by) ? "about " : "";
+  return `, ${about}${fullText(by)} more than the earlier ones`;
 }
 
 function runway(done, end, players) {
@@ -104,18 +110,19 @@ function estateRule(game, shares, namer) {
   const verb = isLacking ? "loses" : "gets", isCapped = claims.map((claim) => t.less(claim.over(two)));
   const isCut = game.amounts.some((claim) => estate.less(claim));
   const sentences = [
-    ...(isCut ? [`A claim above the estate counts as the estate, ${shortText(estate)}.`] : []),
-    `The claims add to ${shortText(total)}, and half of this sum is ${shortText(half)}.`,
-    `The estate of ${shortText(estate)} is ${isLacking ? "more" : "no more"} than this half.`,
+    ...(isCut ? [`A claim above the estate counts as the estate, ${saidText(estate)}.`] : []),
+    `The claims${isCut ? ", so counted," : ""} add to ${saidText(total)}, and half of this sum is ${saidText(half)}.`,
+    `The estate of ${saidText(estate)} is ${isLacking ? "more" : "no more"} than this half.`,
     `So each ${verb} half of its claim${isCapped.includes(true) ? `, but at most ${fullText(t)}` : ""}.`,
     ...greatestText(parts, isCapped, t, amount),
-    `Together these are ${shortText(amount)}${isLacking ? ", which is what the estate lacks" : ""}.`,
+    `Together these are ${saidText(amount)}${isLacking ? ", which is what the estate lacks" : ""}.`,
   ];
+  const texts = shareTexts(shares), short = shareTexts(shares, shortText);
   const items = claims.map((claim, i) => {
-    const halfOf = `Half of ${shortText(claim)} is ${shortText(claim.over(two))}`;
-    const cut = isCapped[i] ? `, which is more than ${shortText(t)}` : "";
-    const left = isLacking ? ` ${shortText(claim)} less ${shortText(parts[i])} is ${shortText(shares[i])}.` : "";
-    return { label: `${namer.names[i]} gets ${fullText(shares[i])}.`, text: `${halfOf}${cut}.${left}` };
+    const halfOf = `Half of ${saidText(claim)} is ${saidText(claim.over(two))}`;
+    const cut = isCapped[i] ? `, which is more than ${saidText(t)}` : "";
+    const left = isLacking ? ` ${saidText(claim)} less ${saidText(parts[i])} is ${short[i]}.` : "";
+    return { label: `${namer.names[i]} gets ${texts[i]}.`, text: `${halfOf}${cut}.${left}` };
   });
   const last = inProportion(game, shares, isLacking, isCut);
   return { title: "The rule (the Talmud’s; Aumann and Maschler 1985)", sentences, items, last };
@@ -125,11 +132,11 @@ function estateRule(game, shares, namer) {
 function greatestText(parts, isCapped, t, amount) {
   const many = isCapped.filter(Boolean).length, few = parts.length - many, equal = `in ${many} equal parts`;
   if (!many) return [];
-  if (!few) return [`No half is lower, so ${shortText(amount)} is split ${equal}.`];
-  const halves = Rational.sum(parts.filter((_, i) => !isCapped[i])), left = shortText(amount.minus(halves));
-  const those = few === 1 ? "One half is no greater:" : `${few} halves are no greater, together`;
+  if (!few) return [`Half of each claim is more, so ${saidText(amount)} is split ${equal}.`];
+  const halves = Rational.sum(parts.filter((_, i) => !isCapped[i])), left = saidText(amount.minus(halves));
+  const those = `Half is no more than that for ${few === 1 ? "one claim:" : `${few} claims, together`}`;
   const rest = many > 1 ? `The rest is ${left}, ${equal} of ${fullText(t)}.` : `The rest is ${left}.`;
-  return [`${those} ${shortText(halves)} of the ${shortText(amount)}. ${rest}`];
+  return [`${those} ${saidText(halves)} of the ${saidText(amount)}. ${rest}`];
 }
 
 /** Compares the rule with the division in proportion: who gets more by which; "" if the two are the same. */

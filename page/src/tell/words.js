@@ -113,13 +113,12 @@ export class Namer {
     return [...parts, `${sizes.length} more groups, of ${low < high ? `${low} to ${high}` : low} players`];
   }
 
-  /** The players of each share: pairs of the share and a list of them. */
-  equal(shares, ids) {
+  /** What players get, by the texts of all shares, those with equal ones together: "A gets 1; B and C get 2 each". */
+  whatTheyGet(texts, ids, get) {
     const equal = new Map();
-    for (const i of [...ids].sort((a, b) => a - b)) {
-      const key = String(shares[i]);
-      equal.set(key, [...(equal.get(key) ?? []), i]);
-    }
-    return [...equal.values()].map((who) => [shares[who[0]], who]);
+    for (const i of [...ids].sort((a, b) => a - b)) equal.set(texts[i], [...(equal.get(texts[i]) ?? []), i]);
+    return [...equal].map(([text, who]) => {
+      return `${this.players(who)} ${who.length > 1 ? `${get} ${text} each` : `${get}s ${text}`}`;
+    }).join("; ");
   }
 }

@@ -25,7 +25,7 @@ import { whyBody } from "./why.js";
 import { pairPart } from "./why-pair.js";
 
 const PLACES = [0, 1, 2, 3, 4, 6];
-const MEASURES = [["plain", "as a whole"], ["per-head", "per head"]];
+const MEASURES = [["plain", "as a whole"], ["per-head", "per head: each player is one"]];
 
 const PARTS = ["why", "what-if", "evidence", "paper", "files"];
 const BODIES = ["answer-measure", "answer-settings", "answer-body", "own-body", "margins", "answer-more", "why-body",
@@ -242,8 +242,8 @@ export class AnswerView {
       ask, assumed: (groups) => isFilled(session, groups),
       fills: fillsAsked(session, mark), network: filledNetwork(session, mark),
     };
-    session.pair = "";
-    this.pair = pairPart(result, { ...settings, onSaid: (sentence) => { session.pair = sentence; } });
+    session.pair = [];
+    this.pair = pairPart(result, { ...settings, onSaid: (...said) => { session.pair = said; } });
     refill(at("answer-more"), fillsPart(session, settings), otherAmounts(result, settings));
   }
 

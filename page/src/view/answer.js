@@ -1,5 +1,5 @@
 // The answer: who gets or pays what, by several divisions side by side, with pictures.
-import { decimal, decimalOf, stepsOf } from "../exact/decimals.js";
+import { decimal, decimalOf, shortText, stepsOf } from "../exact/decimals.js";
 import { Rational } from "../exact/rational.js";
 import { bars } from "../draw/bars.js";
 import { plan } from "../draw/plan.js";
@@ -8,7 +8,8 @@ import { START } from "../draw/tetrahedron.js";
 import { triangle } from "../draw/triangle.js";
 import { mayBeOfRounding } from "../cases/coarse.js";
 import { coarseText, dividedText } from "../tell/coarse-text.js";
-import { plainNames } from "../tell/rule-names.js";
+import { tiesText } from "../tell/other-pairs.js";
+import { plainPoints, ruleName } from "../tell/rule-names.js";
 import { Namer } from "../tell/words.js";
 import { enumerated, listed, times } from "../game/words.js";
 import { beyondParts } from "./beyond.js";
@@ -31,7 +32,7 @@ export function answerParts(result, settings) {
   const own = { key: "proposal", title: "Your proposal", shares: proposal.shares };
   const seen = proposal.shares ? [...points, own] : points, { format } = settings;
   const pictured = { ...settings, wide: Math.min(wide, 900) }, missing = missingText(game);
-  const deals = result.matching && trades(game, result.matching, { ...format, solution, wide: pictured.wide });
+  const deals = tradesOf(result, pictured);
   return [
     briefNotice(result),
     ...(game.ballots ? votes(result, pictured) : []),
@@ -44,7 +45,7 @@ export function answerParts(result, settings) {
     notices(result, format, coarse, result.odds),
     filled && el("p", { class: "note filled-note" }, filled),
     coarse && el("p", { class: "note coarse-note" }, coarseText(coarse)),
-    coarse?.times && seen.map(({ title, shares }) => {
+    coarse?.times && plainPoints(seen, game).map(({ title, shares }) => {
       return el("p", { class: "hint divided" }, dividedText(coarse, title, rows, totalsOf(rows, shares)));
     }),
     missing && el("p", { class: "hint missing" }, missing),
@@ -56,9 +57,13 @@ export function answerParts(result, settings) {
 }
 
 /** Who trades, and how far the price can go: of a market it belongs to the reasons, where shares are the answer. */
-export function tradesPart({ game, matching, ...result }, { format, wide }) {
-  const solution = solutionOf(result);
-  return matching && solution ? trades(game, matching, { ...format, solution, wide }).table : null;
+export function tradesPart(result, settings) {
+  return solutionOf(result) ? tradesOf(result, settings)?.table : null;
+}
+
+function tradesOf({ game, points, matching }, { format, wide }) {
+  const solution = solutionOf({ points: plainPoints(points, game) });
+  return matching && trades(game, matching, { ...format, solution, ties: tiesText(game, matching), wide });
 }
 
 /** The pictures for which the answer has no room: those of the reasons. */
@@ -87,18 +92,20 @@ function becauseOf({ game, reasons }) {
 
 /** The Talmud’s rule, by the half of the claims that counts. */
 function talmud({ single, amounts }) {
-  const all = Rational.sum(amounts), twice = single.plus(single);
-  if (all.equals(twice)) return "The estate is half of the claims, so each gets half of its own (the Talmud’s rule).";
-  return twice.less(all) ? "The estate is less than half of the claims, so each gets the same, but nobody more than "
-    + "half of the claim (the Talmud’s rule)."
-    : "The estate is more than half of the claims, so each loses the same, but nobody more than half of the claim (the "
-    + "Talmud’s rule).";
+  const all = Rational.sum(amounts.map((claim) => Rational.min([claim, single]))), twice = single.plus(single);
+  const isCut = amounts.some((claim) => single.less(claim)), is = (part, what) => {
+    return `The estate is ${part} of the claims${isCut ? ", each counted up to the estate" : ""}, so each ${what} (the `
+      + "Talmud’s rule).";
+  };
+  if (all.equals(twice)) return is("half", "gets half of its own");
+  const [part, verb] = twice.less(all) ? ["less", "gets"] : ["more", "loses"];
+  return is(`${part} than half`, `${verb} the same, but nobody more than half of the claim`);
 }
 
 function typesPart({ game, points }, { rows, format }) {
   const landings = rows.map(({ type, players: [i] }) => ({ type, cost: game.amounts[i] }));
   const each = ({ shares }) => rows.map(({ players: [i] }) => shares[i]);
-  return typesTable(landings, points.map((point) => ({ title: point.title, each: each(point) })), format);
+  return typesTable(landings, plainPoints(points, game).map((point) => ({ ...point, each: each(point) })), format);
 }
 
 export function solutionOf({ points }) {
@@ -113,7 +120,7 @@ function refused({ sentence, place }) {
 /** All pictures of an answer, the one that tells most first. */
 function pictures({ game, bird }, points, { rows, format, wide, remark, source, typed }) {
   const turn = (typed.turn ??= { ...START });
-  const seen = points.map((point, k) => ({ ...point, title: plainNames(point.key, point.title, game, !k).plain }));
+  const seen = plainPoints(points, game);
   const narrow = seen.filter(({ key }) => !["core", "buyers", "sellers"].includes(key));
   const drawn = [bars(game, rows, narrow, { ...format, wide, remark }),
     game.n === 3 && triangle(game, seen, { wide }),
@@ -204,12 +211,15 @@ function emptyCore(game, core, apart) {
     return `${group}${weight > 1n ? ` (${weight} times)` : ""}`;
   });
   const [value, against] = apart(Rational.of(core.value), Rational.of(core.against));
+  const more = Rational.of(core.against).minus(Rational.of(core.value)).abs().over(Rational.of(core.k));
+  const lacks = shortText(more);
   const all = k === 1 ? "All together" : `${k} times all together`;
-  const [own, whole] = game.costs
-    ? [`cost ${value} by themselves, added`, `cost ${against}, which is more`]
-    : [`are worth ${value}, added`, `are worth ${against}, which is less`];
+  const [own, whole, need] = game.costs
+    ? [`cost ${value} by themselves, added`, `cost ${against}, which is more`, `cost at least ${lacks} less`]
+    : [`are worth ${value}, added`, `are worth ${against}, which is less`, `be worth at least ${lacks} more`];
   return "Whatever the division, some group could do better by itself. "
-    + `Take ${enumerated(groups)}: they hold each player ${often} and ${own}. ${all} ${whole}.`;
+    + `Take ${enumerated(groups)}: they hold each player ${often} and ${own}. ${all} ${whole}. To satisfy `
+    + `every group, all together would have to ${need}.`;
 }
 
 /** Which of these groups have a number that can hardly be meant: a mistake there may be all the reason. */
@@ -234,7 +244,7 @@ function roundedCore({ collection, k, value, against }, coarse) {
 
 const MOST_LED = 6;
 
-export function lead({ game }, { shares, key, title }, { rows, format }) {
+export function lead({ game }, { shares, key }, { rows, format }) {
   const who = [...new Set(rows.map((row) => row.sum ?? row.label))];
   const owns = who.map((name) => rows.filter((row) => (row.sum ?? row.label) === name));
   const totals = owns.map((own) => Rational.sum(totalsOf(own, shares))), texts = format.column(totals);
@@ -245,5 +255,5 @@ export function lead({ game }, { shares, key, title }, { rows, format }) {
     return `${name} ${verb} ${texts[k]}${landings > 1 ? ` for ${landings} landings` : ""}`;
   });
   return el("p", { class: "lead" }, `${listed(parts)}: together ${texts.at(-1)}.`,
-    (key === "prenucleolus" || game.perHead) && ` (By the ${title.toLowerCase()}.)`);
+    (key === "prenucleolus" || game.perHead) && ` (By the ${ruleName(key, game.perHead)}.)`);
 }

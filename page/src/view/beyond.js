@@ -1,11 +1,12 @@
 // Runways of more landings than the program takes: what the page calculates by itself, and that it says so.
 import { countText } from "../exact/decimals.js";
+import { plainPoints } from "../tell/rule-names.js";
 import { Rational } from "../exact/rational.js";
 import { extremes } from "./extremes.js";
 import { el } from "./dom.js";
 import { movedText, withSum } from "./format.js";
 import { keepButton, pinnedNote, pinnedText, pinTools, sinceKept } from "./pinned.js";
-import { linesOf, ownSum, shareCell } from "./shares-table.js";
+import { columnHead, linesOf, ownSum, shareCell } from "./shares-table.js";
 import { ownInput } from "./proposal-cells.js";
 import { airlineLines, csvButton, roundingLines, shareLines } from "./table-lines.js";
 import { changeBelow, todayTitle, todayTools } from "./today.js";
@@ -37,7 +38,7 @@ function beyondNotice(beyond) {
     el("details", { class: "inline" }, el("summary", {}, "Why the formula is right"), el("p", {}, laws)));
 }
 
-const COSTS = { costs: true }; // as of a game
+const COSTS = { costs: true, kind: "airport" }; // as of a game
 
 /** A number rounded to so many decimals. */
 function roundedTo(value, places) {
@@ -61,7 +62,7 @@ export function beyondParts(beyond, { format, today, pinned, labelOfCell, said }
     points.some(({ totals }) => format.isMoved(totals, rows)) && el("p", { class: "hint moved" }, movedText(rows)),
     isAll && el("p", { class: "tools" }, keepButton(pinned), pinTools(pinned)),
     isAll && todayTools(COSTS, today),
-    isAll && typesTable(rows, points, format),
+    isAll && typesTable(rows, plainPoints(points, COSTS), format),
     isAll && alikeTexts(beyond, format).map((text) => el("p", { class: "alike" }, text)),
     isAll && feesTexts(beyond, format).map((text) => el("p", { class: "hint" }, text)),
     isAll && el("p", { class: "hint" }, SCALED),
@@ -111,7 +112,7 @@ function feesTexts({ rows, points }, { places, show, by }) {
 /** `own(row, r)` is in the column of today. If the program answers too, what each pays today and the kept answer are in
  * its table. */
 function table({ isAll, rows, points }, { format, today, pinned, own }, kind = "shares") {
-  const columns = points.map((point) => {
+  const columns = plainPoints(points, COSTS).map((point) => {
     return { ...point, steps: format.steps(point.totals, rows), kept: pinned.pin && pinned.kept(point.key, format) };
   });
   const head = (title, side = "number") => el("th", { scope: "col", class: side }, title);
@@ -122,8 +123,8 @@ function table({ isAll, rows, points }, { format, today, pinned, own }, kind = "
   return el("table", { class: kind },
     el("thead", {}, el("tr", {}, head("Who pays", ""), head("Landings"), head("A landing needs", "number context"),
       hasToday && head(todayTitle(COSTS), "number today"), isKept && head("Kept", "number kept"),
-      columns.map(({ key, title }) => el("th", { scope: "col", class: "number", "data-point": key }, title,
-        el("small", {}, "calculated by the page"))))),
+      columns.map((point) => el("th", { scope: "col", class: "number", "data-point": point.key },
+        columnHead(point, "calculated by the page"))))),
     el("tbody", {}, linesOf(rows).map((line) => (line.of ? sumRow(line, view) : rowOf(line, view)))),
     el("tfoot", {}, sumRow({ of: rows.map((_, r) => r) }, view)));
 }
@@ -167,7 +168,7 @@ export function beyondSheet(beyond, { format, unit, today, pinned, labelOfCell }
       table(beyond, { format, today: shown, pinned, own }, kind),
       pinned.pin && el("p", { class: "hint" }, pinnedText(pinned, points[0], rows, { format, labelOfCell })),
       points.some(({ totals }) => format.isMoved(totals, rows)) && el("p", { class: "hint" }, movedText(rows))),
-    el("section", {}, typesTable(rows, points, format)),
+    el("section", {}, typesTable(rows, plainPoints(points, COSTS), format)),
     el("section", {}, el("h2", {}, "How it was found"), beyondTexts(beyond).map((text) => el("p", {}, text))),
     el("p", { class: "sign" }, "Agreed on by", el("span"), "on", el("span", { class: "short" })),
     el("section", {}, el("p", { class: "hint" }, document.querySelector("footer p").textContent)),

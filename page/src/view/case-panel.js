@@ -14,27 +14,27 @@ import { networkGrid } from "./network-grid.js";
 import { numbered, shortened, withNames } from "../cases/mended-names.js";
 import { markChanged } from "./pinned.js";
 import { tableGrid } from "./table-grid.js";
+import { undoing } from "./undo.js";
 
 const MOST_FAULTS = 6;
 const DECIDES = "The answer rests on these numbers. How far off the others may be, “What if” says.";
 const GRIDS = { list: listGrid, market: marketGrid, network: networkGrid, table: tableGrid };
 const KEYS = { player: "Alt+Delete in a name removes the player.", row: "Alt+Delete in a row removes it." };
 
-/** `settings` are {mark, setEntry, notes, onReset, onUndo} and what the grids need. */
+/** `settings` are {mark, setEntry, notes, onReset, steps, snapshot, onUndo} and what the grids need. */
 export function casePanel(kind, typed, settings) {
-  const sample = sampleLine(kind, typed, settings), change = settings.onChange;
-  settings = { ...settings, onChange: (wait) => (refill(sample), change(wait)) };
+  const sample = sampleLine(kind, typed, settings), change = settings.onChange, undo = undoing(settings);
+  settings = { ...settings, onChange: (wait) => (refill(sample), undo.changed(), change(wait)) };
   const { onReset, notes = [] } = settings;
-  const undo = el("span"), offer = (before) => refill(undo, before && undoButton(before, settings));
-  const remember = (what) => offer({ what, ...settings.snapshot() });
-  const grid = GRIDS[kind.grid](kind, typed, { ...settings, remember });
-  offer(settings.before);
+  const grid = GRIDS[kind.grid](kind, typed, { ...settings, remember: undo.remember });
   const faults = el("div", { class: "faults", role: "status" }), made = el("div", { class: "made" });
   const coarse = el("div"), legend = el("p", { class: "hint legend screen" });
   const element = el("div", { class: "case" },
     el("p", { class: "help" }, kind.help), sample,
     notes.map((note) => el("p", { class: "note" }, note)), coarse, grid, legend, faults,
-    el("div", { class: "tools bottom" }, moreTools(kind, typed, grid.more, onReset), undo));
+    el("div", { class: "tools bottom" }, moreTools(kind, typed, grid.more, onReset), undo.element));
+
+  element.addEventListener("input", undo.typed, true);
 
   /** Shows what the reading of the cells says. */
   function tell(reading) {
@@ -86,12 +86,6 @@ function sampleLine(kind, typed, { onReset }) {
 /** A vote by two quotas stays one. */
 function cleared(kind, { secondQuota }) {
   return { ...kind.empty(), ...(secondQuota === undefined ? {} : { secondQuota: "" }) };
-}
-
-/** Puts what stood there before back; what stands there now is kept, so that this can be undone too. */
-function undoButton(before, { onUndo }) {
-  const title = `${before.isBack ? "Redo" : "Undo"} “${before.what}”`;
-  return button(title, () => onUndo(before), { class: "quiet" });
 }
 
 /** A way out for names that occur twice, or are too long. */

@@ -10,7 +10,8 @@ import { doubtNotes } from "./doubts.js";
 export function questions(reading, typed, settings) {
   const { asked, swap, perHead, mixed, unsure, part, rest, either } = reading;
   return [
-    asked && sumQuestion(asked, typed, settings), swap && swapQuestion(swap, typed, settings),
+    asked && (asked.ways ? twiceQuestion : sumQuestion)(asked, typed, settings),
+    swap && swapQuestion(swap, typed, settings),
     perHead && perHeadQuestion(perHead, settings), mixed && mixedQuestion(mixed, reading, settings),
     rest ? restQuestion(rest, typed, reading, settings) : part && partQuestion(part, typed, settings),
     unsure && unsureQuestion(unsure, reading, settings),
@@ -19,7 +20,7 @@ export function questions(reading, typed, settings) {
 }
 
 /** Asks whether a row is the sum of the others: until that is settled there is no answer. */
-function sumQuestion({ r, name, isLast }, typed, { onReset, onChange }) {
+function sumQuestion({ r, name, isLast, off }, typed, { onReset, onChange }) {
   const without = () => onReset({ ...typed, rows: typed.rows.filter((_, k) => k !== r) }, "Remove the sum", true);
   const keep = () => {
     typed.notSums = [...(typed.notSums ?? []), name];
@@ -28,9 +29,24 @@ function sumQuestion({ r, name, isLast }, typed, { onReset, onChange }) {
   const [which, rest] = name ? [`, “${withEscapes(name)}”.`, " "] : [" has no name.", " If not, give it a name. "];
   const row = isLast ? "The last row" : `Row ${r + 1}`, others = isLast ? "the others" : "others";
   const isPart = name && /of which|thereof|davon|dont/i.test(name), sum = isPart ? "a part" : "the sum";
-  const asked = `${row}${which} Is it ${sum} of ${others}? It would count as one more.${rest}`;
+  const [own, all] = (off ?? []).map((text) => shortText(Rational.of(text)));
+  const told = off ? `It says ${own}, the others add to ${all}. ` : "";
+  const asked = `${row}${which} Is it ${sum} of ${others}? ${told}It would count as one more.${rest}`;
   return el("p", { class: "note" }, asked,
     button("Yes, remove it", without, { class: "quiet" }), name && button("No, it counts", keep, { class: "quiet" }));
+}
+
+/** Asks what rows of one name are, or rows that are the same: `ways` are the rows that each answer makes. */
+function twiceQuestion({ name, more, ways, canKeep }, typed, { onReset, onChange }) {
+  const way = (title, rows) => button(title, () => onReset({ ...typed, rows }, title, true), { class: "quiet" });
+  const keep = () => {
+    typed.notTwice = true;
+    onChange(0);
+  };
+  const occurs = more ? ` and ${more} more occur` : " occurs";
+  return el("p", { class: "note" }, `“${withEscapes(name)}”${occurs} twice. What is it? `,
+    ways.map(([title, rows]) => [way(title, rows), " "]),
+    canKeep && button("Both count", keep, { class: "quiet" }));
 }
 
 /** Asks whether costs stand where landings belong: until that is settled there is no answer. */
@@ -97,17 +113,19 @@ function partQuestion({ cell, typed, text, ways: [exact, rounded] }, state, { on
     }), " ", button(`Exactly that, ${votes(exact)}`, keep, { class: "quiet" }));
 }
 
-/** Asks whether a part is one of all 100 %, where the votes that are typed are fewer. */
+/** Asks whether a part is one of all 100 %, if the votes in per cent are more or fewer. */
 function restQuestion({ cell, typed, ways: [[, ofAll], [sum, ofThese]] }, state, { mark }, { onReset, onChange }) {
   const shown = (text) => shortText(Rational.of(text)), { isPercent, ...others } = state;
-  const ofHundred = { ...others, [cell]: typedText(Rational.of(ofAll), mark) };
+  const [most, wanted, all] = [sum, ofAll, 100].map((text) => Rational.of(text)), isOut = most.less(wanted);
+  const ofHundred = { ...others, [cell]: typedText(wanted, mark) }, quoted = `“${withEscapes(typed.trim())}”`;
   const keep = () => {
     state.isPercent = false;
     onChange(0);
   };
-  return el("p", { class: "note" }, `The votes add to ${shown(sum)} %. Is “${withEscapes(typed.trim())}” meant of all `,
-    "100 %, of which others have the rest and don’t vote? ",
-    button(`Of 100 %: at least ${shown(ofAll)}`, () => onReset(ofHundred, "Of 100 %", true), {
+  const asked = isOut ? `Of all 100 % ${quoted} is ${shown(ofAll)}, which these never reach. If others vote, add them. `
+    : `Is ${quoted} meant of all 100 %${most.less(all) ? ", of which others have the rest and don’t vote" : ""}? `;
+  return el("p", { class: "note" }, `The votes add to ${shown(sum)} %. ${asked}`,
+    !isOut && button(`Of 100 %: at least ${shown(ofAll)}`, () => onReset(ofHundred, "Of 100 %", true), {
       class: "quiet",
     }), " ", button(`Of these: at least ${shown(ofThese)}`, keep, { class: "quiet" }));
 }

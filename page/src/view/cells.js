@@ -1,7 +1,5 @@
 // What the grids of all cases share: a cell to type in, moving by keys, and pasting.
-import { leftText, unframed } from "../cases/frames.js";
 import { cellsOf } from "../cases/pasting.js";
-import { withEscapes } from "../game/names.js";
 import { button, cellOf, el } from "./dom.js";
 
 const MOST_LETTERS = 200; // of a cell: longer names and numbers are refused anyway
@@ -52,28 +50,20 @@ export function moveByKeys(element, neighbour) {
 }
 
 /** What is pasted over several cells goes to `fill(cell, rows, text)`; a text for one cell is pasted as ever. A long
- * one is read by `readCells`, beside the page. What frames a table is left out, and told, but where `fill` does that
- * (`isWhole`). */
-export function pasteCells(element, fill, readCells, { isWhole = false } = {}) {
-  const said = el("p", { class: "hint left-out", role: "status" }), take = (cell, all, whole) => {
-    if (isWhole) return fill(cell, all, whole);
-    const { rows, text, left } = unframed(all, whole);
-    said.textContent = withEscapes(leftText(left));
-    if (left.length) element.after(said);
-    return fill(cell, rows, text);
-  };
+ * one is read by `readCells`, beside the page. */
+export function pasteCells(element, fill, readCells) {
   element.addEventListener("paste", async (event) => {
     const text = event.clipboardData?.getData("text/plain") ?? "", cell = event.target.dataset?.cell;
     if (cell === undefined || cell === "find") return;
     if (text.length > LONG) {
       event.preventDefault();
-      take(cell, await readCells(text), text);
+      fill(cell, await readCells(text), text);
       return;
     }
     const rows = cellsOf(text);
     if (rows.length < 2 && rows[0].length < 2) return;
     event.preventDefault();
-    take(cell, rows, text);
+    fill(cell, rows, text);
   });
 }
 

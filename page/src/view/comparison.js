@@ -7,7 +7,7 @@ import { labelOf, signedDifferences, totalsOf } from "./format.js";
 export function againstOf(point, rows, { totals }, format) {
   if (!totals || !point?.key.endsWith("nucleolus")) return null;
   const texts = signedDifferences(totals, totalsOf(rows, point.shares), rows, format);
-  return { title: `against the ${point.title.toLowerCase()}`, texts };
+  return { title: "against the answer", texts };
 }
 
 /** The part that opens: it stays open while another proposal is typed, which `typed` remembers. `point` is the
@@ -36,7 +36,10 @@ function comparisonOf(found, { title, key }, game, { rows: all, hold }) {
         return el("th", { scope: "col", class: k % 2 ? "number" : "" }, head || "Place");
       }))),
       el("tbody", {}, rows))),
-    el("p", {}, [sentenceOf(found, name, game), ...prenucleolusText(found, key, game, all, hold)].join(" ")),
+    el("p", {}, [
+      savedText(found, name, game), sentenceOf(found, name, game),
+    ].join(" ").trim()),
+    el("p", { class: "field-name" }, prenucleolusText(found, key, game, all, hold).join(" ")),
   ];
 }
 
@@ -58,6 +61,14 @@ function principleOf(name, key, { costs, perHead }) {
   return `What each group could gain by leaving${perHead ? ", per member" : ""} (with a minus: what it would lose), `
     + `the greatest first. ${allowed} the ${name} has the least list: at the first place that differs it has the `
     + "lesser number.";
+}
+
+/** The first place in plain words, where it differs and nobody would leave; "" otherwise. */
+function savedText({ differs, better, lists: [[own], [other]] }, name, { costs, perHead }) {
+  const [mine, theirs] = [own, other].map(({ excess }) => (excess === "0" ? "0" : excess.match(/^[-−](.*)/)?.[1]));
+  if (differs !== 1 || better !== "other" || perHead || !mine || !theirs) return "";
+  return `Your proposal leaves ${own.group} ${costs ? "a saving" : "a gain"} of only ${mine}; by the ${name} each `
+    + `group has at least ${theirs}.`;
 }
 
 function sentenceOf({ differs, better, of }, name, { costs }) {

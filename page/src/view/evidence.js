@@ -3,7 +3,7 @@ import { fileNames } from "../cases/coarse.js";
 import { listed } from "../game/words.js";
 import { coarseNumbers, coarseText } from "../tell/coarse-text.js";
 import { failureText } from "../tell/failures.js";
-import { ruleFile } from "../tell/rule-names.js";
+import { plainPoints, ruleFile } from "../tell/rule-names.js";
 import { button, el } from "./dom.js";
 import { fileButtons, fingerprint, shown } from "./files.js";
 import { CALCULATED } from "./questions.js";
@@ -45,8 +45,9 @@ export function wordLine({ title, isYes, sentence, items = [] }) {
 }
 
 /** Where the other columns come from. */
-function besideText({ points }) {
-  const isOwn = ({ key }) => CALCULATED.includes(key), own = points.filter(isOwn).map(({ title }) => `“${title}”`);
+function besideText({ points, game }) {
+  const isOwn = ({ key }) => CALCULATED.includes(key);
+  const own = plainPoints(points, game).filter(isOwn).map(({ title }) => `“${title}”`);
   const others = points.slice(1).some((point) => !isOwn(point));
   return [others && "Other columns come from the same program, but without evidence. ",
     own.length > 0 && `The page itself calculates ${listed(own)}.`];
@@ -74,7 +75,7 @@ export function evidenceParts(result, { kind, typed: { coarse }, file: opened },
       el("li", {}, "Send the line: the answer with its evidence. ", fileButtons(line, file)),
       el("li", {}, "The others open this page, choose “Check an answer”, and give it both files: is it the agreed ",
         "game, and does the certificate hold? They should get the page not from you, but from the project’s ",
-        "repository, at the commit under “About this page”. Tell them the address of that repository.")),
+        "repository. Its “About this page” has to name the same SHA-256. Tell them the address of that repository.")),
     el("p", { class: "tools" }, button("Check an answer that you received", () => 0, { "data-show": "verify" })),
     shown("The game’s file", result.text), shown("The line with its evidence", line.trim()),
     meaning(answer, game.perHead),

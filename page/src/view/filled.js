@@ -3,18 +3,19 @@ import { groupLabel } from "../cases/tables.js";
 import { maskOf, masksBySize } from "../game/groups.js";
 import { listed } from "../game/words.js";
 
-const MOST_GIVEN = 800; // characters of groups with their numbers
+const MOST_TOLD = 5; // players, with 31 groups
+const MOST_GIVEN = 1500; // characters of groups with their numbers
 
 /** The sentence for the cells of a case; null where nothing was filled. */
 export function filledText({ kind, typed }) {
   return (typed?.filled && kind.filled?.told(kind, typed)) ?? null;
 }
 
-/** The groups of a table that have a number which the page didn't fill, each with it; "" where nothing was filled, or
+/** The groups of a table that have a number which the page didn't fill, each with it; "" where
  * these are too many for a page. */
 export function givenText({ kind, typed }) {
-  if (!kind.isTable || !typed?.filled?.length) return "";
-  const masks = masksBySize(typed.names.length).filter((mask) => !typed.filled.includes(mask));
+  if (!kind.isTable || typed.names.length > MOST_TOLD) return "";
+  const masks = masksBySize(typed.names.length).filter((mask) => !typed.filled?.includes(mask));
   const told = masks.map((mask) => `${groupLabel(typed.names, mask)} ${(typed.numbers[mask] ?? "").trim()}`).join("; ");
   return told.length > MOST_GIVEN ? "" : `Given were: ${told}.`;
 }

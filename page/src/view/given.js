@@ -3,16 +3,17 @@ import { countText } from "../exact/decimals.js";
 import { el } from "./dom.js";
 import { fingerprint } from "./files.js";
 
-const MENDED = "What a mail program had done to the line was undone before it was read: marks before lines, broken "
+const MENDED = "What a mail program had done to the # was undone before it was read: marks before lines, broken "
   + "lines, other quote marks.";
 
 /** Where a line and the agreed file come from; {ofLine, ofGame} are as a place for texts says it. */
 export function givenParts({ line, agreed }, { ofLine, ofGame }) {
+  const small = (text) => el("small", { class: "fingerprint" }, text);
+  const undone = ({ given }, what) => given !== undefined && small(MENDED.replace("#", what));
   return [
-    oneGiven("The line", ofLine.given ?? line, ofLine),
-    ofLine.given !== undefined && el("small", { class: "fingerprint" }, MENDED),
-    agreed.trim() ? oneGiven(ofGame.ofCase ? "The game" : "The agreed file", agreed, ofGame)
-      : el("small", { class: "fingerprint" }, "No agreed file was given."),
+    oneGiven("The line", ofLine.given ?? line, ofLine), undone(ofLine, "line"),
+    agreed.trim() ? oneGiven(ofGame.ofCase ? "The game" : "The agreed file", ofGame.given ?? agreed, ofGame)
+      : small("No agreed file was given."), undone(ofGame, "agreed file"),
   ];
 }
 

@@ -1,7 +1,19 @@
 // A helper is a worker of the page's own code. It does one task after the other; stopping it ends what it does.
 import { spoken } from "../exact/marks.js";
+import { unpacked } from "../exact/unpacked.js";
 
 const SLOW = 150; // milliseconds after which a task that nobody needs any more is ended
+
+let code = null; // of all workers
+
+/** Unpacks the code of the workers; before that none starts. */
+export async function unpackWorkers() {
+  const [shared, program, own] = ["shared-code", "program", "worker-code"].map((id) => {
+    return document.getElementById(id).textContent;
+  });
+  const texts = [shared, `self.program="${program.trim()}";`, await unpacked(own, "deflate").text()];
+  code = new Blob(texts, { type: "text/javascript" });
+}
 
 export class Helper {
   constructor() {
@@ -10,8 +22,7 @@ export class Helper {
   }
 
   start() {
-    const code = ["shared-code", "worker-code"].map((id) => document.getElementById(id).textContent);
-    const url = URL.createObjectURL(new Blob(code, { type: "text/javascript" }));
+    const url = URL.createObjectURL(code);
     this.worker = new Worker(url);
     this.kept = null; // the number of the case that it keeps
     this.worker.onmessage = ({ data: { id, result, fault } }) => {

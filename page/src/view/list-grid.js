@@ -1,5 +1,8 @@
 // The grid of a list: a runway, an estate, a vote. A row is added while the last one is filled.
+import { NONE } from "../cases/columns.js";
+import { SPOILT } from "../cases/pasting.js";
 import { sheetOf } from "../cases/sheets.js";
+import { readNumber } from "../exact/decimals.js";
 import { withEscapes } from "../game/names.js";
 import { cellInput, moveByKeys, pasteCells, removal } from "./cells.js";
 import { button, el, refill } from "./dom.js";
@@ -27,11 +30,9 @@ class ListGrid {
     this.show();
   }
 
-  /** The columns that are shown: with an optional one in the order in which such lists mostly come. */
+  /** The columns that are shown. */
   columns() {
-    const { columns, ofFour = [] } = this.kind, isMore = columns.some((one) => one.optional && this.hasColumn(one));
-    if (isMore) return ofFour.map((key) => columns.find((one) => one.key === key));
-    return this.allColumns().filter(({ optional }) => !optional);
+    return this.allColumns().filter((column) => !column.optional || this.hasColumn(column));
   }
 
   allColumns() {
@@ -116,17 +117,25 @@ class ListGrid {
     return given.some(({ key }, k) => row[key] !== before[k]);
   }
 
-  /** Takes what was pasted into a cell, `without` some of its columns where the user chose among them. */
-  fill(cell, pasted, without = []) {
-    const [, r, key] = cell.split("."), columns = this.columns(), first = columns.findIndex((one) => one.key === key);
-    if (first < 0) return;
-    const { ofFour, single } = this.kind, own = first ? columns.slice(first) : this.allColumns();
+  /** Takes what was pasted into a cell; `said` has what the user said of its columns. Names are for the first column,
+   * wherever they are pasted. */
+  fill(cell, pasted, said = { choice: {}, out: [] }) {
+    const [, r, key] = cell.split("."), columns = this.columns(), place = columns.findIndex((one) => one.key === key);
+    if (place < 0) return;
+    const isName = (text) => /\p{L}/u.test(text) && !SPOILT.test(text) && readNumber(text).fault;
+    const first = pasted.slice(1).some((row) => row.length > 1 && row.some(isName)) ? 0 : place;
+    const { single } = this.kind, own = first ? columns.slice(first) : this.allColumns();
     const sheet = sheetOf(pasted, own, {
-      mark: this.mark(), ofFour, usual: columns.slice(first), isFirst: !first, without,
-      single: single?.heads && this.isOpen(single.key) && single,
+      mark: this.mark(), usual: columns.slice(first), isFirst: !first, ...said,
+      single: single?.heads && single,
     });
-    if (sheet.fault) return this.say(`${sheet.fault} Nothing was taken.`);
-    if (sheet.rivals) return this.askWhich(sheet.rivals, (more) => this.fill(cell, pasted, [...without, ...more]));
+    const isOther = sheet.number && !this.isOpen(single.key) && this.typed[single.key] !== sheet.number;
+    const fault = isOther ? `${single.title} is ${this.typed[single.key]} above, and ${sheet.number} in these rows. `
+      + "Leave one of the two." : sheet.fault;
+    if (fault) return this.say(`${fault} Nothing was taken.`);
+    const most = this.kind.most * 4, count = sheet.rows?.length ?? 0;
+    if (count > most) return this.say(`These are ${count} rows, and at most ${most} fit. Nothing was taken.`);
+    if (sheet.asked) return this.askWhich(sheet.asked, said, (more) => this.fill(cell, pasted, more));
     this.remember("Paste");
     this.take(sheet, Number(r));
   }
@@ -136,35 +145,54 @@ class ListGrid {
     return !this.typed[key].trim() || (this.isExample() && this.typed[key] === this.kind.example()[key]);
   }
 
-  /** Asks which of several columns of numbers is meant; `use` takes the list without the others. */
-  askWhich({ column: { title }, at, headings }, use) {
-    const way = (c) => button(`“${withEscapes(headings[c])}”`, () => use(at.filter((other) => other !== c)), {
-      class: "quiet",
-    });
+  /** Asks which of several pasted columns is meant; `use` takes the list by what is said then. */
+  askWhich({ heads, column: { key, title } = {}, at = [], isOnly, canNone }, said, use) {
+    if (heads) return this.askHead(heads, (isHead) => use({ ...said, isHead }));
+    const { choice, out } = said;
+    const others = (own) => (isOnly ? at.map(({ c }) => c).filter((c) => c !== own) : []);
+    const say = (c) => ({ ...said, choice: { ...choice, [key]: c }, out: [...out, ...others(c)] });
+    const way = (text, c) => button(text, () => use(say(c)), { class: "quiet" });
+    const shown = ({ head, texts }) => `“${withEscapes(head || texts.slice(0, 2).join(", "))}${head ? "" : " …"}”`;
+    const both = () => {
+      this.remember("Two quotas");
+      this.turnDouble();
+      use(said);
+    };
+    const isTwo = this.kind.second && this.typed.secondQuota === undefined && key === "votes" && at.length > 1;
     this.say("");
-    refill(this.said, `Nothing was taken yet. Which column is “${title}”? `, at.map(way));
+    refill(this.said, `Nothing was taken yet. Which column is “${title}”? `,
+      at.map((one) => [way(shown(one), one.c), " "]),
+      isTwo && button("Both, with two quotas", both, { class: "quiet" }), canNone && way("None", NONE));
   }
 
-  take({ rows, targets, headings, notes, number, isPercent }, r) {
-    const { kind, typed } = this, below = rows.slice(0, kind.most * 4);
-    const isTaken = (key) => targets.some((target) => target?.key === key);
-    const isCut = below.length < rows.length && `Of ${rows.length} rows only the first ${below.length} were taken.`;
-    const hasNames = isTaken(kind.columns[0].key), isList = hasNames && (headings || below.length > 1);
-    const isWhole = r === 0 && isList && headings && !this.isExample(); // such a table is the case
-    const isOver = isWhole && typed.rows.some((row) => !this.isBlank(row)) && "The rows before are gone (Undo).";
-    if (isWhole) typed.rows = [];
-    else if (r === 0 && isList && this.isExample()) this.leaveExample();
-    else if (r === 0) this.forgetExample(targets, below.length);
-    if (kind.ofFour && ["cost", "count"].every(isTaken)) typed.isUnordered = !headings;
+  /** Asks whether the first row is one of headings; none of them is known. */
+  askHead(heads, use) {
+    const way = (text, isHead) => button(text, () => use(isHead), { class: "quiet" });
+    this.say("");
+    return refill(this.said, `Nothing was taken yet. Is “${withEscapes(heads)}” the heading of the columns? `,
+      way("Yes, the heading", true), way("No, a row", false));
+  }
+
+  /** A list with names that begins in the first row is the case; and nothing of the worked example stays beside it. */
+  take({ rows, targets, headings, notes, number, isGuess, isPercent }, at) {
+    const { kind, typed } = this, isExample = this.isExample();
+    const hasNames = targets.some((target) => target?.key === kind.columns[0].key), r = isExample && hasNames ? 0 : at;
+    const isFree = (row) => targets.every((own) => !row[own?.key]?.trim()), isBlank = (row) => this.isBlank(row);
+    const isNew = !typed.rows.every(isBlank) && typed.rows.every(isFree); // columns beside what is there
+    const isWhole = r === 0 && (isExample || (hasNames && !isNew && (headings || rows.length > 1)));
+    const isOther = (row, k) => !this.isBlank(row) && (isWhole || k >= r + rows.length);
+    const isOver = !isExample && typed.rows.some(isOther)
+      && (isWhole ? "The rows before are gone (Undo)." : "The rows below stay as they were.");
+    if (isWhole) this.leave(isExample);
+    Object.assign(typed, { isUnordered: isGuess, notTwice: false, ...(kind.isVote && { isPercent }) });
     if (number) typed[kind.single.key] = number;
-    if (kind.isVote) typed.isPercent = isPercent;
-    const filled = below.map((row, k) => {
+    const filled = rows.map((row, k) => {
       const target = (typed.rows[r + k] ??= this.blank());
       row.forEach((text, c) => targets[c] && (target[targets[c].key] = text));
       if (hasNames && !target.name) target.name = row.find((text, c) => !targets[c] && /\p{L}/u.test(text)) ?? "";
       return target;
     });
-    this.say([...notes, isCut, isOver, ...this.complete(filled, targets)].filter(Boolean).join(" "));
+    this.say([...notes, isOver, ...this.complete(filled, targets)].filter(Boolean).join(" "));
     this.showSingles();
     this.show();
     this.onChange();
@@ -173,13 +201,13 @@ class ListGrid {
   /** Says what became of a pasted list; what was left out, or not taken, is seen at once. */
   say(text) {
     this.said.textContent = withEscapes(text);
-    this.said.classList.toggle("warn", /left out|Left out|only the first|Nothing was/.test(text));
+    this.said.classList.toggle("warn", /left out|Left out|Nothing was/.test(text));
   }
 
   /** What wasn't pasted begins as a typed row does, and that is told; a list with names has them in each row. */
   complete(filled, targets) {
     const isPasted = ({ key }) => targets.some((target) => target?.key === key), [{ key }] = this.kind.columns;
-    if (isPasted({ key }) && filled.filter((row) => row[key]).length * 2 > filled.length) this.typed.isNamed = true;
+    if (isPasted({ key }) && filled.some((row) => row[key])) this.typed.isNamed = true;
     return this.columns().filter((column) => column.fallback && !isPasted(column)).map((column) => {
       const open = targets.some(Boolean) ? filled.filter((row) => !row[column.key]?.trim()) : [];
       for (const row of open) row[column.key] = column.fallback;
@@ -195,39 +223,33 @@ class ListGrid {
     return told(this.typed.rows) === told(this.kind.example().rows);
   }
 
-  /** Nothing of the worked example counts beside a list that is pasted over it: no row, and no estate or quota. */
-  leaveExample() {
-    const { typed, kind } = this, { key } = kind.single ?? {}, given = kind.example();
-    typed.rows = [];
-    if (key && typed[key] === given[key]) {
-      typed[key] = "";
-      this.showSingles();
-    }
-  }
-
-  /** Names of the worked example don't stay where all its numbers are pasted over, without names. */
-  forgetExample(targets, count) {
-    const { rows } = this.typed, { columns } = this.kind, given = this.kind.example().rows;
-    const isPasted = (column) => targets.some((target) => target?.key === column.key);
-    const names = (some) => some.map(({ name }) => name).filter(Boolean).join("\n");
-    const isOver = count >= given.length && isPasted(columns.find(({ number }) => number)) && !isPasted(columns[0]);
-    if (isOver && names(rows) === names(given)) for (const row of rows) row.name = "";
+  /** Nothing of another list counts beside one that takes its place: no row, nothing that was said of it, and of the
+   * worked example no estate or quota. */
+  leave(isExample) {
+    const { typed, kind } = this, { key } = kind.single ?? {};
+    Object.assign(typed, { rows: [], isPasted: true });
+    for (const said of ["notSums", "coarse", "isMarked", "isNamed"]) delete typed[said];
+    if (isExample && key && typed[key] === kind.example()[key]) typed[key] = "";
   }
 
   // ---- The number above the list: the estate, a quota, or two
 
   showSingles() {
     const { kind, typed } = this, isDouble = typed.secondQuota !== undefined;
-    const turn = button(isDouble ? "Only one quota" : "Two quotas at once", () => {
-      if (isDouble) delete typed.secondQuota;
-      else typed.secondQuota = "";
-      this.showSingles();
-      this.show();
-      this.onChange();
-    }, { class: "quiet" });
+    const way = isDouble ? "Only one quota" : "Two quotas at once";
+    const turn = button(way, () => this.turnDouble(), { class: "quiet" });
     refill(this.tools, kind.single && this.single(kind.single), isDouble && this.single(kind.second.single));
     refill(this.element.more, kind.second && turn,
       kind.columns.filter((column) => column.optional).map((column) => this.moreOf(column)));
+  }
+
+  /** From one quota to two, and back. */
+  turnDouble() {
+    if (this.typed.secondQuota === undefined) this.typed.secondQuota = "";
+    else delete this.typed.secondQuota;
+    this.showSingles();
+    this.show();
+    this.onChange();
   }
 
   /** The way to an optional column, as long as it isn't there. */

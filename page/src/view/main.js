@@ -8,12 +8,14 @@ import { AnswerView } from "./answer-view.js";
 import { casePanel } from "./case-panel.js";
 import { Documents } from "./documents.js";
 import { el, measureByCanvas, refill } from "./dom.js";
+import { unpackWorkers } from "./helper.js";
 import { marginsOf, tipOf } from "./margins-part.js";
 import { Paper } from "./paper.js";
 import { changedCells, keptTree, pinOfTree } from "./pinned.js";
 import { Session } from "./session.js";
 import { demo } from "./demo.js";
 import { startCards } from "./start.js";
+import { Steps } from "./undo.js";
 import { verifyPanel } from "./verify.js";
 import { showPart, showView, viewOfAddress, watchAnswer, watchParts } from "./views.js";
 
@@ -21,7 +23,7 @@ const at = (id) => document.getElementById(id);
 const WAYS = { round: "Round all to four decimals", whole: "All times a power of ten" };
 const kept = new Map(); // what was typed in cases that aren't shown
 
-let panel = null, verify = null, isUnsaved = false;
+let panel = null, verify = null, steps = new Steps(), isUnsaved = false;
 
 measureByCanvas();
 
@@ -51,16 +53,16 @@ function tipsOf() {
 
 // ---- Cases
 
-/** Opens a case. `before` is what an undo brings back, `notes` are said above the grid; `paper` is what was typed below
- * the answer, as the heading; among the settings, `file` is that of its game. */
-function openCase(kind, typed, { before = null, notes = [], doubt = "", paper, ...settings } = {}) {
-  const now = session.kind && nowTyped();
-  if (now) kept.set(session.kind, now);
+/** Opens a case. `past` are its steps that can be undone, `notes` are said above the grid; `paper` is what was typed
+ * below the answer, as the heading; among the settings, `file` is that of its game. */
+function openCase(kind, typed, { past = new Steps(), notes = [], doubt = "", paper, ...settings } = {}) {
+  if (session.kind) kept.set(session.kind, { ...nowTyped(), past: steps });
+  steps = past;
   session.open(kind, typed, { ...settings, doubt });
   at("desk").classList.remove("wide");
   view.clear(paper);
   panel = casePanel(kind, typed, {
-    ...asked(kind), before, notes: doubt ? [doubt, ...notes] : notes,
+    ...asked(kind), steps, notes: doubt ? [doubt, ...notes] : notes,
     onChange: (wait) => {
       isUnsaved = session.isTyped = true;
       session.changed(wait);
@@ -68,15 +70,16 @@ function openCase(kind, typed, { before = null, notes = [], doubt = "", paper, .
     onWide: (isWide) => at("desk").classList.toggle("wide", isWide),
     onReset: (next, what, isSame = false) => {
       const { entry, isTyped, pinned } = cellsNow(), same = isSame ? { entry, isTyped, pinned } : {};
-      openCase(kind, next, { ...same, before: { what, ...nowTyped() } });
+      steps.add(what, nowTyped());
+      openCase(kind, next, { ...same, past: steps });
     },
-    onUndo: (back) => undo(kind, back),
+    onUndo: (isRedo) => undo(kind, isRedo),
     snapshot: () => structuredClone(cellsNow()),
     coarsen: (how) => coarsen(kind, how),
     asTable: (table, said) => {
       const coarse = coarseOfSums(typed.coarse, typed.names.length);
-      const { isTyped } = session, before = replaced(costs, "Make a table of costs");
-      openCase(costs, { ...table, coarse }, { notes: said, doubt, isTyped, before });
+      const { isTyped } = session, past = replaced(costs, "Make a table of costs");
+      openCase(costs, { ...table, coarse }, { notes: said, doubt, isTyped, past });
     },
   });
   at("case-title").textContent = kind.title;
@@ -100,16 +103,17 @@ function asked(kind) {
   };
 }
 
-/** Brings back what stood there before a step. Within a case these are its cells: heading, unit and decimals stay. */
-function undo(kind, back) {
-  const { paper, places } = nowTyped(), { what, isBack } = back, now = back.paper ? nowTyped() : cellsNow();
-  openCase(kind, back.typed, { paper, places, ...back, before: { ...now, what, isBack: !isBack } });
+/** Undoes a step, or does it again. Within a case it brings back the cells: heading, unit and decimals stay. */
+function undo(kind, isRedo) {
+  const { paper, places } = nowTyped(), cells = steps.go(isRedo, (old) => old.paper ? nowTyped() : cellsNow());
+  openCase(kind, cells.typed, { paper, places, ...cells, past: steps });
 }
 
-/** What a case takes the place of, for an undo; null where nothing stood there but its worked example. */
+/** The steps of a case whose cells are replaced; where nothing stood there but its worked example, it is none. */
 function replaced(kind, what) {
-  const old = session.kind === kind ? nowTyped() : kept.get(kind);
-  return old && JSON.stringify(old.typed) !== JSON.stringify(kind.example()) ? { ...old, what } : null;
+  const { past = new Steps(), ...old } = session.kind === kind ? { ...nowTyped(), past: steps } : kept.get(kind) ?? {};
+  if (old.typed && JSON.stringify(old.typed) !== JSON.stringify(kind.example())) past.add(what, old);
+  return past;
 }
 
 /** Makes the numbers of a case coarser, as the user chose, or gives a fault in words. */
@@ -119,7 +123,8 @@ async function coarsen(kind, how) {
   const { typed: changed, coarse: fresh, fault } = await session.reader.ask("coarser", what);
   if (fault || session.typed !== typed) return fault;
   const next = { ...typed, ...(kind.unpack?.(changed) ?? changed), coarse: coarserStill(typed.coarse, fresh) };
-  openCase(kind, next, { measure, entry, doubt, isTyped, paper, places, before: { ...before, what: WAYS[how] } });
+  steps.add(WAYS[how], before);
+  openCase(kind, next, { measure, entry, doubt, isTyped, paper, places, past: steps });
   return undefined;
 }
 
@@ -183,7 +188,7 @@ function listen() {
 function beginDemo() {
   const example = demo({
     helpers: session, spelling: () => session.marks.spelling(),
-    onOpen: (typed) => openCase(costs, structuredClone(typed), { before: replaced(costs, "Open this example") }),
+    onOpen: (typed) => openCase(costs, structuredClone(typed), { past: replaced(costs, "Open this example") }),
   });
   refill(at("demo"), example.element);
   if (!viewOfAddress()) example.start();
@@ -198,7 +203,7 @@ function begin() {
     mark: () => session.marks.usual(), onLine: (text, from) => verify.setLine(text, from),
     onOpen: (kind, typed, settings) => {
       const { kept: tree, ...others } = settings, pinned = tree ? pinOfTree(tree, typed) : null;
-      openCase(kind, typed, { ...others, pinned, isFile: true, before: replaced(kind, "Open a document") });
+      openCase(kind, typed, { ...others, pinned, isFile: true, past: replaced(kind, "Open a document") });
     },
   });
   verify = verifyPanel({
@@ -215,4 +220,4 @@ function begin() {
   if (viewOfAddress()) show(viewOfAddress());
 }
 
-begin();
+unpackWorkers().then(begin);

@@ -56,7 +56,7 @@ function cellsOf({ kind, typed }) {
 }
 
 /** "from 9.88 up", "from 2 to 4": ends are rounded to the safe side. */
-export function rangeText({ low, high }, { places, text }) {
+function rangeText({ low, high }, { places, text }) {
   const ten = Rational.of(10n ** BigInt(places)), from = low && -low.times(ten).negated().floor();
   const to = high && high.times(ten).floor();
   if (low && high) return from > to ? "as it is" : `from ${text(from)} to ${text(to)}`;
@@ -78,7 +78,7 @@ export function tipOf(cell, found, format) {
 /** The part below “What if”. `session` has the names, and which numbers the page filled in. */
 export function marginsPart(result, { session, format }) {
   const found = marginsOf(result, session), { typed, kind } = session;
-  const isOther = result.line && !kind.isMarket && !result.game.ballots && !marginsTask(result.game);
+  const isOther = result.line && !result.game.isMarket() && !result.game.ballots && !marginsTask(result.game);
   if (isOther) return result.game.n > 1 && el("p", { class: "hint screen" }, ELSEWHERE);
   if (!found) return null;
   const { order, decide, nameOf, free, isTable } = found, names = order.filter((k) => decide.has(k)).map(nameOf);

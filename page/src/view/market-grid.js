@@ -1,27 +1,14 @@
 // The grid of a market: what each buyer gains with each seller.
-import { readNumber } from "../exact/decimals.js";
-import { unitsText, withoutUnits } from "../cases/units.js";
+import { marketOf } from "../cases/matrices.js";
 import { withEscapes } from "../game/names.js";
 import { cellInput, moveByKeys, pasteCells, removal } from "./cells.js";
 import { button, el, refill } from "./dom.js";
-
-const ASKING = /^(reserve|reservation|asking|minimum|lowest|seller wants|mindest)[\p{L} ]*( price|preis|wants)?$/iu;
-
-/** Why a block with what sellers want isn't taken. */
-function notGains(text) {
-  return `“${withEscapes(text)}” looks like what sellers want. Here each pair has what it gains together: what the `
-    + "thing is worth to the buyer, less that. Take it off, and leave that row out.";
-}
 
 export function marketGrid(kind, typed, settings) {
   return new MarketGrid(kind, typed, settings).element;
 }
 
-/** Whether a block that is pasted at the first buyer begins with the names of the sellers. */
-function isHeading([heads, ...below]) {
-  const isNumber = (text) => !readNumber(text).fault, sellers = heads.slice(1).filter(Boolean);
-  return sellers.length > 0 && !sellers.some(isNumber) && below.some((row) => row.slice(1).some(isNumber));
-}
+const NO_ROOM = "From this cell on there aren’t as many cells. Paste it into the first one, or with the names of all.";
 
 class MarketGrid {
   constructor(kind, typed, { onChange, readCells, remember }) {
@@ -37,12 +24,11 @@ class MarketGrid {
       return what === "values" ? `values.${Number(a) + step}.${b}` : `${what}.${Number(a) + step}`;
     });
     pasteCells(this.holder, (cell, pasted) => {
-      const asked = pasted.flat().find((text) => ASKING.test(text)), read = withoutUnits(pasted, 1);
-      const { rows, units, fault } = asked ? { fault: notGains(asked) } : read;
-      refill(this.said, fault ? `${fault} Nothing was taken.` : unitsText(units));
+      const found = marketOf(pasted), fault = found.fault ?? this.faultOf(cell, found);
+      refill(this.said, fault ? `${fault} Nothing was taken.` : withEscapes(found.notes.join(" ")));
       if (fault) return;
       remember("Paste");
-      this.change(() => this.fill(cell, rows));
+      this.change(() => this.fill(cell, found));
     }, readCells);
     this.show();
   }
@@ -74,7 +60,7 @@ class MarketGrid {
   showTools() {
     const { buyers, sellers } = this.typed, { most } = this.kind;
     const tool = (title, more, others) => button(title, () => this.change(() => {
-      if (others < 0) this.remember(title);
+      this.remember(title);
       this.resize(buyers.length + more, sellers.length + others);
     }), { class: "quiet" });
     refill(this.tools, buyers.length < most && tool("Add a buyer", 1, 0),
@@ -84,12 +70,15 @@ class MarketGrid {
 
   /** Pairs without a number, where others have one, may be such as can't trade. */
   showNone() {
-    const all = this.typed.values.flat(), isOpen = all.some((text) => !text.trim()) && all.some((text) => text.trim());
-    const title = "The empty pairs can’t trade: 0", fill = () => this.change(() => {
+    const all = this.typed.values.flat().map((text) => text.trim()), isMinus = (text) => /^[-−(]/.test(text);
+    const isOpen = all.some(isMinus) || (all.includes("") && all.some(Boolean)), isBelow = all.some(isMinus);
+    const title = `${isBelow ? "Pairs that are empty or negative" : "The empty pairs"} can’t trade: 0`;
+    const fill = () => this.change(() => {
       this.remember(title);
-      this.typed.values = this.typed.values.map((row) => row.map((text) => (text.trim() ? text : "0")));
+      const isNone = (text) => !text.trim() || isMinus(text.trim());
+      this.typed.values = this.typed.values.map((row) => row.map((text) => (isNone(text) ? "0" : text)));
     });
-    if (this.none.childElementCount === Number(isOpen)) return;
+    if (this.none.textContent === (isOpen ? title : "")) return;
     refill(this.none, isOpen && button(title, fill, { class: "quiet" }));
   }
 
@@ -115,17 +104,6 @@ class MarketGrid {
     });
   }
 
-  /** Names of the worked example don't stay where all its numbers are pasted over, but for those that come with it. */
-  forgetExample(rows, top, left) {
-    const { buyers, sellers } = this.typed, given = this.kind.example();
-    const isExample = String([buyers, sellers]) === String([given.buyers, given.sellers]);
-    const isOver = top <= 0 && left <= 0 && top + rows.length >= buyers.length
-      && rows.every((row) => left + row.length >= sellers.length);
-    if (!isExample || !isOver) return;
-    if (left === 0) buyers.fill("");
-    if (top === 0) sellers.fill("");
-  }
-
   resize(buyers, sellers) {
     const { typed } = this;
     typed.buyers = Array.from({ length: buyers }, (_, i) => typed.buyers[i] ?? "");
@@ -139,25 +117,41 @@ class MarketGrid {
     this.onChange();
   }
 
-  /** A block of numbers; with names in front or above where it is pasted over a name. */
-  fill(cell, rows) {
-    const [what, a, b] = cell.split("."), { typed, kind: { most } } = this;
-    const isName = ([text]) => !text || Boolean(readNumber(text).fault);
-    const isCorner = ["buyers.0", "sellers.0", "values.0.0"].includes(cell);
-    const isHeaded = isCorner && isHeading(rows) && (what === "buyers" || rows.every(isName));
-    const top = what === "sellers" || isHeaded ? -1 : Number(a);
-    const left = what === "buyers" || isHeaded ? -1 : Number(what === "values" ? b : a);
-    const within = (now, needed) => Math.min(most, Math.max(now, needed));
-    const width = rows.reduce((wide, row) => Math.max(wide, row.length), 0);
-    this.forgetExample(rows, top, left);
-    if (isHeaded) this.resize(within(1, rows.length - 1), within(1, width - 1)); // it has all names
-    this.resize(within(typed.buyers.length, top + rows.length), within(typed.sellers.length, left + width));
-    rows.slice(0, most + 1).forEach((row, r) => row.slice(0, most + 1).forEach((text, c) => {
-      const i = top + r, j = left + c, isBuyer = i >= 0 && i < typed.buyers.length;
-      const isSeller = j >= 0 && j < typed.sellers.length;
-      if (i < 0 && isSeller) typed.sellers[j] = text;
-      else if (j < 0 && isBuyer) typed.buyers[i] = text;
-      else if (isBuyer && isSeller) typed.values[i][j] = text;
-    }));
+  /** Whether nothing of the user's is in the cells, or in the empty ones from the first on. */
+  isExample(cell) {
+    const told = ({ buyers, sellers, values }) => [buyers, sellers, values].flat(2).join("\n"), own = told(this.typed);
+    return own === told(this.kind.example()) || (!own.trim() && /^(buyers|sellers|values\.0)\.0$/.test(cell));
+  }
+
+  /** Where a block goes: a whole market, and all that is pasted over the worked example, begins anew. */
+  placeOf(cell, { buyers, sellers, values = [], names }) {
+    const [what, a, b = a] = cell.split("."), isAnew = Boolean(buyers && sellers) || this.isExample(cell);
+    const [top, left] = isAnew ? [0, 0] : [what === "sellers" ? 0 : Number(a), what === "buyers" ? 0 : Number(b)];
+    const own = names && { [what === "sellers" ? "sellers" : "buyers"]: names }, sides = own ?? { buyers, sellers };
+    const height = (sides.buyers ?? values).length, width = sides.sellers?.length ?? values[0]?.length ?? 0;
+    return { what, isAnew, top, left, sides, bottom: top + height, right: left + width };
+  }
+
+  /** Why a block doesn't go there, in words. */
+  faultOf(cell, found) {
+    const { what, isAnew, sides, bottom, right } = this.placeOf(cell, found), { most } = this.kind;
+    if (Math.max(bottom, right) > most) return `A side has at most ${most} traders.`;
+    const { buyers, sellers } = this.typed;
+    const more = [!sides.buyers && bottom - buyers.length, !sides.sellers && right - sellers.length];
+    const isBeyond = more.some((count) => count > 0) && !(cell === "values.0.0" && more.every((count) => count >= 0));
+    const isOdd = what === "values" ? found.names : found.values && !found.buyers === (what === "buyers");
+    const isPart = isAnew ? !sides.buyers && !sides.sellers && !cell.endsWith("0.0") : isBeyond || isOdd;
+    return isPart ? NO_ROOM : "";
+  }
+
+  /** A block, with names before and above it or without. */
+  fill(cell, found) {
+    const { isAnew, top, left, sides, bottom, right } = this.placeOf(cell, found), { typed } = this;
+    if (isAnew) Object.assign(typed, { buyers: [], sellers: [], values: [] });
+    const least = isAnew ? 1 : 0;
+    this.resize(Math.max(typed.buyers.length, bottom, least), Math.max(typed.sellers.length, right, least));
+    sides.buyers?.forEach((name, k) => (typed.buyers[top + k] = name));
+    sides.sellers?.forEach((name, k) => (typed.sellers[left + k] = name));
+    found.values?.forEach((row, r) => row.forEach((text, c) => (typed.values[top + r][left + c] = text)));
   }
 }

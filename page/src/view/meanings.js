@@ -14,11 +14,8 @@ const SUBTITLES = {
   proposal: "to be judged",
 };
 
-const RULES = { bankruptcy: "the Talmud’s rule", airport: "Littlechild’s rule" };
-
 /** What stands below the title of a column. */
-export function subtitleOf(key, { perHead, kind }) {
-  if (key === "nucleolus" && !perHead && RULES[kind]) return RULES[kind];
+export function subtitleOf(key, { perHead }) {
   return key === "nucleolus" && perHead ? "best for those who gain least, per member" : SUBTITLES[key];
 }
 

@@ -128,8 +128,22 @@ class MovedWhole {
       ? "Being worked out …" : "Nothing is told here: no document has numbers as fine as the certificate needs."));
   }
 
+  /** A piece with those beside it that go on as it does: from and to where, and the lines of all. */
+  straight(piece) {
+    const bends = this.bendsFound(), k = this.pieces.indexOf(piece);
+    let [first, last] = [k, k];
+    const goesOn = (i) => this.pieces[i]?.ends && this.pieces[i + 1]?.ends
+      && !bends.some((bend) => bend.equals(this.pieces[i + 1].covers[0]))
+      && this.pieces[i].ends[1].equals(this.pieces[i + 1].ends[0]);
+    while (goesOn(first - 1)) first -= 1;
+    while (goesOn(last)) last += 1;
+    const lines = [...new Set(this.pieces.slice(first, last + 1).flatMap((one) => one.lines))];
+    return { lines, from: this.pieces[first].ends[0], to: this.pieces[last].ends[1] };
+  }
+
   told(piece) {
-    const { at, rows, format, game } = this, { ends: [low, high], lines } = piece, slopes = slopesOf(piece);
+    const { at, rows, format, game } = this, [low] = piece.ends, { lines, from, to } = this.straight(piece);
+    const slopes = slopesOf(piece);
     const now = piece.shares[0].map((share, i) => share.plus(slopes[i].times(at.minus(low))));
     const worst = piece.excess[0].plus(rateOf(piece.excess, piece.ends).times(at.minus(low)));
     const texts = format.column(now, rows), names = [...rows.map(({ label }) => label), "together"];
@@ -143,9 +157,8 @@ class MovedWhole {
           el("th", { scope: "row" }, name), [texts, lone].map((own) => el("td", { class: "number" }, own[r]))))))),
       movedHint([{ isMoved: format.isMoved(now, rows) }], rows),
       ZERO.less(worst) && el("p", { class: "notice" }, "Here some group could do better, whatever the division."),
-      el("p", {}, `From ${this.exactly(low)} to ${this.exactly(high)} each share follows a straight line. The `,
-        `program’s check took ${lines.length > 2 ? "three lines, of the ends and between" : "lines of both ends"}: `,
-        "they have one certificate, but for its excesses. ", button("Copy them", copied, { class: "quiet" })),
+      el("p", {}, `From ${this.exactly(from)} to ${this.exactly(to)} each share follows a straight line. The `,
+        `program’s check took ${lines.length} lines of it. `, button("Copy them", copied, { class: "quiet" })),
     ];
   }
 }

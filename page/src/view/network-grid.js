@@ -1,5 +1,5 @@
 // The grid of a network: what a link between each two places costs.
-import { readNumber } from "../exact/decimals.js";
+import { blockOf, isText } from "../cases/block.js";
 import { cellsOfNetwork, networkOf, takenText, withoutPlace, withSource } from "../cases/links.js";
 import { sourceName } from "../cases/matrices.js";
 import { withEscapes } from "../game/names.js";
@@ -133,8 +133,10 @@ class NetworkGrid {
     const found = networkOf(rows, { mark: this.mark(), source: typed.source, isTimes });
     if (found?.product) return this.productQuestion(found.product, (isIt) => this.pasted(cell, rows, isIt));
     const isWhole = found && (isFirst || found.fault || found.shape.includes("list") || found.shape.includes("names"));
-    refill(this.said, isWhole && found.fault && `${found.fault} Nothing was taken.`);
-    if (isWhole && found.fault) return undefined;
+    const cells = isWhole ? {} : pastedCells(this.kind, typed, cell, blockOf(rows).rows);
+    const fault = isWhole ? found.fault : cells.fault;
+    refill(this.said, fault && `${fault} Nothing was taken.`);
+    if (fault) return undefined;
     this.remember("Paste");
     if (isWhole) {
       const cells = cellsOfNetwork(found), isSourceOpen = !found.isSure && found.points.some(Boolean);
@@ -142,7 +144,7 @@ class NetworkGrid {
       this.change(() => Object.assign(typed, cells, { filled: {}, isSourceOpen }));
       refill(this.said, takenText(found, sourceName(typed)), isSourceOpen && this.sourceQuestion());
       this.said.classList.toggle("warn", found.left.length > 0);
-    } else this.change(() => pasteLinks(this.kind, typed, cell, rows));
+    } else this.change(() => Object.assign(typed, cells));
     this.help.openIfEmpty();
     if (Object.values(this.typed.filled ?? {}).includes("way")) this.help.again();
     return undefined;
@@ -161,6 +163,7 @@ class NetworkGrid {
     const points = [this.typed.source ?? "", ...this.typed.names];
     const names = points.map((name, i) => withEscapes(name) || `Point ${i + 1}`);
     const choose = (k) => () => {
+      this.remember("Choose the source");
       if (k) Object.assign(this.typed, withSource(this.typed, k));
       delete this.typed.isSourceOpen;
       this.change(() => 0);
@@ -181,6 +184,7 @@ class NetworkGrid {
   }
 
   add() {
+    this.remember("Add a place");
     this.change(() => this.typed.names.push(""));
     cellOf(this.holder, `names.${this.typed.names.length - 1}`).focus();
   }
@@ -190,45 +194,27 @@ class NetworkGrid {
   }
 }
 
-const NONE = /^[-–—x]?$/i; // of a link that can't be built
+const NO_ROOM = "These don’t fit into the cells from this one on. Paste names into the first name, a triangle of "
+  + "numbers into the first link, or all with their names.";
 
-/** A block of numbers: a triangle or a square, whose other half is the same links again; with names in front where it
- * is pasted over one, and with a heading or without. */
-function pasteLinks(kind, typed, cell, block) {
-  const [what, place] = (cell === "source" ? "names.0" : cell).split("."), isNamed = what === "names";
-  let rows = withoutHeading(block);
-  let names = isNamed ? rows.map(([name]) => name) : [];
-  if (isNamed) rows = rows.map((row) => row.slice(1));
-  const isSquare = rows.length > 1 && rows.every((row, k) => {
-    return row.length === rows.length && /^(0?|[-–—x])$/i.test((row[k] ?? "").trim());
+/** The cells with names, or numbers of links, put in from one on; of the worked example nothing stays. {fault} where
+ * they don't fit. */
+function pastedCells({ most, example }, typed, cell, block) {
+  const told = ({ names, links }) => JSON.stringify([names, links]), isNew = told(typed) === told(example());
+  const [what, place = "0"] = cell.split("."), isNames = block.flat().some(isText), old = isNew ? {} : typed;
+  const kept = block.filter((row) => row.some(Boolean)), own = kept.length > 1 ? kept : kept.flat().map((one) => [one]);
+  const names = [...(old.names ?? [])], links = { ...old.links }, filled = { ...old.filled };
+  const isOdd = isNames ? what !== "names" || own.some(([, other]) => other) : what !== "links";
+  if (isOdd || !kept.length || (isNew && what === "links" && place !== "0-1")) return { fault: NO_ROOM };
+  if (isNames) own.forEach(([name], k) => (names[(isNew ? 0 : Number(place)) + k] = name));
+  while ((isNew || (!isNames && place === "0-1")) && names.length < kept.length) names.push("");
+  const [i0, j0] = place.split("-").map(Number), cells = isNames ? [] : block.flatMap((row, r) => {
+    return row.map((text, c) => [i0 + c, j0 + r, text]).filter(([, , text]) => text);
   });
-  if (isSquare) names = names.slice(1); // the first point is the source
-  names.forEach((name, k) => (typed.names[Number(place) + k] = name));
-  typed.names.length = Math.min(typed.names.length, kind.most);
-  const [i0, j0] = isNamed ? [0, Number(place) + 1] : place.split("-").map(Number);
-  const top = isSquare ? 0 : j0, left = isSquare ? 0 : i0;
-  while (typed.names.length < Math.min(kind.most, top + rows.length - 1)) typed.names.push("");
-  const pasted = new Set();
-  rows.forEach((row, r) => row.forEach((text, c) => {
-    const [i, j] = [left + c, top + r].sort((a, b) => a - b), key = `${i}-${j}`;
-    if (i >= j || j > typed.names.length || !text) return;
-    pasted.add(key);
-    typed.links[key] = NONE.test(text.trim()) ? "" : text;
-    if (typed.filled) delete typed.filled[key];
-  }));
-  if (!isNamed) forgetExample(typed, kind.example(), pasted);
-}
-
-/** Names of the worked example don't stay where all its links are pasted over, without names. */
-function forgetExample(typed, { names, links }, pasted) {
-  const isExample = typed.names.join("\n").trimEnd() === names.join("\n");
-  if (isExample && Object.keys(links).every((key) => pasted.has(key))) typed.names = typed.names.map(() => "");
-}
-
-/** The rows behind a line that has names where all other lines have numbers. */
-function withoutHeading(rows) {
-  const isNumber = (text) => !readNumber(text).fault, cells = (row) => row.slice(1).filter((text) => text.trim());
-  const isHeading = rows.length > 1 && cells(rows[0]).length > 0 && !cells(rows[0]).some(isNumber)
-    && rows.slice(1).some((row) => row.some(isNumber));
-  return isHeading && !cells(rows[0]).every((text) => NONE.test(text.trim())) ? rows.slice(1) : rows;
+  if (names.length > most || cells.some(([i, j]) => i >= j || j > names.length)) return { fault: NO_ROOM };
+  for (const [i, j, text] of cells) {
+    links[`${i}-${j}`] = /^[-–—x]$/i.test(text) ? "" : text;
+    delete filled[`${i}-${j}`];
+  }
+  return { names, links, filled, ...(isNew && { source: "" }) };
 }

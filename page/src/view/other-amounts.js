@@ -30,9 +30,9 @@ export function otherAmounts({ game, answer }, settings) {
 /** A part that opens, with one field, and what comes of it. */
 function part({ title, hint, label, key, task, show, placeholder = "" }, { typed, mark, ask }) {
   const found = el("div", { class: "found", "aria-live": "polite" });
-  const workOut = async () => {
+  const workOut = async (isAsked) => {
     const put = (...parts) => (found.classList.remove("stale"), refill(found, parts)), now = typed[key] ?? "";
-    if (!now.trim()) return put();
+    if (!now.trim()) return put(isAsked && "The field is empty.");
     try {
       const answer = await ask(task, { typed: now, mark });
       return now === typed[key] && put(show(answer));
@@ -40,10 +40,10 @@ function part({ title, hint, label, key, task, show, placeholder = "" }, { typed
       return fault.message === "stopped" || refill(found, el("p", { class: "bad" }, fault.message));
     }
   };
-  const work = () => { typed.working = workOut(); }; // paper waits for it
+  const work = (isAsked) => { typed.working = workOut(isAsked); }; // paper waits for it
   const field = el("input", {
     type: "text", value: typed[key] ?? "", "aria-label": label, "data-cell": key, autocomplete: "off", maxlength: 200,
-    placeholder, on: { change: work, input: (event) => {
+    placeholder, on: { change: () => work(), input: (event) => {
       typed[key] = event.target.value;
       found.classList.add("stale");
     } },
@@ -51,7 +51,8 @@ function part({ title, hint, label, key, task, show, placeholder = "" }, { typed
   const details = el("details", { class: "other", open: Boolean(typed.open?.[key]), on: {
     toggle: () => { typed.open = { ...typed.open, [key]: details.open }; },
   } }, el("summary", {}, title), el("p", { class: "hint" }, hint),
-  el("p", { class: "tools" }, el("span", { class: "field" }, label), field, button("Work it out", work)), found);
+  el("p", { class: "tools" }, el("span", { class: "field" }, label), field,
+    button("Work it out", () => work(true))), found);
   if (typed.open?.[key]) work();
   return details;
 }

@@ -1,6 +1,7 @@
 // Another division beside the answer: the user's own, and what each pays or has today.
 import { comparisonPart } from "./comparison.js";
 import { button, el } from "./dom.js";
+import { plainPoints } from "../tell/rule-names.js";
 import { keepButton } from "./pinned.js";
 import { proposalTools } from "./proposal-cells.js";
 import { todayTools } from "./today.js";
@@ -8,9 +9,12 @@ import { todayTools } from "./today.js";
 const KEEP = "Keep this answer, then change cells: the table shows what each pays or gets more, or less.";
 const HINT = "Put it beside the answer, and see which group could do better by itself.";
 
+const inSentence = (point) => ({ ...point, title: point.title[0].toLowerCase() + point.title.slice(1) });
+
 /** `onBegin()` shows the column of the user's own division. */
 export function ownDivision(result, { rows, format, proposal, today, pinned, typed, onBegin }) {
-  const { game, points } = result, isOpen = typed.isProposing || proposal.texts?.some(Boolean);
+  const { game, points } = result, named = { ...result, points: plainPoints(points, game).map(inSentence) };
+  const isOpen = typed.isProposing || proposal.texts?.some(Boolean);
   const begin = () => {
     typed.isProposing = true;
     onBegin();
@@ -22,7 +26,7 @@ export function ownDivision(result, { rows, format, proposal, today, pinned, typ
     proposal.canBe && [
       el("h3", {}, "Your own division"), el("p", { class: "hint" }, HINT),
       !isOpen && el("p", { class: "tools" }, button("Type your own division", begin)),
-      proposalTools(result, { rows, proposal, format, isOpen }),
+      proposalTools(named, { rows, proposal, format, isOpen }),
     ],
     (proposal.canBe || today.canBe) && points.length > 0 && comparisonPart(proposal, points[0], game, { rows, typed }),
     todayTools(game, today),

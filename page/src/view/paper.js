@@ -84,9 +84,11 @@ export class Paper {
 
   /** All groups of a table with their numbers, where the grid shows a part of them. */
   groups() {
-    const { kind, typed } = this.session, names = typed?.names ?? [], count = 2 ** names.length - 1;
-    const filled = new Set(typed?.filled), remark = (mask) => (filled.has(mask) ? ", filled by the page" : "");
-    if (!kind?.isTable || count <= ON_SCREEN) return null;
+    const { kind, typed } = this.session;
+    if (!kind?.isTable) return null;
+    const { names } = typed, count = 2 ** names.length - 1, filled = new Set(typed.filled);
+    const remark = (mask) => (filled.has(mask) ? ", filled by the page" : "");
+    if (count <= ON_SCREEN) return null;
     const all = countText(count);
     if (count > MOST_GROUPS) {
       return el("p", { class: "hint" }, `Of ${all} groups the first ${ON_SCREEN} are printed; the file has all.`);

@@ -107,8 +107,9 @@ export function sinceKept(step, total, kept, r, format, isBeside = true) {
   return [!isBeside && el("small", { class: "was" }, `was ${format.show(before)}`), changeBelow(step, before, format)];
 }
 
-/** Who bears the change, in sentences: by one rule, {key, title, totals}, for the numbers that are shown. */
-export function pinnedText({ changed, gone, kept }, { key, title, totals }, rows, { format, labelOfCell }) {
+/** Who bears the change, in sentences: by one rule, {key, title, rule, totals}, for the numbers that are shown. */
+export function pinnedText({ changed, gone, kept }, point, rows, { format, labelOfCell }) {
+  const { key, title, rule = title, totals } = point;
   const { values: before = rows.map(() => null), exact = [] } = kept(key, format) ?? {};
   const steps = format.steps(totals, rows), unit = new Rational(10n ** BigInt(format.places));
   const by = rows.map((_, r) => before[r] && new Rational(steps[r]).over(unit).minus(before[r]));
@@ -120,7 +121,7 @@ export function pinnedText({ changed, gone, kept }, { key, title, totals }, rows
   });
   const more = (changed ?? []).length - cells.length;
   return [
-    told.length ? `Against the kept answer, ${ruled(title)}: ${listed(told)}`
+    told.length ? `Against the kept answer, ${ruled(rule)}: ${listed(told)}`
       + `${told.length < known ? "; the others as before" : ""}.` : "The shares are those of the kept answer.",
     cells.length > 0 && `Changed since: ${cells.join("; ")}${more ? `; and ${plural(more, "more cell")}` : ""}.`,
     fresh.length > 0 && `New: ${fresh.join(", ")}.`,

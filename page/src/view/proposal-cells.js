@@ -48,8 +48,8 @@ function ways({ game, points }, rows) {
   const others = points.filter(({ key }) => ["shapley", "core", "bird"].includes(key));
   const [first] = points, what = game.kind === "bankruptcy" ? "the claims" : game.costs ? "costs alone" : "worth alone";
   return [
-    first && { title: `${first.title.toLowerCase()}, rounded`, totals: () => totalsOf(rows, first.shares) },
-    ...others.map(({ title, shares }) => ({ title: title.replace(/^A /, "a "), totals: () => totalsOf(rows, shares) })),
+    first && { title: `${first.title}, rounded`, totals: () => totalsOf(rows, first.shares) },
+    ...others.map(({ title, shares }) => ({ title, totals: () => totalsOf(rows, shares) })),
     { title: "equal parts", totals: () => counts.map((count) => whole.times(count).over(all)) },
     canWeigh && {
       title: `in proportion to ${what}`,

@@ -2,50 +2,73 @@
 import { readNumber, readTogether } from "../exact/decimals.js";
 import { isMark, nameOfMark, otherMark } from "../exact/marks.js";
 import { Rational } from "../exact/rational.js";
+import { unitsText, withoutUnits } from "../cases/units.js";
 import { isSumWord, withEscapes } from "../game/names.js";
 import { listed, plural } from "../game/words.js";
 
 const LINE = /^(?<name>.*?\p{L}.*?)(?:\s*[:=;,]\s*|\s+(?:[-–—]\s+)?)(?<number>[-−(]?\p{Sc}?\s?\d.*)$/u;
 const BESIDE = /^\s*[:=;,]?\s*(?:[-–—](?=\s))?\s*|\s*\(.*\p{L}.*\)$/gu; // of a number behind a name
-const NUMBER = /^[-−(]?\p{Sc}?\s?\d[\d.,'’\s/]*(?:\p{Sc}|[A-Z]{3}|%)?\)?$/u;
+const NUMBER = /^[-−(]?\p{Sc}?\s?\d[\d.,'’\s/]*(?:\p{Sc}|[A-Z]{3})?\)?$/u;
 
 /** What a pasted text gives the rows, by their `labels`: {texts, said}, or {fault} in words. Lines with a name go to
- * the row that is called so; numbers alone go on below from a row. */
+ * the row that is called so; numbers alone go on below from a row. A unit behind all numbers goes. */
 export function pastedDivision(text, labels, { first, before }) {
   const lines = text.split(/\r\n?|\n/).map((line) => line.trim().replace(/\s+/g, " ")).filter(Boolean);
-  const places = new Map(), out = [];
+  const alone = withoutUnit(lines), refused = (fault) => ({ fault: `${fault} Nothing was taken.` });
+  if (alone.fault === undefined && alone.numbers.every((line) => NUMBER.test(line))) {
+    const rest = labels.length - first, isMore = lines.length > rest;
+    if (isMore) return refused(`These are ${lines.length} numbers for ${plural(rest, "row")}.`);
+    return { texts: before.map((own, r) => alone.numbers[r - first] ?? own), said: alone.told };
+  }
+  const { places, strangers, out, twice } = namedLines(lines, labels);
+  if (twice !== undefined) return refused(`${withEscapes(labels[twice])} is there twice.`);
+  const called = [...places.keys()], { numbers, told, fault, unit } = withoutUnit([...places.values()]);
+  if (fault) return refused(fault);
+  const bare = (number) => (unit && number.endsWith(unit) ? number.slice(0, -unit.length).trim() : number);
+  const stranger = strangers.find(({ number }) => NUMBER.test(bare(number)));
+  if (stranger) return refused(`No row is called “${withEscapes(stranger.name.slice(0, 40))}”.`);
+  const odd = numbers.findIndex((number) => readNumber(number).fault), label = withEscapes(labels[called[odd]] ?? "");
+  if (odd >= 0) return refused(`${oddText(label, numbers[odd])}. Write one amount beside each name, such as 12.50.`);
+  if (!places.size) return refused("Give a number a line, or a name and a number in each.");
+  const quoted = out.slice(0, 3).map((line) => `“${shownLine(line)}”`);
+  const left = out.length && `Left out: ${quoted.join(", ")}${out.length > 3 ? " …" : ""}.`;
+  const taken = `Taken by name: ${listed(called.map((i) => withEscapes(labels[i])))}.`;
+  return {
+    texts: before.map((own, r) => (places.has(r) ? numbers[called.indexOf(r)] : own)),
+    said: [taken, told, left].filter(Boolean).join(" "),
+  };
+}
+
+/** Lines by the row that they name: {places, strangers, out, twice}, the text beside each name, lines of other names
+ * with a number, what is left out, and a row that is named twice. */
+function namedLines(lines, labels) {
   const called = [...labels.keys()].sort((i, j) => labels[j].length - labels[i].length);
   const placeOf = (line) => called.find((i) => line.toLowerCase().startsWith(labels[i].toLowerCase())
     && !/^[\p{L}\d]/u.test(line.slice(labels[i].length)));
-  if (lines.every((line) => NUMBER.test(line))) {
-    const rest = labels.length - first, isMore = lines.length > rest;
-    if (isMore) return { fault: `These are ${lines.length} numbers for ${plural(rest, "row")}. Nothing was taken.` };
-    return { texts: before.map((own, r) => lines[r - first] ?? own), said: "" };
-  }
+  const places = new Map(), strangers = [], out = [];
+  let twice;
   for (const line of lines) {
     const place = placeOf(line), { name, number } = LINE.exec(line)?.groups ?? {};
-    if (place === undefined && (!name || isSumWord(name))) out.push(line);
-    else if (place === undefined) {
-      const stranger = withEscapes(name.slice(0, 40));
-      if (NUMBER.test(number)) return { fault: `No row is called “${stranger}”. Nothing was taken.` };
+    if (place === undefined) {
       out.push(line);
-    } else if (places.has(place)) return { fault: `${withEscapes(labels[place])} is there twice. Nothing was taken.` };
-    else {
-      const rest = line.slice(labels[place].length).replace(BESIDE, "").trim();
-      if (readNumber(rest).fault) {
-        const two = /\d\s\D*\d/.test(rest) && `Two numbers stand beside ${withEscapes(labels[place])}: “${rest}”.`;
-        return { fault: `${two || `“${shownLine(line)}” has no amount that can be read.`} Nothing was taken.` };
-      }
-      places.set(place, rest);
-    }
+      if (name && !isSumWord(name)) strangers.push({ name, number });
+    } else if (places.has(place)) twice ??= place;
+    else places.set(place, line.slice(labels[place].length).replace(BESIDE, "").trim());
   }
-  if (!places.size) return { fault: "Give a number a line, or a name and a number in each. Nothing was taken." };
-  const quoted = out.slice(0, 3).map((line) => `“${shownLine(line)}”`);
-  return {
-    texts: before.map((own, r) => places.get(r) ?? own),
-    said: `Taken by name: ${listed([...places.keys()].map((i) => withEscapes(labels[i])))}.`
-      + (out.length ? ` Left out: ${quoted.join(", ")}${out.length > 3 ? " …" : ""}.` : ""),
-  };
+  return { places, strangers, out, twice };
+}
+
+/** Numbers without the unit that all have, which is told: {numbers, unit, told}, or {fault}. Per cent is none. */
+function withoutUnit(texts) {
+  const { rows = [], units: [unit] = [], fault } = withoutUnits(texts.map((text) => [text]));
+  if (fault || unit === "%") return { fault, numbers: texts, told: "" };
+  return { numbers: rows.flat(), unit, told: unit ? unitsText([unit]) : "" };
+}
+
+/** Why what stands beside a name is no amount. */
+function oddText(label, text) {
+  const isTwo = text.split(" ").every((word) => !readNumber(word).fault);
+  return isTwo ? `Two numbers stand beside ${label}: “${text}”` : `“${shownLine(text)}” beside ${label} is no amount`;
 }
 
 const shownLine = (line) => withEscapes(line.replace(/\t/g, " ").slice(0, 40));

@@ -62,7 +62,7 @@ export class Session {
 
   /** The mark of the numbers of this case that can be read both ways, as the user says. */
   setEntry(mark) {
-    this.marks.entry = mark;
+    this.marks.enter(mark);
     this.typed.isMarked = true;
     this.changed(0);
   }

@@ -2,7 +2,7 @@
 import { Rational } from "../exact/rational.js";
 import { decimal, fractionText } from "../exact/decimals.js";
 import { votesText } from "../draw/ranges.js";
-import { plainNames } from "../tell/rule-names.js";
+import { plainPoints } from "../tell/rule-names.js";
 import { Namer } from "../tell/words.js";
 import { listed, plural } from "../game/words.js";
 import { againstOf } from "./comparison.js";
@@ -24,13 +24,13 @@ const BY_PAGE = "by the page itself";
 export function sharesTable(result, settings) {
   const { game, points } = result, { rows, format, proposal } = settings;
   const context = contextOf(game, rows, format);
-  const columns = points.map((point) => {
+  const columns = plainPoints(points, game).map((point) => {
     const totals = totalsOf(rows, point.shares), steps = format.steps(totals, rows);
     return { ...point, totals, steps, texts: format.texts(withSum(steps)) };
   });
   const against = againstOf(points[0], rows, proposal, format), isNarrow = settings.wide < NARROW;
   const beside = [proposal.canBe, against, settings.today.texts, settings.pinned?.pin].filter(Boolean);
-  const span = columns.length + beside.length;
+  const span = columns.length + beside.length - (against && isNarrow ? 1 : 0); // that column isn’t shown there
   const pinned = game.ballots ? null : settings.pinned; // of votes the power is compared
   const kept = new Map(columns.map(({ key }) => [key, pinned?.pin && pinned.kept(key, format)]));
   const view = { ...settings, pinned, kept, game, context, columns, against, isNarrow, span };
@@ -46,7 +46,7 @@ export function sharesTable(result, settings) {
     settings.said && el("p", { class: "note own-said", role: "status" }, settings.said),
     proposal.told && el("p", { class: "hint" }, proposal.told),
     leavingLines(view),
-    proposal.shares && sameAs(points, proposal.shares),
+    proposal.shares && sameAs(columns, proposal.shares),
     isMoved(points, rows, format) && el("p", { class: "hint exact" }, "Rounded so that the shares add up."),
     pinned?.pin && el("div", { class: "tools" }, pinTools(pinned)));
 }
@@ -54,9 +54,8 @@ export function sharesTable(result, settings) {
 /** By which columns a group could do better alone, a line each. */
 function leavingLines({ game, columns, format }) {
   const blocked = columns.filter(({ verdict }) => verdict?.group);
-  return blocked.length > 0 && el("ul", { class: "leaving screen" }, blocked.map(({ key, title, verdict }) => {
-    const { plain, note } = plainNames(key, title, game, key === columns[0].key);
-    return el("li", {}, el("b", {}, [plain, note].filter(Boolean).join(" ")), ": ", leavingText(game, verdict, format));
+  return blocked.length > 0 && el("ul", { class: "leaving screen" }, blocked.map(({ title, note, verdict }) => {
+    return el("li", {}, el("b", {}, [title, note].filter(Boolean).join(" ")), ": ", leavingText(game, verdict, format));
   }));
 }
 
@@ -77,7 +76,7 @@ export function sameText({ hasOneNucleolus, game }) {
 }
 
 /** Which division of the table a proposal is. */
-export function sameAs(points, shares) {
+function sameAs(points, shares) {
   const same = points.filter((point) => point.shares.every((share, i) => share.equals(shares[i])));
   return same.length > 0 && el("p", { class: "same-as" },
     `Your proposal is exactly the column ${listed(same.map(({ title }) => `“${title}”`))}.`);
@@ -93,12 +92,10 @@ function named({ isNarrow, span }, kind, name, cells) {
 }
 
 function headOf({ game, context, columns, proposal, today, pinned, against, isNarrow }) {
-  const column = ({ key, title }, k) => {
-    const { plain, name, note } = plainNames(key, title, game, k === 0), isOwn = CALCULATED.includes(key);
-    const below = [note, isOwn ? BY_PAGE : !name && subtitleOf(key, game)].filter(Boolean);
+  const column = (point, k) => {
+    const { key, name, note } = point, isOwn = CALCULATED.includes(key);
     return el("th", { scope: "col", class: kindOf(k), "data-point": key, title: subtitleOf(key, game) },
-      plain, name && el("small", { class: "field-name" }, name),
-      below.length > 0 && el("small", {}, below.join(", ")));
+      columnHead(point, note, isOwn ? BY_PAGE : !name && subtitleOf(key, game)));
   };
   return el("thead", {}, el("tr", {},
     !isNarrow && el("th", { scope: "col" }, game.costs ? "Who pays" : "Who gets"),
@@ -109,6 +106,12 @@ function headOf({ game, context, columns, proposal, today, pinned, against, isNa
     proposal.canBe && el("th", { scope: "col", class: "number proposed", "data-point": "proposal" },
       "Your proposal", el("small", {}, subtitleOf("proposal", game))),
     against && el("th", { scope: "col", class: "number against" }, against.title)));
+}
+
+/** The title that all read, the field's name (on the screen only beside exact fractions), and what is said more. */
+export function columnHead({ title, name }, ...more) {
+  const below = more.filter(Boolean).join(", ");
+  return [title, name && el("small", { class: "field-name" }, name), below && el("small", {}, below)];
 }
 
 /** The first column is the answer. */

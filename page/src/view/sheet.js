@@ -3,12 +3,15 @@ import { sourceName } from "../cases/matrices.js";
 import { countText, fractionText } from "../exact/decimals.js";
 import { barsPicture } from "../draw/bars.js";
 import { planPicture } from "../draw/plan.js";
-import { dealsOf, powerPicture, priceOf, pricesPicture, tradesTable } from "../draw/ranges.js";
+import {
+  dealsOf, idleOf, PRICE, powerPicture, priceOf, pricesPicture, tradesLead, tradesTable,
+} from "../draw/ranges.js";
 import { trianglePicture } from "../draw/triangle.js";
 import { Rational } from "../exact/rational.js";
 import { fileNames } from "../cases/coarse.js";
 import { coarseText, dividedText } from "../tell/coarse-text.js";
-import { ruleFile, sourceOf } from "../tell/rule-names.js";
+import { tiesText } from "../tell/other-pairs.js";
+import { plainPoints, ruleFile, sourceOf } from "../tell/rule-names.js";
 import { Namer } from "../tell/words.js";
 import { listed } from "../game/words.js";
 import { lead, notices, solutionOf } from "./answer.js";
@@ -22,10 +25,11 @@ import { movedText, totalsOf, withSum } from "./format.js";
 import { labelOfCell } from "./cell-names.js";
 import { pinnedOf, pinnedText } from "./pinned.js";
 import { CALCULATED } from "./questions.js";
-import { contextOf, ownSum, sameText } from "./shares-table.js";
+import { columnHead, contextOf, ownSum, sameText } from "./shares-table.js";
 import { airlineLines } from "./table-lines.js";
 import { changeText, todayOf, todayTitle } from "./today.js";
 import { linesTable } from "./types-table.js";
+import { isHard } from "./why-pair.js";
 
 const WIDE = 700;
 const SMALL = 230; // of a side of the triangle, so that its letters can be read on paper
@@ -40,8 +44,8 @@ const MOST_DOCUMENT = 420; // characters of the game's document that are printed
 const MOST_SAVING = 8; // rows of whom each saving is named
 const MOST_ALONE = 900; // the same if there is no picture
 
-const OPEN = "Open coop.html from the project’s repository, at the commit named below (the sender has to give "
-  + "you the address of the repository)";
+const OPEN = "Open coop.html from the project’s repository (the sender has to give you its address). Its “About this "
+  + "page” has to name the SHA-256 that is at the foot of this sheet. Choose";
 const TYPE_IN = " Or simply type the numbers into that page: the answer has to be the same.";
 const AREA = "The dark area, if there is one, contains the divisions by which no group could do better by itself.";
 const OF_FILE = " This is the SHA-256 of the file. The box below contains the same numbers, as this page writes them.";
@@ -65,8 +69,9 @@ function fillSheet(sheet, session, typed) {
   const { rows } = reading, format = session.format(), today = todayOf(session, rows);
   const { heading, unit, withProposal } = typed, { coarse } = session.typed, pinned = pinnedOf(session, rows);
   const labelOf = (cell) => labelOfCell(cell, session);
-  const view = { ...session, heading, unit, withProposal, result, rows, format, today, coarse, pinned,
-    labelOfCell: labelOf };
+  const points = isBeyond ? [] : plainPoints(result.points, result.game);
+  const view = { ...session, heading, unit, withProposal, rows, format, today, coarse, pinned, labelOfCell: labelOf,
+    result: { ...result, points } };
   if (isBeyond) return beyondOn(sheet, view);
   const reasons = reasonsOf(view), isLong = rows.length > MANY_ROWS || reasons.textContent.length > LONG;
   const isTight = isLong || Boolean(withProposal || coarse || pinned.pin || result.core?.collection);
@@ -95,20 +100,22 @@ export function dayText() {
 
 function answerOf(view) {
   const { result, rows, format, unit, today, coarse, pinned } = view, { game } = result;
-  const shapley = result.points.find(({ key }) => key === "shapley");
-  const point = game.ballots ? shapley : solutionOf(result) ?? result.points[0];
+  const shapley = result.points.find(({ key }) => key === "shapley"), power = { ...shapley, title: "Power", name: "" };
+  const point = game.ballots ? shapley && power : solutionOf(result) ?? result.points[0];
   if (!point) return null;
   if (result.matching) {
-    return el("section", {}, tradesTable(dealsOf(game, result.matching, solutionOf(result)), format));
+    const { matching } = result, deals = dealsOf(game, matching, solutionOf(result));
+    return el("section", {}, tradesLead(deals, idleOf(game, matching), matching.value, format),
+      tradesTable(deals, format), el("p", { class: "hint" }, `${PRICE} ${tiesText(game, matching)}`));
   }
-  const title = game.ballots ? "Power" : point.title, totals = totalsOf(rows, point.shares);
+  const { title } = point, totals = totalsOf(rows, point.shares);
   const context = contextOf(game, rows, format), texts = format.column(totals, rows);
   const hasExact = totals.some((total) => !format.isExact(total)), who = game.costs ? "Who pays" : "Who gets";
   const beside = othersOf(view, point);
   const steps = format.steps(totals, rows), kept = pinned.pin && !game.ballots ? pinned.kept(point.key, format) : null;
   const others = [...todaysOf(today, steps, game, format), ...keptsOf(kept, steps, format), ...beside];
-  const heads = [game.ballots ? "Who votes" : who, context?.title, title, hasExact ? "exactly" : undefined,
-    ...others.flatMap(({ title: name, exact }) => (exact ? [name, "exactly"] : [name]))];
+  const heads = [game.ballots ? "Who votes" : who, context?.title, columnHead(point), hasExact ? "exactly" : undefined,
+    ...others.flatMap((other) => (other.exact ? [columnHead(other), "exactly"] : [columnHead(other)]))];
   const line = (r) => el("tr", {},
     el("th", { scope: "row" }, rows[r].label, rows[r].players.length > 1 && ` (${rows[r].players.length} landings)`),
     context && el("td", { class: "number" }, context.texts[r]),
@@ -133,7 +140,7 @@ function answerOf(view) {
 
 /** Who was there before and isn't any more: so that what was before adds up. */
 function goneLines(kept, heads, format) {
-  const shown = heads.filter((head) => head !== undefined), place = shown.indexOf("Before");
+  const shown = heads.filter((head) => head !== undefined), place = shown.findIndex(([text]) => text === "Before");
   return (kept?.gone ?? []).map(({ label, value }) => el("tr", { class: "gone" },
     el("th", { scope: "row" }, `${label} (gone since)`), shown.slice(1).map((_, k) => {
       return el("td", { class: "number" }, k + 1 === place && format.show(value));
@@ -183,7 +190,7 @@ function todaysOf({ texts, values }, steps, game, format) {
 function saidOfAll({ result, format }, { title, ...point }, others) {
   const own = { title, said: result.game.ballots ? "" : saidOf(result.game, point, format) };
   const lines = others.length || point.verdict?.group ? [own, ...others] : [];
-  const titles = (text) => lines.filter(({ said }) => said === text).map((one) => one.title).join(", ");
+  const titles = (text) => lines.filter(({ said }) => said === text).map((one) => `“${one.title}”`).join(", ");
   const told = [...new Set(lines.map(({ said }) => said))].filter(Boolean).map((text) => `${titles(text)}: ${text}`);
   const same = others.length > 0 && sameText(result);
   return [...told, same].map((text) => text && el("p", { class: "hint" }, text));
@@ -198,7 +205,8 @@ function othersOf({ result, rows, format, withProposal, proposal, judged }, show
     const totals = point.totals ?? totalsOf(rows, point.shares), texts = format.column(totals, rows);
     const hasExact = !CALCULATED.includes(point.key) && totals.some((total) => !format.isExact(total));
     const exact = (r) => el("td", { class: "number exact" }, format.isExact(totals[r]) ? "" : fractionText(totals[r]));
-    return { title: point.title, texts, totals, exact: hasExact ? exact : null, said: saidOf(game, point, format) };
+    const { title, name } = point, said = saidOf(game, point, format);
+    return { title, name, texts, totals, exact: hasExact ? exact : null, said };
   });
 }
 
@@ -297,6 +305,7 @@ function reasonsOf({ result, pair, rows, format }) {
   if (game.ballots || !reasons) {
     return el("section", {}, el("h2", {}, "How it was found"), el("p", {}, game.ballots ? POWER : PRICES));
   }
+  const [said, isChosen] = pair ?? [];
   const [principle, next] = reasons, levels = reasons.filter(({ isLevel }) => isLevel).length;
   const sentences = [...principle.sentences, ...(next ? toldOf(next) : [])], behind = levelsBehind(reasons, next);
   if (next?.isLevel && levels > 1 && !behind.length) {
@@ -309,17 +318,18 @@ function reasonsOf({ result, pair, rows, format }) {
     behind.length > 0 && el("ul", { class: "levels" }, behind.map((text) => el("li", {}, text))),
     el("p", {}, isCore && "By these shares no group does better by itself. ",
       `No other division meets the principle: there is exactly one ${rule} (${sourceOf(game.perHead)}).`),
-    pair && el("p", {}, pair));
+    (isChosen || (next?.isLevel && reasons.some(isHard))) && el("p", {}, said));
 }
 
-/** What the later levels say: who is worst off and what is settled, or only what is settled, as there is room. */
+/** What the later levels say: who is worst off, why if that can be said, and what is settled; or only what is settled,
+ * as there is room. */
 function levelsBehind(reasons, next) {
   if (!next?.isLevel) return [];
   const others = reasons.slice(2).filter(({ isLevel }) => isLevel);
   const short = others.map(({ title, brief }) => `${title}: ${brief}`);
   const long = others.map(({ title, sentences, brief, items }) => {
-    return items.length ? [`${title}:`, ...items.map(({ label }) => label)].join(" ")
-      : `${title}: ${[sentences[0], sentences[1], brief].join(" ")}`;
+    const told = isHard({ isLevel: true, sentences }) ? [sentences[0], sentences[1], brief] : sentences;
+    return [`${title}:`, ...(items.length ? items.map(({ label }) => label) : told)].join(" ");
   });
   const isShort = (some) => some.join(" ").length <= MOST_LEVELS;
   return isShort(long) ? long : isShort(short) ? short : [];
@@ -346,8 +356,9 @@ function numbersOf({ file, kind, coarse, result: { text } }) {
 }
 
 function agreedOf(view) {
-  const { result: { text }, rows, doubt, fills, coarse } = view, filled = filledText(view), given = givenText(view);
+  const { result: { text }, rows, doubt, fills, coarse } = view, filled = filledText(view);
   const isShort = text.length <= (rows.length > MOST_PICTURED ? MOST_ALONE : MOST_DOCUMENT);
+  const given = (filled || !isShort) && givenText(view);
   const ofBox = isShort && (view.file?.made === text ? OF_FILE : OF_TEXT);
   const what = el("p", {}, numbersOf(view), ofBox, filled && ` ${filled}`, given && ` ${given}`,
     fills?.text === text && ` ${fills.told(shownTitles(view))}`,
@@ -355,26 +366,26 @@ function agreedOf(view) {
   return el("section", {}, el("h2", {}, doubt ? "Not agreed on" : "What is agreed on"),
     doubt && el("p", {}, doubt), what,
     isShort ? el("p", { class: "document" }, text)
-      : el("p", { class: "hint" }, `The file has ${countText(text.length)} characters, and isn’t printed. `
-        + "Keep it with this page."),
+      : el("p", { class: "hint" }, `The file, ${countText(new TextEncoder().encode(text).length + 1)} bytes as the `
+        + "page writes it, isn’t printed. Keep it with this sheet."),
     !doubt && el("p", { class: "sign" }, "Agreed on by", el("span"), "on", el("span", { class: "short" })));
 }
 
 /** The rules whose shares are on the page. */
 function shownTitles({ result, withProposal }) {
   const own = solutionOf(result) ?? result.points[0];
-  return (withProposal ? result.points : [own]).map(({ title }) => title);
+  return (withProposal ? result.points : [own]).map(({ rule }) => rule);
 }
 
 function checkOf({ result: { rule, answer, line, game }, kind, doubt, coarse }) {
   const foot = document.querySelector("footer p").textContent;
   if (doubt) return el("section", {}, el("p", { class: "hint" }, foot));
   const steps = line && !game.ballots
-    ? `${OPEN}, choose “Check an answer”, and give it the agreed file and the line with the certificate, `
+    ? `${OPEN} “Check an answer”, and give it the agreed file and the line with the certificate, `
       + `${fileNames(kind.id, coarse).line}-${ruleFile(answer, game.perHead)}.json. `
       + `Two independent checkers say whether these shares are the ${rule} of the agreed game. `
       + "You can check by hand, too: the page lists the form and the eight conditions under “What a yes means”."
-    : `${OPEN}, choose “Open a saved case”, and give it the agreed file. It works out the answer anew.`;
+    : `${OPEN} “Open a saved case”, and give it the agreed file. It works out the answer anew.`;
   return el("section", {}, el("h2", {}, "How to check it"), el("p", {}, steps, TYPE_IN),
     el("p", { class: "hint" }, foot));
 }

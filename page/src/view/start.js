@@ -30,7 +30,7 @@ export function startCards({ onCase, onDocument, onCheck }) {
       icon(name), el("span", { class: "title" }, title), el("span", { class: "teaser" }, teaser)));
   return el("ul", { class: "cards" },
     CASES.map((kind) => card(kind.id, kind.title, kind.teaser, () => onCase(kind))),
-    card("check", "Check an answer", "Somebody sent you shares. Two checkers say whether they are right.", onCheck,
-      "card other-start"),
+    card("check", "Check an answer", "Somebody sent you an answer of this program. Two checkers say whether its shares "
+      + "are right.", onCheck, "card other-start"),
     card("document", "Open a saved case", "Or a document, or a line of the program.", onDocument, "card other-start"));
 }

@@ -1,11 +1,13 @@
 // The grid of a table: the players, and a cell for each group, by size. Of many groups a page is shown at a time.
+import { blockOf } from "../cases/block.js";
+import { UNKNOWN } from "../cases/columns.js";
 import { groupLabel, packed, unpacked, withoutPlayer, withPlayer } from "../cases/tables.js";
 import { masksBySize, membersOf } from "../game/groups.js";
 import { countText } from "../exact/decimals.js";
 import { withEscapes } from "../game/names.js";
 import { cellInput, moveByKeys, pasteCells, removal, removeByKey, showTips } from "./cells.js";
 import { button, cellOf, copy, el, refill } from "./dom.js";
-import { headingOf, numbersIn } from "../cases/vectors.js";
+import { numbersIn } from "../cases/vectors.js";
 import { plural } from "../game/words.js";
 import { pasteBox } from "./paste-box.js";
 
@@ -14,6 +16,10 @@ const PAGE = 42; // groups of more players that are shown at a time
 const ASKED = "First say how the numbers are read: it is asked below.";
 const WAIT = 150; // milliseconds between the last key and filling anew
 const REFILL = 60000; // the question waits for what is filled anew
+const SEVERAL = "A cell takes one number, and these lines have several, so nothing was pasted. Give a column of "
+  + "numbers, or lines of a group and its number.";
+const OTHER = "These aren’t as many numbers as groups from this cell on. Nothing was taken. Paste those of all groups "
+  + "into the first cell, or lines of a group and its number.";
 const SIZES = ["", "Alone", "Two together", "Three together", "Four together", "Five together", "Six together"];
 
 /** `readList({text, names, order})` reads a pasted list, beside the page; `remember(what)` offers to undo it. */
@@ -37,18 +43,27 @@ class TableGrid {
     this.element.addEventListener("show-cell", ({ detail }) => this.showCell(detail));
     removeByKey(players);
     moveByKeys(list, (cell, step) => `numbers.${this.order[this.placeOf(cell) + step]}`);
-    pasteCells(list, (cell, rows, text) => this.paste(cell, rows, text), readCells, { isWhole: true });
-    pasteCells(players, (cell, rows, text) => (rows.some((row) => row.length > 1) ? this.takeList(text)
-      : this.pasteNames(Number(cell.split(".")[1]), rows)), readCells, { isWhole: true });
+    pasteCells(list, (cell, rows, text) => this.paste(cell, rows, text), readCells);
+    pasteCells(players, (cell, rows, text) => this.pasteNames(cell, rows, text), readCells);
     this.show();
     this.tellFilled();
   }
 
-  /** A column of names that is pasted into a name: as many as there are players. */
-  pasteNames(first, rows) {
-    const { names } = this.typed;
+  /** Names take the place of those from a cell on, and of all of the worked example; any other text is a list. */
+  pasteNames(cell, pasted, text) {
+    const { rows, loose } = blockOf(pasted), cells = rows.length > 1 ? rows : rows[0].map((one) => [one]);
+    const isName = ([name, other]) => !other && /^[^+=:|]*\p{L}[^+=:|]*$/u.test(name);
+    const own = cells.filter((row) => row.some(Boolean));
+    if (loose || !own.every(isName)) return this.takeList(text);
+    const isNew = this.isExample() || ![...this.typed.names, ...this.typed.numbers].some(Boolean), { most } = this.kind;
+    const first = isNew ? 0 : Number(cell.split(".")[1]);
+    let next = isNew ? { names: [], numbers: [""], filled: undefined } : this.typed;
+    if (first + own.length > most) return this.say(`A table has at most ${most} players. Nothing was taken.`);
+    while (next.names.length < first + own.length) next = { ...next, ...withPlayer(next) };
+    const names = this.ownNames().length ? [...next.names] : next.names.map(() => "");
     this.remember("Paste");
-    this.change({ names: names.map((name, i) => rows[i - first]?.[0] ?? name) });
+    own.forEach(([name], k) => (names[first + k] = name));
+    return this.change({ ...next, names });
   }
 
   placeOf(cell) {
@@ -75,6 +90,7 @@ class TableGrid {
   showPlayers() {
     const { names } = this.typed, isFull = names.length >= this.kind.most;
     const add = isFull ? el("span", { class: "hint" }, "16 players is the most.") : button("Add a player", () => {
+      this.remember("Add a player");
       this.change(withPlayer(this.typed));
       cellOf(this.players, `names.${this.typed.names.length - 1}`)?.focus();
     }, { class: "quiet" });
@@ -158,6 +174,7 @@ class TableGrid {
     this.showFills();
     this.filling = (this.filling ?? 0) + 1;
     this.typed.filled = filled.filter((other) => other !== mask);
+    if (!filled.length) this.say();
     if (!filled.length) return this.onChange();
     this.onChange(REFILL);
     clearTimeout(this.refilling);
@@ -165,23 +182,23 @@ class TableGrid {
     return undefined;
   }
 
-  /** A column of numbers fills the cells below; a list of groups, or a row of numbers, is one of the whole table. */
+  /** A column of numbers fills the cells below; any other text, and one for another number of players, is a list of the
+   * whole table. */
   paste(cell, rows, text) {
-    if (rows.some(([group, ...cells]) => /\p{L}/u.test(group) && cells.some(Boolean))) return this.takeList(text);
-    const place = this.placeOf(cell), numbers = numbersIn(text);
-    if (place === 0 && rows.length > 2 && !numbers && headingOf(text) !== null) return this.takeList(text);
-    if (place === 0 && numbers?.length === 1 && numbers[0].length > 2) return this.takeList(text);
-    if (rows.some((row) => row.slice(numbers ? 1 : 2).some(Boolean))) {
-      return this.say("A cell takes one number, and this text has several in a line, so nothing was pasted. Give a "
-        + "column of numbers, or lines of a group and its number.");
-    }
+    const place = this.placeOf(cell), count = this.order.length - place, isColumn = isNumbers(rows);
+    const own = rows.filter((row) => row.some(Boolean)), kept = place === 0 && own.length === count ? own : rows;
+    const isOver = kept.length > count || (this.isExample() && kept.length < count);
+    if (place > 0 && !isColumn && numbersIn(text)) return this.say(SEVERAL);
+    if (!isColumn || (isOver && place === 0)) return this.takeList(text);
+    if (isOver || (place > 0 && this.isExample())) return this.say(OTHER);
     this.remember("Paste");
-    if (place === 0 && rows.length >= this.order.length) this.forgetExample();
-    const masks = this.order.slice(place, place + rows.length);
-    masks.forEach((mask, k) => (this.typed.numbers[mask] = rows[k].at(-1)));
+    if (place === 0 && kept.length === count) this.forgetExample();
+    const masks = this.order.slice(place, place + kept.length);
+    masks.forEach((mask, k) => (this.typed.numbers[mask] = kept[k].find(Boolean) ?? ""));
     const { filled = [] } = this.typed;
     this.typed.filled = filled.filter((mask) => !masks.includes(mask));
     this.showGroups();
+    this.say();
     return filled.length ? this.fillSplits(true) : this.onChange();
   }
 
@@ -313,19 +330,23 @@ class TableGrid {
   }
 
   /** Takes a list, and then `close`s where it was pasted. */
-  async takeList(text, order = "size", close = () => {}) {
+  async takeList(text, order = "size", close = () => {}, isWhole = undefined) {
     this.say("Reading the list …");
-    const { state, fault, told, isOdd, remark = "" } = await this.readList({ text, names: this.ownNames(), order });
-    if (!state) return this.say(fault, " Nothing was taken.");
+    const found = await this.readList({ text, names: this.ownNames(), order, isWhole }), { state, told, isOdd } = found;
+    const answer = (title, is) => button(title, () => this.takeList(text, order, close, is), { class: "quiet" });
+    if (found.asked) {
+      return this.say(`Is “${withEscapes(found.asked)}” all ${found.count} others together? Nothing was taken yet. `,
+        answer("Yes, all together", true), answer("No, a player", false));
+    }
+    if (!state) return this.say(found.fault, " Nothing was taken.");
     close();
     this.remember("Use this list");
     this.change({ ...unpacked(state), opened: undefined, isUnnamed: false, filled: undefined, coarse: undefined });
     const { names, numbers } = this.typed, lacking = this.order.filter((mask) => !numbers[mask]).length;
     const read = this.order.length - lacking;
-    const empty = lacking === 1 ? "is empty" : "are empty";
-    const rest = lacking ? `; ${plural(lacking, "group has", "groups have")} no line and ${empty}` : "";
+    const rest = lacking ? `; ${plural(lacking, "group has", "groups have")} no number` : "";
     return this.say(`Read${told ? { size: " by size", mask: " by masks" }[told.order] : ""}: `
-      + `${plural(names.length, "player")}, ${plural(read, "group")}${rest}.${remark}`
+      + `${plural(names.length, "player")}, ${plural(read, "group")}${rest}.${found.remark ?? ""}`
       + (told ? placeOf(told, names) : ""),
     isOdd && this.otherOrder(text, told.order));
   }
@@ -343,9 +364,21 @@ class TableGrid {
     return names.join("\n") === given.join("\n") ? [] : names;
   }
 
+  isExample() {
+    const given = this.kind.example(), textOf = (some) => Array.from(some).join("\n");
+    return ["names", "numbers"].every((key) => textOf(given[key]) === textOf(this.typed[key]));
+  }
+
   say(...parts) {
     refill(this.message, parts);
   }
+}
+
+/** Whether each line of a pasted text is a number, or nobody knows it. */
+function isNumbers(pasted) {
+  const { rows, loose } = blockOf(pasted), texts = rows.map((row) => row.filter(Boolean)).filter(([one]) => one);
+  const isOne = ([text, other]) => !other && (/^(?!.*\d *\+)\P{L}*\d/u.test(text) || UNKNOWN.test(text));
+  return !loose && texts.every(isOne);
 }
 
 /** Groups that cost more than a larger one, each with it; of very many the first ones. */

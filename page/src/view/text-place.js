@@ -26,7 +26,8 @@ export async function textOfFile(file) {
 function fromText({ name, size, given, ofCase }) {
   if (ofCase) return `From your case, “${ofCase}”. If another file was agreed on, give that one.`;
   const file = name && `${name}, ${countText(size)} bytes`;
-  return [file, given !== undefined && "without what the mail program added"].filter(Boolean).join(", ");
+  const without = given !== undefined && "without what the mail program added";
+  return file && without ? `${file}, ${without}` : file || (without ? `It is read ${without}.` : "");
 }
 
 /** The element of a place; `onText(text, from)` is called with each new text. `from` is {name, size} of a file, and {}

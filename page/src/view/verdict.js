@@ -99,8 +99,9 @@ export function unreadable({ fault, help = [], mended }, onMend) {
 }
 
 /** What is missing in a line without a certificate, and what to ask for. */
-export function bareText({ answer, isRefusal }, game, bare) {
+export function bareText({ answer, isRefusal, shares }, game, bare) {
   if (isRefusal) return "This is no answer: the program refused a document, and says why in this line.";
+  if (game && !shares && answer === "shares") return "This is a game without shares, so there is nothing to check.";
   const ask = "Ask for the whole line that the program printed, or that this page saved under “Send it to others”.";
   const kind = ["nucleolus", "prenucleolus", "shares"].includes(answer) ? ""
     : " Only those of the nucleolus and the prenucleolus have one.";

@@ -188,14 +188,22 @@ class VerifyPanel {
     refill(this.answers, conclusion(words, seen, game, this.format()), twice(seen),
       seen.fault && unreadable(seen, (text) => this.mend(text)),
       (!seen.fault || same.isGiven) && el("ul", { class: "words" }, words.map(wordLine)),
-      disagreement(found), besideRight(seen, game, found.right, this.format()), nameRemarks(seen),
-      lineTable(seen, game, this.format()), this.sums, this.tools(seen, game, same, words));
+      this.mendAgreed(seen), disagreement(found), besideRight(seen, game, found.right, this.format()),
+      nameRemarks(seen), lineTable(seen, game, this.format()), this.sums, this.tools(seen, game, same, words));
   }
 
   /** The line without what a mail program added; what was given stays known, for its sum. */
   mend(text) {
     const { ofLine } = this.from;
     this.ofLine.setText(text, { ...ofLine, given: ofLine.given ?? this.line });
+  }
+
+  /** The same for the file that was agreed on. */
+  mendAgreed({ file }) {
+    const { ofGame } = this.from, { agreed } = this;
+    const mend = () => this.ofGame.setText(file.mended, { ...ofGame, given: ofGame.given ?? agreed });
+    return file?.mended && el("p", { class: "tools" },
+      button("Read the agreed file without what the mail program added", mend));
   }
 
   agreedButton({ file }, { isYes }) {
@@ -220,13 +228,15 @@ class VerifyPanel {
   showBare(seen, game, found) {
     const same = this.sameWord(seen), { bare, file, answer } = seen, isTurned = file?.isLine;
     const words = [same.isGiven && game && same, found && this.anewShares(found, bare, answer)].filter(Boolean);
-    const open = answer === "shares" ? "Open this game: its shares are judged there, as “Your proposal”"
+    const isJudged = seen.shares && answer === "shares";
+    const open = isJudged
+      ? "Open this game: its shares are judged there, as “Your proposal”"
       : "Open this game here, with the reasons";
     refill(this.answers,
       el("p", { class: "notice" }, isTurned ? "The other file has the certificate: are the two in each other’s place?"
         : bareText(seen, game, bare)),
       isTurned && el("p", { class: "tools" }, button("Let them change places", () => this.turnRound())),
-      twice(seen), el("ul", { class: "words" }, words.map(wordLine)), nameRemarks(seen),
+      this.mendAgreed(seen), twice(seen), el("ul", { class: "words" }, words.map(wordLine)), nameRemarks(seen),
       lineTable(seen, game, this.format()), this.sums,
       el("p", { class: "tools" }, game && button(open, () => {
         this.onOpen(this.line, same.isYes === false ? NOT_AGREED : "");

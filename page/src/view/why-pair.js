@@ -4,20 +4,33 @@ import { Namer } from "../tell/words.js";
 import { solutionOf } from "./answer.js";
 import { el, refill } from "./dom.js";
 
-/** `typed.pair` keeps the labels of the two rows; `onSaid(sentence)` is told the one that goes on paper. */
+const HARD = /counted|taken off/; // of a level, a reason that nobody can say aloud
+const MOST = 10; // players with whom a pair is told that nobody has chosen
+
+export const isHard = ({ isLevel, sentences }) => isLevel && sentences.some((sentence) => HARD.test(sentence));
+
+/** For paper, where a level’s reason can’t be said: who has the greatest share, and who the least. */
+function farthest({ game }, rows, { shares }) {
+  if (game.n > MOST) return [];
+  const share = ({ players: [i] }) => shares[i], order = [...rows].sort((x, y) => share(y).compare(share(x)));
+  return [order[0], order.at(-1)];
+}
+
+/** `typed.pair` keeps the labels of the two rows; `onSaid(text, isChosen)` is told what goes on paper. */
 export function pairPart(result, { rows, format, typed, ask, onSaid }) {
   const { game } = result, solution = solutionOf(result), found = el("div", { "aria-live": "polite" });
   if (!solution || game.ballots || rows.length < 2) return null;
   const labels = rows.map(({ label }) => label), pair = typed.pair ?? [];
   const work = async () => {
-    const two = pair.map((label) => rows[labels.indexOf(label)]).filter(Boolean);
+    const chosen = pair.map((label) => rows[labels.indexOf(label)]).filter(Boolean), isChosen = chosen.length > 1;
+    const two = isChosen ? chosen : farthest(result, rows, solution);
     onSaid("");
     if (two.length < 2 || two[0] === two[1]) return refill(found);
     const [i, j] = two.map(({ players }) => players[0]), shares = solution.shares.map(String);
     const told = await ask("pair", { shares, i, j }).catch(() => null);
     const sentences = told ? sentencesOf(told, two, { game, solution, format }) : [];
-    onSaid(sentences.slice(0, 2).join(" "));
-    return refill(found, el("p", {}, sentences.join(" ")));
+    onSaid(sentences.slice(0, 3).join(" "), isChosen);
+    return refill(found, isChosen && el("p", {}, sentences.join(" ")));
   };
   const choice = (k, name) => el("select", { "aria-label": name, "data-cell": `pair.${k}`, on: { change: (event) => {
     pair[k] = event.target.value;

@@ -8,7 +8,8 @@ import { packed } from "../cases/tables.js";
 import { openDocument } from "./cases.js";
 import { fillSplits } from "./splits.js";
 
-const OF_A_CASE = "This case is as the page saved it. The program reads its document alone.";
+const OF_A_CASE = "A saved case. Whether somebody has changed the file since, the page can’t know. The program reads "
+  + "its document alone.";
 const NOT_FOLLOWING = "The cells that the file calls filled have other numbers than the page would fill in, so they "
   + "stand here as typed ones.";
 

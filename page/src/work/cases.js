@@ -71,9 +71,9 @@ export function readCells({ text }) {
 }
 
 /** A table from a pasted list. */
-export function readList({ text, names, order, mark }) {
-  const { state, fault, told, isOdd, remark } = tableOf(text, names, order, mark);
-  return state ? { state: packed(state), told, isOdd, remark } : { fault };
+export function readList({ text, names, order, mark, isWhole }) {
+  const { state, ...found } = tableOf(text, names, order, mark, isWhole);
+  return state ? { ...found, state: packed(state) } : found;
 }
 
 /** A document as a case with what a person would have typed, or what is wrong with it. */

@@ -19,6 +19,7 @@ export function sideOf({ n, costs, shown, named }, amounts) {
 }
 
 export function amountsOf(game) {
+  if (game.isTable()) return game.amounts.slice(1);
   return Array.from({ length: 2 ** game.n - 1 }, (_, k) => game.told(membersOf(k + 1)));
 }
 

@@ -2,6 +2,7 @@
 import { Rational } from "../exact/rational.js";
 import { isObject, JsonFault, readJson, writeJson } from "../exact/json.js";
 import { factsOf } from "../game/facts.js";
+import { isCaseFile } from "../cases/case-file.js";
 import { CLASSES, mostOf } from "../game/classes.js";
 import { Game } from "../game/game.js";
 import { remarksOf, withEscapes } from "../game/names.js";
@@ -16,7 +17,9 @@ import { found, sameGame } from "./same-game.js";
  * `ask(word, document)` asks the program. */
 export function lookAtLine({ line, agreed }, ask = answer) {
   const seen = lineOf(line), other = agreed.trim() ? gameFileOf(agreed) : null;
-  const same = other && bothRead(sameGame(seen, other), seen, other, ask), file = other && aboutFile(other);
+  const same = other && bothRead(sameGame(seen, other), seen, other, ask);
+  const file = other && { ...aboutFile(other), mended: other.isText ? mended(agreed) : null };
+  if (seen.isInWords) return { fault: `${seen.fault} ${IN_WORDS}`, same, file };
   if (seen.fault) return { fault: seen.fault, ...(seen.isText ? helpOf(line) : {}), same, file };
   const { tree, game, shares, doubles } = seen;
   const hasCertificate = tree.certificate !== undefined;
@@ -62,6 +65,9 @@ function bareOf({ shares }, own, agreed) {
   return { text, shares: listed.map(String), isOwn: Boolean(own), facts: factsOf(game) };
 }
 
+const SAVED_CASE = "It is a saved case of this page, and no answer with evidence. “Open a saved case”, where the page "
+  + "begins, opens it.";
+
 /** What is said of a mail with names and amounts. */
 const IN_WORDS = "Shares in words are judged in a case: there “What if” has “Your own division”, which takes them.";
 
@@ -74,13 +80,14 @@ function lineOf(text) {
   try {
     const { tree, doubles } = readJson(text);
     if (!isObject(tree)) return { fault: "It isn’t an object, as a line is." };
+    if (isCaseFile(tree)) return { fault: SAVED_CASE };
     if ("refused" in tree) return { fault: `The program refused a document. ${refusalText(tree).sentence}` };
     return { ...partsOf(tree), doubles: doubles.map(({ key }) => key) };
   } catch (fault) {
     if (!(fault instanceof JsonFault)) throw fault;
+    if (!text.includes("{")) return { fault: "It is no text of the program, which begins with “{”.", isInWords: true };
     const place = `in line ${fault.line}, column ${fault.column}`;
-    const inWords = /^\s*[\p{L}\d]/u.test(text) ? ` ${IN_WORDS}` : "";
-    return { fault: `It is no JSON text: ${fault.sentence}, ${place}.${inWords}`, isText: true };
+    return { fault: `It is no JSON text: ${fault.sentence}, ${place}.`, isText: true };
   }
 }
 

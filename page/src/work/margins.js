@@ -34,10 +34,10 @@ export function groupBounds({ answer, certificate, shares }, { n, costs, perHead
   const all = [...paid, ...levels.map(({ excess }) => excess), ...numbers];
   const unit = all.reduce((common, { den }) => (common % den ? lcm(common, den) : common), 1n);
   const over = ({ num, den }) => num * (unit / den), got = sums(paid.map((share) => sign * over(share)));
-  const excesses = levels.map(({ excess }) => over(excess)), most = Array(2 ** n).fill(undefined);
-  eachOpen({ n, levels, mode: certificate.mode }, (mask, players, k) => {
-    const bound = got[mask] + (perHead ? BigInt(players.length) * excesses[k] : excesses[k]);
-    if (most[mask] === undefined || bound < most[mask]) most[mask] = bound;
+  const least = levels.map(({ excess }) => over(excess)); // of each level and those before it
+  least.forEach((excess, k) => (least[k] = least[k - 1] < excess ? least[k - 1] : excess));
+  const most = Array.from(lastOpen({ n, levels, mode: certificate.mode }), (k, mask) => {
+    return k < 0 ? undefined : got[mask] + (perHead ? BigInt(membersOf(mask).length) * least[k] : least[k]);
   });
   if (answer === "nucleolus") { // nobody gets less than alone
     for (let i = 0; i < n; i++) if (most[1 << i] > got[1 << i]) most[1 << i] = got[1 << i];
@@ -49,22 +49,42 @@ export function groupBounds({ answer, certificate, shares }, { n, costs, perHead
   return { unit, over, most, listed };
 }
 
-/** Visits each group that is open at a level: its mask, its members, and the level's place. */
-export function eachOpen({ n, levels, mode }, visit) {
-  const settled = mode === "span" ? new SettledSpan(n) : new SettledPlayers(n);
-  let open = Array.from({ length: 2 ** n - 2 }, (_, k) => ({ mask: k + 1, players: membersOf(k + 1) }));
+/** The last level at which each group is open, by its mask; -1 for none. What is settled once stays so. */
+export function lastOpen({ n, levels, mode }) {
+  const settled = mode === "span" ? new SettledSpan(n) : new SettledPlayers(n), last = new Int16Array(2 ** n).fill(-1);
+  let open = Array.from({ length: 2 ** n - 2 }, (_, k) => k + 1);
   levels.forEach(({ coalitions, bounds }, k) => {
-    open = open.filter(({ players }) => settled.isOpen(players));
-    for (const { mask, players } of open) visit(mask, players, k);
+    open = open.filter(settled.free ? openByPlayers(settled) : openBySpan(settled));
+    for (const mask of open) last[mask] = k;
     for (const [group] of coalitions) settled.add(group);
     for (const [player, weight] of bounds) if (weight >= 1n) settled.add(player);
   });
+  return last;
+}
+
+/** What `isOpen` says, of groups by their masks. */
+function openByPlayers({ free }) {
+  const all = maskOf([...free]);
+  return (mask) => (mask & all) !== 0 && (mask & all) !== all;
+}
+
+/** The same of a span. What all vectors add to over a group, each times another number, is known of all groups at once
+ * modulo 2^32: where that isn't 0, the group is open. */
+function openBySpan(settled) {
+  const mixed = (i) => settled.null.reduce((sum, vector, k) => {
+    return (sum + Math.imul((2 * k + 1) * 0x9e3779b1, Number(BigInt.asIntN(32, vector[i])))) | 0;
+  }, 0);
+  const items = Array.from({ length: settled.n }, (_, i) => mixed(i)), all = new Int32Array(2 ** settled.n);
+  items.forEach((item, i) => {
+    for (let mask = 0, bit = 1 << i; mask < bit; mask++) all[mask | bit] = all[mask] + item;
+  });
+  return (mask) => all[mask] !== 0 || settled.isOpen(membersOf(mask));
 }
 
 /** The sum of each group, by its mask. */
 export function sums(items) {
   const all = [0n];
-  for (const item of items) for (const sum of [...all]) all.push(sum + item);
+  for (const item of items) for (let k = 0, { length } = all; k < length; k++) all.push(all[k] + item);
   return all;
 }
 

@@ -72,7 +72,8 @@ export function costsOfNetwork({ names, links, mark }) {
   const { n, cost, fault } = linksOf({ names, links, mark });
   if (fault) return { fault };
   const { scale, costs } = scaled(n, cost), least = new Float64Array(2 ** n);
-  for (let mask = 1; mask < 2 ** n; mask++) least[mask] = treeCost(mask, n, costs);
+  const networks = new Networks(costs);
+  for (let mask = 1; mask < 2 ** n; mask++) least[mask] = networks.join(mask);
   for (let bit = 1; bit < 2 ** n; bit *= 2) {
     for (let mask = 1; mask < 2 ** n; mask++) {
       if (!(mask & bit) && least[mask | bit] < least[mask]) least[mask] = least[mask | bit];
@@ -96,17 +97,53 @@ function scaled(n, cost) {
   return { scale, costs };
 }
 
-/** The cheapest tree over the source and the members of a mask alone; Infinity where there is none. */
-function treeCost(mask, n, costs) {
-  const near = costs[0].slice();
-  let left = mask, sum = 0;
-  while (left) {
-    let next = 0;
-    for (let i = 1; i <= n; i++) if ((left >> (i - 1)) & 1 && (!next || near[i] < near[next])) next = i;
-    if (near[next] === Infinity) return Infinity;
-    left &= ~(1 << (next - 1));
-    sum += near[next];
-    for (let i = 1; i <= n; i++) if (costs[next][i] < near[i]) near[i] = costs[next][i];
+/** The cheapest networks of groups by themselves, one at a time: `points` in the order in which they are joined, `from`
+ * where, over links of which the `dearest` is known. Costs are whole, or Infinity for a link that doesn't exist. */
+export class Networks {
+  constructor(costs) {
+    const [points, from] = [0, 1].map(() => new Uint8Array(costs.length));
+    const [near, ...tops] = [costs, ...costs].map(() => new Float64Array(costs.length));
+    const rows = costs.map((row) => Float64Array.from(row));
+    Object.assign(this, { rows, points, from, near, tops, count: 1, dearest: 0 });
   }
-  return sum;
+
+  /** Joins the members of a mask to the source, and gives the cost. */
+  join(mask) {
+    const { rows, points, from, near } = this;
+    let left = mask, sum = 0, count = 1, dearest = 0, last = 0;
+    near.fill(Infinity);
+    while (left) {
+      const row = rows[last];
+      let next = 0;
+      for (let rest = left; rest; rest &= rest - 1) {
+        const point = 32 - Math.clz32(rest & -rest);
+        if (row[point] < near[point]) [near[point], from[point]] = [row[point], last];
+        if (!next || near[point] < near[next]) next = point;
+      }
+      left &= ~(1 << (next - 1));
+      sum += near[next];
+      if (near[next] > dearest) dearest = near[next];
+      points[count++] = last = next;
+    }
+    [this.count, this.dearest] = [count, dearest];
+    return sum;
+  }
+
+  /** The links of the network, as pairs of points. */
+  links() {
+    return [...this.points.subarray(1, this.count)].map((point) => [point, this.from[point]].sort((a, b) => a - b));
+  }
+
+  /** Visits each two points, the lesser first, with the dearest link on the way between them. */
+  eachWay(visit) {
+    const { points, from, near, tops, count } = this;
+    for (let k = 1; k < count; k++) {
+      const point = points[k], whence = from[point];
+      for (let j = 0; j < k; j++) {
+        const other = points[j], top = Math.max(near[point], tops[other][whence]);
+        tops[other][point] = tops[point][other] = top;
+        visit(Math.min(point, other), Math.max(point, other), top);
+      }
+    }
+  }
 }

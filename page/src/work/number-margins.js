@@ -2,8 +2,9 @@
 // certificate: as long as no group is worth more than its bound, and those that a level lists are worth what they were,
 // the same certificate shows the same shares. Each group is looked at, so this is for 16 players at most.
 import { lcm } from "../exact/rational.js";
-import { maskOf, membersOf } from "../game/groups.js";
+import { maskOf } from "../game/groups.js";
 import { closestOf, groupBounds, sums } from "./margins.js";
+import { Networks } from "./networks.js";
 
 /** Of each number of the game, in the order of its rows (then the estate) or of its links: what it is, and its `lows`
  * and `highs`, in lines, over the `unit`, empty where nothing bounds it; the places of those that `decide`, and of the
@@ -83,47 +84,22 @@ function ofLinks({ most, listed, over, unit }, { n, rows }) {
   const costs = rows.map((row) => row.map(({ num, den }) => Number(num * (scale / den)))); // below 2^40
   const ranges = new Map(), at = (i, j) => ranges.get(i * (n + 1) + j);
   rows.forEach((row, i) => row.forEach((cost, j) => i < j && ranges.set(i * (n + 1) + j, new Range(over(cost)))));
+  const networks = new Networks(costs);
   for (let mask = 1; mask < 2 ** n; mask++) {
-    const isListed = listed.has(mask), { total, top, links, points } = cheapest(mask, costs);
-    const room = isListed ? 0n : most[mask] + BigInt(total) * times;
+    const isListed = listed.has(mask), total = networks.join(mask);
     if (isListed) {
-      for (const [i, j] of links) if (total < without(mask, costs, i, j)) at(i, j).isFixed = true;
+      for (const [i, j] of networks.links()) if (total < without(mask, costs, i, j)) at(i, j).isFixed = true;
     }
-    if (BigInt(Math.max(...links.map(([i, j]) => costs[i][j]))) * times <= room) continue; // nothing is too cheap here
-    for (const i of points) {
-      for (const j of points) if (i < j) at(i, j).atLeast(BigInt(top[i][j]) * times - room);
-    }
+    const room = isListed ? 0n : most[mask] + BigInt(total) * times, far = Number(room / times);
+    if (networks.dearest <= far) continue; // nothing is too cheap here
+    networks.eachWay((i, j, top) => top > far && at(i, j).atLeast(BigInt(top) * times - room));
   }
   return [...ranges.values()];
-}
-
-/** The cheapest network that joins a group to the source: its points, links and cost, and the dearest link on the way
- * between each two points. */
-function cheapest(mask, costs) {
-  const points = [0], left = [], top = costs.map(() => []), links = [];
-  for (const i of membersOf(mask)) left.push({ point: i + 1, from: 0, cost: costs[0][i + 1] });
-  let total = 0;
-  while (left.length) {
-    let next = 0;
-    for (let k = 1; k < left.length; k++) if (left[k].cost < left[next].cost) next = k;
-    const [{ point, from, cost }] = left.splice(next, 1);
-    total += cost;
-    links.push(from < point ? [from, point] : [point, from]);
-    for (const other of points) {
-      top[other][point] = top[point][other] = other === from ? cost : Math.max(cost, top[other][from]);
-    }
-    points.push(point);
-    for (const one of left) {
-      const other = costs[point][one.point];
-      if (other < one.cost) Object.assign(one, { from: point, cost: other });
-    }
-  }
-  return { total, top, links, points };
 }
 
 /** What the cheapest network costs if a link can't be built. */
 function without(mask, costs, i, j) {
   const other = costs.map((row) => [...row]);
   other[i][j] = other[j][i] = Infinity;
-  return cheapest(mask, other).total;
+  return new Networks(other).join(mask);
 }

@@ -130,6 +130,9 @@ function differences(line, agreed) {
   if (mine.measure !== other.measure) tell("how a group’s loss counts", mine.measure, other.measure);
   if (mine.n !== other.n) tell("the players", `${mine.n} of them`, String(other.n));
   nameDifferences(mine, other, tell);
+  const open = [["line", mine], ["agreed file", other]].find(([, { isOpen }]) => isOpen);
+  if (open && !items.length) items.push(`a group in the ${open[0]} names a player whom it doesn’t have.`);
+  if (open) return { items, order };
   if (mine.kind !== other.kind || mine.n !== other.n) return { items, order };
   if (mine.single !== other.single) tell(SINGLES[mine.kind][1], mine.single, other.single);
   for (const [key, value] of mine.values) {
@@ -163,7 +166,8 @@ function nameDifferences(mine, other, tell) {
   return undefined;
 }
 
-/** A game as it is compared. `values` has a text for each place, by its key; `byDefault` is that of any other. */
+/** A game as it is compared. `values` has a text for each place, by its key; `byDefault` is that of any other. Whether
+ * a group names somebody whom the names don’t have is `isOpen`. */
 function viewOf(tree) {
   const kind = String(tree.class), measure = MEASURES[tree.excess ?? "plain"] ?? textOf(tree.excess);
   const areNames = Array.isArray(tree.names) && tree.names.every((name) => typeof name === "string");
@@ -189,12 +193,12 @@ function valuesOf(tree, kind, names) {
   }
   if (Array.isArray(tree.worths)) tree.worths.forEach((one, k) => values.set(String(k + 1), textOf(one)));
   if (!Array.isArray(tree.sparse)) return { values, byDefault };
-  for (const item of tree.sparse) {
-    const [group, one] = [item].flat(1), members = [group].flat();
-    const places = members.map((member) => (typeof member === "string" ? names?.indexOf(member) : Number(member) - 1));
-    values.set(String(places.reduce((mask, i) => mask + 2 ** i, 0)), textOf(one));
-  }
-  return { values, byDefault: textOf(tree.default ?? 0n) };
+  const place = (member) => (typeof member === "string" ? names?.indexOf(member) ?? -1 : Number(member) - 1);
+  const groups = tree.sparse.map((item) => [[item].flat(1)[0]].flat().map(place));
+  groups.forEach((places, k) => {
+    values.set(String(places.reduce((mask, i) => mask + 2 ** i, 0)), textOf([tree.sparse[k]].flat(1)[1]));
+  });
+  return { values, byDefault: textOf(tree.default ?? 0n), isOpen: groups.flat().includes(-1) };
 }
 
 /** A link that costs the same both ways is told once. */

@@ -18,6 +18,16 @@ from ..styles import MOST_PLACES, Style
 Output = Union[str, tuple[str, int]]
 """What a script prints, and the status with which it ends where that isn't 0."""
 
+OPTIONS = {
+    "Layout(has_head=True)": "--head",
+    "Layout(skip=1)": "--skip 1",
+    "Layout(skip=..)": "--skip",
+    "Layout(decimal=..)": "--decimal",
+    "fill=True": "--fill",
+    "`order`": "--order",
+}
+"""What the package calls an argument, and what a script calls it."""
+
 
 class Options(argparse.ArgumentParser):
     """The words of a script. A slip in them is bad input, told in one line."""
@@ -28,7 +38,6 @@ class Options(argparse.ArgumentParser):
         super().__init__(prog=name, description=description, formatter_class=plain, allow_abbrev=False)
 
     def error(self, message: str) -> NoReturn:
-        """Refuses the words."""
         raise BadInput(f"{message}; {self.format_usage().strip()}")
 
     def read(self, words: Sequence[str]) -> Any:
@@ -36,11 +45,9 @@ class Options(argparse.ArgumentParser):
         return self.parse_intermixed_args(words)
 
     def add_file(self, name: str = "file", text: str = "a file; without one, standard input") -> None:
-        """One file, or none for standard input."""
         self.add_argument(name, nargs="?", default="-", metavar=name.upper(), help=text)
 
     def add_files(self) -> None:
-        """Any number of files."""
         self.add_argument("files", nargs="*", metavar="FILE", help="lines and documents; without one, standard input")
 
     def add_style(self, places: Optional[int] = None, is_plain: bool = False) -> None:
@@ -51,17 +58,14 @@ class Options(argparse.ArgumentParser):
         self.add_argument("--unit", default="", metavar="UNIT", help="the unit after each number, such as EUR")
 
     def add_mark(self) -> None:
-        """Which mark stands in front of decimals in what the page's modules tell and draw."""
         told = "the decimal mark (default: point)"
         self.add_argument("--decimal", dest="mark", choices=list(MARKS), default="point", help=told)
 
     def add_no_added(self) -> None:
-        """Whether a picture has marks at what each adds to all others."""
         told = "leave out the marks at what each player adds to all others, for example if costs were filled in"
         self.add_argument("--no-added", dest="with_added", action="store_false", help=told)
 
     def add_cells(self, text: str = "with --csv") -> None:
-        """How a CSV is laid out."""
         told = f"the decimal mark {text} (default: point); comma puts semicolons between cells"
         self.add_argument("--decimal", choices=list(MARKS), help=told)
         told = f"what separates cells {text} (default: comma, or semicolon)"
@@ -70,17 +74,14 @@ class Options(argparse.ArgumentParser):
         self.add_argument("--bom", action="store_true", help=told)
 
     def add_over(self) -> None:
-        """By what numbers of a document that was multiplied are divided."""
         told = "divide all amounts by N, for documents that were multiplied"
         self.add_argument("--over", type=factor, default=1, metavar="N", help=told)
 
     def add_digits(self) -> None:
-        """To how many decimals numbers of a file are rounded."""
         told = "round each number to N decimals (default: exact)"
         self.add_argument("--digits", type=digits, metavar="N", help=told)
 
     def add_layout(self) -> None:
-        """What a file of rows doesn't show of itself."""
         self.add_argument("--head", action="store_true", help="the first row has headings")
         told = "the decimal mark (default: as the numbers show)"
         self.add_argument("--decimal", choices=list(MARKS), help=told)
@@ -91,7 +92,6 @@ class Options(argparse.ArgumentParser):
 
 
 def layout_of(chosen: Any) -> Layout:
-    """The layout that the words name."""
     return Layout(chosen.sep, chosen.decimal, chosen.head, chosen.skip)
 
 
@@ -108,29 +108,23 @@ def say_notes(text: str, columns: int, layout: Layout, beside: Sequence[Cell] = 
         say(sentence)
 
 
-def digits(text: str) -> int:
-    """A number of decimals."""
-    if not text.isascii() or not text.isdigit() or int(text) > MOST_PLACES:
-        raise argparse.ArgumentTypeError(f"{text!r} isn't a number from 0 to {MOST_PLACES}")
-    return int(text)
+def whole(told: str, least: int, most: int) -> Callable[[str], int]:
+    """How a word of a command line is read as a whole number between two."""
+
+    def read(text: str) -> int:
+        if not text.isascii() or not text.isdigit() or not least <= int(text) <= most:
+            raise argparse.ArgumentTypeError(f"{text!r} isn't {told}")
+        return int(text)
+
+    return read
 
 
-def columns(text: str) -> int:
-    """A number of columns."""
-    if not text.isascii() or not text.isdigit() or len(text) > 3:
-        raise argparse.ArgumentTypeError(f"{text!r} isn't a number of columns")
-    return int(text)
-
-
-def factor(text: str) -> int:
-    """A number from 1 on."""
-    if not text.isascii() or not text.isdigit() or not int(text):
-        raise argparse.ArgumentTypeError(f"{text!r} isn't a whole number from 1 up")
-    return int(text)
+digits = whole(f"a number from 0 to {MOST_PLACES}", 0, MOST_PLACES)
+columns = whole("a number of columns", 0, 999)
+factor = whole("a whole number from 1 up", 1, 10**4000)
 
 
 def style_of(chosen: Any) -> Style:
-    """The style that the words name."""
     encoded(chosen.unit, "the unit")
     return Style(chosen.places, apart(chosen.unit), MARKS[getattr(chosen, "mark", "point")])
 
@@ -154,7 +148,9 @@ def run(main: Callable[[Sequence[str]], Output]) -> None:
 
 
 def say(sentence: str) -> None:
-    """One line on standard error."""
+    """One line on standard error. What the package tells of its arguments is told of a script's options."""
+    for argument, option in OPTIONS.items():
+        sentence = sentence.replace(argument, option)
     print(f"{os.path.basename(sys.argv[0])}: {visible(' '.join(sentence.split()))}", file=sys.stderr)
 
 
@@ -166,7 +162,6 @@ def warn_of(names: Sequence[str]) -> None:
 
 
 def add_scaled(options: Options) -> None:
-    """Whether numbers too fine for a document may be multiplied."""
     told = "multiply all numbers by one that makes them integers, and say by which"
     options.add_argument("--scaled", action="store_true", help=told)
 

@@ -5,6 +5,7 @@ than one of its members alone.
 """
 from __future__ import annotations
 
+import json
 from typing import Iterator, Sequence
 
 from .. import filling, telling
@@ -64,8 +65,7 @@ def first_of(lines: Sequence[str], wants_all: bool) -> Iterator[str]:
 
 
 def doubts(costed: Costed, say: Style) -> list[str]:
-    """A sentence for each number that can hardly be meant, by the lines of the file. The page's modules find them; that
-    they can't is a sentence too."""
+    """A sentence for each number that can hardly be meant, by the lines of the file; or why nobody looked for them."""
     table = {
         "names": costed.game.names,
         "isCost": costed.game.costs,
@@ -73,7 +73,7 @@ def doubts(costed: Costed, say: Style) -> list[str]:
         "filled": {item.group: str(item.amount) for item in costed.filled},
     }
     try:
-        found = telling.odds(table, say.spelling())
+        found = telling.asked("odds", say.spelling(), json.dumps(table))["odds"]
     except (Fault, NotFound) as fault:
         return [f"nobody looked for numbers that may be mistakes: {fault}"]
     return [f"line {costed.lines[item['mask']]}: {item['sentence']}" for item in found]
@@ -83,7 +83,6 @@ def doubts(costed: Costed, say: Style) -> list[str]:
 
 
 def told(game: Game, filled: Sequence[filling.Filled], say: Style) -> list[str]:
-    """A line for each group that was filled in: its number, and the split."""
     return [f"{group_text(game.names, item.group)}: {amount_text(game.names, item, say)}" for item in filled]
 
 
@@ -112,6 +111,5 @@ def group_text(names: Sequence[str], group: int) -> str:
 
 
 def amount_text(names: Sequence[str], item: filling.Filled, say: Style) -> str:
-    """The number of a group, and the groups that make it."""
     parts = [" + ".join(names[i] for i in members(part)) for part in item.parts]
     return f"{say(item.amount)} = {' | '.join(parts)}"

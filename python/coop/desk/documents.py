@@ -4,7 +4,7 @@ from __future__ import annotations
 import json
 import os
 from codecs import BOM_UTF8
-from dataclasses import dataclass
+from dataclasses import dataclass, replace
 from fractions import Fraction
 from typing import Any, Iterable, Optional, Sequence
 
@@ -61,8 +61,7 @@ def read_bytes(path: str) -> tuple[bytes, str]:
 
 
 def read_text(path: str, may_be_marked: bool = True) -> tuple[str, str]:
-    """The text of a file, or of standard input, and the name to call it by. It may begin with a byte order mark, but
-    where the program would refuse that."""
+    """The text of a file, or of standard input, and its name. What the program reads too has no byte order mark."""
     data, where = read_bytes(path)
     if data.startswith(BOM_UTF8) and not may_be_marked:
         raise BadInput(
@@ -101,11 +100,11 @@ def parse(text: str, where: str) -> list[Any]:
     return trees
 
 
-def read_documents(paths: Sequence[str], may_be_marked: bool = True) -> list[Document]:
+def read_documents(paths: Sequence[str]) -> list[Document]:
     """The documents and lines of files, or of standard input."""
     found = []
     for path in paths or ["-"]:
-        text, where = read_text(path, may_be_marked)
+        text, where = read_text(path)
         found += [Document(where, object_of(tree, where)) for tree in parse(text, where)]
     return found
 
@@ -197,12 +196,10 @@ def points_in(documents: Sequence[Document], may_leave: bool = False) -> list[Po
 
 
 def has_shares(documents: Sequence[Document]) -> bool:
-    """Whether one of the documents has shares."""
     return any(key in document.tree for document in documents for key in ("shares", *KEYS))
 
 
 def shares_in(document: Document) -> Iterable[tuple[str, list[Fraction]]]:
-    """The lists of shares of one document, each with its name."""
     if "shares" in document.tree:
         answer = str(document.tree.get("answer", "proposal"))
         yield safe(ANSWERS.get(answer, answer)), numbers(document.tree["shares"], f"{document.where}: shares")
@@ -229,7 +226,7 @@ def labelled(points: list[tuple[Document, Point]]) -> list[Point]:
         name = rule_of(point.name, game) if game else point.name
         if several and len(short) > 1:
             name += f", {safe(short[document.where])}"
-        result.append(Point(name, point.shares, game))
+        result.append(replace(point, name=name))
     return result
 
 
@@ -246,9 +243,6 @@ def short_names(paths: Iterable[str]) -> dict[str, str]:
 
 def numbered(points: list[Point]) -> list[Point]:
     """The points; of several with one name each gets a number behind it."""
-    names, result = [point.name for point in points], []
-    for k, point in enumerate(points):
-        several = names.count(point.name) > 1
-        name = f"{point.name} {names[:k + 1].count(point.name)}" if several else point.name
-        result.append(Point(name, point.shares, point.game))
-    return result
+    names = [point.name for point in points]
+    counted = [f" {names[:k + 1].count(name)}" * (names.count(name) > 1) for k, name in enumerate(names)]
+    return [replace(point, name=point.name + number) for point, number in zip(points, counted)]

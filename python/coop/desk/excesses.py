@@ -6,6 +6,7 @@ from fractions import Fraction
 from typing import Any, NamedTuple, Optional, Sequence
 
 from .. import telling
+from ..calls import Proposal, rounded
 from ..errors import BadInput
 from ..game import WRITER, Game
 from ..styles import EXACT, Style
@@ -16,35 +17,30 @@ from .tables import aligned
 
 
 class Entry(NamedTuple):
-    """A group and its excess."""
-
     excess: Fraction
     group: int
 
 
-def excess_list(game: Game, shares: Sequence[Fraction]) -> list[Entry]:
-    """The excesses of all groups but the empty one and that of all, from the greatest; equals in mask order."""
-    found = asked(game, [Point("", [share * game.factor for share in shares])], EXACT, is_all=True)
+def excess_list(game: Game, shares: Proposal) -> list[Entry]:
+    """The excesses of all groups but the empty one and that of all, from the greatest; equals in mask order. Shares are
+    a mapping by names or a list."""
+    found = asked(game, [Point("", [share * game.factor for share in rounded(game, shares, None)])], EXACT, is_all=True)
     return [Entry(Fraction(number) / game.factor, group) for group, _, number, _ in found["lists"][0]]
 
 
 def asked(game: Game, points: Sequence[Point], say: Style, is_all: bool) -> dict[str, Any]:
-    """What the page's modules find of one or two points."""
     named = [[point.name, [str(share) for share in point.shares]] for point in points]
     about = {"points": named, "isAll": is_all}
     return telling.of_game("compare", WRITER.encode(game.tree), about, say.spelling())
 
 
 class Comparison(NamedTuple):
-    """Two divisions of one game."""
-
     game: Game
     points: tuple[Point, Point]
     say: Style = EXACT
 
     def better(self) -> Optional[Point]:
-        """The one whose list is less in the first place that differs; none where one of them doesn't share out the
-        whole."""
+        """The one whose list is less where they first differ; none if one of them doesn't share out the whole."""
         found = asked(self.game, self.points, self.say, is_all=False)["better"]
         return None if found is None else self.points[found]
 
@@ -60,7 +56,6 @@ class Comparison(NamedTuple):
         return head + "\n".join([aligned(columns, {0, 1, 3}), *map(filled, found["sentences"])]) + "\n"
 
     def measure(self) -> str:
-        """What the excesses are."""
         return "excess per head" if self.game.per_head else "plain excess"
 
     def rows(self, cells: Cells = PLAIN) -> list[list[str]]:

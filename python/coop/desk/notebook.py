@@ -9,12 +9,13 @@ import html
 import json
 from fractions import Fraction
 from importlib import import_module
-from typing import TYPE_CHECKING, Any, Sequence
+from typing import TYPE_CHECKING, Any, Iterable, Sequence
 
 from ..errors import Fault, NotFound
 from ..game import KINDS, LISTS, TABLES, Game
+from ..masks import members
 from ..names import apart, safe
-from ..styles import EXACT, Style, column
+from ..styles import EXACT, Style, column, rounded
 from .documents import Document, Point, rule_of, shares_in
 from .over import divided
 from .pictures import picture
@@ -30,7 +31,6 @@ AMOUNTS = {"airport": "needs alone", "bankruptcy": "claims", "voting": "votes"}
 
 
 def of_answer(answer: Answer) -> str:
-    """An answer as HTML."""
     tree, game = divided(json.loads(answer.line), answer.game.factor), told(answer.game)
     points = [Point(rule_of(name, game), shares, game) for name, shares in shares_in(Document("", tree))]
     if points:
@@ -45,7 +45,6 @@ def of_answer(answer: Answer) -> str:
 
 
 def text(words: str) -> str:
-    """A text as HTML may have it."""
     return html.escape(safe(words))
 
 
@@ -70,9 +69,14 @@ def with_table(point: Point) -> str:
         column(point.shares, Style(2)),
         map(str, [*point.shares, total]),
     )
-    body = "\n".join("<tr>" + "".join(f"<td>{cell}</td>" for cell in row) + "</tr>" for row in cells)
-    head = f"<p><strong>{text(point.name)}</strong></p>"
-    return f"{head}\n<table>\n<tr><th></th><th>{verb}</th><th>exactly</th></tr>\n{body}\n</table>"
+    return f"<p><strong>{text(point.name)}</strong></p>" + table([verb, "exactly"], cells)
+
+
+def table(heads: Sequence[str], rows: Iterable[Sequence[Any]]) -> str:
+    """A table whose first column is of names."""
+    head = "".join(f"<th>{head}</th>" for head in ["", *heads])
+    body = "\n".join("<tr>" + "".join(f"<td>{cell}</td>" for cell in row) + "</tr>" for row in rows)
+    return f"\n<table>\n<tr>{head}</tr>\n{body}\n</table>"
 
 
 def drawn(game: Game, points: Sequence[Point]) -> str:
@@ -93,7 +97,7 @@ def of_game(game: Game) -> str:
     title = f"<p><strong>{html.escape(KINDS[exact.kind].capitalize())}</strong>, {exact.n} players{measure}</p>"
     if exact.kind in TABLES and exact.everyone <= MOST_GROUPS:
         groups = sorted(range(1, exact.everyone + 1), key=lambda group: (bin(group).count("1"), group))
-        names = [" + ".join(exact.names[i] for i in range(exact.n) if group >> i & 1) for group in groups]
+        names = [" + ".join(exact.names[i] for i in members(group)) for group in groups]
         return title + rows("costs" if exact.costs else "is worth", names, [exact.amounts[group] for group in groups])
     if exact.kind in LISTS and exact.n <= MOST_ROWS:
         return title + rows(AMOUNTS[exact.kind], exact.names, exact.amounts)
@@ -101,16 +105,13 @@ def of_game(game: Game) -> str:
 
 
 def rows(heading: str, names: Sequence[str], amounts: Sequence[Fraction]) -> str:
-    """A table of names and amounts."""
-    cells = zip((html.escape(apart(name)) for name in names), amounts)
-    body = "\n".join(f"<tr><td>{name}</td><td>{amount}</td></tr>" for name, amount in cells)
-    return f"\n<table>\n<tr><th></th><th>{heading}</th></tr>\n{body}\n</table>"
+    return table([heading], zip((html.escape(apart(name)) for name in names), amounts))
 
 
 def series(shares: dict[str, Fraction], name: str, places: Any = None) -> Any:
-    """A Series of fractions; or of floats, where it is asked for so many places."""
+    """A Series of fractions; or of floats of so many places, which add up as a table of shares does."""
     pandas: Any = import_module("pandas")
     values: list[Any] = list(shares.values())
     if places is not None:
-        values = [float(round(share, places)) for share in values]
+        values = [step / 10**places for step in rounded(values, places)]
     return pandas.Series(values, index=list(shares), name=name, dtype=object if places is None else float)

@@ -29,7 +29,6 @@ def divided(tree: dict[str, Any], by: int) -> dict[str, Any]:
 
 
 def parts_divided(tree: dict[str, Any], by: int) -> dict[str, Any]:
-    """The parts of a document or a line."""
     result = {key: amounts(part, by) if key in OF_A_LINE else part for key, part in tree.items()}
     if "game" in tree:
         result["game"] = game_divided(tree["game"], by)
@@ -42,7 +41,6 @@ def parts_divided(tree: dict[str, Any], by: int) -> dict[str, Any]:
 
 
 def game_divided(tree: Any, by: int) -> dict[str, Any]:
-    """The tree of a game with each amount over a number."""
     if Game(tree).kind == "voting":
         raise BadInput("a vote has no amounts to divide")
     result = {key: amounts(part, by) if key in OF_A_GAME else part for key, part in tree.items()}
@@ -52,12 +50,10 @@ def game_divided(tree: Any, by: int) -> dict[str, Any]:
 
 
 def amounts(part: Any, by: int) -> Any:
-    """A number, or lists of them, over a number."""
     if type(part) is list:
         return [amounts(item, by) for item in part]
     return written(number(part, "an amount") / by)
 
 
 def all_divided(documents: Sequence[Document], by: int) -> list[Document]:
-    """Documents and lines, each with its amounts over a number."""
     return [Document(document.where, divided(document.tree, by)) for document in documents]

@@ -46,7 +46,6 @@ def picture(
 def drawn(
     game: Game, points: Sequence[Point], title: str, style: Style, wants_bars: bool = False, with_added: bool = True
 ) -> str:
-    """The picture of some points of a game."""
     about = {
         "points": [[point.name, [str(share) for share in point.shares]] for point in points],
         "title": title or game.title(),

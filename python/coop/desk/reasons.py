@@ -4,34 +4,35 @@ from __future__ import annotations
 
 import json
 import re
-from typing import Any, Optional
+from typing import Any, Optional, Union
 
 from .. import checking, telling
 from ..errors import BadInput
-from ..game import WRITER, Game
+from ..answers import Answer
+from ..game import WRITER, Game, bytes_of
 from ..styles import EXACT, Style
-from .documents import once
+from .documents import object_of, once
 from .over import divided
 from .prose import filled, with_items
 
 CHECKED = ("nucleolus", "prenucleolus")
 REFUSALS = range(1, 14)
+Told = Union[str, bytes, Answer, Game]
+"""A line or a document: its text, its bytes, the answer that has the line, or the game."""
 
 
 def reasons(
-    line: bytes, document: Optional[bytes] = None, say: Style = EXACT, where: str = "the line", over: int = 1
+    line: Told, document: Optional[Told] = None, say: Style = EXACT, where: str = "the line", over: int = 1
 ) -> tuple[str, int]:
-    """The sentences of a line, and 1 where they tell that a certificate fails, else 0. The document that was asked
-    about gives names and numbers where the line has no game; and where it was refused, the place of the slip. All
-    amounts are told over a number."""
-    parts, status = parts_of(line, document, say, where, over)
+    """The sentences of a line, with all amounts over a number, and 1 if they tell that a certificate fails, else 0. The
+    document that was asked about gives names and numbers to a line that has no game, and the place of a slip."""
+    parts, status = parts_of(bytes_of(line), None if document is None else bytes_of(document), say, where, over)
     return "\n\n".join(map(paragraph, parts)) + "\n", status
 
 
 def parts_of(
     line: bytes, document: Optional[bytes] = None, say: Style = EXACT, where: str = "the line", over: int = 1
 ) -> tuple[list[telling.Part], int]:
-    """The same, as parts."""
     tree = read(line, where)
     if "refused" in tree:
         return [{"sentences": refusal(tree, document), "items": []}], 0
@@ -78,9 +79,7 @@ def read(data: bytes, where: str) -> dict[str, Any]:
 
 def checked(line: bytes, where: str) -> dict[str, Any]:
     """The document of a line whose certificate holds."""
-    tree = read(line, where)
-    if "refused" in tree or "usage" in tree:
-        raise BadInput(f"{where}: the program answered {json.dumps(tree)}")
+    tree = object_of(read(line, where), where)
     if tree.get("answer") not in CHECKED or "certificate" not in tree:
         raise BadInput(f"{where} isn't a line of nucleolus or prenucleolus")
     verdict = verdict_on(line, where)
@@ -102,7 +101,6 @@ def verdict_on(line: bytes, where: str) -> dict[str, Any]:
 
 
 def refusal(tree: dict[str, Any], document: Optional[bytes]) -> list[str]:
-    """Why a document is refused, and where."""
     number, name = tree.get("number"), tree["refused"]
     if number not in REFUSALS or type(name) is not str:
         raise BadInput("this isn't a refusal of the program")
@@ -118,7 +116,6 @@ def refusal(tree: dict[str, Any], document: Optional[bytes]) -> list[str]:
 
 
 def paragraph(part: telling.Part) -> str:
-    """A part of what is told, with its items below it."""
     title = f"{part['title']}. " if part.get("title") else ""
     items = [f"{item['label']} {item.get('text', '')}".strip() for item in part["items"]]
     text = with_items(title + " ".join(part["sentences"]), items)

@@ -14,11 +14,11 @@ from .over import divided
 def report(
     document: dict[str, Any], title: str, style: Style, note: str = "", over: int = 1, *, with_added: bool = True
 ) -> str:
-    """The page of a line with a certificate, which has to be one that was checked; with a note below the title. All
-    amounts but those of the line are told over a number. The picture has marks at what each adds to all others, or
-    none."""
+    """The page of a line whose certificate was checked, with a note below the title. All amounts but those of the line
+    are told over a number. The picture has marks at what each adds to all others, or none."""
     game = Game(document["game"])
     name = title or f"{KINDS[game.kind].capitalize()}: who {'pays' if game.costs else 'gets'} how much"
     about = {"title": name, "note": note, "over": over, "hasAdded": with_added}
     printed = json.dumps(document, ensure_ascii=False, separators=(",", ":"), sort_keys=True)
-    return telling.report(WRITER.encode(divided(document, over)), printed, about, style.spelling())
+    line = WRITER.encode(divided(document, over))
+    return str(telling.asked("report", style.spelling(), line, printed, json.dumps(about))["html"])

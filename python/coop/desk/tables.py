@@ -2,6 +2,7 @@
 from __future__ import annotations
 
 import unicodedata
+from dataclasses import replace
 from fractions import Fraction
 from typing import Callable, Collection, NamedTuple, Optional, Sequence
 
@@ -32,13 +33,11 @@ def width(text: str) -> int:
 
 
 def longest(texts: Sequence[str]) -> int:
-    """How many columns the longest text takes."""
     return max(map(width, texts))
 
 
 def lines_of(names: Sequence[str], owners: Optional[Sequence[str]] = None) -> list[Line]:
-    """The lines of a table: one for each name; where names have owners, behind the last one of an owner with several
-    their sum; and the sum of all."""
+    """The lines of a table: each name, the sum of an owner with several after the last of these, and that of all."""
     lines, own = [], members_by(owners or [])
     for i, name in enumerate(names):
         lines.append(Line(safe(name), [i]))
@@ -50,7 +49,6 @@ def lines_of(names: Sequence[str], owners: Optional[Sequence[str]] = None) -> li
 
 
 def members_by(owners: Sequence[str]) -> dict[str, list[int]]:
-    """The places of each owner."""
     found: dict[str, list[int]] = {}
     for i, owner in enumerate(owners):
         found.setdefault(owner, []).append(i)
@@ -147,14 +145,10 @@ def shares_csv(
 def put_together(
     names: Sequence[str], points: Sequence[Point], owner: Callable[[str], str] = row_of
 ) -> tuple[list[str], list[Point]]:
-    """Players of one owner as one, with the sum of their shares; else those whose names differ only by a number behind
-    a blank: Aer 1, Aer 2."""
+    """Players of one owner as one, with the sum of their shares. Unless told otherwise, Aer 1 and Aer 2 have one."""
     own = members_by([owner(name) for name in names])
-    result = []
-    for point in points:
-        sums = [sum((point.shares[i] for i in some), Fraction(0)) for some in own.values()]
-        result.append(Point(point.name, sums, point.game))
-    return list(own), result
+    sums = [[sum((point.shares[i] for i in some), Fraction(0)) for some in own.values()] for point in points]
+    return list(own), [replace(point, shares=shares) for point, shares in zip(points, sums)]
 
 
 def of_those_who_stay(points: Sequence[Point]) -> tuple[list[str], list[Point], list[str]]:
@@ -170,8 +164,7 @@ def of_those_who_stay(points: Sequence[Point]) -> tuple[list[str], list[Point], 
     result = []
     for point in points:
         names = point.game.names if point.game else lists[0]
-        shares = [point.shares[names.index(name)] for name in stay]
-        result.append(Point(point.name, shares, point.game))
+        result.append(replace(point, shares=[point.shares[names.index(name)] for name in stay]))
     return stay, result, list(others)
 
 
@@ -184,5 +177,4 @@ def change(points: Sequence[Point]) -> Point:
 
 
 def divided(points: Sequence[Point], by: Optional[int]) -> list[Point]:
-    """The points with each share over a factor."""
-    return [Point(point.name, [share / (by or 1) for share in point.shares], point.game) for point in points]
+    return [replace(point, shares=[share / (by or 1) for share in point.shares]) for point in points]

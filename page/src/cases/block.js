@@ -1,0 +1,160 @@
+// A pasted text as a block of cells: what people copy from a mail, a PDF or a spreadsheet, before any kind reads it.
+import { readNumber } from "../exact/decimals.js";
+import { isSumWord, withEscapes } from "../game/names.js";
+import { UNKNOWN } from "./columns.js";
+
+const isNumber = (text = "") => text !== "" && !readNumber(text).fault;
+export const isText = (text = "") => /\p{L}/u.test(text) && !isNumber(text) && !UNKNOWN.test(text);
+const isAmount = (text) => /^\P{L}*\d/u.test(text);
+/** Whether a cell is a number, or says that nobody knows it or that there is none. */
+export const isValue = (text = "") => text === "" || UNKNOWN.test(text) || isNumber(text);
+const isBlank = (row) => !row.some(Boolean);
+const NUMBERING = /^(\P{L}*|no|nr|num|number|nummer|id|lp|pos|rank|rang)\.?$/iu; // above numbers of rows
+
+const MOST_LETTERS = 400; // of a line that is parted
+export const PAGES = "page|seite|blatt|p[aá]gina|strona|side";
+const NO_NAME = new RegExp(`,|^(—|${PAGES})$`, "iu");
+/** Whether a name may end so before a number: not with a number, a minus or a currency. */
+const endsName = (word) => !NO_NAME.test(word) && !isNumber(word) && !isNumber(`${word}1`);
+
+/** What is told of numbers of rows. */
+export const ROW_NUMBERS = "The first column, of row numbers, was left out.";
+
+/** Why a block can't be taken in which nobody can part the line `odd`. */
+export const looseText = (odd) => `Names and numbers stand in one cell each, and nobody can part “${withEscapes(odd)}” `
+  + "for sure. Put a tab, a semicolon or a colon before each number, or leave that line out.";
+
+/** The block of pasted `rows`: {rows, lines, notes, loose}. Lines of one cell each are parted into a name and its
+ * numbers; what is empty around names and numbers goes, and so do numbers of rows, which is told. `lines` has the
+ * number of each row in the text; names and numbers that still share cells, since nobody can part them, are `loose`. */
+export function blockOf(pasted) {
+  const { rows: parted, loose, isCounted, remarks = [] } = partedLines(pasted);
+  const all = parted.map((row, k) => ({ row, line: k + 1 }));
+  const kept = parted.some((row) => row.some(isText)) ? trimmed(all) : all, rows = kept.map(({ row }) => row);
+  const plain = withoutCount(rows), notes = plain === rows && !isCounted ? [] : [ROW_NUMBERS];
+  const behind = [...new Set(remarks)].map((text) => `“${withEscapes(text)}”`).join(", ");
+  if (behind) notes.push(`Left out behind numbers: ${behind}.`);
+  return { rows: plain, lines: kept.map(({ line }) => line), notes, loose };
+}
+
+/** Without empty rows above and below, and empty columns on both sides. */
+function trimmed(all) {
+  const filled = all.map(({ row }, k) => (isBlank(row) ? -1 : k)).filter((k) => k >= 0);
+  const inside = all.slice(filled[0], filled.at(-1) + 1), columns = inside.flatMap(({ row }) => {
+    return row.map((text, c) => (text ? c : -1)).filter((c) => c >= 0);
+  });
+  const [left, right] = [Math.min, Math.max].map((most) => columns.reduce((a, b) => most(a, b)));
+  return inside.map(({ row, line }) => ({ row: row.slice(left, right + 1), line }));
+}
+
+/** Without a first column of exactly 1, 2, .. beside one of texts and one of numbers, or below no heading beside one
+ * column; a heading above it may only say that it numbers them. */
+function withoutCount(rows) {
+  const isBare = rows[0]?.length === 2 && !rows[0][0];
+  const given = rows.filter((row, k) => row.filter(Boolean).length > 1 || (isBare && k === 0));
+  const [head = ""] = given[0] ?? [], isHead = !/\d/.test(head);
+  const below = given.slice(isHead ? 1 : 0), counted = below.filter(([first]) => first), [row] = counted;
+  const isCount = counted.every(([first], k) => first.replace(/[.)]$/, "") === String(k + 1));
+  if (counted.length < 2 || !isCount || (isHead && !NUMBERING.test(head))) return rows;
+  const has = (is) => row.some((_, c) => c > 0 && counted.every((one) => is(one[c])));
+  const isWord = (text) => isText(text) && !isAmount(text);
+  const isOf = has(isWord) ? counted.some(([, ...others]) => others.some(isAmount)) : isBare && isText(rows[0][1]);
+  return isOf ? rows.map((one) => (one.length > 1 ? one.slice(1) : one)) : rows;
+}
+
+const REMARK = /\s*(\([^()]*\p{L}[^()]*\))[.;,]?$/u; // behind a number, as "(niece)"
+// what a line of a mail ends or begins with, above its list or below
+const MAIL = /,|[:;.!?]$|\b(regards|wishes|thanks|grüße|gruß|cordialement|saludos|groeten|sincerely)\b/iu;
+const PHONE = /(^|[:=]\s*)\+?0\d{5,}$/;
+const SAYING = /^(.*\S)(?:\s*[:=]\s*|\s{2,})([^\s:=].*)$/u;
+
+/** The ways in which a line is a name and a number behind it, which may have blanks; behind a colon one. */
+function waysOf(text) {
+  if (text.length > MOST_LETTERS) return [];
+  const [, named, whole = ""] = SAYING.exec(text) ?? [], words = text.split(/\s+/);
+  const said = whole.replace(REMARK, "").replace(/(?<=[\p{L}\d])[.;,]$/u, "");
+  const isSaid = UNKNOWN.test(said) || isNumberOrPart(said) || isNumber(said.replace(/ \p{L}+$/u, "")); // 12 votes
+  if (said && isSaid) return PHONE.test(said) ? [] : [[bare(named), said]];
+  return words.map((_, k) => [bare(words.slice(0, k).join(" ")), words.slice(k).join(" ")])
+    .filter(([name, number]) => /\p{L}/u.test(name) && isNumberOrPart(number));
+}
+
+/** A number, or one in per cent. */
+const isNumberOrPart = (text) => isNumber(text.replace(/\s?%$/, ""));
+
+/** A name without the sign of a list before it, and without dots that lead to a number. */
+const bare = (name) => name.replace(/^(>\s*)*([-–—•*·]\s+)?/, "").replace(/(\s*[.…]){3,}$/, "");
+
+/** A name and all numbers behind it. */
+function withNumbers(text) {
+  const words = text.split(/\s+/), count = [...words].reverse().findIndex((word) => !isNumber(word));
+  return count > 0 ? [words.slice(0, -count).join(" "), ...words.slice(-count)] : undefined;
+}
+
+/** Each line as a name and as many numbers, two or more, of which none can be a part of another; else null. */
+function evenOf(texts) {
+  const parts = texts.map(withNumbers), found = parts.filter(Boolean), wide = found[0]?.length ?? 0;
+  const isWhole = (row) => row.slice(2).every((text, c) => !/^\d{3}(\D|$)/.test(text) || !/^\d{1,3}$/.test(row[c + 1]));
+  const isName = ([name]) => endsName(name.split(" ").at(-1));
+  const isEven = wide > 2 && found.every((row) => row.length === wide && isWhole(row) && isName(row));
+  return isEven && new Set(found.map(([name]) => name)).size === found.length ? parts : null;
+}
+
+/** Lines of one cell each, as mails have them, parted into a name and its numbers: {rows, loose}. Texts above and
+ * below may be other. Nothing is parted where the numbers only count, as in "Lot 1"; and where one line isn't such, or
+ * a number may be a part of the name, as in "Flat 3 250", that line is `loose`. */
+function partedLines(rows) {
+  const texts = rows.map((row) => row.find(Boolean) ?? ""), whole = { rows };
+  if (texts.filter(Boolean).length < 2 || rows.some((row) => row.filter(Boolean).length > 1)) return whole;
+  const ways = texts.map(waysOf), longest = ways.map(([one]) => one), isOneName = areAlike(longest);
+  const even = evenOf(texts), parts = even ?? (isOneName ? ways.map((some) => some.at(-1)) : longest);
+  const isTitled = parts[0] && /\s20[12]\d$/.test(texts[0]);
+  if (isTitled && texts[1]) return { rows, loose: texts[0] };
+  if (isTitled) parts[0] = undefined;
+  const found = parts.filter(Boolean), isCount = found.every(([, number], k) => Number(number) === k + 1);
+  if (found.length < 2 || isCount || areAlike(parts)) return whole;
+  const [first, last] = [found[0], found.at(-1)].map((one) => parts.indexOf(one)), wide = found[0].length;
+  const broken = texts.slice(first, last).find((text, k) => text && !parts[first + k]);
+  const loose = broken ?? (even || isOneName ? undefined : texts.find((text, r) => !isSure(ways[r], text)));
+  if (loose !== undefined) return { rows, loose };
+  const isHead = (text, r) => r === first - 1 && /\S\s+\S/.test(text) && !/\d|:$/.test(text);
+  const named = found.filter(([name]) => /[\p{L}\d]/u.test(name));
+  const isCounted = named.every(([name], k) => / /.test(name) && name.replace(/[.)]? .*/, "") === String(k + 1));
+  const own = ([name, ...others]) => [isCounted ? name.replace(/^\S+ /, "") : name, ...others];
+  const isCountedLine = (row, r) => row && !SAYING.test(texts[r]) && isNumber(own(row)[0].split(" ")[0]);
+  const counted = parts.findIndex(isCountedLine);
+  if (counted >= 0) return { rows, loose: texts[counted] };
+  const headOf = (text) => {
+    const words = text.split(/\s+/), heads = isCounted ? words.slice(-wide) : words;
+    return heads.length === wide ? heads : wide > 2 ? [text] : text.split(/\s+(?=\S+$)/);
+  };
+  const isMail = (some) => some.some((text) => MAIL.test(text));
+  const isFrame = (r) => (r < first ? isMail(texts.slice(r, first)) : isMail(texts.slice(last + 1, r + 1)));
+  const other = (text, r) => (isHead(text, r) ? headOf(text) : isFrame(r) ? [text] : [text, ""]);
+  const all = texts.map((text, r) => (parts[r] ? own(parts[r]) : other(text, r)));
+  const remarks = even ? [] : texts.flatMap((text, r) => (parts[r] && REMARK.exec(text)?.[1]) || []);
+  return { rows: all, isCounted, remarks };
+}
+
+/** Whether all names are the same. */
+function areAlike(parts) {
+  const names = parts.filter(Boolean).map(([name]) => name);
+  return names.length > 1 && new Set(names).size === 1;
+}
+
+/** Whether a line can be parted in one way: with a currency before the number there is one. */
+function isSure([one, other], text) {
+  if (!one) return !PHONE.test(text);
+  const isOne = !other || /^[\p{Sc}\p{L}]/u.test(one[1]), last = one[0].split(/\s/).at(-1);
+  if (/\s{2}|[:=]\s*\d/.test(one[0])) return false;
+  return SAYING.test(text) || (isOne && endsName(last) && !/\d\s\S{1,3}$/.test(one[0]));
+}
+
+/** A block without rows and columns that are named as sums: {rows, left}. */
+export function withoutSums([heads = [], ...below]) {
+  const isSum = (name = "") => isSumWord(name) || /^([Σ∑]|all|alle|ensemble)$/iu.test(name);
+  const all = [heads, ...below], columns = heads.map((name, c) => c === 0 || !isSum(name));
+  const left = [...new Set([...heads.slice(1), ...all.map(([name]) => name)].filter(isSum))];
+  const kept = all.filter(([name]) => !isSum(name)).map((row) => row.filter((_, c) => columns[c] ?? true));
+  return { rows: kept, left: left.map((name) => `“${withEscapes(name)}”, a sum`) };
+}
