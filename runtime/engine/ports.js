@@ -9,6 +9,7 @@ export const MOST = 8 * 1024 * 1024 + 1;
 export const READ_FAULT = 5;
 export const WRITE_FAULT = 6;
 export const NO_ANSWER = 70;
+const MOST_PAUSE = 50; // milliseconds
 
 /** A call of the system failed, for which the program has a status. */
 export class PortFault extends Error {
@@ -56,16 +57,17 @@ export function print(bytes) {
   for (let count = 0; count < bytes.length; ) count += moved(() => fs.writeSync(1, bytes, count), WRITE_FAULT);
 }
 
-// What a call of the system gives, such as how many bytes it moved. It is tried again while a pipe isn't ready.
+// What a call of the system gives, such as how many bytes it moved. While a pipe isn't ready it is tried again, ever less
+// often: to ask costs the processor, and whoever reads may be slow.
 function moved(call, status) {
-  for (;;) {
+  for (let pause = 1; ; pause = Math.min(2 * pause, MOST_PAUSE)) {
     try {
       return call();
     } catch (fault) {
       // So the end of a pipe is told on Windows.
       if (fault.code === "EOF") return 0;
       if (fault.code !== "EAGAIN") throw new PortFault(status, fault);
-      Atomics.wait(new Int32Array(new SharedArrayBuffer(4)), 0, 0, 1);
+      Atomics.wait(new Int32Array(new SharedArrayBuffer(4)), 0, 0, pause);
     }
   }
 }
