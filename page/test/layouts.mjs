@@ -2,69 +2,14 @@
 // so that one of the answers gives it, or not answered. The layouts are drawn: layouts.mjs [SEED [COUNT]].
 import { caseNamed } from "../src/cases/cases.js";
 import { masksBySize, membersOf } from "../src/game/groups.js";
-import { questions } from "../src/view/case-questions.js";
-import { listGrid } from "../src/view/list-grid.js";
-import { marketGrid } from "../src/view/market-grid.js";
-import { networkGrid } from "../src/view/network-grid.js";
-import { tableGrid } from "../src/view/table-grid.js";
-import { readCase, readCells, readList } from "../src/work/cases.js";
+import { readCase } from "../src/work/cases.js";
+import { Desk, settled } from "./grids.mjs";
 
 const [seed = 20261201, count = 3000] = process.argv.slice(2).map(Number), MOST_ASKED = 4;
 const LEAST = 0.6; // of the layouts of each kind that are read, or asked about: a grid that refuses all is no help
-const GRIDS = { list: listGrid, market: marketGrid, network: networkGrid, table: tableGrid };
 let state = seed;
 const draw = (most) => ((state = (Math.imul(state, 1103515245) + 12345) & 0x7fffffff) >> 8) % most;
-const pick = (list) => list[draw(list.length)], nothing = () => 0, settled = () => new Promise(setImmediate);
-
-/** What a grid needs of a document. */
-class Element {
-  nodes = []; on = {}; attributes = {}; dataset = {}; classList = { toggle: nothing, remove: nothing };
-
-  append(...some) {
-    for (const one of some) if (one instanceof Element) one.parentElement = this;
-    this.nodes.push(...some);
-  }
-
-  replaceChildren(...some) { this.nodes = some; }
-  setAttribute(name, value) { this.attributes[name] = value; }
-  addEventListener(name, listener) { this.on[name] = listener; }
-  querySelectorAll() { return []; }
-  all() { return [this, ...this.nodes.flatMap((one) => (one instanceof Element ? one.all() : []))]; }
-  get firstChild() { return this.nodes[0]; }
-  get childElementCount() { return this.nodes.length; }
-  get textContent() { return this.nodes.map((one) => one.textContent ?? one).join(""); }
-  set textContent(text) { this.nodes = [text]; }
-}
-for (const name of ["after", "contains", "focus", "querySelector"]) Element.prototype[name] = nothing;
-globalThis.document = { createElement: (tagName) => Object.assign(new Element(), { tagName }) };
-const buttonsIn = (some) => some.flatMap((one) => one.all()).filter(({ tagName }) => tagName === "button");
-
-class Desk {
-  constructor(id, mark) {
-    Object.assign(this, { id, kind: caseNamed(id), mark }).open(caseNamed(id).example());
-  }
-
-  open(typed) {
-    this.typed = typed;
-    this.grid = GRIDS[this.kind.grid](this.kind, typed, {
-      mark: () => this.mark, onChange: nothing, onWide: nothing, remember: nothing, help: async () => ({ notes: [] }),
-      readCells: async (text) => readCells({ text }), readList: async (what) => readList({ ...what, mark: this.mark }),
-    });
-  }
-
-  /** The case that is read, beside an estate or a quota of 1; what is said, and the buttons of what is asked. */
-  read() {
-    const { id, kind, typed, mark } = this, own = { ...typed, ...(kind.single && { [kind.single.key]: "1" }) };
-    const reading = readCase({ id, typed: kind.pack?.(own) ?? own, mark, measure: "plain", isMarked: typed.isMarked });
-    const said = this.grid.all().filter(({ attributes }) => attributes.role === "status");
-    const asked = reading.isAsking ? questions(reading, typed, {
-      onReset: (next) => this.open(next), onChange: nothing,
-      setEntry: (by) => Object.assign(this, { mark: by }) && Object.assign(typed, { isMarked: true }),
-    }) : [];
-    const buttons = buttonsIn([...said, ...asked.flat(Infinity).filter(Boolean)]);
-    return { buttons, said: said.map((one) => one.textContent).join(" "), found: reading.isRight && caseOf(reading) };
-  }
-}
+const pick = (list) => list[draw(list.length)];
 
 /** A case as a text, whatever the order of its players. */
 function caseOf({ text, rows }) {
@@ -78,14 +23,14 @@ function caseOf({ text, rows }) {
 
 /** What comes of a layout, by all ways through what is asked: read, wrong, or refused. */
 async function judged({ id, cell, text, mark, wanted }) {
-  const before = new Desk(id, mark).read().found, ways = [], go = async (path) => {
-    const desk = new Desk(id, mark), { on } = desk.grid.all().findLast((one) => one.on.paste);
-    await on.paste({ target: { dataset: { cell } }, clipboardData: { getData: () => text }, preventDefault: nothing });
-    await settled();
+  const foundAt = ({ reading }) => reading.isRight && caseOf(reading), before = foundAt(new Desk(id, mark).read());
+  const ways = [], go = async (path) => {
+    const desk = new Desk(id, mark);
+    await desk.paste(cell, text);
     for (const k of path) await settled(desk.read().buttons[k].on.click({}));
-    const { buttons, ...now } = desk.read();
+    const { buttons, said, ...now } = desk.read();
     if (buttons.length && path.length < MOST_ASKED) for (const k of buttons.keys()) await go([...path, k]);
-    else ways.push(now);
+    else ways.push({ said, found: foundAt(now) });
   };
   await go([]).catch((fault) => ways.push({ said: "", found: fault.stack }));
   if (ways.some(({ found }) => found === wanted)) return "read";

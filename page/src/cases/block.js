@@ -2,6 +2,8 @@
 import { readNumber } from "../exact/decimals.js";
 import { isSumWord, withEscapes } from "../game/names.js";
 import { UNKNOWN } from "./columns.js";
+import { withoutDashes, withoutSigns } from "./signs.js";
+import { parted } from "./units.js";
 
 const isNumber = (text = "") => text !== "" && !readNumber(text).fault;
 export const isText = (text = "") => /\p{L}/u.test(text) && !isNumber(text) && !UNKNOWN.test(text);
@@ -19,6 +21,8 @@ const endsName = (word) => !NO_NAME.test(word) && !isNumber(word) && !isNumber(`
 
 /** What is told of numbers of rows. */
 export const ROW_NUMBERS = "The first column, of row numbers, was left out.";
+const SIGNS = "Signs of a list or a quotation before the names were left out.";
+const DASHES = "The dashes between names and numbers were left out.";
 
 /** Why a block can't be taken in which nobody can part the line `odd`. */
 export const looseText = (odd) => `Names and numbers stand in one cell each, and nobody can part “${withEscapes(odd)}” `
@@ -26,14 +30,17 @@ export const looseText = (odd) => `Names and numbers stand in one cell each, and
 
 /** The block of pasted `rows`: {rows, lines, notes, loose}. Lines of one cell each are parted into a name and its
  * numbers; what is empty around names and numbers goes, and so do numbers of rows, which is told. `lines` has the
- * number of each row in the text; names and numbers that still share cells, since nobody can part them, are `loose`. */
-export function blockOf(pasted) {
-  const { rows: parted, loose, isCounted, remarks = [] } = partedLines(pasted);
-  const all = parted.map((row, k) => ({ row, line: k + 1 }));
-  const kept = parted.some((row) => row.some(isText)) ? trimmed(all) : all, rows = kept.map(({ row }) => row);
-  const plain = withoutCount(rows), notes = plain === rows && !isCounted ? [] : [ROW_NUMBERS];
-  const behind = [...new Set(remarks)].map((text) => `“${withEscapes(text)}”`).join(", ");
-  if (behind) notes.push(`Left out behind numbers: ${behind}.`);
+ * number of each row in the text; names and numbers that still share cells, since nobody can part them, are `loose`. A
+ * hyphen before a number that `canBeNegative` may be a minus. */
+export function blockOf(pasted, { canBeNegative = false } = {}) {
+  const { rows: signless, isSigned, isCounted: isListed } = withoutSigns(pasted);
+  const { rows: cells, loose, isCounted, isDashed, remarks = [] } = partedLines(signless, canBeNegative);
+  const all = cells.map((row, k) => ({ row, line: k + 1 }));
+  const kept = cells.some((row) => row.some(isText)) ? trimmed(all) : all, rows = kept.map(({ row }) => row);
+  const plain = withoutCount(rows), behind = [...new Set(remarks)].map((text) => `“${withEscapes(text)}”`).join(", ");
+  const notes = [isSigned && SIGNS, isDashed && DASHES,
+    (plain !== rows || isCounted || isListed) && ROW_NUMBERS,
+    behind && `Left out behind numbers: ${behind}.`].filter(Boolean);
   return { rows: plain, lines: kept.map(({ line }) => line), notes, loose };
 }
 
@@ -65,25 +72,39 @@ function withoutCount(rows) {
 const REMARK = /\s*(\([^()]*\p{L}[^()]*\))[.;,]?$/u; // behind a number, as "(niece)"
 // what a line of a mail ends or begins with, above its list or below
 const MAIL = /,|[:;.!?]$|\b(regards|wishes|thanks|grüße|gruß|cordialement|saludos|groeten|sincerely)\b/iu;
+// words before a name that greet
+const GREETING = new RegExp("^(hi|hello|hey|dear|hallo|liebe[rs]?|sehr|guten|bonjour|salut|hola|ciao|thanks?|thx|danke|"
+  + "merci|gracias|cheers|best|kind|warm|yours|love|lg|vg|mfg|viele|beste|bis|cordialement|bien|from|von|sent|regards|"
+  + "greetings|sincerely|total|sum|summe|note|source|p\\.?s|re|aw|fwd?)\\b", "iu");
+const PERSON = /^\p{Lu}[\p{L}'’. -]*(, ?\p{Lu}[\p{L}'’. -]{0,40}:?|:)$/u; // "Rossi, M", or "Cleo:"
+const FULL_NAME = /^\p{Lu}[\p{L}'’.-]*( \p{Lu}[\p{L}'’.-]*){0,2}$/u;
 const PHONE = /(^|[:=]\s*)\+?0\d{5,}$/;
 const SAYING = /^(.*\S)(?:\s*[:=]\s*|\s{2,})([^\s:=].*)$/u;
+
+/** Whether a line without a number may be a person: "Rossi, M"; and "Cleo:" below a list. */
+function isPerson(text, isBelow = true) {
+  return PERSON.test(text) && !GREETING.test(text) && (isBelow || !text.endsWith(":"));
+}
+
+/** Whether a line right below a table may be one of its people, whose number is lost: "Rossi, M", or "Eva Weiss". */
+export const isLostPerson = (text) => isPerson(text) || (FULL_NAME.test(text) && !GREETING.test(text));
 
 /** The ways in which a line is a name and a number behind it, which may have blanks; behind a colon one. */
 function waysOf(text) {
   if (text.length > MOST_LETTERS) return [];
   const [, named, whole = ""] = SAYING.exec(text) ?? [], words = text.split(/\s+/);
   const said = whole.replace(REMARK, "").replace(/(?<=[\p{L}\d])[.;,]$/u, "");
-  const isSaid = UNKNOWN.test(said) || isNumberOrPart(said) || isNumber(said.replace(/ \p{L}+$/u, "")); // 12 votes
+  const isSaid = UNKNOWN.test(said) || isNumber(said) || parted(said); // 12 votes
   if (said && isSaid) return PHONE.test(said) ? [] : [[bare(named), said]];
   return words.map((_, k) => [bare(words.slice(0, k).join(" ")), words.slice(k).join(" ")])
     .filter(([name, number]) => /\p{L}/u.test(name) && isNumberOrPart(number));
 }
 
-/** A number, or one in per cent. */
-const isNumberOrPart = (text) => isNumber(text.replace(/\s?%$/, ""));
+/** A number, or one in per cent or for each year. */
+const isNumberOrPart = (text) => isNumber(text.replace(/\s?%$/, "")) || Boolean(parted(text)?.isPer);
 
-/** A name without the sign of a list before it, and without dots that lead to a number. */
-const bare = (name) => name.replace(/^(>\s*)*([-–—•*·]\s+)?/, "").replace(/(\s*[.…]){3,}$/, "");
+/** A name without dots that lead to a number. */
+const bare = (name) => name.replace(/(\s*[.…]){3,}$/, "");
 
 /** A name and all numbers behind it. */
 function withNumbers(text) {
@@ -103,9 +124,10 @@ function evenOf(texts) {
 /** Lines of one cell each, as mails have them, parted into a name and its numbers: {rows, loose}. Texts above and
  * below may be other. Nothing is parted where the numbers only count, as in "Lot 1"; and where one line isn't such, or
  * a number may be a part of the name, as in "Flat 3 250", that line is `loose`. */
-function partedLines(rows) {
-  const texts = rows.map((row) => row.find(Boolean) ?? ""), whole = { rows };
-  if (texts.filter(Boolean).length < 2 || rows.some((row) => row.filter(Boolean).length > 1)) return whole;
+function partedLines(rows, canBeNegative) {
+  const lines = rows.map((row) => row.find(Boolean) ?? ""), whole = { rows };
+  if (lines.filter(Boolean).length < 2 || rows.some((row) => row.filter(Boolean).length > 1)) return whole;
+  const { texts, isDashed } = withoutDashes(lines, (text) => waysOf(text).length > 0, canBeNegative);
   const ways = texts.map(waysOf), longest = ways.map(([one]) => one), isOneName = areAlike(longest);
   const even = evenOf(texts), parts = even ?? (isOneName ? ways.map((some) => some.at(-1)) : longest);
   const isTitled = parts[0] && /\s20[12]\d$/.test(texts[0]);
@@ -117,7 +139,7 @@ function partedLines(rows) {
   const broken = texts.slice(first, last).find((text, k) => text && !parts[first + k]);
   const loose = broken ?? (even || isOneName ? undefined : texts.find((text, r) => !isSure(ways[r], text)));
   if (loose !== undefined) return { rows, loose };
-  const isHead = (text, r) => r === first - 1 && /\S\s+\S/.test(text) && !/\d|:$/.test(text);
+  const isHead = (text, r) => r === first - 1 && /\S\s+\S/.test(text) && !/\d|:$/.test(text) && !isPerson(text);
   const named = found.filter(([name]) => /[\p{L}\d]/u.test(name));
   const isCounted = named.every(([name], k) => / /.test(name) && name.replace(/[.)]? .*/, "") === String(k + 1));
   const own = ([name, ...others]) => [isCounted ? name.replace(/^\S+ /, "") : name, ...others];
@@ -128,12 +150,12 @@ function partedLines(rows) {
     const words = text.split(/\s+/), heads = isCounted ? words.slice(-wide) : words;
     return heads.length === wide ? heads : wide > 2 ? [text] : text.split(/\s+(?=\S+$)/);
   };
-  const isMail = (some) => some.some((text) => MAIL.test(text));
-  const isFrame = (r) => (r < first ? isMail(texts.slice(r, first)) : isMail(texts.slice(last + 1, r + 1)));
-  const other = (text, r) => (isHead(text, r) ? headOf(text) : isFrame(r) ? [text] : [text, ""]);
+  const isMail = (some, isBelow) => some.some((text) => !text || (MAIL.test(text) && !isPerson(text, isBelow)));
+  const isFrame = (r) => (r < first ? isMail(texts.slice(r, first), false) : isMail(texts.slice(last + 1, r + 1)));
+  const other = (text, r) => (isHead(text, r) ? headOf(text) : isFrame(r) ? [text] : [text.replace(/:$/, ""), ""]);
   const all = texts.map((text, r) => (parts[r] ? own(parts[r]) : other(text, r)));
   const remarks = even ? [] : texts.flatMap((text, r) => (parts[r] && REMARK.exec(text)?.[1]) || []);
-  return { rows: all, isCounted, remarks };
+  return { rows: all, isCounted, isDashed, remarks };
 }
 
 /** Whether all names are the same. */

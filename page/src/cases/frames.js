@@ -1,6 +1,7 @@
 // Texts that frame a pasted table and are no rows of it: a title above, notes below.
 import { readNumber } from "../exact/decimals.js";
 import { withEscapes } from "../game/names.js";
+import { isLostPerson } from "./block.js";
 import { headingsOf } from "./pasting.js";
 
 const MOST_TOLD = 4;
@@ -25,7 +26,10 @@ export function unframed(rows, text = "") {
   const first = rows.findIndex(isOf), end = rows.length - [...rows].reverse().findIndex(isOf);
   const isHeaded = headingsOf(rows.slice(first, end), 0) !== null;
   const above = apart(rows.slice(0, first).reverse(), rows[first], () => isHeaded);
-  const left = new Set([...above, ...apart(rows.slice(end), rows[end - 1], ([one]) => NOTE.test(one))]);
+  const below = rows.slice(end), isNote = ([one]) => NOTE.test(one);
+  const isPerson = (row) => !isNote(filledOf(row)) && isLostPerson(filledOf(row).join(" "));
+  const other = below.findIndex((row) => !isPerson(row)), lost = below.slice(0, other < 0 ? below.length : other);
+  const left = new Set([...above, ...apart(below, rows[end - 1], isNote)].filter((row) => !lost.includes(row)));
   if (!left.size) return whole;
   const lines = text.split(/\r\n?|\n/), isInside = (k) => k >= first && k < end;
   const isKept = (_, k) => isInside(k) || !(isBlank(rows[k]) || left.has(rows[k]));

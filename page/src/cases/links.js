@@ -80,7 +80,7 @@ export function networkOf(pasted, { mark = ".", source = "", isTimes } = {}) {
   const { links, fault } = joined(found, found.judge), out = whole === found ? [] : texts.map((text) => `“${text}”`);
   if (fault) return { fault };
   out.push(...left, ...found.units.map((unit) => `“${unit}”, the unit`));
-  return { points, links, shape, left: out, ...sourceOf(points, found, source) };
+  return { points, links, shape, left: out, told: block.notes, ...sourceOf(points, found, source) };
 }
 
 /** A block as the first shape that fits, or {fault} or {product}; null for others, and where no number is. */
@@ -314,11 +314,11 @@ export function withoutPlace({ names, links, filled = {}, ...others }, k) {
 }
 
 /** What was taken, in a sentence or two. */
-export function takenText({ points, links, shape, left = [], source, isSure }, named = "") {
+export function takenText({ points, links, shape, left = [], told = [], source, isSure }, named = "") {
   const all = (points.length * (points.length - 1)) / 2, count = Object.keys(links).length;
   const name = withEscapes(points[source]) || named || "the first point";
   return `Taken as ${shape}: ${plural(points.length, "point")}, ${plural(count, "link")}`
     + `${count < all ? ` of ${all} that could be` : ""}${isSure ? `, source: ${name}` : ""}.`
-    + (left.length ? ` Left out: ${left.map(withEscapes).join(", ")}.` : "")
+    + (left.length ? ` Left out: ${left.map(withEscapes).join(", ")}.` : "") + told.map((text) => ` ${text}`).join("")
     + (isSure ? "" : " Nothing says which point is the source.");
 }

@@ -28,11 +28,13 @@ function hasBars(lines) {
   return kept.length > 1 && kept.every((line) => /^\s*\|.*\|\s*$/.test(line));
 }
 
+const SURNAMES = /^[^\d,"]+, \p{L}[^\d,]*\s\p{Sc}?\d[\d.,]*\D{0,4}$/u; // Rossi, Mario 120
+
 /** A comma between a name and a number, or between two points; and not the decimal comma of a lone column, the comma of
  * a number behind a colon, or the commas within the numbers of a mail. */
 function hasCommaColumns(lines) {
   const isOf = (line) => /^[-−]?[\d\s.'’]*,\d+$|[:=]\s*[^,]{0,4}\d[\d,.]*\D{0,4}$|^[^"]*(\d,\d[^"]*,\s|,\s[^"]*\d,\d)/
-    .test(line.trim());
+    .test(line.trim()) || SURNAMES.test(line.trim());
   const isWithin = (line) => /\p{L}/u.test(line) && !line.replace(/\d,(?=\d)/g, "").includes(",");
   const isCount = lines.length > 2 && lines.every((line, k) => line.startsWith(`${k + 1},`));
   const isNamed = [lines[0], lines.at(-1)].some((line) => /^[^\d,]*\p{L}(,[^\s,][^,]*)+$/u.test(line));

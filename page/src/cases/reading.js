@@ -4,6 +4,7 @@ import { lcm } from "../exact/rational.js";
 import { cellNumber, countText, moneyIn, shortText, thousandsIn } from "../exact/decimals.js";
 import { isMark, MARKS, onlyMark, otherMark } from "../exact/marks.js";
 import { LIMITS } from "../game/classes.js";
+import { UNKNOWN } from "./columns.js";
 import { remarksOf, withEscapes } from "../game/names.js";
 
 const MOST_SCALE = BigInt(LIMITS.denominator);
@@ -17,6 +18,8 @@ const DATE = /^\s*(0\d\/\d{1,2}|\d{1,2}\/0\d)\s*$/;
 /** What to write in the place of some texts. */
 function hintOf(text) {
   if (/^[-–—]$/.test(text)) return " Write 0, or remove it.";
+  if (UNKNOWN.test(text)) return " Write the number, or clear the cell.";
+  if (/^\P{L}*\d[^%]*\p{L}/u.test(text)) return " Write the number alone, without words.";
   return /^[\d.,]+ ?%$/.test(text) ? " Write the amount, or a product such as 1/4 * 1000." : "";
 }
 

@@ -29,7 +29,8 @@ export function sheetOf(pasted, columns, { mark, single, usual, isFirst = true, 
   const usually = columns.filter(({ optional }) => !optional), from = usually.findIndex((column) => column.number);
   const rows = all.filter((row) => row !== above), headings = isHead === false ? null
     : headingsOf(rows, Math.max(0, from), mark) ?? knownHeads(rows, columns);
-  const heads = isFirst && isHead === undefined && headings && unknownHeads(headings, rows, columns);
+  const isLine = pasted.every((row) => row.filter(Boolean).length < 2); // and no row of cells
+  const heads = isFirst && isHead === undefined && headings && unknownHeads(headings, rows, { columns, isLine });
   if (heads) return { asked: { heads } };
   if (headings && isAcross(rows, columns)) return { fault: "Here names stand side by side. Give each a row." };
   const found = columnsFor(columns, headings, { rows, mark, choice, out }), { targets, asked, isGuess } = found;
@@ -45,11 +46,16 @@ export function sheetOf(pasted, columns, { mark, single, usual, isFirst = true, 
   return { rows: headings ? rows.slice(1) : rows, targets, headings, notes, number, isGuess, isPercent };
 }
 
-/** A first row that may be a person as well as headings: no word of it is known, and one at most is above numbers. */
-function unknownHeads(headings, [, ...rows], columns) {
+/** A first row that may be a person as well as headings: no word of it is known, and one at most is above numbers. In
+ * a table with two rows below, words that all begin alike, as "Namn" and "Belopp", and not "Ann" and "disputed", are
+ * headings. */
+function unknownHeads(headings, [, ...rows], { columns, isLine }) {
   const isAbove = (_, c) => rows.some((row) => /^\P{L}*\d/u.test(row[c] ?? ""));
+  const isLower = (text) => /^\p{Ll}/u.test(text);
   const isKnown = headings.filter(isAbove).length > 1 || headings.some((text) => isKnownHead(text, columns));
-  return !isKnown && headings.filter(Boolean).join("; ");
+  const words = headings.filter(Boolean), isAlike = words.every((text) => isLower(text) === isLower(words[0]));
+  const isTable = !isLine && rows.length > 1 && words.length === headings.length && isAlike;
+  return !isKnown && !isTable && words.join("; ");
 }
 
 /** Whether names are the headings of one row of numbers. */
@@ -68,6 +74,8 @@ function noName(rows) {
   if (rows.some((row) => row.filter(Boolean).length > 1)) return undefined;
   const names = new Set(texts.map((text) => text.replace(AMOUNT, ""))), isWord = (name) => /\p{L}/u.test(name);
   const isAll = names.size > 1 && found.every(Boolean) && [...names].every(isWord);
+  const pair = texts.every((text) => /^\d\S*\s+\d\S*$/.test(text)) && texts.find((text) => readNumber(text).fault);
+  if (pair && texts.length > 1) return pair;
   const isCount = found.every((text, k) => Number(text) === k + 1);
   return texts.find(({ length }) => length > MOST_NAME) ?? (isAll && !isCount ? texts[0] : undefined);
 }

@@ -127,10 +127,10 @@ export function withoutPlayer(state, player) {
  * order of the masks or by size: {state}, or {fault} in words; or {asked, count}, a line that may be the group of all:
  * then it is read again with what was said of it (`isWhole`). `told` says how it was read, `remark` what was left
  * out. */
-export function tableOf(text, names = [], order = "size", mark = ".", isWhole = undefined) {
-  const block = blockOf(cellsOf(text)), { rows, left } = unframed(block.rows);
+export function tableOf(text, names = [], order = "size", mark = ".", said = {}) {
+  const block = blockOf(cellsOf(text), { canBeNegative: true }), { rows, left } = unframed(block.rows);
   if (block.loose) return { fault: looseText(block.loose) };
-  const kept = rows.filter((row) => row.some(Boolean)), joined = joinedMembers(kept);
+  const kept = rows.filter((row) => row.some(Boolean)), joined = groupsFirst(joinedMembers(kept));
   const isList = joined !== kept || isGroups(kept);
   const found = isList ? {} : vectorIn(text, names, order, mark);
   if (found.state || found.isAll) return found;
@@ -139,7 +139,7 @@ export function tableOf(text, names = [], order = "size", mark = ".", isWhole = 
   const told = [leftText(left), ...block.notes, unitsText(units)].filter(Boolean).map((words) => ` ${words}`).join("");
   const plain = told && !isList ? vectorIn(bare.map((row) => row.join("\t")).join("\n"), names, order, mark) : {};
   const places = new Map(block.rows.map((row, k) => [row, block.lines[k]])), lines = kept.map((row) => places.get(row));
-  const isVector = plain.state || plain.isAll || plain.many, more = { mark, isWhole };
+  const isVector = plain.state || plain.isAll || plain.many, more = { mark, ...said };
   const read = isVector ? { ...plain, fault: plain.fault ?? plain.many } : listOf(bare, lines, more);
   return read.state ? { ...read, remark: told + read.remark } : read;
 }
@@ -200,29 +200,55 @@ function drops(values) {
   return count;
 }
 
-/** Rows of a group and its number, of such as may have headings and further columns: {rows, lines, told}. Below
- * headings the one column of numbers is taken; {fault} where there are several, or where no headings are. `lines` are
- * the numbers of the lines of the text. */
-function pairsOf(all, allLines, mark) {
-  const headings = headingsOf(all, 1, mark), skip = headings ? 1 : 0, rows = all.slice(skip);
+const WORTH = new RegExp("cost|gain|worth|value|saving|amount|price|profit|kosten|gewinn|wert|betrag|preis|ersparnis"
+  + "|co[uû]t|valeur|montant|\\bv ?\\(s\\)|\\b(eur|usd|gbp|chf)\\b|\\p{Sc}", "iu");
+
+/** Rows of a group and its number, of such as may have headings and further columns: {rows, lines, told}. Of several
+ * columns of numbers the one `column` is taken; {columns} with their titles if nobody said which; {fault} where no
+ * headings say what the others are. `lines` are the numbers of the lines of the text. */
+function pairsOf(all, allLines, { mark, column }) {
+  const headings = headingsOf(all, 1, mark) ?? yearsOf(all), skip = headings ? 1 : 0, rows = all.slice(skip);
   const lines = allLines.slice(skip), long = rows.findIndex((row) => row.slice(2).some(Boolean));
   const told = headings ? headingText(headings.filter(Boolean).join("; ")) : "";
   if (long < 0) return { rows, lines, told };
   const isNumber = (text) => Boolean(text) && !readNumber(text, mark).fault;
   const shown = withEscapes(rows[long].join("; ")).slice(0, 60), line = `Line ${lines[long]}: `;
   const wide = all.reduce((most, { length }) => Math.max(most, length), 0);
-  const columns = Array.from({ length: wide - 1 }, (_, k) => k + 1);
-  const [at, other] = columns.filter((c) => rows.some((row) => isNumber(row[c])));
-  if (other !== undefined || at === undefined) {
+  const others = Array.from({ length: wide - 1 }, (_, k) => k + 1);
+  const numeric = others.filter((c) => rows.some((row) => isNumber(row[c]))), meant = (c) => WORTH.test(headings?.[c]);
+  const several = numeric.filter(meant).length === 1 ? numeric.filter(meant) : numeric, at = column ?? several[0];
+  const isNamed = rows.every(([group]) => !isNumber(group)), isPlain = others.every((c) => numeric.includes(c));
+  if (several.length > 1 && column === undefined && isNamed && (headings || isPlain)) {
+    const textOf = (c) => headings?.[c] || `${rows.slice(0, 2).map((row) => row[c]).join(", ")} …`;
+    return { columns: several.map((c) => ({ c, title: withEscapes(textOf(c)) })) };
+  }
+  if (at === undefined || (several.length > 1 && column === undefined)) {
     return { fault: `${line}A line has a group and one number, and here one has more: “${shown}”. Members of a group `
       + "have + between them." };
   }
-  if (!headings) {
+  if (!headings && column === undefined) {
     return { fault: `${line}A line has a group and its number, and here is more: “${shown}”. Leave that out, or give `
       + "each column a heading." };
   }
-  const out = columns.filter((c) => c !== at).map((c) => ` “${withEscapes(headings[c] ?? "")}” was left out.`);
-  return { rows: rows.map((row) => [row[0], row[at] ?? ""]), lines, told: told + out.join("") };
+  const out = others.filter((c) => c !== at).map((c) => withEscapes(headings?.[c] ?? rows[0][c] ?? ""));
+  const left = out.map((text) => ` “${text}”${headings ? "" : " …"} was left out.`).join("");
+  return { rows: rows.map((row) => [row[0], row[at] ?? ""]), lines, told: told + left };
+}
+
+/** The first row, if it is a word and years above numbers. */
+function yearsOf([[word = "", ...years], ...below]) {
+  const isYear = (text) => /^(19|20)\d\d$/.test(text), isGroup = /^(gr[uo]u?pp?[aeos]*|coalition|koalition|s|who)$/i;
+  const isOf = years.length > 0 && years.every(isYear) && (years.length > 1 || isGroup.test(word));
+  return isOf && /^\p{L}+$/u.test(word) && below.every(([, ...some]) => some.length === years.length)
+    ? [word, ...years] : null;
+}
+
+/** Rows whose groups stand behind a column of numbers, with the groups first; others as they are. */
+function groupsFirst(rows) {
+  const [heads = [], ...below] = rows, isNumber = (text = "") => text !== "" && !readNumber(text).fault;
+  const at = heads.findIndex((_, c) => c && below.every((row) => /\p{L}/u.test(row[c] ?? "") && !isNumber(row[c])));
+  const isOf = below.length > 1 && at > 0 && below.every(([first]) => isNumber(first));
+  return isOf ? rows.map((row) => [row[at], ...row.slice(0, at), ...row.slice(at + 1)]) : rows;
 }
 
 const IN = /^(1|x|✓|y|yes|ja|j|oui|sí)$/i, OUT = /^(0|no?|nein|non|nee|[-–—.]?)$/i;
@@ -239,9 +265,10 @@ function joinedMembers(rows) {
 }
 
 /** A table of rows of a group and its number; `allLines` are the numbers of their lines. */
-function listOf(given, allLines, { mark, isWhole }) {
-  const { rows, lines, told, fault } = pairsOf(given, allLines, mark), lineOf = (k) => `Line ${lines[k]}: `;
-  if (fault) return { fault };
+function listOf(given, allLines, { mark, isWhole, column }) {
+  const { rows, lines, told, fault, columns } = pairsOf(given, allLines, { mark, column });
+  const lineOf = (k) => `Line ${lines[k]}: `;
+  if (fault || columns) return { fault, columns };
   if (!rows.some(([, number = ""]) => /\d/.test(number))) {
     const texts = rows.map(([group, number]) => withEscapes((number || group).slice(0, 40)));
     const k = Math.max(0, texts.findIndex((text) => readNumber(text).fault));

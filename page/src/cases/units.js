@@ -1,12 +1,20 @@
 // Units behind pasted numbers, as in "12 km": one that a column has throughout is left out, and told.
 import { readNumber } from "../exact/decimals.js";
 
-const WITH_UNIT = /^([-−]?\d[\d.,'’\s\u202f]*?)\s*([kKM]?\p{Sc}|%|\p{L}[\p{L}.²³]{0,11})$/u;
+const MOST_LETTERS = 80; // of a number with its unit
+const WORD = "\\p{L}[\\p{L}.²³]{0,11}";
+const PER = `\\s*/\\s*${WORD}|\\s+(?:per|pro|par|por|je|im|al|an?|p\\.) ?${WORD}`
+  + "|\\s+(?:\\p{L}+(?:ly|lich)|net|gross|netto|brutto)";
+const BEHIND = new RegExp(`^(.*\\d.*?)(${PER})$`, "u");
+const WITH_UNIT = new RegExp(`^([-−]?\\d[\\d.,'’\\s\u202f]*?)\\s*((?:[kKM]?\\p{Sc}|%|${WORD})(?:${PER})?)$`, "u");
 
-/** The number and the unit of a text; null for another text, and for one that is a number as it stands. */
-function parted(text) {
-  const [, number, unit] = WITH_UNIT.exec(text) ?? [];
-  return number && readNumber(text).fault ? { number, unit } : null;
+/** The number and the unit of a text, as "12 km" and "1200 EUR/year"; null for another text, and for one that is a
+ * number as it stands. A sign of money before "per year" is of the number. */
+export function parted(text) {
+  if (text.length > MOST_LETTERS || !readNumber(text).fault) return null;
+  const [, before, per] = BEHIND.exec(text) ?? [], isMoney = before && !readNumber(before).fault;
+  const [, number, unit] = isMoney ? [text, before, per] : WITH_UNIT.exec(text) ?? [];
+  return number ? { number, unit: unit.trim().replace(/\s*\/\s*/, "/"), isPer: Boolean(isMoney) } : null;
 }
 
 /** Rows without units: {rows, units}, or {fault} in words where the numbers of a column have several. The first `from`

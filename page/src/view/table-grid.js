@@ -330,13 +330,18 @@ class TableGrid {
   }
 
   /** Takes a list, and then `close`s where it was pasted. */
-  async takeList(text, order = "size", close = () => {}, isWhole = undefined) {
+  async takeList(text, order = "size", close = () => {}, said = {}) {
     this.say("Reading the list …");
-    const found = await this.readList({ text, names: this.ownNames(), order, isWhole }), { state, told, isOdd } = found;
-    const answer = (title, is) => button(title, () => this.takeList(text, order, close, is), { class: "quiet" });
+    const found = await this.readList({ text, names: this.ownNames(), order, said }), { state, told, isOdd } = found;
+    const use = (more) => () => this.takeList(text, order, close, { ...said, ...more });
+    const answer = (title, more) => [button(title, use(more), { class: "quiet" }), " "];
+    if (found.columns) {
+      return this.say(`Nothing was taken yet. Which column is ${this.kind.what.toLowerCase()}? `,
+        found.columns.map(({ c, title }) => answer(`“${title}”`, { column: c })));
+    }
     if (found.asked) {
       return this.say(`Is “${withEscapes(found.asked)}” all ${found.count} others together? Nothing was taken yet. `,
-        answer("Yes, all together", true), answer("No, a player", false));
+        answer("Yes, all together", { isWhole: true }), answer("No, a player", { isWhole: false }));
     }
     if (!state) return this.say(found.fault, " Nothing was taken.");
     close();
@@ -376,7 +381,8 @@ class TableGrid {
 
 /** Whether each line of a pasted text is a number, or nobody knows it. */
 function isNumbers(pasted) {
-  const { rows, loose } = blockOf(pasted), texts = rows.map((row) => row.filter(Boolean)).filter(([one]) => one);
+  const { rows, loose } = blockOf(pasted, { canBeNegative: true });
+  const texts = rows.map((row) => row.filter(Boolean)).filter(([one]) => one);
   const isOne = ([text, other]) => !other && (/^(?!.*\d *\+)\P{L}*\d/u.test(text) || UNKNOWN.test(text));
   return !loose && texts.every(isOne);
 }

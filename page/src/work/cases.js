@@ -71,8 +71,8 @@ export function readCells({ text }) {
 }
 
 /** A table from a pasted list. */
-export function readList({ text, names, order, mark, isWhole }) {
-  const { state, ...found } = tableOf(text, names, order, mark, isWhole);
+export function readList({ text, names, order, mark, said }) {
+  const { state, ...found } = tableOf(text, names, order, mark, said);
   return state ? { ...found, state: packed(state) } : found;
 }
 
