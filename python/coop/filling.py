@@ -20,31 +20,16 @@ class Filled(NamedTuple):
     parts: list[int]
 
 
-def cheapest(amounts: dict[int, Fraction], missing: Sequence[int]) -> list[Filled]:
-    """The cheapest split of each missing group. Each player alone has a number, so there is a split."""
-    best = best_splits(amounts, max(missing, default=0))
-    return [Filled(group, best[group][0], split(group, best)) for group in missing]
-
-
-def best_splits(amounts: dict[int, Fraction], last: int) -> dict[int, tuple[Fraction, int]]:
-    """What the cheapest split of each group costs, up to the last one, and the part of it with the lowest player."""
-    starting: dict[int, list[int]] = {}
-    for group in amounts:
-        starting.setdefault(group & -group, []).append(group)
+def cheapest(amounts: dict[int, Fraction], missing: Sequence[int], within: bool = False) -> list[Filled]:
+    """The cheapest split of each missing group. Each player alone has a number, so there is a split. With `within` a
+    group may use the works of larger ones: then it is its cheapest cover by groups that have a number."""
+    last = max(missing, default=0)
+    firsts = [1 << i for i in range(last.bit_length())]
+    # A part of a split begins with the lowest player of what is left; a part of a cover has that player somewhere.
+    holding = {bit: [part for part in amounts if (part if within else part & -part) & bit] for bit in firsts}
     best: dict[int, tuple[Fraction, int]] = {0: (Fraction(0), 0)}
     for group in range(1, last + 1):
-        parts = [part for part in starting[group & -group] if part & ~group == 0]
-        best[group] = min((amounts[part] + best[group ^ part][0], part) for part in parts)
-    return best
-
-
-def cheapest_cover(amounts: dict[int, Fraction], missing: Sequence[int]) -> list[Filled]:
-    """The same where a group may use the works of larger ones: its cheapest cover by groups that have a number."""
-    everyone = range(max(missing, default=0).bit_length())
-    holding = {1 << i: [group for group in amounts if group >> i & 1] for i in everyone}
-    best: dict[int, tuple[Fraction, int]] = {0: (Fraction(0), 0)}
-    for group in range(1, max(missing, default=0) + 1):
-        parts = holding[group & -group]
+        parts = [part for part in holding[group & -group] if within or part & ~group == 0]
         best[group] = min((amounts[part] + best[group & ~part][0], part) for part in parts)
     return [Filled(group, best[group][0], split(group, best)) for group in missing]
 

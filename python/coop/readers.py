@@ -112,7 +112,7 @@ def missing_groups(
     everyone = 2 ** len(names) - 1
     missing = [group for group in range(1, everyone + 1) if group not in amounts]
     if fill and everyone in amounts:
-        return (filling.cheapest_cover if within else filling.cheapest)(amounts, missing)
+        return filling.cheapest(amounts, missing, within)
     if missing:
         first = missing[-1] if fill else missing[0]
         others = f", and {len(missing) - 1} more groups" * (len(missing) > 1)

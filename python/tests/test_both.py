@@ -60,7 +60,7 @@ class Both(unittest.TestCase):
             given.update({group: Fraction(draw.randint(1, 90)) for group in range(1, everyone) if draw.random() < 0.3})
             given[everyone] = Fraction(draw.randint(1, 120))
             missing = [group for group in range(1, everyone) if group not in given]
-            found = (filling.cheapest if how == "split" else filling.cheapest_cover)(given, missing)
+            found = filling.cheapest(given, missing, within=how != "split")
             every = {**given, **{item.group: item.amount for item in found}}
             wanted.append([every[group] for group in range(1, everyone + 1)])
             numbers = ["", *(str(given.get(group, "")) for group in range(1, everyone + 1))]

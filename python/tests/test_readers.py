@@ -9,7 +9,7 @@ from unittest.mock import patch
 
 from coop import BadInput
 from coop.desk.costing import doubts, remarks, told
-from coop.filling import above_larger, cheapest, cheapest_cover
+from coop.filling import above_larger, cheapest
 from coop.readers import claims, groups, landings, left_out, vectors
 from coop.sheets import Layout, notes
 from coop.desk.typed import number
@@ -88,7 +88,7 @@ class Readers(unittest.TestCase):
         for _ in range(20):
             amounts = {1 << i: Fraction(draw.randint(1, 20)) for i in range(4)}
             amounts.update({s: Fraction(draw.randint(1, 30)) for s in range(1, 16) if draw.random() < 0.3})
-            for item in cheapest_cover(amounts, [s for s in range(1, 16) if s not in amounts]):
+            for item in cheapest(amounts, [s for s in range(1, 16) if s not in amounts], within=True):
                 covers = (some for size in range(1, 5) for some in combinations(amounts, size))
                 whole = [some for some in covers if item.group & ~union(some) == 0]
                 self.assertEqual(item.amount, min(sum(amounts[part] for part in some) for some in whole))
