@@ -9,6 +9,7 @@ from typing import Any, Callable, Iterable, NoReturn, Optional, Sequence, Union
 
 from ..amounts import MOST_SCALE
 from .cells import Cells, cells_named
+from .documents import read_text
 from ..errors import BadInput, CoopError
 from ..game import Game, encoded
 from ..names import apart, visible, warning
@@ -77,11 +78,10 @@ class Options(argparse.ArgumentParser):
         told = "divide all amounts by N, for documents that were multiplied"
         self.add_argument("--over", type=factor, default=1, metavar="N", help=told)
 
-    def add_digits(self) -> None:
+    def add_sheet(self) -> None:
+        """A file of numbers: how they are read and written, how the file is laid out, and its name."""
         told = "round each number to N decimals (default: exact)"
         self.add_argument("--digits", type=digits, metavar="N", help=told)
-
-    def add_layout(self) -> None:
         self.add_argument("--head", action="store_true", help="the first row has headings")
         told = "the decimal mark (default: as the numbers show)"
         self.add_argument("--decimal", choices=list(MARKS), help=told)
@@ -89,10 +89,14 @@ class Options(argparse.ArgumentParser):
         self.add_argument("--sep", choices=list(SEPARATORS), help=told)
         told = "leave out the first N columns, such as row numbers"
         self.add_argument("--skip", type=columns, default=0, metavar="N", help=told)
+        told = "multiply all numbers by one that makes them integers, and say by which"
+        self.add_argument("--scaled", action="store_true", help=told)
+        self.add_file()
 
 
-def layout_of(chosen: Any) -> Layout:
-    return Layout(chosen.sep, chosen.decimal, chosen.head, chosen.skip)
+def sheet_of(chosen: Any) -> tuple[str, Layout]:
+    """The text of a file of numbers, and how it is laid out by the words."""
+    return read_text(chosen.file)[0], Layout(chosen.sep, chosen.decimal, chosen.head, chosen.skip)
 
 
 def cells_of(options: Options, chosen: Any, is_csv: bool) -> Cells:
@@ -159,11 +163,6 @@ def warn_of(names: Sequence[str]) -> None:
     sentence = warning(names)
     if sentence:
         say(sentence)
-
-
-def add_scaled(options: Options) -> None:
-    told = "multiply all numbers by one that makes them integers, and say by which"
-    options.add_argument("--scaled", action="store_true", help=told)
 
 
 def documents_of(games: Iterable[Game], may_scale: bool) -> str:
