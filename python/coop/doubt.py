@@ -99,11 +99,10 @@ def between(low: Game, high: Game, program: calls.Chosen = None) -> Doubt:
     modest, attractive = amounts_of(low), amounts_of(high)
     if low.costs:
         modest, attractive = attractive, modest
-    names = low.names if low.named else None
     found: list[Union[CorePoint, EmptyCore]] = []
     for smaller, whole in ((attractive, modest), (modest, attractive)):
         worths = [*smaller[1:-1], whole[-1]]
-        found.append(calls.core(made(low.kind, {"players": low.n, "worths": worths}, names), program))
+        found.append(calls.core(made(low.kind, {"players": low.n, "worths": worths}, low.own_names), program))
         if isinstance(found[0], CorePoint):
             return Doubt(low, high, found[0], None)
     return Doubt(low, high, found[0], found[1])

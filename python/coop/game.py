@@ -4,7 +4,7 @@ from __future__ import annotations
 import json
 import re
 from fractions import Fraction
-from typing import Any
+from typing import Any, Optional
 
 from . import shown
 from .amounts import exact
@@ -82,6 +82,7 @@ class Game:
         self.tree: dict[str, Any] = tree
         self.kind, self.factor = kind, factor
         self.costs, self.per_head = kind in COSTS, tree.get("excess") == "per-head"
+        self.sign = -1 if self.costs else 1  # of a cost, which is a negative worth
         self.is_table = kind in TABLES
         self.n = self.count_players(tree)
         self.everyone = 2**self.n - 1
@@ -103,6 +104,11 @@ class Game:
     def _repr_html_(self) -> str:
         text: str = shown.makers["game"](self)
         return text
+
+    @property
+    def own_names(self) -> Optional[list[str]]:
+        """The names that the document has, if it has any."""
+        return self.names if self.named else None
 
     def count_players(self, tree: dict[str, Any]) -> int:
         """The number of players, with the numbers of the game unless it is a table."""
@@ -175,16 +181,16 @@ class Game:
 
     def whole(self) -> Fraction:
         """What all together are worth, or cost."""
-        return self.worth(self.everyone) * (-1 if self.costs else 1)
+        return self.sign * self.worth(self.everyone)
 
     def alone(self, i: int) -> Fraction:
         """What a player is worth, or costs, alone."""
-        return self.worth(1 << i) * (-1 if self.costs else 1)
+        return self.sign * self.worth(1 << i)
 
     def worth(self, group: int) -> Fraction:
         """What the group is worth by itself; minus its cost where the numbers are costs."""
         if self.is_table:
-            return -self.amounts[group] if self.costs else self.amounts[group]
+            return self.sign * self.amounts[group]
         players = members(group)
         if self.kind == "airport":
             return -max((self.amounts[i] for i in players), default=Fraction(0))

@@ -56,10 +56,9 @@ class Margins(Sequence[Margin]):
 
     def at(self, group: int) -> Margin:
         """The margin of a group by its mask."""
-        sign = -1 if self.game.costs else 1
         names = tuple(self.game.names[i] for i in members(group))
-        bound = None if group in self.listed else Fraction(sign * self.bounds[group], self.unit)
-        return Margin(names, Fraction(sign * self.numbers[group], self.unit), bound)
+        number, bound = (Fraction(self.game.sign * of[group], self.unit) for of in (self.numbers, self.bounds))
+        return Margin(names, number, None if group in self.listed else bound)
 
     def counted(self) -> list[Margin]:
         """The groups whose numbers count as they are."""
@@ -83,8 +82,8 @@ def margins(answer: Nucleolus, program: calls.Chosen = None) -> Margins:
         raise BadInput(f"{game.n} players: margins of groups are for at most {MOST_IN_A_TABLE}; `ranges` takes more")
     if not calls.check(answer, program):
         raise BadInput("the certificate doesn't show these shares (scripts/explain says why)")
-    sign, levels = -1 if game.costs else 1, levels_of(answer)
-    shares = [answer.shares[name] * sign for name in game.names]
+    levels = levels_of(answer)
+    shares = [answer.shares[name] * game.sign for name in game.names]
     scale, worths = worths_of(game)
     unit = lcm(scale, *(q.denominator for q in [*shares, *(level.excess for level in levels)]))
     numbers = worths if unit == scale else [unit // scale * worth for worth in worths]

@@ -40,7 +40,7 @@ class Moving:
             self.rates = rates_of(self.game, what)
         except BadInput as fault:
             raise BadInput(f"{fault}{JUMPS if game.kind == 'voting' else ''}") from None
-        game, self.sign = self.game, -1 if self.game.costs else 1
+        game, self.sign = self.game, self.game.sign
         self.is_linear = game.kind in LINEAR
         self.numbers = {place: self.number_at(place) for place in self.rates}
         self.base = Base(game, {group for group, _ in self.rates}) if game.is_table else None

@@ -63,10 +63,9 @@ def table_of_game(game: Game) -> Game:
     """The table of what each group is worth, or costs, in a game of any class, of at most 16 players."""
     if game.n > MOST_IN_A_TABLE:
         raise BadInput(f"{game.n} players: a table has at most {MOST_IN_A_TABLE}")
-    sign, names = -1 if game.costs else 1, game.names if game.named else None
-    worths = [sign * game.worth(group) for group in range(1, game.everyone + 1)]
+    worths = [game.sign * game.worth(group) for group in range(1, game.everyone + 1)]
     parts = {"players": game.n, "worths": worths}
-    return made_of(game, "cost-table" if game.costs else "table", parts, names, game.per_head)
+    return made_of(game, "cost-table" if game.costs else "table", parts, game.own_names, game.per_head)
 
 
 def overrun(game: Game, amount: Amount, per_head: bool = False) -> Game:
@@ -74,5 +73,5 @@ def overrun(game: Game, amount: Amount, per_head: bool = False) -> Game:
     class it is that of its groups, of which the rule of the class says no more what all together cost."""
     table = game if game.is_table else table_of_game(game)
     worths = [*table.amounts[1:-1], table.amounts[-1] + fraction_of(amount) * table.factor]
-    names = game.names if game.named else None
-    return made_of(table, table.kind, {"players": game.n, "worths": worths}, names, per_head or game.per_head)
+    parts = {"players": game.n, "worths": worths}
+    return made_of(table, table.kind, parts, game.own_names, per_head or game.per_head)

@@ -69,16 +69,6 @@ def judged(game: Game, rule: str, shares: Shares, is_proved: bool, program: call
 # ---- The program's
 
 
-def nucleolus(game: Game, program: calls.Chosen) -> object:
-    """The nucleolus by plain excess."""
-    return calls.nucleolus(measured(game, False), program)
-
-
-def per_head(game: Game, program: calls.Chosen) -> object:
-    """The nucleolus by excess per head."""
-    return calls.nucleolus(measured(game, True), program)
-
-
 def measured(game: Game, is_per_head: bool) -> Game:
     """The same game by another measure."""
     tree = {key: part for key, part in game.tree.items() if key != "excess"}
@@ -86,8 +76,8 @@ def measured(game: Game, is_per_head: bool) -> Game:
 
 
 PROVED: dict[str, Callable[[Game, calls.Chosen], object]] = {
-    "nucleolus": nucleolus,
-    "nucleolus per head": per_head,
+    "nucleolus": lambda game, program: calls.nucleolus(measured(game, False), program),
+    "nucleolus per head": lambda game, program: calls.nucleolus(measured(game, True), program),
     "Shapley shares": calls.shapley,
 }
 """The rules of the program, by their names."""
@@ -98,11 +88,10 @@ PROVED: dict[str, Callable[[Game, calls.Chosen], object]] = {
 
 def alone_and_added(game: Game) -> tuple[Fraction, list[Fraction], list[Fraction]]:
     """What all are worth or cost together, each alone, and what each adds to all the others: its separable cost."""
-    sign = -1 if game.costs else 1
     whole = game.whole() / game.factor
     alone = [game.alone(i) / game.factor for i in range(game.n)]
-    added = [whole - sign * game.worth(game.everyone & ~(1 << i)) / game.factor for i in range(game.n)]
-    return whole, alone, added
+    others = [game.sign * game.worth(game.everyone & ~(1 << i)) / game.factor for i in range(game.n)]
+    return whole, alone, [whole - worth for worth in others]
 
 
 def spread(game: Game, base: list[Fraction], weights: list[Fraction], whole: Fraction) -> Optional[Shares]:
@@ -132,8 +121,8 @@ def remaining(game: Game, benefits: Optional[Mapping[str, Amount]] = None) -> Op
         if set(benefits) != set(game.names):
             raise BadInput(f"give the benefit of each of {', '.join(game.names)}")
         alone = [min(cost, fraction_of(benefits[name])) for cost, name in zip(alone, game.names)]
-    left = [a - b if game.costs else b - a for a, b in zip(alone, added)]
-    return spread(game, added, [max(Fraction(0), q) for q in left], whole)
+    left = [max(Fraction(0), game.sign * (b - a)) for a, b in zip(alone, added)]
+    return spread(game, added, left, whole)
 
 
 def equal_savings(game: Game) -> Optional[Shares]:

@@ -16,8 +16,7 @@ def worths_of(game: Game) -> tuple[int, list[int]]:
     scale = lcm(*{q.denominator for q in amounts})
     unit = scale * game.factor
     if game.is_table:
-        whole = whole_of(amounts, scale)
-        return unit, [-q for q in whole] if game.costs else whole
+        return unit, [game.sign * q for q in whole_of(amounts, scale)]
     if game.kind in ("tree", "assignment", "market"):
         rows = [whole_of(row, scale) for row in game.rows]
         return unit, networks(rows) if game.kind == "tree" else matchings(rows)
