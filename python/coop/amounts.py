@@ -118,6 +118,27 @@ def named_items(values: Any) -> Optional[list[tuple[Any, Any]]]:
     return list(values.items()) if hasattr(values, "keys") and hasattr(values, "items") else None
 
 
+def named_amounts(
+    values: Any, names: Optional[Sequence[str]] = None, digits: Optional[int] = None
+) -> tuple[Optional[Sequence[str]], list[Fraction]]:
+    """The names that a mapping or a Series has, or those beside a list, if there are any; and the exact values."""
+    items = named_items(values)
+    if items is None:
+        return names, fractions_of(values, digits)
+    if names is not None:
+        labels = ", ".join(str(label) for label, _ in items[:3])
+        way = "leave `names` out, or give the numbers as a list, in the order of the names"
+        raise BadInput(f"the numbers have names already ({labels}, ..): {way}")
+    found = amounts_of(values, items, digits)
+    return [label_of(label) for label, _ in items], found
+
+
+def require_once_each(names: Sequence[str]) -> None:
+    """Refuses a name that stands twice."""
+    if len(set(names)) < len(names):
+        raise BadInput(f"the name {next(name for name in names if names.count(name) > 1)!r} is given twice")
+
+
 def require_order(values: Any) -> None:
     """Refuses a set, since nobody can say whose its items are, and equal ones are there once."""
     if isinstance(values, (set, frozenset)):

@@ -9,10 +9,10 @@ from __future__ import annotations
 
 from fractions import Fraction
 from operator import index
-from typing import Any, Callable, Iterable, Mapping, Optional, Sequence, Union
+from typing import Any, Callable, Iterable, Iterator, Mapping, Optional, Sequence, Union
 
 from .amounts import Amount, amounts_of, count_of, factor_for, fraction_of, fractions_of, is_truth, label_of
-from .amounts import named_items, require_order, written
+from .amounts import named_amounts, named_items, require_once_each, require_order, written
 from .classes import CLASSES, LIMITS
 from .errors import BadInput
 from .game import MOST_IN_A_TABLE, Game, encoded
@@ -86,7 +86,7 @@ def airport(
     per_head: bool = False,
 ) -> Game:
     """An airport by what each landing needs alone."""
-    names, amounts = named(costs, names, digits)
+    names, amounts = named_amounts(costs, names, digits)
     require_none_negative(amounts, names)
     return made("airport", {"costs": amounts}, names, per_head, digits)
 
@@ -97,13 +97,7 @@ def landings(rows: Iterable[tuple[str, Amount, int]], *, digits: Optional[int] =
     names: list[str] = []
     costs: list[Amount] = []
     done: dict[str, int] = {}
-    require_rows(rows)
-    row: Any
-    for row in rows:
-        if isinstance(row, str) or not isinstance(row, Sequence) or len(row) != 3:
-            raise BadInput(f"{str(row)[:40]!r} isn't a row of a name, what a landing needs, and how many landings")
-        name, cost, count = label_of(row[0]), row[1], row[2]
-        count = count_of(count, "landings", f"{name}: ")
+    for name, cost, count in rows_of_landings(rows):
         if len(names) + count > MOST_LANDINGS:
             way = "coop.runways works out more, by both rules (docs/examples.md)"
             raise BadInput(f"more than {MOST_LANDINGS} landings: an airport has at most {MOST_LANDINGS} players; {way}")
@@ -123,7 +117,7 @@ def bankruptcy(
     per_head: bool = False,
 ) -> Game:
     """An estate and the claims on it."""
-    names, amounts = named(claims, names, digits)
+    names, amounts = named_amounts(claims, names, digits)
     whole = fraction_of(estate, digits)
     require_none_negative([whole], ["the estate"])
     require_none_negative(amounts, names)
@@ -166,7 +160,7 @@ def voting(
     """A vote by weights and the quota that wins. Decimals, and votes that add to more than 1,000, become the least
     whole votes by which the same groups win. Where these add to more than 1,000 too, it is the table of who wins, of at
     most 16 voters; `votes.shapley` takes more."""
-    names, amounts = named(weights, names, digits)
+    names, amounts = named_amounts(weights, names, digits)
     whole = fraction_of(quota, digits)
     if all(value.denominator == 1 for value in [whole, *amounts]) and sum(amounts) <= MOST_VOTES:
         return made("voting", {"quota": whole, "weights": amounts}, names)
@@ -183,17 +177,6 @@ def voting(
 # ---- What they share
 
 
-def named(
-    amounts: Amounts, names: Optional[Sequence[str]], digits: Optional[int]
-) -> tuple[Optional[Sequence[str]], list[Fraction]]:
-    items = named_items(amounts)
-    if items is None:
-        return names, fractions_of(amounts, digits)
-    if names is not None:
-        raise BadInput("the mapping has the names already")
-    return [label_of(label) for label, _ in items], amounts_of(amounts, items, digits)
-
-
 def require_none_negative(amounts: list[Fraction], names: Optional[Sequence[str]] = None) -> None:
     least = min(amounts, default=Fraction(0))
     if least < 0:
@@ -207,6 +190,16 @@ def require_rows(rows: Any) -> None:
         raise BadInput(f"{str(rows)[:40]!r} isn't a list of rows")
     if hasattr(rows, "columns"):
         raise BadInput("a data frame isn't a list of rows: give the rows that frame.to_numpy().tolist() has")
+
+
+def rows_of_landings(rows: Iterable[Any]) -> Iterator[tuple[str, Amount, int]]:
+    """The rows of a list of landings: a name, what one needs alone, and how many there are."""
+    require_rows(rows)
+    for row in rows:
+        if isinstance(row, str) or not isinstance(row, Sequence) or len(row) != 3:
+            raise BadInput(f"{str(row)[:40]!r} isn't a row of a name, what a landing needs, and how many landings")
+        name = label_of(row[0])
+        yield name, row[1], count_of(row[2], "landings", f"{name}: ")
 
 
 def rows_of(matrix: Rows, digits: Optional[int]) -> list[list[Fraction]]:
@@ -226,8 +219,7 @@ def checked_names(names: Sequence[str]) -> list[str]:
         if not isinstance(name, str) or not 1 <= len(encoded(name, "a name")) <= MOST_NAME:
             told = f"is no name of 1 to {MOST_NAME} bytes; letters beyond ASCII have several"
             raise BadInput(f"{str(name)[:80]!r} {told}")
-    if len(set(names)) < len(names):
-        raise BadInput(f"the name {next(name for name in names if names.count(name) > 1)!r} is given twice")
+    require_once_each(names)
     return names
 
 

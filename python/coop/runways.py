@@ -11,8 +11,9 @@ from __future__ import annotations
 from fractions import Fraction
 from typing import Iterable, Optional
 
-from .amounts import Amount, amounts_of, count_of, label_of
+from .amounts import Amount, amounts_of
 from .errors import BadInput
+from .games import require_none_negative, rows_of_landings
 
 Rows = Iterable[tuple[str, Amount, int]]
 
@@ -49,12 +50,10 @@ def shapley(rows: Rows, *, digits: Optional[int] = None) -> dict[str, Fraction]:
 
 
 def read_rows(rows: Rows, digits: Optional[int]) -> Iterable[tuple[str, Fraction, int]]:
-    for name, cost, count in rows:
-        name = label_of(name)
+    for name, cost, count in rows_of_landings(rows):
         exact, = amounts_of(None, [(name, cost)], digits)
-        if exact < 0:
-            raise BadInput(f"{name}: {exact} is below 0")
-        yield name, exact, count_of(count, "landings", f"{name}: ")
+        require_none_negative([exact], [name])
+        yield name, exact, count
 
 
 def places_of(rows: Iterable[tuple[str, Fraction, int]]) -> list[tuple[Fraction, int]]:

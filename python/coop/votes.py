@@ -12,7 +12,7 @@ from fractions import Fraction
 from math import factorial, gcd, lcm
 from typing import Mapping, Optional, Sequence, Union
 
-from .amounts import Amount, amounts_of, fraction_of, fractions_of, label_of, named_items
+from .amounts import Amount, fraction_of, named_amounts, require_once_each
 from .errors import BadInput
 
 MOST_VOTERS, MOST_WORK = 1000, 1 << 31  # bits of all counts
@@ -23,9 +23,10 @@ def shapley(
 ) -> dict[str, Fraction]:
     """In what part of all orders of joining each voter decides; those of a list are numbered from 1. A coalition wins
     if its votes reach the quota; votes may have decimals."""
-    items = named_items(votes)
-    amounts = fractions_of(votes, digits) if items is None else amounts_of(votes, items, digits)
-    names = [str(k + 1) for k in range(len(amounts))] if items is None else [label_of(label) for label, _ in items]
+    names, amounts = named_amounts(votes, digits=digits)
+    if names is None:
+        names = [str(k + 1) for k in range(len(amounts))]
+    require_once_each(names)
     need, whole = whole_votes(fraction_of(quota, digits), amounts)
     n, total = len(whole), sum(whole)
     if n > MOST_VOTERS:
