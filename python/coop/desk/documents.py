@@ -67,8 +67,12 @@ def read_text(path: str, may_be_marked: bool = True) -> tuple[str, str]:
         raise BadInput(
             f"{where} begins with a byte order mark, which bin/coop and check-anew refuse: save it as UTF-8 without one"
         )
+    return decoded(data, where), where
+
+
+def decoded(data: bytes, where: str) -> str:
     try:
-        return data.decode("utf-8-sig"), where
+        return data.decode("utf-8-sig")
     except UnicodeError:
         raise BadInput(f"{where} isn't UTF-8: save it as UTF-8 (in Excel, choose CSV UTF-8)") from None
 
@@ -109,11 +113,19 @@ def read_documents(paths: Sequence[str]) -> list[Document]:
     return found
 
 
-def object_of(tree: Any, where: str) -> dict[str, Any]:
-    """The object that a document or a line is, and no refusal."""
+def one_in(text: str, where: str, may_refuse: bool = False) -> dict[str, Any]:
+    """The one document or line of a text."""
+    trees = parse(text, where)
+    if len(trees) != 1:
+        raise BadInput(f"{where} has {len(trees)} documents: give a file with one")
+    return object_of(trees[0], where, may_refuse)
+
+
+def object_of(tree: Any, where: str, may_refuse: bool = False) -> dict[str, Any]:
+    """The object that a document or a line is, and no refusal, unless it may be one."""
     if type(tree) is not dict:
         raise BadInput(f"{where} isn't a document or a line: it isn't a JSON object")
-    if "refused" in tree or "usage" in tree:
+    if not may_refuse and ("refused" in tree or "usage" in tree):
         raise BadInput(f"{where}: the program answered {json.dumps(tree)}")
     return tree
 
@@ -121,10 +133,7 @@ def object_of(tree: Any, where: str) -> dict[str, Any]:
 def game_in(path: str) -> Game:
     """The game of the one document of a file, which has no byte order mark, and which the program wouldn't refuse."""
     text, where = read_text(path, may_be_marked=False)
-    trees = parse(text, where)
-    if len(trees) != 1:
-        raise BadInput(f"{path} has {len(trees)} documents: give a file with one")
-    tree = object_of(trees[0], where)
+    tree = one_in(text, where)
     if "game" not in tree:
         raise BadInput(f"{where} has no game")
     require_read(tree["game"], where)

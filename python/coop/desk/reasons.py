@@ -2,7 +2,6 @@
 under Node, once the second checker has looked at a certificate."""
 from __future__ import annotations
 
-import json
 import re
 from typing import Any, Optional, Union
 
@@ -11,7 +10,7 @@ from ..errors import BadInput
 from ..answers import Answer
 from ..game import WRITER, Game, bytes_of
 from ..styles import EXACT, Style
-from .documents import object_of, once
+from .documents import decoded, one_in
 from .over import divided
 from .prose import filled, with_items
 
@@ -65,21 +64,13 @@ def names_in(line: bytes, document: Optional[bytes] = None) -> list[str]:
 
 
 def read(data: bytes, where: str) -> dict[str, Any]:
-    """The object of some bytes, in which each key stands once."""
-    try:
-        tree = json.loads(data.decode("utf-8-sig"), object_pairs_hook=once)
-    except BadInput as fault:
-        raise BadInput(f"{where}: {fault}") from None
-    except (ValueError, RecursionError) as fault:
-        raise BadInput(f"{where} isn't JSON: {fault}{telling.mailed(data.decode('utf-8', 'replace'))}") from None
-    if type(tree) is not dict:
-        raise BadInput(f"{where} isn't a document or a line: it isn't a JSON object")
-    return tree
+    """A line or a document, which may be a refusal."""
+    return one_in(decoded(data, where), where, may_refuse=True)
 
 
 def checked(line: bytes, where: str) -> dict[str, Any]:
     """The document of a line whose certificate holds."""
-    tree = object_of(read(line, where), where)
+    tree = one_in(decoded(line, where), where)
     if tree.get("answer") not in CHECKED or "certificate" not in tree:
         raise BadInput(f"{where} isn't a line of nucleolus or prenucleolus")
     verdict = verdict_on(line, where)
