@@ -111,7 +111,7 @@ class Names(unittest.TestCase):
         names = ["\u05d0\u05d1", "Ann"]
         inside = f"\u2068{names[0]}\u2069"
         self.assertEqual([apart(name) for name in names], [inside, "Ann"])
-        self.assertEqual(aligned([names, ["1", "10"]]), f"{inside}    1\nAnn  10\n")
+        self.assertEqual(aligned(list(zip(names, ["1", "10"]))), f"{inside}    1\nAnn  10\n")
         game = coop.airport([1, 2], names)
         line = json.dumps({"answer": "blocked", "coalition": [1], "excess": "1"})
         told = telling.parts(line, game.document().decode(), "", {})[0]["sentences"]

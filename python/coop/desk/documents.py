@@ -161,6 +161,20 @@ def without_measure(game: Game) -> dict[str, Any]:
     return {key: value for key, value in game.tree.items() if key != "excess"}
 
 
+def are_one(games: Iterable[Game]) -> bool:
+    """Whether games differ in their measure at most."""
+    trees = [without_measure(game) for game in games]
+    return all(tree == trees[0] for tree in trees)
+
+
+def games_of(points: Iterable[Point]) -> list[Game]:
+    """The games of some points, of which one has to have a game."""
+    games = [point.game for point in points if point.game]
+    if not games:
+        raise BadInput("no game: give the document too")
+    return games
+
+
 def games_in(documents: Iterable[Document], may_leave: bool = False) -> list[tuple[Document, Game]]:
     """The games of the documents. All have the same players, unless some with names may have left; they may differ in
     their numbers and their measure."""
@@ -219,15 +233,14 @@ def shares_in(document: Document) -> Iterable[tuple[str, list[Fraction]]]:
 
 def only_game(document: Document, games: list[tuple[Document, Game]]) -> Optional[Game]:
     """The game of a document without one: that of all the others."""
-    if any(without_measure(game) != without_measure(games[0][1]) for _, game in games):
+    if not are_one(game for _, game in games):
         raise BadInput(f"{document.where} has shares but no game, and the other documents have several games")
     return games[0][1] if games else None
 
 
 def labelled(points: list[tuple[Document, Point]]) -> list[Point]:
     """The points, a nucleolus per head under that name; where games differ, with the file behind the name."""
-    games = [point.game for _, point in points if point.game]
-    several = any(without_measure(game) != without_measure(games[0]) for game in games)
+    several = not are_one(point.game for _, point in points if point.game)
     short = short_names({document.where for document, _ in points})
     result = []
     for document, point in points:

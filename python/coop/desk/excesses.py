@@ -11,7 +11,7 @@ from ..errors import BadInput
 from ..game import WRITER, Game
 from ..styles import EXACT, Style
 from .cells import PLAIN, Cells, csv_text
-from .documents import Point, without_measure
+from .documents import Point, are_one, games_of
 from .prose import filled
 from .tables import aligned
 
@@ -47,13 +47,12 @@ class Comparison(NamedTuple):
     def told(self, everything: bool = False) -> str:
         """The lists side by side to the first difference, or whole, and what follows; per head under a heading."""
         found = asked(self.game, self.points, self.say, everything)
-        columns = [["place"], ["group"], [self.points[0].name], ["group"], [self.points[1].name]]
+        rows = [["place", "group", self.points[0].name, "group", self.points[1].name]]
         for place, *entries in zip(found["places"], *found["lists"]):
             cells = [cell for entry in entries for cell in (entry[1], entry[3])] if place else [""] * 4
-            for column, cell in zip(columns, [str(place or ".."), *cells]):
-                column.append(cell)
+            rows.append([str(place or ".."), *cells])
         head = f"By {self.measure()}:\n" if self.game.per_head else ""
-        return head + "\n".join([aligned(columns, {0, 1, 3}), *map(filled, found["sentences"])]) + "\n"
+        return head + "\n".join([aligned(rows, {0, 1, 3}), *map(filled, found["sentences"])]) + "\n"
 
     def measure(self) -> str:
         return "excess per head" if self.game.per_head else "plain excess"
@@ -74,10 +73,8 @@ def comparisons(points: Sequence[Point], say: Style = EXACT) -> list[Comparison]
     """The comparisons of two points of one game, one by each measure that their lines have, plain excess first."""
     if len(points) != 2:
         raise BadInput(f"{len(points)} divisions: give exactly two")
-    games = [point.game for point in points if point.game]
-    if not games:
-        raise BadInput("no game: give the document too")
-    if any(without_measure(game) != without_measure(games[0]) for game in games):
+    games = games_of(points)
+    if not are_one(games):
         raise BadInput("the two are divisions of different games")
     by_measure = {game.per_head: game for game in games}
     return [Comparison(by_measure[measure], (points[0], points[1]), say) for measure in sorted(by_measure)]

@@ -48,12 +48,11 @@ def by_groups(answer: Nucleolus, found: Margins, say: Style, most: int) -> str:
 def margins_table(names: Sequence[str], some: Sequence[Margin], game: Game, say: Style) -> str:
     """Groups with their bounds, and how far off these are."""
     head = ("costs", "at least", "less by") if game.costs else ("is worth", "at most", "more by")
-    columns = [["group", *names], *([title] for title in head)]
-    for margin in some:
+    rows = [["group", *head]]
+    for name, margin in zip(names, some):
         assert margin.bound is not None
-        for column, cell in zip(columns[1:], [say(margin.number), say(margin.bound), part_of(margin)]):
-            column.append(cell)
-    return aligned(columns)
+        rows.append([name, say(margin.number), say(margin.bound), part_of(margin)])
+    return aligned(rows)
 
 
 def part_of(margin: Margin) -> str:
@@ -82,12 +81,9 @@ def by_numbers(answer: Nucleolus, found: Sequence[Range], say: Style) -> str:
         f"{count}: where one moves alone, within the bounds below, each {does} so much more for each 1 that it grows "
         "by. At a bend what is below it differs from what is above it, and both are told."
     )
-    columns: list[list[str]] = [["number"], ["is"], ["from"], ["to"], *([safe(name)] for name in game.names)]
-    for item in found:
-        for row in rows_of(item, game, say):
-            for column, cell in zip(columns, row):
-                column.append(cell)
-    return f"{text}\n\n{aligned(columns)}"
+    head = ["number", "is", "from", "to", *map(safe, game.names)]
+    rows = [row for item in found for row in rows_of(item, game, say)]
+    return f"{text}\n\n{aligned([head, *rows])}"
 
 
 def rows_of(item: Range, game: Game, say: Style) -> list[list[str]]:

@@ -1,21 +1,13 @@
 """Shares as a picture: the triangle of three players, or bars. The page's modules draw it, under Node."""
 from __future__ import annotations
 
-from typing import Optional, Sequence
+from typing import Sequence
 
 from .. import telling
 from ..errors import BadInput
 from ..game import WRITER, Game
 from ..styles import EXACT, Style
-from .documents import Document, Point, games_in, without_measure
-
-
-def game_of(points: Sequence[Point]) -> Game:
-    """The game whose marks a picture has: the first one of the points."""
-    game: Optional[Game] = next((point.game for point in points if point.game), None)
-    if game is None:
-        raise BadInput("no game: give the document too")
-    return game
+from .documents import Document, Point, are_one, games_in, games_of
 
 
 def core_alone(documents: Sequence[Document], title: str = "", style: Style = EXACT) -> str:
@@ -23,7 +15,7 @@ def core_alone(documents: Sequence[Document], title: str = "", style: Style = EX
     games = [game for _, game in games_in(documents)]
     if not games or games[0].n != 3:
         raise BadInput("no shares: give a line or a document that has them; for three players a game is enough")
-    if any(without_measure(game) != without_measure(games[0]) for game in games):
+    if not are_one(games):
         raise BadInput("no shares, and several games: a picture of only the core needs one game")
     return drawn(games[0], [], title, style)
 
@@ -38,9 +30,8 @@ def picture(
 ) -> str:
     """The picture of some points, as an SVG. Of several games the marks are those of the first, and there are bars.
     Bars have marks at what each adds to all others, or none where these numbers aren't known."""
-    game = game_of(points)
-    one = all(point.game is None or without_measure(point.game) == without_measure(game) for point in points)
-    return drawn(game, points, title, style, wants_bars or not one, with_added)
+    games = games_of(points)
+    return drawn(games[0], points, title, style, wants_bars or not are_one(games), with_added)
 
 
 def drawn(

@@ -25,7 +25,7 @@ def table(game: Game, rows: Sequence[Row], say: Style) -> str:
     """Some rules side by side."""
     names = ["", *(line.name for line in lines_of(game.names))]
     columns = [[row.rule, *column([row.shares[name] for name in game.names], say)] for row in rows]
-    return aligned([names, *columns])
+    return aligned(list(zip(names, *columns)))
 
 
 def verdicts(game: Game, rows: Sequence[Row], say: Style) -> list[str]:

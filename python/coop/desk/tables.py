@@ -99,10 +99,10 @@ def note_on(points: Sequence[Point], style: Style, owners: Optional[Sequence[str
     return MOVED if owners is None else MOVED_BY
 
 
-def aligned(columns: Sequence[Sequence[str]], left: Collection[int] = (0,)) -> str:
-    """Columns of texts side by side, some to the left and the others to the right."""
-    lines, widths = [], [longest(column) for column in columns]
-    for row in zip(*columns):
+def aligned(rows: Sequence[Sequence[str]], left: Collection[int] = (0,)) -> str:
+    """Rows of texts below each other, some columns to the left and the others to the right."""
+    lines, widths = [], [longest(column) for column in zip(*rows)]
+    for row in rows:
         cells = []
         for k, cell in enumerate(row):
             blanks = " " * (widths[k] - width(cell))
@@ -118,7 +118,8 @@ def shares_table(
     """A table of the shares of some points; where names have owners, with the sum of each that has several."""
     lines = lines_of(names, owners)
     columns = [column_of(point, style, lines, owners) for point in points]
-    return aligned([["", *(line.name for line in lines)], *columns]) + note_on(points, style, owners)
+    rows = list(zip(["", *(line.name for line in lines)], *columns))
+    return aligned(rows) + note_on(points, style, owners)
 
 
 def shares_csv(
