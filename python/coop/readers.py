@@ -195,9 +195,10 @@ def require_told(head: Sequence[str], told: Optional[list[int]], width: int) -> 
 def left_out(text: str, layout: Layout) -> list[str]:
     """What `vectors` leaves out of a text unasked."""
     _, found, head = rows_of_numbers(text, layout)
+    column = found.skip > layout.skip
     if groups_in(head):
-        return ["left out the first column, which has names"] * (found.skip > layout.skip)
-    return [LEFT_OUT] * (found != layout)
+        return ["left out the first column, which has names"] * column
+    return [LEFT_OUT if column else "left out the first row, which has headings"] * (found != layout)
 
 
 # ---- Claims and landings

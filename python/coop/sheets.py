@@ -25,6 +25,7 @@ OTHER = {".": ",", ",": "."}
 NUMBER = re.compile(r"-?([0-9]+)((?:[.,][0-9]+)+)(?:[eE][-+]?[0-9]+)?")
 PARTED = re.compile(r"-?[0-9]{1,3}(?:([ \u00a0\u2009\u202f'\u2019])[0-9]{3})(?:\1[0-9]{3})*(?:[.,][0-9]+)?")
 WHOLE = re.compile(r"-?[0-9]+(?:/[0-9]+)?")
+FILE = re.compile(r"[^,;\t\n]*\.[A-Za-z]\w*")
 HEAD = "; if this line has headings, use Layout(has_head=True)"
 UNIT = "; leave out units and currency signs"
 LEFT_OUT = "left out the first row and the first column, which have names"
@@ -76,12 +77,11 @@ AS_SEEN = Layout()
 
 
 def cells_of(text: str, separator: str) -> Iterator[Row]:
-    """The rows of a text that aren't empty. A break within quotes stays in its cell."""
+    """The rows of a text, also empty ones. A break within quotes stays in its cell."""
     reader = csv.reader(io.StringIO(text, newline=""), delimiter=separator, skipinitialspace=separator == " ")
     try:
         for cells in reader:
-            if any(cell.strip() for cell in cells):
-                yield Row(reader.line_num, [cell.strip() for cell in cells])
+            yield Row(reader.line_num, [cell.strip() for cell in cells])
     except csv.Error as fault:
         raise BadInput(f"line {reader.line_num}: {fault}") from None
 
@@ -94,9 +94,11 @@ def told_sign(text: str) -> tuple[str, Optional[str]]:
 
 def signs_in(text: str, layout: Layout, may_be_blank: bool) -> tuple[str, list[str]]:
     """The text, and the signs that may stand between its cells, the likeliest first."""
-    if isinstance(text, os.PathLike) or "\n" not in text and os.path.isfile(text):
+    if isinstance(text, os.PathLike) or isinstance(text, str) and (FILE.fullmatch(text) or os.path.isfile(text)):
         raise BadInput(f"{str(text)!r} is the name of a file: give its text, such as open({str(text)!r}).read()")
-    text, told = told_sign(text)
+    if not isinstance(text, str):
+        raise BadInput(f"a {type(text).__name__} isn't the text of a file: give open(..).read(), or decode bytes")
+    text, told = told_sign(text.removeprefix("\ufeff"))
     if layout.separator or told:
         return text, [SEPARATORS[layout.separator] if layout.separator else told or ","]
     bare = re.sub(r'"[^"\n]*"', "", text)
@@ -112,7 +114,7 @@ def sheet_of(text: str, widths: Collection[int], layout: Layout) -> Sheet:
 
 
 def parted(text: str, sign: str, widths: Collection[int], layout: Layout) -> Sheet:
-    rows = list(cells_of(text, sign))
+    rows = [row for row in cells_of(text, sign) if any(row.cells)]
     counted = rows[1:] if layout.has_head else rows
     most = max((k + 1 for row in counted for k, cell in enumerate(row.cells) if cell), default=0)
     rows = [row._replace(cells=row.cells[:most]) for row in rows]
@@ -150,18 +152,29 @@ def are_counted(cells: Sequence[str]) -> bool:
 
 
 def without_names(rows: list[Row], layout: Layout) -> tuple[list[Row], Layout, list[str]]:
-    """The rows without a head, and without a first column of names where the head has no word above it, as R and
-    pandas save them, or where the other headings name the groups; the layout that was found, and the headings."""
+    """The rows without a head, which is a first row without a number, and without a first column of names where the
+    head has no word above it, as R and pandas save them, or where the other headings name the groups; the layout that
+    was found, and the headings."""
     first, second = ([row.cells for row in rows] + [[]] * 2)[:2]
     if second and len(first) + 1 == len(second):
         first = ["", *first]
-    skips = [layout.skip, layout.skip or 1] if len(first) > 2 and not any(map(is_number, first)) else []
-    skips = [layout.skip or 1] if first[:1] == [""] else [skip for skip in skips if groups_in(first[skip:])]
-    if second and skips:
-        layout = replace(layout, has_head=True, skip=skips[0])
+    has_words = len(first) > 1 and not any(map(is_number, first))
+    skips = [skip for skip in (layout.skip, layout.skip or 1) if has_words and first[2:] and groups_in(first[skip:])]
+    skips = [layout.skip or 1] if first[:1] == [""] else skips
+    if second and (skips or has_words):
+        if skips > [layout.skip]:
+            require_no_group(first[0], first[1:])
+        layout = replace(layout, has_head=True, skip=[*skips, layout.skip][0])
     kept = rows[1:] if layout.has_head else rows
     below = [Row(row.line, row.cells[layout.skip :]) for row in kept]
     return below, layout, first[layout.skip :] if layout.has_head else []
+
+
+def require_no_group(heading: str, others: Sequence[str]) -> None:
+    """Refuses to leave out a column whose heading names a group of the other headings."""
+    names, _ = groups_in(others) or ([], [])
+    if heading and any({part.strip() for part in parts} <= {*names} for parts in (heading.split("+"), heading)):
+        raise BadInput(f"the group {heading} has two columns: name each group once, and a column of names otherwise")
 
 
 def require_width(sheet: Sheet, widths: Collection[int], example: str) -> None:
@@ -202,9 +215,18 @@ def fixed_rows(text: str, columns: int, example: str, layout: Layout, beside: Se
 def rows_of_numbers(text: str, layout: Layout) -> tuple[list[Row], Layout, list[str]]:
     """The rows of a text that has only numbers, how it is laid out, and its headings: names in front are left out."""
     text, signs = signs_in(text, layout, True)
-    rows, found, head = without_names(list(cells_of(text, signs[0])), layout)
+    every = list(cells_of(text, signs[0]))
+    kept = [row for row in every if any(row.cells)]
+    rows, found, head = without_names(kept, layout)
     if not rows:
         raise BadInput("the file has no lines")
+    for row in every:
+        if not any(row.cells) and (len(row.cells) > 1 or kept[0].line < row.line < kept[-1].line):
+            raise BadInput(f"line {row.line} has no numbers: leave it out of the file, or no later row keeps its place")
+    for row in rows:
+        if len(row.cells) != len(rows[0].cells):
+            told = f"line {row.line} has {len(row.cells)} numbers, and line {rows[0].line} has {len(rows[0].cells)}"
+            raise BadInput(f"{told}: write games of another size into a file of their own")
     cells = [(f"line {row.line}", cell) for row in rows for cell in row.cells]
     return marked(rows, cells, signs[0], layout), found, head
 

@@ -89,7 +89,8 @@ class Scripts(unittest.TestCase):
         headed = script("from-vector", text="P,A,B,A+B\n1,1,2,4\n")
         self.assertEqual(json.loads(headed[1])["game"]["names"], ["A", "B"])
         self.assertIn("left out the first column, which has names", headed[2])
-        self.refused(script("from-vector", "--order", "size", text="a,b\n1,2\n"), "has headings, use --head")
+        self.refused(script("from-vector", "--order", "size", text="a,b,3\n1,2,3\n"), "has headings, use --head")
+        self.refused(script("from-vector", "--order", "size", text="a,b\n1,2\n"), "don't name the groups")
         self.refused(script("from-vector", "--order", "mask", text="1,2,0.00001\n"), "--digits 4", "--scaled")
         self.refused(
             script("from-vector", "--order", "mask", "--scaled", text="1,2,0.00001\n1,2,3\n"), "different factors"

@@ -1,6 +1,7 @@
 """Games from CSV."""
 import unittest
 from fractions import Fraction
+from io import StringIO
 from itertools import combinations
 from pathlib import Path
 from random import Random
@@ -152,6 +153,9 @@ class Readers(unittest.TestCase):
         with_head = vectors('"V1","V2","V3"\n1,2,4\n', "size", layout=Layout(has_head=True))
         self.assertEqual([game.tree["worths"] for game in with_head], [[1, 2, 4]])
         self.assertEqual(next(vectors("0.25,1,1", "mask", digits=1, kind="cost-table")).tree["worths"], ["1/5", 1, 1])
+        for text in ("V1,V2,V3\n1,2,4\n", "\ufeffA,B,A+B\n1,2,4\n", "\ufeff1,2,4\n\n"):
+            self.assertEqual([game.tree["worths"] for game in vectors(text, "size")], [[1, 2, 4]], text)
+        self.assertEqual(left_out("V1,V2,V3\n1,2,4\n", Layout()), ["left out the first row, which has headings"])
 
     def test_headings_that_name_the_groups(self) -> None:
         """As a pivot has them by the alphabet: they give names and order, or are refused, and are never left out."""
@@ -203,8 +207,21 @@ class Readers(unittest.TestCase):
             ("less than the estate", lambda: claims("Adler,1\n", 2)),
             ("isn't a number of landings", lambda: landings("Aer,20,2.5\n")),
             ("64 landings", lambda: landings("Aer,20,65\n")),
-            ("line 2: 5 numbers: a vector has", lambda: list(vectors("1,2,3\n1,2,3,4,5\n", "mask"))),
-            ("line 1: .* isn't a number", lambda: list(vectors("v1,v2,v3\n1,2,3\n", "mask"))),
+            ("line 1: 5 numbers: a vector has", lambda: list(vectors("1,2,3,4,5\n", "mask"))),
+            ("line 1: .* isn't a number.*use Layout.has_head", lambda: list(vectors("v1,v2,3\n1,2,3\n", "mask"))),
+            ("line 2 has 2 numbers, and line 1 has 3: write", lambda: list(vectors("0,0,3\n0,0\n", "size"))),
+            ("line 3 has 1 numbers, and line 2 has 3: write", lambda: list(vectors("A,B,A+B\n0,0,3\n0\n"))),
+            ("line 2 has no numbers: leave it out", lambda: list(vectors("0,0,3\n,,\n1,1,4\n", "size"))),
+            ("line 3 has no numbers: leave it out", lambda: list(vectors(",A,B,A+B\n0,0,0,3\n,,,\n"))),
+            ("line 2 has no numbers: leave it out", lambda: list(vectors("0,0,3\n\n1,1,4\n", "size"))),
+            ("the group A has two columns: name each", lambda: list(vectors("A,B,A,A+B\n3,0,1,4\n"))),
+            ("the group A.B has two columns: name", lambda: list(vectors("A+B,A,B,A+B\n3,0,1,4\n"))),
+            ("the group B.A has two columns: name", lambda: list(vectors("B+A,A,B,A+B\n3,0,1,4\n"))),
+            ("the headings don't name the groups .A, B, A.B, year", lambda: list(vectors("A,B,A+B,year\n0,0,3,9\n"))),
+            ("the headings don't name the groups", lambda: list(vectors("A,B,C,A+B,A+B+C\n0,0,0,3,9\n", "size"))),
+            ("a StringIO isn't the text of a file", lambda: list(vectors(StringIO("1,2,4")))),  # type: ignore[arg-type]
+            ("a bytes isn't the text of a file: give", lambda: groups(b"a,1\n")),  # type: ignore[arg-type]
+            ("'games.csv' is the name of a file", lambda: list(vectors("games.csv", "mask"))),
             ("no line", lambda: list(vectors("\n", "mask"))),
             (f"is the name of a file: give its text, such as open.*{name}", lambda: list(vectors(__file__, "mask"))),
             (f"is the name of a file: give its text, such as open.*{name}", lambda: groups(__file__)),
