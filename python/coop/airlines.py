@@ -13,8 +13,8 @@ from fractions import Fraction
 from typing import Collection, NamedTuple, Optional, Sequence
 
 from .errors import BadInput
-from .sheets import AS_SEEN, LEFT_OUT, Layout, Row, Sheet, amount_of, are_counted, hint_at, marked
-from .sheets import note_on_points, require_width, sheet_of, unparted
+from .sheets import AS_SEEN, LEFT_OUT, Layout, Row, Sheet, amount_of, are_counted, cells_at, hint_at, marked
+from .sheets import note_on_points, once_each, require_width, sheet_of, unparted
 
 AIRLINE, TYPE, COUNT, NEED = "airline", "type", "landings", "need"
 THREE, FOUR = (AIRLINE, NEED, COUNT), (AIRLINE, TYPE, COUNT, NEED)
@@ -126,8 +126,8 @@ def require_plain_order(found: Found, free: Sequence[int]) -> None:
 
 def marked_by_need(found: Found, layout: Layout) -> list[Row]:
     """The rows, with the mark in front of decimals that what is needed shows."""
-    sheet, place = found.sheet, found.places[NEED]
-    return marked(sheet.rows, [(f"line {row.line}", row.cells[place]) for row in sheet.rows], sheet.sign, layout)
+    rows = found.sheet.rows
+    return marked(rows, cells_at(rows, found.places[NEED]), found.sheet.sign, layout)
 
 
 def landings_of(row: Row, found: Found, digits: Optional[int], hint: str) -> Landings:
@@ -144,16 +144,14 @@ def landings_of(row: Row, found: Found, digits: Optional[int], hint: str) -> Lan
 
 def require_told_apart(read: Sequence[Landings], has_types: bool) -> None:
     """Refuses rows whose airline and type their name doesn't tell; without types a name that stands twice."""
-    lines: dict[str, int] = {}
     for row in read:
         if "," in row.type:
             raise BadInput(f"line {row.line}: the type {row.type} has a comma, which separates airline and type")
         if has_types and not row.type and ", " in row.airline:
             raise BadInput(f"line {row.line}: {row.airline} has a comma but no type, which a comma separates")
-        if not has_types and row.airline in lines:
-            advice = "if it has several kinds of landing, give their types: Aer,A320,3,20.50"
-            raise BadInput(f"line {row.line}: {row.airline} is already in line {lines[row.airline]}; {advice}")
-        lines[row.airline] = row.line
+    if not has_types:
+        advice = "; if it has several kinds of landing, give their types: Aer,A320,3,20.50"
+        once_each(((row.line, row.airline, row.airline) for row in read), advice)
 
 
 # ---- Warnings

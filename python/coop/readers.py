@@ -16,7 +16,7 @@ from .game import MOST_IN_A_TABLE, Game
 from .masks import mask_of, members
 from .names import looks, shown
 from .sheets import AS_SEEN, LEFT_OUT, Cell, Layout, Row, amount_of, are_counted, by_mark, fixed_rows, hint_at
-from .sheets import rows_of_numbers
+from .sheets import once_each, rows_of_numbers
 from .vectors import groups_in, in_mask_order
 
 MOST_CLAIMS = CLASSES["bankruptcy"]["players"][1]
@@ -51,14 +51,15 @@ def groups(
     found = fixed_rows(text, 2, "Sales+Ops,12.50", layout)
     rows = [(row, members_of(row), amount_of(row, 1, digits, hint_at(row, found, layout))) for row in found]
     names = names_of([(row, group) for row, group, _ in rows])
-    amounts = once_each(rows, names)
+    masks = [mask_of(map(names.index, group)) for _, group, _ in rows]
+    lines = once_each((row.line, mask, "+".join(group)) for mask, (row, group, _) in zip(masks, rows))
+    amounts = dict(zip(masks, (amount for _, _, amount in rows)))
     try:
         filled = missing_groups(amounts, names, fill or within, within)
     except BadInput as fault:
         raise BadInput(f"{fault}{no_player(rows, names)}") from None
     everything = {**amounts, **{item.group: item.amount for item in filled}}
     sparse = [([names[i] for i in members(group)], everything[group]) for group in everything]
-    lines = {mask_of(map(names.index, group)): row.line for row, group, _ in rows}
     game = games.made(kind, {"players": len(names), "sparse": sparse}, names, digits=digits)
     return Costed(game, filled, amounts, lines)
 
@@ -91,18 +92,6 @@ def look_alike(member: str, names: Sequence[str]) -> str:
         if looks(name) == looks(member):
             return f", but one has {shown(name)}, which looks like it ({shown(member)}): is that the same player?"
     return ""
-
-
-def once_each(rows: Sequence[tuple[Row, list[str], Fraction]], names: Sequence[str]) -> dict[int, Fraction]:
-    """The numbers by masks, of groups that stand once each."""
-    lines: dict[int, int] = {}
-    amounts = {}
-    for row, group, amount in rows:
-        mask = mask_of(names.index(member) for member in group)
-        if mask in lines:
-            raise BadInput(f"line {row.line}: {'+'.join(group)} is already in line {lines[mask]}")
-        lines[mask], amounts[mask] = row.line, amount
-    return amounts
 
 
 def missing_groups(
@@ -232,12 +221,7 @@ def landings(text: str, *, digits: Optional[int] = None, layout: Layout = AS_SEE
 
 def named_once(rows: Sequence[Row]) -> list[str]:
     """The names of the first column, each of which stands once."""
-    lines: dict[str, int] = {}
     for row in rows:
-        name = row.cells[0]
-        if not name:
+        if not row.cells[0]:
             raise BadInput(f"line {row.line} has no name")
-        if name in lines:
-            raise BadInput(f"line {row.line}: {name} is already in line {lines[name]}")
-        lines[name] = row.line
-    return list(lines)
+    return list(once_each((row.line, row.cells[0], row.cells[0]) for row in rows))

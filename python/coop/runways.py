@@ -9,6 +9,7 @@ many landings; here a name may have several rows. Each name pays the sum for all
 from __future__ import annotations
 
 from fractions import Fraction
+from itertools import accumulate
 from typing import Iterable, Optional
 
 from .amounts import Amount, amounts_of
@@ -16,13 +17,12 @@ from .errors import BadInput
 from .games import require_none_negative, rows_of_landings
 
 Rows = Iterable[tuple[str, Amount, int]]
+Read = tuple[str, Fraction, int]
 
 
 def nucleolus(rows: Rows, *, digits: Optional[int] = None) -> dict[str, Fraction]:
     """Littlechild's payments. Of landings that cost the same only the last place is looked at."""
-    read = list(read_rows(rows, digits))
-    places = places_of(read)
-    everyone = places[-1][1]
+    read, places, everyone = read_rows(rows, digits)
     payments: dict[Fraction, Fraction] = {}
     done, placed, paid = 0, 0, Fraction(0)
     while done < len(places):
@@ -37,9 +37,7 @@ def nucleolus(rows: Rows, *, digits: Optional[int] = None) -> dict[str, Fraction
 
 def shapley(rows: Rows, *, digits: Optional[int] = None) -> dict[str, Fraction]:
     """Shapley shares: what each cost is above the one before is borne alike by all landings that need so much."""
-    read = list(read_rows(rows, digits))
-    places = places_of(read)
-    everyone = places[-1][1]
+    read, places, everyone = read_rows(rows, digits)
     payments: dict[Fraction, Fraction] = {}
     before, placed, part = Fraction(0), 0, Fraction(0)
     for cost, place in places:
@@ -49,25 +47,23 @@ def shapley(rows: Rows, *, digits: Optional[int] = None) -> dict[str, Fraction]:
     return by_name(read, payments)
 
 
-def read_rows(rows: Rows, digits: Optional[int]) -> Iterable[tuple[str, Fraction, int]]:
+def read_rows(rows: Rows, digits: Optional[int]) -> tuple[list[Read], list[tuple[Fraction, int]], int]:
+    """The rows; each cost, from the least, with the last place of the landings that have it; and how many there are."""
+    read: list[Read] = []
+    counts: dict[Fraction, int] = {}
     for name, cost, count in rows_of_landings(rows):
         exact, = amounts_of(None, [(name, cost)], digits)
         require_none_negative([exact], [name])
-        yield name, exact, count
-
-
-def places_of(rows: Iterable[tuple[str, Fraction, int]]) -> list[tuple[Fraction, int]]:
-    """Each cost, from the least, with the last place of the landings that have it."""
-    counts: dict[Fraction, int] = {}
-    for _, cost, count in rows:
-        counts[cost] = counts.get(cost, 0) + count
+        read.append((name, exact, count))
+        counts[exact] = counts.get(exact, 0) + count
     if not counts:
         raise BadInput("the list has no landing")
     costs = sorted(counts)
-    return [(cost, sum(counts[other] for other in costs[: k + 1])) for k, cost in enumerate(costs)]
+    places = list(accumulate(counts[cost] for cost in costs))
+    return read, list(zip(costs, places)), places[-1]
 
 
-def by_name(rows: Iterable[tuple[str, Fraction, int]], payments: dict[Fraction, Fraction]) -> dict[str, Fraction]:
+def by_name(rows: Iterable[Read], payments: dict[Fraction, Fraction]) -> dict[str, Fraction]:
     """What each name pays for all its landings."""
     sums: dict[str, Fraction] = {}
     for name, cost, count in rows:

@@ -13,7 +13,7 @@ import re
 import unicodedata
 from dataclasses import dataclass, replace
 from fractions import Fraction
-from typing import Collection, Iterator, NamedTuple, Optional, Sequence
+from typing import Collection, Hashable, Iterable, Iterator, NamedTuple, Optional, Sequence, TypeVar
 
 from .amounts import fraction_of
 from .errors import BadInput
@@ -31,6 +31,7 @@ UNIT = "; leave out units and currency signs"
 LEFT_OUT = "left out the first row and the first column, which have names"
 
 
+Key = TypeVar("Key", bound=Hashable)
 Cell = tuple[str, str]
 """Where a number stands, as "line 3" or "the estate", and its text."""
 
@@ -209,7 +210,7 @@ def fixed_rows(text: str, columns: int, example: str, layout: Layout, beside: Se
     beside the file, as an estate, tells the mark in front of decimals too."""
     sheet = sheet_of(text, (columns,), layout)
     require_width(sheet, (columns,), example)
-    return marked(sheet.rows, [(f"line {row.line}", row.cells[1]) for row in sheet.rows], sheet.sign, layout, beside)
+    return marked(sheet.rows, cells_at(sheet.rows, 1), sheet.sign, layout, beside)
 
 
 def rows_of_numbers(text: str, layout: Layout) -> tuple[list[Row], Layout, list[str]]:
@@ -231,7 +232,21 @@ def rows_of_numbers(text: str, layout: Layout) -> tuple[list[Row], Layout, list[
     return marked(rows, cells, signs[0], layout), found, head
 
 
+def once_each(items: Iterable[tuple[int, Key, str]], advice: str = "") -> dict[Key, int]:
+    """The line of each key. One that stands twice is refused, by its words."""
+    lines: dict[Key, int] = {}
+    for line, key, words in items:
+        if key in lines:
+            raise BadInput(f"line {line}: {words} is already in line {lines[key]}{advice}")
+        lines[key] = line
+    return lines
+
+
 # ---- Decimals
+
+
+def cells_at(rows: Iterable[Row], place: int) -> list[Cell]:
+    return [(f"line {row.line}", row.cells[place]) for row in rows]
 
 
 def marked(
