@@ -50,7 +50,6 @@ def drawn(draw: Random, n: int, worth: Callable[[int], int], least: int, most: i
 
 
 def circle(draw: Random, n: int) -> list[int]:
-    """Worths of groups that are next to each other."""
     arcs = {
         sum(1 << (first + k) % n for k in range(size)): draw.randint(1, 20 * size)
         for first in range(n)
@@ -60,13 +59,11 @@ def circle(draw: Random, n: int) -> list[int]:
 
 
 def deficit(draw: Random, n: int) -> list[int]:
-    """Sums, less a little."""
     totals = sums([draw.randint(50, 100) for _ in range(n)])
     return [*(total - draw.randint(0, 10) for total in totals[1:-1]), totals[-1]]
 
 
 def estate(draw: Random, n: int) -> list[int]:
-    """What the claims of the others leave."""
     totals = sums([draw.randint(1, 1000) for _ in range(n)])
     left = totals[-1] * 6 // 10 - totals[-1]
     return [max(0, left + total) for total in totals[1:]]

@@ -56,7 +56,6 @@ class Moving:
         return game.rows[i][j] / game.factor
 
     def moved(self, t: Fraction) -> dict[Place, Fraction]:
-        """The numbers that move, after a change."""
         return {place: self.numbers[place] + t * rate for place, rate in self.rates.items()}
 
     # ---- Documents

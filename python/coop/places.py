@@ -107,7 +107,6 @@ def places_of(game: Game, what: Any) -> list[Place]:
 
 
 def group_of(game: Game, what: Any) -> int:
-    """A group of a table."""
     some = members_of(what)
     group = mask_of(player_of(member, game.names) for member in some)
     if not group:

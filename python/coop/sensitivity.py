@@ -148,7 +148,6 @@ class Run:
             todo += [(a, b) for a, b in ((low, piece.low), (piece.high, high)) if a < b]
 
     def piece_in(self, low: Fraction, high: Fraction) -> Piece:
-        """Some piece within a range."""
         for t in inside(low, high):
             frame = self.frame_at(t)
             piece = frame and self.piece(frame, low, high)

@@ -112,7 +112,6 @@ def examples(path: Optional[str] = None) -> Iterator[Example]:
 
 
 def read(line: str, number: int) -> Example:
-    """Returns the example of a line of the file."""
     try:
         row = json.loads(line)
         good = KEYS <= row.keys() <= KEYS | MORE and all(row[key] in words for key, words in WORDS.items())

@@ -9,7 +9,7 @@ from typing import Callable, Iterable
 from unittest.mock import patch
 
 from coop import BadInput
-from coop.desk.costing import doubts, remarks, told
+from coop.desk.costing import doubts, filled_text, remarks
 from coop.filling import above_larger, cheapest
 from coop.readers import claims, groups, landings, left_out, vectors
 from coop.sheets import Layout, notes
@@ -62,7 +62,8 @@ class Readers(unittest.TestCase):
             [(item.group, item.amount, item.parts) for item in costed.filled], [(5, 8, [1, 4]), (6, 9, [2, 4])]
         )
         self.assertEqual([costed.game.worth(group) for group in (5, 6, 7)], [-8, -9, -9])
-        self.assertEqual(told(costed.game, costed.filled, EXACT), ["a+c: 8 = a | c", "b+c: 9 = b | c"])
+        told = [filled_text(costed.game.names, item, EXACT) for item in costed.filled]
+        self.assertEqual(told, ["a+c: 8 = a | c", "b+c: 9 = b | c"])
         with self.assertRaisesRegex(BadInput, "a\\+c has no line, and 1 more groups"):
             groups(COSTS)
         with self.assertRaisesRegex(BadInput, "a\\+b has no line: the cost of all together"):

@@ -49,6 +49,5 @@ def csv_text(rows: Sequence[Sequence[str]], cells: Cells = PLAIN) -> str:
 
 
 def plain(cell: str) -> str:
-    """A cell that no spreadsheet runs."""
     is_number = cell == "-" or re.fullmatch(r"-?[0-9]+([.,/][0-9]+)?", cell)
     return "'" + cell if cell[:1] in ("=", "+", "-", "@") and not is_number else cell

@@ -10,7 +10,6 @@ from typing import Iterator, Sequence
 
 from .. import filling, telling
 from ..errors import Fault, NotFound
-from ..game import Game
 from ..masks import members
 from ..readers import Costed
 from ..styles import Style
@@ -36,24 +35,25 @@ def remarks(costed: Costed, within: bool, say: Style, wants_all: bool = False) -
     yield from first_of(doubts(costed, say), wants_all)
     if not costed.filled:
         return
-    game, factor = costed.game, costed.game.factor
+    names = costed.game.names
     ways = f"with the cost of their cheapest split. {WARNING}"
     if within:
         ways = f"with the cost of their cheapest split, or of larger groups' works. {WARNING_WITHIN}"
     yield f"{len(costed.filled)} groups were filled in {ways}"
     yield f"{ON_CORES}. What was filled in:"
-    yield from told(game, costed.filled, say)
+    yield from (filled_text(names, item, say) for item in costed.filled)
     if within:
         apart = filling.cheapest(costed.given, [item.group for item in costed.filled])
-        lines = told_within(game, costed.filled, apart, say)
+        pairs = [(item, other) for item, other in zip(costed.filled, apart) if item.amount < other.amount]
+        lines = [f"{filled_text(names, item, say)}, and not {split_text(names, other, say)}" for item, other in pairs]
         if lines:
             yield f"{len(lines)} of these cost less with the works of a larger group than apart:"
             yield from first_of(lines, wants_all)
-    above = filling.above_larger([amount / factor for amount in game.amounts])
+    above = filling.above_larger([amount / costed.game.factor for amount in costed.game.amounts])
     if above:
         last = "" if within else " (then use --fill-within)"
         yield f"{len(above)} groups cost more than a larger group that contains them: may they use its works?{last}"
-        yield from first_of(told_above(game, above, say), wants_all)
+        yield from first_of([above_text(names, item, say) for item in above], wants_all)
 
 
 def first_of(lines: Sequence[str], wants_all: bool) -> Iterator[str]:
@@ -82,34 +82,21 @@ def doubts(costed: Costed, say: Style) -> list[str]:
 # ---- What was filled in
 
 
-def told(game: Game, filled: Sequence[filling.Filled], say: Style) -> list[str]:
-    return [f"{group_text(game.names, item.group)}: {amount_text(game.names, item, say)}" for item in filled]
+def filled_text(names: Sequence[str], item: filling.Filled, say: Style) -> str:
+    return f"{group_text(names, item.group)}: {split_text(names, item, say)}"
 
 
-def told_within(game: Game, filled: Sequence[filling.Filled], apart: Sequence[filling.Filled], say: Style) -> list[str]:
-    """A line for each group that costs less by a larger one's works than apart: by these, and by its split."""
-    name = game.names
-    return [
-        f"{group_text(name, item.group)}: {amount_text(name, item, say)}, and not {amount_text(name, other, say)}"
-        for item, other in zip(filled, apart)
-        if item.amount < other.amount
-    ]
-
-
-def told_above(game: Game, above: Sequence[filling.Above], say: Style) -> list[str]:
-    """A line for each group that costs more than a larger one: both, with their numbers."""
-    name = game.names
-    return [
-        f"{group_text(name, item.group)}: {say(item.amount)}, and {group_text(name, item.larger)}: {say(item.least)}"
-        for item in above
-    ]
-
-
-def group_text(names: Sequence[str], group: int) -> str:
-    """A group as a file of costs has it."""
-    return "+".join(names[i] for i in members(group))
-
-
-def amount_text(names: Sequence[str], item: filling.Filled, say: Style) -> str:
-    parts = [" + ".join(names[i] for i in members(part)) for part in item.parts]
+def split_text(names: Sequence[str], item: filling.Filled, say: Style) -> str:
+    """What a group costs, and the parts that cost so much."""
+    parts = [group_text(names, part, " + ") for part in item.parts]
     return f"{say(item.amount)} = {' | '.join(parts)}"
+
+
+def above_text(names: Sequence[str], item: filling.Above, say: Style) -> str:
+    smaller, larger = group_text(names, item.group), group_text(names, item.larger)
+    return f"{smaller}: {say(item.amount)}, and {larger}: {say(item.least)}"
+
+
+def group_text(names: Sequence[str], group: int, sign: str = "+") -> str:
+    """A group as a file of costs has it."""
+    return sign.join(names[i] for i in members(group))

@@ -98,7 +98,6 @@ def rows_of(item: Range, game: Game, say: Style) -> list[list[str]]:
 
 
 def end(number: Fraction, by: Optional[Fraction], way: int, say: Style) -> str:
-    """Where a number may go to."""
     return "any" if by is None else say(number + way * by)
 
 

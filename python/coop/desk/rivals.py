@@ -22,7 +22,6 @@ def told(game: Game, rows: Sequence[Row], say: Style) -> str:
 
 
 def table(game: Game, rows: Sequence[Row], say: Style) -> str:
-    """Some rules side by side."""
     names = ["", *(line.name for line in lines_of(game.names))]
     columns = [[row.rule, *column([row.shares[name] for name in game.names], say)] for row in rows]
     return aligned(list(zip(names, *columns)))
