@@ -31,8 +31,7 @@ class Answer:
         return self.status == 0
 
     def _repr_html_(self) -> str:
-        text: str = shown.makers["answer"](self)
-        return text
+        return str(shown.makers["answer"](self))
 
     def to_pandas(self, places: Optional[int] = None) -> Any:
         """The shares as a Series of pandas: fractions, or floats of so many places, rounded so that they add up. An
@@ -201,8 +200,7 @@ class Reader:
         return tuple(map(self.name, players))
 
     def links(self) -> tuple[tuple[str, str, Fraction], ...]:
-        factor = self.game.factor
-        return tuple((self.name(end), self.name(new), Fraction(cost) / factor) for end, new, cost in self.tree["tree"])
+        return tuple((self.name(end), self.name(new), self.over(str(cost))) for end, new, cost in self.tree["tree"])
 
     def no(self) -> No:
         tree = self.tree

@@ -102,8 +102,7 @@ class Game:
         return hash((self.kind, self.n, *self.names))
 
     def _repr_html_(self) -> str:
-        text: str = shown.makers["game"](self)
-        return text
+        return str(shown.makers["game"](self))
 
     @property
     def own_names(self) -> Optional[list[str]]:

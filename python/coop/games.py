@@ -281,25 +281,21 @@ def listed(
     digits: Optional[int],
     per_head: bool,
 ) -> Game:
+    names = names if names is None else listed_names(names)
     items = named_items(amounts)
     if items is None:
         if default is not None:
             raise BadInput("`default` is for a mapping, not for a vector")
         vector = in_mask_order(fractions_of(amounts, digits), order)
-        players = len(vector).bit_length()
-        names = names if names is None else listed_names(names)
-        if names is not None and len(names) != players:
-            raise BadInput(f"{len(names)} names for {players} players")
-        return made(kind, {"players": players, "worths": vector}, names, per_head, digits)
-    if order is not None:
+        if names is not None and len(names) != len(vector).bit_length():
+            raise BadInput(f"{len(names)} names for {len(vector).bit_length()} players")
+    elif order is not None:
         told = "" if isinstance(amounts, Mapping) else "; the labels of a Series name the groups: give its .to_numpy()"
         raise BadInput(f"`order` is for a vector, not for a mapping{told}")
-    groups = list(zip([members_of(group) for group, _ in items], amounts_of(amounts, items, digits)))
-    empty = [amount for group, amount in groups if not group]
-    if any(empty):
-        raise BadInput("the empty group has to be worth 0")
-    rest = None if default is None else fraction_of(default, digits)
-    return by_groups(kind, [item for item in groups if item[0]], names, rest, per_head, digits)
+    else:
+        groups = list(zip([members_of(group) for group, _ in items], amounts_of(amounts, items, digits)))
+        names, vector = by_groups(groups, names, None if default is None else fraction_of(default, digits))
+    return made(kind, {"players": len(vector).bit_length(), "worths": vector}, names, per_head, digits)
 
 
 def members_of(group: Any) -> list[Union[str, int]]:
@@ -320,15 +316,13 @@ def number_of(member: Any) -> int:
 
 
 def by_groups(
-    kind: str,
-    groups: Sequence[tuple[list[Any], Fraction]],
-    names: Optional[Sequence[str]],
-    default: Optional[Fraction],
-    per_head: bool,
-    digits: Optional[int],
-) -> Game:
+    items: Sequence[tuple[list[Any], Fraction]], names: Optional[list[str]], default: Optional[Fraction]
+) -> tuple[Optional[list[str]], list[Fraction]]:
+    """The players, unless they are numbers, and what each group is worth in mask order."""
+    if any(amount for group, amount in items if not group):
+        raise BadInput("the empty group has to be worth 0")
+    groups = [(group, amount) for group, amount in items if group]
     everyone = list(dict.fromkeys(member for group, _ in groups for member in group))
-    names = names if names is None else listed_names(names)
     are_labels = any(str(name).lstrip("-").isdigit() for name in names or ())
     numbered = not are_labels and all(type(member) is int for member in everyone)
     count = max(everyone, default=0) if numbered and names is None else len(names or everyone)
@@ -350,7 +344,7 @@ def by_groups(
         asked = f"; is {lone[0]} a player? Only one group has it" if len(lone) == 1 < len(players) else ""
         raise BadInput(f"the group {first} is missing" + f", and {len(missing) - 1} more" * (len(missing) > 1) + asked)
     vector = [found.get(mask, default or Fraction(0)) for mask in range(1, 2 ** len(players))]
-    return made(kind, {"players": len(players), "worths": vector}, names if numbered else players, per_head, digits)
+    return names if numbered else players, vector
 
 
 def player_of(member: Any, names: Sequence[str]) -> int:
