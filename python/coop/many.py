@@ -5,7 +5,7 @@ import sys
 import threading
 import time
 from collections import deque
-from typing import TYPE_CHECKING, Any, Callable, Iterable, Iterator, Optional, Sequence, TypeVar, Union
+from typing import TYPE_CHECKING, Any, Callable, Iterable, Iterator, Mapping, Optional, Sequence, TypeVar, Union
 
 from .amounts import count_of, require_order
 from .calls import COMMANDS, ON_A_GAME, Chosen, Outcome, answered, document_of
@@ -31,7 +31,7 @@ def many(
     progress: Optional[bool] = None,
     program: Chosen = None,
     executor: Optional[Executor] = None,
-    batch: int = 32,
+    batch: Optional[int] = None,
     seconds: Optional[float] = None,
     faults: str = "keep",
 ) -> Iterator[tuple[Outcome, ...]]:
@@ -41,14 +41,15 @@ def many(
     "raise" the first such exception is raised instead. Progress is told on standard error, if that is a terminal unless
     it is asked for or not. An unknown command is refused before the first game.
 
-    With an `executor`, which is whatever has the `submit` of `concurrent.futures`, documents go there, `batch` games at
-    a time, and lines come back. Each of its processes finds the program by itself, unless one is named. Games that it
-    loses are handed over again; after three times, or if they take more than so many seconds, `Lost` is raised.
+    With an `executor`, which is whatever has the `submit` of `concurrent.futures`, documents go there, `batch` games
+    (32) at a time, and lines come back. Each of its processes finds the program by itself, unless one is named. Games
+    that it loses are handed over again; after three times, or if they take more than so many seconds, `Lost` is raised.
     """
     words = words_of(commands)
     if faults not in ("keep", "raise"):
         raise BadInput(f"{faults!r} isn't a way to treat faults: use keep or raise")
-    batch = count_of(batch, "games for a batch")
+    require_apt(games, executor, batch, seconds)
+    batch = count_of(32 if batch is None else batch, "games for a batch")
     if processors is not None:
         processors = count_of(processors, "processors")
     if executor is not None:
@@ -61,13 +62,26 @@ def many(
     return rows if faults == "keep" else without_faults(rows)
 
 
+def require_apt(games: Any, executor: Any, *its_own: Any) -> None:
+    """Refuses one game, a mapping, what takes no calls, and numbers for an executor where there is none."""
+    if isinstance(games, (Game, Mapping)):
+        way = "[game]" if isinstance(games, Game) else "its .values()"
+        raise BadInput(f"a {type(games).__name__} isn't a list of games: give {way}")
+    if executor is None and any(number is not None for number in its_own):
+        told = "for a limit of each call give program=Server(.., seconds=..)"
+        raise BadInput(f"`batch` and `seconds` are for an executor: {told}")
+    if executor is not None and not hasattr(executor, "submit"):
+        told = "give one that has, such as concurrent.futures.ProcessPoolExecutor()"
+        raise BadInput(f"a {type(executor).__name__} has no `submit`: {told}")
+
+
 def words_of(commands: Union[str, Sequence[str]]) -> tuple[str, ...]:
     """The commands, each of which answers to a game alone."""
     require_order(commands)
     words = (commands,) if isinstance(commands, str) else tuple(commands)
-    for word in words:
+    for word in words or [""]:
         if word not in ON_A_GAME:
-            told = "needs more than a game" if word in COMMANDS else "is no command"
+            told = f"needs more than a game (map coop.{word} over threads)" if word in COMMANDS else "is no command"
             raise BadInput(f"{str(word)[:40]!r} {told}: many takes {', '.join(ON_A_GAME)}")
     return words
 

@@ -22,6 +22,7 @@ HEAD = struct.Struct("<II")
 """The two numbers that begin a request and an answer."""
 STOPPED = 70
 GRACE = 0.5  # seconds that a process has to end by itself
+START = 60  # seconds that it has to begin, where calls have a limit
 
 
 class Ended(Exception):
@@ -89,7 +90,8 @@ class Worker:
 
 class Server:
     """A program that stays: `command` begins one process of it, and there are at most so many, one a processor unless
-    their number is named. A call that takes more than so many seconds is ended, with the status 124."""
+    their number is named. A call that takes more than so many seconds is ended, with the status 124; the start of a
+    process doesn't count."""
 
     def __init__(self, command: Sequence[str], processes: Optional[int] = None, seconds: Optional[float] = None):
         self.command = list(command)
@@ -153,16 +155,17 @@ class Server:
 
     def begun(self, seconds: Optional[float], tries: int = 3) -> Worker:
         """A new process, which has said that it is there. One that is killed meanwhile is begun again."""
+        limit = seconds and max(seconds, START)
         try:
             worker = Worker(self.command)
         except OSError as fault:
             raise Fault(f"{self.command[0]} doesn't run: {fault.strerror}", -1) from None
         try:
-            worker.ask(None, seconds)
+            worker.ask(None, limit)
         except Ended:
             code = worker.stop()
             if worker.is_late:
-                raise Fault(f"{' '.join(self.command)} didn't begin in {seconds} s", TOO_LATE) from None
+                raise Fault(f"{' '.join(self.command)} didn't begin in {limit} s", TOO_LATE) from None
             if code < 0 and tries > 1:
                 return self.begun(seconds, tries - 1)
             raise Fault(f"{' '.join(self.command)} ended with {code} when it began", code) from None

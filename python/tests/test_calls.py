@@ -185,7 +185,8 @@ class Rows(unittest.TestCase):
 
     def test_commands_before_the_first_game(self) -> None:
         program = Answering(0)
-        for words, said in (("convexx", "is no command"), ("propose", "needs more"), (("core", "check"), "needs more")):
+        wrong = ("convexx", "is no command"), ("propose", "needs more"), (("core", "check"), "map coop.check"), ((), "")
+        for words, said in wrong:
             with self.assertRaisesRegex(coop.BadInput, said):
                 coop.many(words, [AIRPORT], program=program)
         self.assertEqual(program.asked, [])
@@ -206,6 +207,15 @@ class Rows(unittest.TestCase):
                 make(set(some))  # type: ignore[operator]
         with self.assertRaisesRegex(coop.BadInput, "a set has no order"):
             coop.many({"core", "shapley"}, [AIRPORT], program=program)  # type: ignore[arg-type]
+        for games, more, sentence in (
+            ([AIRPORT], {"seconds": 1}, "are for an executor: .* give program=Server"),
+            ([AIRPORT], {"batch": 4}, "are for an executor"),
+            ([AIRPORT], {"executor": "Pool"}, "a str has no `submit`: give one that has, such as concurrent"),
+            (AIRPORT, {}, "a Game isn't a list of games: give .game."),
+            ({"May": AIRPORT}, {}, "a dict isn't a list of games: give its .values"),
+        ):
+            with self.assertRaisesRegex(coop.BadInput, sentence):
+                coop.many("core", games, program=program, **more)  # type: ignore[arg-type]
         with self.assertRaisesRegex(coop.BadInput, "5 isn't a program"):
             coop.core(AIRPORT, program=5)  # type: ignore[arg-type]
         self.assertEqual(program.asked, [])

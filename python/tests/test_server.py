@@ -12,6 +12,7 @@ import threading
 import time
 import unittest
 from typing import Optional
+from unittest.mock import patch
 
 import coop
 from coop.errors import Fault
@@ -215,10 +216,14 @@ class Ends(unittest.TestCase):
 
     def test_a_start_that_is_late(self) -> None:
         begun = time.monotonic()
-        with self.assertRaises(Fault) as found:
+        with patch("coop.server.START", 0.3), self.assertRaises(Fault) as found:
             Server(["sleep", "30"], 1, seconds=0.3).run(["core"], AIRPORT)
         self.assertEqual(found.exception.status, 124)
         self.assertLess(time.monotonic() - begun, 20)
+
+    def test_a_start_takes_no_time_of_a_call(self) -> None:
+        code = f"import time; time.sleep(3); {speaking('os.read(0, 99); os.write(1, bytes(8))')[2]}"
+        self.assertEqual(Server([sys.executable, "-c", code], 1, seconds=2).run([], b""), (0, b""))
 
     def test_killed_within_its_first_request(self) -> None:
         """A new process is asked in its place, unless it happens each time."""
