@@ -122,7 +122,7 @@ export const assumed = [
     expect("and on paper", sheet, line);
     const own = "document.querySelector('[data-cell=\"paper.withProposal\"]')";
     await page.run(`${own}.click(); dispatchEvent(new Event('beforeprint'))`);
-    const change = /largest change of what stands here is that of Aston: 0,83 less, by the Shapley shares\./;
+    const change = /largest change of what stands here is that of Aston: 0,83 less \(“By what each adds”\)\./;
     expect("of all rules there", await page.run("document.getElementById('sheet').textContent"), change);
     await page.run(`${own}.click(); dispatchEvent(new Event('afterprint'))`);
     await page.click("Fill them no dearer than a larger group");
@@ -186,7 +186,7 @@ export const assumed = [
     await page.type("more", "10 %");
     await page.click("Work it out", "document.querySelector('.other:has([data-cell=more])')");
     const found = ".other:has([data-cell=more]) .found";
-    expect("more", await told(page, found, /It costs 25.15 more/), /Shapley shares all bear the same, as in every/);
+    expect("more", await told(page, found, /It costs 25.15 more/), /“By what each adds”: all bear the same, as in/);
     expect("promised", await page.text(found), /equal part[\s\S]*Young, Okada and Hashimoto 1982[\s\S]*another/);
     await page.type("more", "-37,15");
     expect("old ones are dimmed", await page.run(`document.querySelector("${found}").className`), /stale/);
@@ -200,7 +200,7 @@ export const assumed = [
     await choose(page, "leaves", "Colne");
     const change = /largest change of the others without Colne is that of \w+: [\d,]+ (more|less), by/;
     await told(page, ".leaves .found", change);
-    expect("by each rule", leaves, /By the nucleolus Dale pays [\d,]+, and alone [\d,]+ more; the others together/);
+    expect("by each rule", leaves, /“Fairest to [\w ]+”: Dale pays [\d,]+, and alone [\d,]+ more; the others together/);
     await choose(page, "pair.0", "Aston");
     await choose(page, "pair.1", "Bray");
     const pair = await told(page, ".pair", /Alone Aston costs 112.00/);

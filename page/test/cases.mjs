@@ -138,7 +138,7 @@ export const tables = [
     await settle(page);
     expect("blocked", await page.text(verdict), /(Sales|Sales and Ops) could leave, by 1.00/);
     await page.until("document.querySelector('.comparison')");
-    await page.click("Your proposal beside the nucleolus");
+    await page.click("Your proposal beside “Fairest to those who gain least”");
     expect("compared", await page.text(".comparison"), /At place 1 of 6 they differ[\s\S]*treats that group worse/);
     await page.click("equal parts");
     await settle(page);
@@ -149,7 +149,7 @@ export const tables = [
   }],
 
   ["who has a stronger hold, and who joins late", "gains", async (page, expect) => {
-    const holds = /stronger hold on another\?\s+–?\s*Nucleolus: No\s+–?\s*Shapley shares: Yes, for example pianist on /;
+    const holds = /hold on another\?\s+–?\s*Fairest [\w ]+: No\s+–?\s*By what each adds: Yes, for example pianist on /;
     expect("holds", await page.text(".holds"), holds);
     expect("convex", await page.text("#why"), /The more have joined, the more \(no less\) each adds/);
     await page.type("numbers.7", "100");
@@ -183,8 +183,8 @@ export const tables = [
     await page.click("Work it out", "document.querySelector('.other')");
     await page.until("document.querySelector('.found table')");
     const found = await page.text(".found");
-    expect("Shapley", found, /By the Shapley shares all bear the same, as in every case: 1.00 each/);
-    expect("per head", found, /By the prenucleolus per head all bear the same, as in every case: 1.00 each/);
+    expect("Shapley", found, /“By what each adds”: all bear the same, as in every case, 1.00 each/);
+    expect("per head", found, /than alone, per head”: all bear the same, as in every case, 1.00 each/);
     expect("table", found, /together\s+12.00\s+15.00\s+\+3.00/);
   }],
 

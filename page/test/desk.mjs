@@ -12,6 +12,17 @@ const SIX = Array.from({ length: 63 }, (_, k) => {
 }).join("\n");
 const GROUPS = ["A\t150", "B\t95", "C\t200", "A+B\t260", "A+C\t325", "B+C\t274", "A+B+C\t360"].join("\n");
 
+/** The text of what a button saves. */
+const savedFile = (page, title) => page.run(`(async () => {
+  const made = URL.createObjectURL;
+  let kept = null;
+  URL.createObjectURL = (blob) => (kept = blob, made.call(URL, blob));
+  HTMLAnchorElement.prototype.click = () => 0;
+  [...document.querySelectorAll("button")].find((one) => one.textContent === ${JSON.stringify(title)}).click();
+  URL.createObjectURL = made;
+  return kept.text();
+})()`);
+
 export const desk = [
   ["the answer stands beside the cells, and stays", "gains", async (page, expect) => {
     await fold(page);
@@ -47,15 +58,15 @@ export const desk = [
     await settle(page);
     expect("changed", await page.text(".pinned"), /Against the kept answer.*Changed since: Carle and Brook: 35 → 20\./);
     expect("marked", await page.run("document.querySelector('.changed').dataset.cell"), "links.2-3");
-    const file = await page.run(`(async () => {
-      const made = URL.createObjectURL;
-      let kept = null;
-      URL.createObjectURL = (blob) => (kept = blob, made.call(URL, blob));
-      HTMLAnchorElement.prototype.click = () => 0;
-      [...document.querySelectorAll("button")].find((one) => one.textContent === "Save the case").click();
-      URL.createObjectURL = made;
-      return kept.text();
-    })()`);
+    await page.type("proposal.1", "31/8");
+    const table = await savedFile(page, "Save the table (CSV)");
+    const heads = /^,Fairest [\w ]+,[^\r]*,Each its own link,[^\r]*,Kept: Fairest [\w ]+,[^\r]*,Your proposal\r/;
+    expect("the table has what stands beside the shares", table.replace("\ufeff", ""), heads);
+    expect("a fraction is no date", table, /\r\nBrook,[^\r]*,3\.875\r/);
+    expect("nor a share’s", /\d\/\d/.test(table), false);
+    await page.type("proposal.1", "");
+    await settle(page);
+    const file = await savedFile(page, "Save the case");
     const before = await page.text(".pinned");
     await page.click("Stop comparing");
     expect("no more", await page.run("document.querySelectorAll('.pinned, .changed').length"), 0);

@@ -99,7 +99,7 @@ async function keptVotes(page, expect) {
   await page.click("Keep this answer to compare");
   await page.type("values.0.1", "9");
   await settle(page);
-  expect("a market", await page.text(".pinned"), /Against the kept answer, by the nucleolus: .*Ann with flat: 8 → 9/);
+  expect("a market", await page.text(".pinned"), /Against the kept answer, by “Fairest [^”]*”: .*Ann with flat: 8 → 9/);
 }
 
 async function twentyVoters(page, expect) {
@@ -159,7 +159,7 @@ async function types(page, expect) {
   expect("no airlines that nobody has", /Airline 1/.test(found), false);
   expect("why many pay alike", found, /All up to Comet pay alike: 104\.85 \/ \(4439 \+ 1\) = 0\.02 a landing\./);
   expect("what fees bring in", found,
-    /Nucleolus: at fees with 2 decimals, all landings pay .* (less|more) than the cost of/);
+    /“Fairest to [\w ]+”: at fees with 2 decimals, all landings pay .* (less|more) than the cost of/);
 }
 
 export const figures = [

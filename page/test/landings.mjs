@@ -191,7 +191,7 @@ const beyond = [
     expect("on paper", sheet, /Albatros, together.*do NOT come from the proved.*shapley_is_by_step.*Agreed on by/);
     await page.run("dispatchEvent(new Event('afterprint'))");
     const file = await saved(page, "Save the table (CSV)");
-    const lines = /^;Nucl[^]*\r\n"Albatros, DH8";20,36;3075\/151[^]*\r\nDH8;20,50;0,07;0,07\r\n/;
+    const lines = /^;Fair[^]*\r\n"Albatros, DH8";20,36;3075÷151[^]*\r\nDH8;20,50;0,07;0,07\r\n/;
     expect("a file", file, lines);
     await page.type("rows.0.count", "3");
     await settle(page);
@@ -224,16 +224,16 @@ const beyond = [
     await page.click("Keep this answer to compare");
     await told(page, ".beyond .pinned", /The shares are those of the kept answer/);
     await page.type("rows.3.cost", "80");
-    const note = await told(page, ".beyond .pinned", /^Against the kept answer, by the nucleolus: [^.]*Condor[^.]* \+/);
+    const note = await told(page, ".beyond .pinned", /^Against the kept answer, by “Fairest [^.]*Condor[^.]* \+/);
     expect("which cell", note, /Changed since: [^.]*60 → 80\./);
     expect("in its place", await page.run(`document.querySelector('[data-cell="rows.3.cost"]').title`), "Kept: 60");
     expect("a column", await page.text(".beyond thead"), /A landing needs\s+Kept\s+Fairest to those who gain least/);
     expect("together", await page.text(".beyond tfoot"), /305\s+60,00\s+80,00/);
-    expect("on paper", await sheetOf(page), /Kept.*Condor.*Against the kept answer, by the nucleolus/);
+    expect("on paper", await sheetOf(page), /Kept.*Condor.*Against the kept answer, by “Fairest/);
     await page.run("dispatchEvent(new Event('afterprint'))");
     await page.type("rows.0.count", "3");
     await settle(page);
-    expect("beside the program's answer", await page.text(".pinned"), /^Against the kept answer, by the nucleolus/);
+    expect("beside the program's answer", await page.text(".pinned"), /^Against the kept answer, by “Fairest/);
     await page.click("Stop comparing");
     await page.until("!document.querySelector('.pinned')");
   }],
@@ -260,12 +260,12 @@ const beyond = [
     };
     await showBy(".");
     const byPoint = await saved(page, "Save the table (CSV)", "files");
-    expect("commas", byPoint, /^,Nucleolus[^]*\r\n"Albatros, DH8",\d+\.\d\d,/);
+    expect("commas", byPoint, /^,Fairest[^]*\r\n"Albatros, DH8",\d+\.\d\d,/);
     await showBy(",");
     const file = await saved(page, "Save the table (CSV)", "files");
-    expect("semicolons", file, /^;Nucleolus[^]*\r\n"Albatros, DH8";\d+,\d\d;/);
+    expect("semicolons", file, /^;Fairest[^]*\r\n"Albatros, DH8";\d+,\d\d;/);
     expect("airlines", file,
-      /\r\n\r\nAirline;Landings;Nucleolus;Shapley shares;In proportion;"?Separable costs, remaining benefits/);
+      /\r\n\r\nAirline;Landings;Fairest to [\w ]+;By what each adds;In proportion to costs alone;The agencies’ rule/);
     expect("what each pays", file, /\r\nAlbatros;5;28,03;22,56;30,1\d;30,1\d\r\n/);
   }],
 ];

@@ -152,11 +152,11 @@ const excesses = [
     await page.click("Group by group: what each could gain by leaving");
     await told(page, ".excesses", /8 of 62 places/);
     const heads = await page.text(".excesses thead");
-    expect("heads", heads, /Place\s+Nucleolus\s+by whom\s+Shapley shares\s+by whom/);
+    expect("heads", heads, /Place\s+Fairest to [\w ]+\s+by whom\s+By what each adds\s+by whom/);
     await page.click("All 62 places");
     await page.until("document.querySelectorAll('.excesses tbody tr').length === 62");
     await page.type("numbers.1", "3");
-    const marked = /A mark shows where a list first differs .*: Shapley shares at place \d+ and Prenucleolus at place/;
+    const marked = /A mark shows where .*: “By what each adds” at place \d+ and “Fairest to [\w ]+, even if some/;
     await told(page, ".excesses", marked);
     await settle(page);
     expect("open, all", await page.run("document.querySelectorAll('.excesses tbody tr').length"), 62);
@@ -166,7 +166,7 @@ const excesses = [
     await page.until("window.copied !== undefined");
     const lines = (await page.run("window.copied")).trimEnd().split("\n");
     expect("copied", lines.length, 63);
-    expect("its columns", lines[0], /^Place\tNucleolus\tNucleolus, exact\tby whom\tShapley shares\t/);
+    expect("its columns", lines[0], /^Place\tFairest to [\w ]+\tFairest [\w ]+, exact\tby whom\tBy what each adds\t/);
   }],
 
   ["the excesses of a proposal, beside those of the columns", "gains", async (page, expect) => {
@@ -184,7 +184,7 @@ const excesses = [
     for (const [r, text] of ["40", "40", "40"].entries()) await page.type(`proposal.${r}`, text);
     await settle(page);
     await page.until("document.querySelector('.comparison')");
-    await page.click("Your proposal beside the nucleolus");
+    await page.click("Your proposal beside “Fairest to those who gain least”");
     expect("in the field’s words on request", /prenucleolus/.test(await page.text(".comparison")), false);
     await page.click("Options");
     await page.run("document.querySelector('[data-cell=\"exact\"]').click()");

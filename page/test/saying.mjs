@@ -67,8 +67,8 @@ export const saying = [
     await settle(page);
     expect("told", await page.text(".same-as"), "Your proposal is exactly the column “By what each adds”.");
     await page.until("document.querySelector('.comparison')");
-    await page.click("Your proposal beside the nucleolus");
-    const told = /Of all divisions in which nobody pays more than alone the nucleolus has the least list: at the first/;
+    await page.click("Your proposal beside “Fairest to those who gain least”");
+    const told = /Of all divisions in which nobody pays more than alone, “Fairest to [\w ]+” has the least list: at/;
     expect("compared", await page.text(".comparison"), told);
   }],
 
@@ -224,8 +224,8 @@ saying.push(
   ["what a proposal leaves the worst-off, and the given numbers on paper", "gains", async (page, expect) => {
     await page.click("equal parts");
     await settle(page);
-    await page.click("Your proposal beside the nucleolus");
-    const leaves = /leaves singer and pianist together a gain of only 0; by the nucleolus each group has at least 15\./;
+    await page.click("Your proposal beside “Fairest to those who gain least”");
+    const leaves = /leaves singer and pianist together a gain of only 0; by “Fairest[^”]+” each group has at least 15/;
     await told(page, ".comparison", leaves);
     const towns = ["Ashby", "Brenton", "Colby", "Denham", "Elsworth"];
     const lines = Array.from({ length: 31 }, (_, k) => {

@@ -130,7 +130,7 @@ async function notice(page, expect) {
   await page.type("numbers.7", "13");
   await settle(page);
   const sheet = await page.run("dispatchEvent(new Event('beforeprint')); document.getElementById('sheet').textContent");
-  expect("what changed", sheet, /Before[\s\S]*Change[\s\S]*Against the kept answer, by the nucleolus: [\s\S]*12 → 13/);
+  expect("what changed", sheet, /Before[\s\S]*Change[\s\S]*Against the kept answer, by “Fairest[\s\S]*12 → 13/);
   expect("begins with what each saves", sheet, /Why: the nucleolusAgainst going alone, Sales saves/);
 }
 

@@ -179,8 +179,8 @@ export function readNumber(typed, mark = ".") {
   const text = joined(typed);
   if (text === "") return { fault: "is empty" };
   if (text === null || text.length > MOST_LETTERS) return { fault: "is no number" };
-  if (/^-?\d{1,30}\/\d{1,30}$/.test(text)) {
-    const [num, den] = text.split("/").map(BigInt);
+  if (/^-?\d{1,30}[/÷]\d{1,30}$/.test(text)) { // ÷ is that of a saved table
+    const [num, den] = text.split(/[/÷]/).map(BigInt);
     return den ? { value: new Rational(num, den) } : { fault: "is divided by nothing" };
   }
   if (/^\(\d[\d.,]*\)$/.test(text)) return readNumber("-" + text.slice(1, -1), mark);

@@ -26,17 +26,20 @@ const PLAIN = {
 };
 const OF_CLASS = { bankruptcy: "the Talmud’s rule", airport: "Littlechild’s rule" };
 
-/** Points under the titles that all read, with the field's `name`, a `note`, and the `rule` as sentences name it. */
+/** Points under the titles that all read, with the field's `name` and a `note`. */
 export function plainPoints(points, game) {
   return points.map((point) => {
     const { plain, ...more } = plainNames(point.key, point.title, game, point.key === points[0].key);
-    return { ...point, ...more, title: plain, rule: point.title };
+    return { ...point, ...more, title: plain };
   });
 }
 
+/** A rule as sentences between numbers have it: its title, quoted. */
+export const quoted = ({ title }) => `“${title}”`;
+
 /** A rule as somebody says it who doesn't know the field, with its name there, and what is said more: {plain, name,
  * note}. The prenucleolus is said by what it differs in, where the nucleolus is beside it. */
-function plainNames(key, title, { perHead, kind, costs }, isAlone) {
+export function plainNames(key, title, { perHead, kind, costs }, isAlone) {
   const name = ruleName(key, perHead), other = key === "nucleolus" && !perHead ? OF_CLASS[kind] : "";
   if (key === "proportion") {
     const what = kind === "bankruptcy" ? "the claims" : costs ? "costs alone" : "worth alone";

@@ -155,9 +155,11 @@ export class AnswerView {
   showFiles(made) {
     this.made = made;
     const { session } = this, { reading, result, kind } = session, hasMade = made.childElementCount > 0;
-    const points = result?.points ?? [], format = session.format().plain(), tables = () => tablesOf(session.result, {
-      rows: session.reading.rows, format, coarse: session.typed.coarse,
-    });
+    const points = result?.points ?? [], format = session.format().plain(), tables = () => {
+      const { rows } = session.reading, beside = { today: todayOf(session, rows), pinned: pinnedOf(session, rows) };
+      return tablesOf(session.result, { rows, format, coarse: session.typed.coarse, proposal: session.proposal,
+        ...beside });
+    };
     at("files").hidden = !hasMade;
     if (!hasMade || !reading) return;
     const isShown = points.length > 0 && !this.isHidden, copied = (event) => copy(tabbed(tables()[0]), event.target);

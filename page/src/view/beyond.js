@@ -1,14 +1,14 @@
 // Runways of more landings than the program takes: what the page calculates by itself, and that it says so.
 import { countText } from "../exact/decimals.js";
-import { plainPoints } from "../tell/rule-names.js";
+import { plainPoints, quoted } from "../tell/rule-names.js";
 import { Rational } from "../exact/rational.js";
 import { extremes } from "./extremes.js";
-import { el } from "./dom.js";
+import { columnHead, el } from "./dom.js";
 import { movedText, withSum } from "./format.js";
 import { keepButton, pinnedNote, pinnedText, pinTools, sinceKept } from "./pinned.js";
-import { columnHead, linesOf, ownSum, shareCell } from "./shares-table.js";
+import { linesOf, ownSum, shareCell } from "./shares-table.js";
 import { ownInput } from "./proposal-cells.js";
-import { airlineLines, csvButton, roundingLines, shareLines } from "./table-lines.js";
+import { airlineLines, besideLines, csvButton, roundingLines, shareLines } from "./table-lines.js";
 import { changeBelow, todayTitle, todayTools } from "./today.js";
 import { typeLines, typesTable } from "./types-table.js";
 
@@ -49,12 +49,13 @@ function roundedTo(value, places) {
 /** The parts of the answer that the page calculates. */
 export function beyondParts(beyond, { format, today, pinned, labelOfCell, said }) {
   const { isAll, rows, points } = beyond;
-  const plain = format.plain(), tables = () => [shareLines(rows, points, plain), airlineLines(rows, points, plain),
-    typeLines(rows, points, plain), roundingLines(points, plain)];
+  const plain = format.plain(), named = plainPoints(points, COSTS), tables = () => [
+    shareLines(rows, named, plain, isAll ? besideLines(rows, named, { today, pinned, game: COSTS }, plain) : []),
+    airlineLines(rows, named, plain), typeLines(rows, named, plain), roundingLines(points, plain)];
   return el("div", { class: "beyond" }, isAll && leadOf(beyond, format),
     el("h3", {}, isAll ? "Above 64 landings" : "Shapley shares above 32 landings"),
     beyondNotice(beyond),
-    isAll && pinnedNote(pinned, points[0], rows, { format, labelOfCell }),
+    isAll && pinnedNote(pinned, named[0], rows, { format, labelOfCell }),
     el("div", { class: "scroll" }, table(beyond, { format, today, pinned, own: (row, r) => {
       return ownInput(row, r, today, "today", todayTitle(COSTS));
     } })),
@@ -62,9 +63,9 @@ export function beyondParts(beyond, { format, today, pinned, labelOfCell, said }
     points.some(({ totals }) => format.isMoved(totals, rows)) && el("p", { class: "hint moved" }, movedText(rows)),
     isAll && el("p", { class: "tools" }, keepButton(pinned), pinTools(pinned)),
     isAll && todayTools(COSTS, today),
-    isAll && typesTable(rows, plainPoints(points, COSTS), format),
+    isAll && typesTable(rows, named, format),
     isAll && alikeTexts(beyond, format).map((text) => el("p", { class: "alike" }, text)),
-    isAll && feesTexts(beyond, format).map((text) => el("p", { class: "hint" }, text)),
+    isAll && feesTexts(rows, named, format).map((text) => el("p", { class: "hint" }, text)),
     isAll && el("p", { class: "hint" }, SCALED),
     el("p", { class: "tools" }, csvButton("runway-calculated", tables, format)));
 }
@@ -100,12 +101,12 @@ function alikeTexts({ rows, points }, { show }) {
 }
 
 /** What fees for a landing, rounded to the decimals that are shown, bring in. */
-function feesTexts({ rows, points }, { places, show, by }) {
-  return points.flatMap(({ title, each, totals }) => {
+function feesTexts(rows, points, { places, show, by }) {
+  return points.flatMap(({ each, totals, ...point }) => {
     const fees = each.map((share, r) => roundedTo(share, places).times(Rational.of(rows[r].count)));
     const [sum, whole] = [fees, totals].map((values) => Rational.sum(values)), rest = whole.minus(sum);
-    return rest.isZero() ? [] : [`${title}: at fees with ${places} decimals, all landings pay ${show(sum)}, which is `
-      + `${by(rest.abs())} ${rest.isNegative() ? "more" : "less"} than the cost of ${show(whole)}.`];
+    return rest.isZero() ? [] : [`${quoted(point)}: at fees with ${places} decimals, all landings pay ${show(sum)}, `
+      + `which is ${by(rest.abs())} ${rest.isNegative() ? "more" : "less"} than the cost of ${show(whole)}.`];
   });
 }
 
@@ -159,16 +160,17 @@ function sumRow({ sum, of }, { rows, columns, format, values, own, isKept }) {
 
 /** The same on the one page; what one landing pays stands there by its type, where each has one. */
 export function beyondSheet(beyond, { format, unit, today, pinned, labelOfCell }) {
-  const { rows, points } = beyond, shown = today.texts?.some(Boolean) ? today : {};
+  const { rows, points } = beyond, named = plainPoints(points, COSTS);
+  const shown = today.texts?.some(Boolean) ? today : {};
   const own = (_, r) => shown.values[r] && format.show(shown.values[r]);
   const kind = `shares dense${rows.every(({ type }) => type) ? " whole" : ""}`;
   return [
     el("section", {}, leadOf(beyond, format),
       unit?.trim() && el("p", { class: "hint" }, `All amounts are in ${unit.trim()}.`),
       table(beyond, { format, today: shown, pinned, own }, kind),
-      pinned.pin && el("p", { class: "hint" }, pinnedText(pinned, points[0], rows, { format, labelOfCell })),
+      pinned.pin && el("p", { class: "hint" }, pinnedText(pinned, named[0], rows, { format, labelOfCell })),
       points.some(({ totals }) => format.isMoved(totals, rows)) && el("p", { class: "hint" }, movedText(rows))),
-    el("section", {}, typesTable(rows, plainPoints(points, COSTS), format)),
+    el("section", {}, typesTable(rows, named, format)),
     el("section", {}, el("h2", {}, "How it was found"), beyondTexts(beyond).map((text) => el("p", {}, text))),
     el("p", { class: "sign" }, "Agreed on by", el("span"), "on", el("span", { class: "short" })),
     el("section", {}, el("p", { class: "hint" }, document.querySelector("footer p").textContent)),

@@ -1,7 +1,7 @@
 // Who pays or gets what before and after a change, by several rules: a table, and what is said of each rule.
 import { Rational } from "../exact/rational.js";
 import { fractionText } from "../exact/decimals.js";
-import { el } from "./dom.js";
+import { columnHead, el } from "./dom.js";
 import { movedText, signedDifferences, totalsOf } from "./format.js";
 
 /** What a rule makes of it: the shares before and after, and the changes of what is shown, as texts. */
@@ -14,15 +14,12 @@ export function changesOf({ title, before, after, leaving, ...rule }, rows, form
   return { ...rule, title, differences, leaving, isMoved, texts };
 }
 
-/** "nucleolus", "Shapley shares": as a sentence has it. */
-export function ruleIn({ title }) {
-  return title.replace(/^[NP]/, (letter) => letter.toLowerCase());
-}
-
 /** `parts` are the heads of the three columns of each rule; `hasExact`: exact changes stand in small print. */
 export function changesTable(columns, { rows, game, format, hasExact = true }, parts = ["before", "after", "change"]) {
   const name = el("th", { scope: "col", rowspan: "2" }, game.costs ? "Who pays" : "Who gets");
-  const titles = columns.map(({ title }) => el("th", { scope: "colgroup", colspan: "3", class: "number" }, title));
+  const titles = columns.map((column) => {
+    return el("th", { scope: "colgroup", colspan: "3", class: "number" }, columnHead(column));
+  });
   const cells = (r) => columns.flatMap(({ texts, differences }) => texts.map((text, k) => {
     const exact = hasExact && k === 2 && r < rows.length && !format.isExact(differences[r]) && differences[r];
     return el("td", { class: k === 2 ? "number change" : "number" }, text[r],

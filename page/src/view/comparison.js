@@ -1,4 +1,5 @@
 // The user's proposal beside the program's division, as the nucleolus compares them.
+import { quoted } from "../tell/rule-names.js";
 import { el } from "./dom.js";
 import { labelOf, signedDifferences, totalsOf } from "./format.js";
 
@@ -18,14 +19,15 @@ export function comparisonPart({ shares, comparison, verdict, hold }, point, gam
   const details = el("details", { class: "comparison", open: Boolean(typed.isCompared), on: {
     toggle: () => (typed.isCompared = details.open),
   } },
-  el("summary", {}, `Your proposal beside the ${point.title.toLowerCase()}`),
+  el("summary", {}, `Your proposal beside ${quoted(point)}`),
   comparison ? comparisonOf(comparison, point, game, { rows, hold }) : el("p", {}, "…"));
   return details;
 }
 
 /** `found` is what work/compare.js says. */
-function comparisonOf(found, { title, key }, game, { rows: all, hold }) {
-  const { first, lists: [own, other], differs } = found, name = title.toLowerCase(), place = (k) => first + k;
+function comparisonOf(found, point, game, { rows: all, hold }) {
+  const { title, key } = point, name = quoted(point), place = (k) => found.first + k;
+  const { lists: [own, other], differs } = found;
   const cell = ({ group, excess }) => [el("td", { class: "number" }, excess), el("td", {}, group)];
   const rows = own.map((entry, k) => el("tr", { class: place(k) === differs ? "differs" : "" },
     el("th", { scope: "row", class: "number" }, String(place(k))), cell(entry), cell(other[k])));
@@ -57,25 +59,25 @@ function prenucleolusText({ better }, key, { perHead }, rows, hold) {
 
 function principleOf(name, key, { costs, perHead }) {
   const allowed = key === "prenucleolus" ? "Of all divisions"
-    : `Of all divisions in which nobody ${costs ? "pays more" : "gets less"} than alone`;
+    : `Of all divisions in which nobody ${costs ? "pays more" : "gets less"} than alone,`;
   return `What each group could gain by leaving${perHead ? ", per member" : ""} (with a minus: what it would lose), `
-    + `the greatest first. ${allowed} the ${name} has the least list: at the first place that differs it has the `
-    + "lesser number.";
+    + `the greatest first. ${allowed} ${name} has the least list: at the first place that differs it has the lesser `
+    + "number.";
 }
 
 /** The first place in plain words, where it differs and nobody would leave; "" otherwise. */
 function savedText({ differs, better, lists: [[own], [other]] }, name, { costs, perHead }) {
   const [mine, theirs] = [own, other].map(({ excess }) => (excess === "0" ? "0" : excess.match(/^[-−](.*)/)?.[1]));
   if (differs !== 1 || better !== "other" || perHead || !mine || !theirs) return "";
-  return `Your proposal leaves ${own.group} ${costs ? "a saving" : "a gain"} of only ${mine}; by the ${name} each `
+  return `Your proposal leaves ${own.group} ${costs ? "a saving" : "a gain"} of only ${mine}; by ${name} each `
     + `group has at least ${theirs}.`;
 }
 
 function sentenceOf({ differs, better, of }, name, { costs }) {
-  if (better === "same") return `Both lists are the same, so this proposal is the ${name}.`;
+  if (better === "same") return `Both lists are the same, so this proposal is ${name}.`;
   const place = `At place ${differs} of ${of} they differ for the first time`;
   return better === "other"
-    ? `${place}: there your proposal has the greater number, so it treats that group worse than the ${name} treats any `
+    ? `${place}: there your proposal has the greater number, so it treats that group worse than ${name} treats any `
       + "that is left."
     : `${place}, and there your proposal has the lesser number. It isn’t among the divisions that the rule allows: in `
       + `it somebody ${costs ? "pays more" : "gets less"} than alone.`;

@@ -94,3 +94,10 @@ export async function copy(text, source) {
   source.textContent = isDone ? "Copied" : "Copying isn’t allowed here";
   setTimeout(() => (source.textContent = source.dataset.label), 1600);
 }
+
+/** The title of a rule that all read, the field's name (on the screen only beside exact fractions), and what is said
+ * more. */
+export function columnHead({ title, name }, ...more) {
+  const below = more.filter(Boolean).join(", ");
+  return [title, name && el("small", { class: "field-name" }, name), below && el("small", {}, below)];
+}

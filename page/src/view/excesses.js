@@ -2,8 +2,10 @@
 import { Rational } from "../exact/rational.js";
 import { countText, fractionText } from "../exact/decimals.js";
 import { listed } from "../game/words.js";
-import { button, copy, el, refill } from "./dom.js";
+import { plainPoints, quoted } from "../tell/rule-names.js";
+import { button, columnHead, copy, el, refill } from "./dom.js";
 import { CALCULATED } from "./questions.js";
+import { tabbed } from "./table-lines.js";
 
 const FEW = 8; // places that are shown at first
 const MOST = 1022, MOST_COPIED = 4094; // that are shown at all, and copied: those of ten and of twelve players
@@ -12,7 +14,8 @@ const MOST_PLAYERS = 12; // of other games than tables
 /** The part that opens; `typed` keeps what was opened and found of this case, `ask(task, what)` goes to a worker. */
 export function excessesPart({ game, text, points: solved }, { rows, format, typed, ask, proposal }) {
   const canBe = game.n > 1 && (game.isTable() || game.n <= MOST_PLAYERS) && !game.ballots && !game.isMarket();
-  const points = [...solved.filter(({ key }) => !CALCULATED.includes(key)), ...ownPoint(game, proposal)];
+  const rules = plainPoints(solved, game).filter(({ key }) => !CALCULATED.includes(key));
+  const points = [...rules, ...ownPoint(game, proposal)];
   if (!canBe || points.length < 2) return null;
   const memory = (typed.excesses ??= { most: FEW }), found = el("div"), divisions = points.map(sharesOf);
   const asked = (most) => ask("excessLists", { divisions, most });
@@ -60,7 +63,7 @@ function partsOf(found, { game, points, format, asked, onAll }) {
       `(with a minus: what it would lose), the greatest first. ${differsText(points, differs)}`),
     el("div", { class: "scroll" }, el("table", { class: "shares small" },
       el("thead", {}, el("tr", {}, el("th", {}, "Place"),
-        points.map(({ title }) => [el("th", { class: "number" }, title), el("th", {}, "by whom")]))),
+        points.map((point) => [el("th", { class: "number" }, columnHead(point)), el("th", {}, "by whom")]))),
       el("tbody", {}, lists[0].map((_, k) => el("tr", {}, el("th", { scope: "row", class: "number" }, String(k + 1)),
         lists.map((list, which) => cells(list[k], k + 1 === differs[which]))))))),
     el("p", { class: "tools" },
@@ -73,16 +76,15 @@ function partsOf(found, { game, points, format, asked, onAll }) {
 }
 
 /** At which place each list begins to be another than the first one. */
-function differsText([{ title }, ...others], [, ...differs]) {
-  const told = others.map((one, k) => `${one.title} ${differs[k] ? `at place ${differs[k]}` : "nowhere"}`);
-  return `A mark shows where a list first differs from that of the ${title.toLowerCase()}: ${listed(told)}.`;
+function differsText([first, ...others], [, ...differs]) {
+  const told = others.map((one, k) => `${quoted(one)} ${differs[k] ? `at place ${differs[k]}` : "nowhere"}`);
+  return `A mark shows where a list first differs from that of ${quoted(first)}: ${listed(told)}.`;
 }
 
 /** All places for a spreadsheet: tabs between, plain decimals, and the exact fractions beside them. */
 function tableText(points, lists, format) {
   const { show } = format.plain();
   const heads = ["Place", ...points.flatMap(({ title }) => [title, `${title}, exact`, "by whom"])];
-  const cells = ({ group, excess }) => [show(Rational.of(excess)), excess, group.replace(/[\u2068\u2069\t]/g, "")];
-  const lines = lists[0].map((_, k) => [k + 1, ...lists.flatMap((list) => cells(list[k]))]);
-  return [heads, ...lines].map((line) => `${line.join("\t")}\n`).join("").replace(/\u202f/g, "").replace(/−/g, "-");
+  const cells = ({ group, excess }) => [show(Rational.of(excess)), excess, group];
+  return tabbed([heads, ...lists[0].map((_, k) => [String(k + 1), ...lists.flatMap((list) => cells(list[k]))])]);
 }

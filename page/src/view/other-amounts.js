@@ -3,13 +3,13 @@ import { Rational } from "../exact/rational.js";
 import { fractionText } from "../exact/decimals.js";
 import { nameOfMark } from "../exact/marks.js";
 import { listed } from "../game/words.js";
-import { changesOf, changesTable, movedHint, ruleIn } from "./changes.js";
+import { quoted } from "../tell/rule-names.js";
+import { changesOf, changesTable, movedHint } from "./changes.js";
 import { button, el, refill } from "./dom.js";
 import { totalsOf } from "./format.js";
 import { movingPart } from "./moving-whole.js";
 import { leavingPart } from "./who-leaves.js";
 
-const PER_HEAD = "Prenucleolus per head", EVEN = ["Shapley shares", PER_HEAD];
 const MOST_OVERRUN = 12; // players of other games than tables
 const MOST_MOVED = 16; // claims whose estate moves
 
@@ -129,17 +129,21 @@ function sizeOf(change, { by }) {
 
 /** Which rules keep everybody from paying less in every case, and what is meant by the one per head. */
 function promises(columns, { costs }) {
-  const isPerHead = columns.some(({ title }) => title === PER_HEAD);
+  const even = columns.filter(isEven), perHead = columns.find((column) => column.perHead);
   return [
-    el("p", { class: "hint" }, "If only the whole changes, each bears an equal part of it by the Shapley ",
-      "shares and the prenucleolus per head, in every case (Young, Okada and Hashimoto 1982). So by these nobody ",
+    el("p", { class: "hint" }, "If only the whole changes, each bears an equal part of it by ",
+      listed(even.map(quoted)), ", in every case (Young, Okada and Hashimoto 1982). So by ",
+      even.length > 1 ? "these" : "this", " nobody ",
       costs ? "pays less when the whole costs more. " : "gets less when all together gain more. ",
-      "The nucleolus doesn’t promise that (Megiddo 1974)."),
-    isPerHead && el("p", { class: "hint" }, "The prenucleolus per head counts what a group gains per member, and ",
-      "looks at all divisions of the whole. The nucleolus per head of the answer looks only at those by which nobody ",
+      quoted(columns[0]), " doesn’t promise that (Megiddo 1974)."),
+    perHead && el("p", { class: "hint" }, quoted(perHead), " counts what a group gains per member, and ",
+      "looks at all divisions of the whole. An answer per head looks only at those by which nobody ",
       costs ? "pays more" : "gets less", " than alone, so it may be another."),
   ];
 }
+
+/** Whether all bear the same by a rule if only the whole changes, in every game. */
+const isEven = ({ key, perHead }) => key === "shapley" || perHead;
 
 /** Where no division keeps all groups any more: that has to be known before a rule is agreed on. */
 function unstable({ wasStable, isStable }, { costs }) {
@@ -149,10 +153,10 @@ function unstable({ wasStable, isStable }, { costs }) {
 }
 
 function overrunSentence(column, rows, change, game, format) {
-  const { differences, texts, title, worst } = column, { show, isExact } = format;
+  const { differences, texts, worst } = column, { show, isExact } = format;
   const isUp = (value) => value.isNegative() !== change.isNegative() && !value.isZero();
   const against = differences.map((value, r) => ({ value, r })).filter(({ value }) => isUp(value));
-  const [verb, costs] = game.costs ? ["pays", "costs"] : ["gets", "gains"], name = `By the ${ruleIn(column)}`;
+  const [verb, costs] = game.costs ? ["pays", "costs"] : ["gets", "gains"], name = quoted(column);
   if (against.length) {
     const told = against.map(({ value, r }) => {
       const size = /[1-9]/.test(texts[2][r]) ? texts[2][r].replace(/^[+−]/, "") : format.by(value.abs());
@@ -161,12 +165,12 @@ function overrunSentence(column, rows, change, game, format) {
     const although = `although the whole ${costs} ${sizeOf(change, format)}`;
     return `${name}: ${although}, ${listed(told)}.${reasonOf(worst, format)}`;
   }
-  const isEven = differences.every((value) => value.equals(differences[0])), isAlways = EVEN.includes(title);
+  const isAlike = differences.every((value) => value.equals(differences[0]));
   const each = isExact(differences[0]) ? "" : ` (${fractionText(differences[0])})`;
-  const where = isAlways ? ", as in every case" : " here";
-  if (isEven) return `${name} all bear the same${where}: ${show(differences[0])}${each} each.`;
+  const where = isEven(column) ? ", as in every case" : " here";
+  if (isAlike) return `${name}: all bear the same${where}, ${show(differences[0])}${each} each.`;
   const way = change.isNegative() ? "more" : "less";
-  return `${name} nobody ${verb} ${way} here.`;
+  return `${name}: nobody ${verb} ${way} here.`;
 }
 
 /** Why a share may go against the change: other groups are looked at first. */

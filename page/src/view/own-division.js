@@ -28,7 +28,8 @@ export function ownDivision(result, { rows, format, proposal, today, pinned, typ
       !isOpen && el("p", { class: "tools" }, button("Type your own division", begin)),
       proposalTools(named, { rows, proposal, format, isOpen }),
     ],
-    (proposal.canBe || today.canBe) && points.length > 0 && comparisonPart(proposal, points[0], game, { rows, typed }),
+    (proposal.canBe || today.canBe) && points.length > 0
+      && comparisonPart(proposal, plainPoints(points, game)[0], game, { rows, typed }),
     todayTools(game, today),
     pinned.canBe && !pinned.pin && [el("h3", {}, "Other numbers"), el("p", { class: "hint" }, KEEP),
       el("p", { class: "tools" }, keepButton(pinned))],

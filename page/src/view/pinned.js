@@ -2,6 +2,7 @@
 import { Rational } from "../exact/rational.js";
 import { withEscapes } from "../game/names.js";
 import { listed, plural } from "../game/words.js";
+import { quoted } from "../tell/rule-names.js";
 import { button, el } from "./dom.js";
 import { changeBelow } from "./today.js";
 import { totalsOf, withSum } from "./format.js";
@@ -107,9 +108,9 @@ export function sinceKept(step, total, kept, r, format, isBeside = true) {
   return [!isBeside && el("small", { class: "was" }, `was ${format.show(before)}`), changeBelow(step, before, format)];
 }
 
-/** Who bears the change, in sentences: by one rule, {key, title, rule, totals}, for the numbers that are shown. */
+/** Who bears the change, in sentences: by one rule, {key, title, totals}, for the numbers that are shown. */
 export function pinnedText({ changed, gone, kept }, point, rows, { format, labelOfCell }) {
-  const { key, title, rule = title, totals } = point;
+  const { key, title, totals } = point;
   const { values: before = rows.map(() => null), exact = [] } = kept(key, format) ?? {};
   const steps = format.steps(totals, rows), unit = new Rational(10n ** BigInt(format.places));
   const by = rows.map((_, r) => before[r] && new Rational(steps[r]).over(unit).minus(before[r]));
@@ -121,16 +122,12 @@ export function pinnedText({ changed, gone, kept }, point, rows, { format, label
   });
   const more = (changed ?? []).length - cells.length;
   return [
-    told.length ? `Against the kept answer, ${ruled(rule)}: ${listed(told)}`
+    told.length ? `Against the kept answer, ${title === "Power" ? "in power" : `by ${quoted(point)}`}: ${listed(told)}`
       + `${told.length < known ? "; the others as before" : ""}.` : "The shares are those of the kept answer.",
     cells.length > 0 && `Changed since: ${cells.join("; ")}${more ? `; and ${plural(more, "more cell")}` : ""}.`,
     fresh.length > 0 && `New: ${fresh.join(", ")}.`,
     gone.length > 0 && `Kept, and gone since: ${gone.join(", ")}.`,
   ].filter(Boolean).join(" ");
-}
-
-function ruled(title) {
-  return title === "Power" ? "in power" : `by the ${title.replace(/^[NP]/, (letter) => letter.toLowerCase())}`;
 }
 
 function signed(label, by, { show }) {

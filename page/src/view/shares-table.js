@@ -6,13 +6,13 @@ import { plainPoints } from "../tell/rule-names.js";
 import { Namer } from "../tell/words.js";
 import { listed, plural } from "../game/words.js";
 import { againstOf } from "./comparison.js";
-import { el } from "./dom.js";
+import { columnHead, el } from "./dom.js";
 import { labelOf, movedText, totalsOf, withSum } from "./format.js";
 import { subtitleOf } from "./meanings.js";
 import { pinnedNote, pinTools, sinceKept } from "./pinned.js";
 import { ownInput, proposalSum } from "./proposal-cells.js";
 import { CALCULATED } from "./questions.js";
-import { airlineLines, roundingLines, shareLines } from "./table-lines.js";
+import { airlineLines, besideLines, roundingLines, shareLines } from "./table-lines.js";
 import { changeBelow, todayTitle } from "./today.js";
 
 const BRIEF = 8; // rows that are kept on one printed page
@@ -106,12 +106,6 @@ function headOf({ game, context, columns, proposal, today, pinned, against, isNa
     proposal.canBe && el("th", { scope: "col", class: "number proposed", "data-point": "proposal" },
       "Your proposal", el("small", {}, subtitleOf("proposal", game))),
     against && el("th", { scope: "col", class: "number against" }, against.title)));
-}
-
-/** The title that all read, the field's name (on the screen only beside exact fractions), and what is said more. */
-export function columnHead({ title, name }, ...more) {
-  const below = more.filter(Boolean).join(", ");
-  return [title, name && el("small", { class: "field-name" }, name), below && el("small", {}, below)];
 }
 
 /** The first column is the answer. */
@@ -229,9 +223,9 @@ function footOf(view) {
 }
 
 /** Whether one player has a stronger hold on another, a line for each division; null if nothing is known of it. */
-export function holdsPart({ points }, { rows, format, proposal }) {
+export function holdsPart({ points, game }, { rows, format, proposal }) {
   const own = proposal.shares && { title: "Your proposal", hold: proposal.hold };
-  const known = [...points, own].filter((one) => one?.hold);
+  const known = [...plainPoints(points, game), own].filter((one) => one?.hold);
   if (!known.length) return null;
   return el("div", { class: "holds" }, el("h3", {}, "Does one player have a stronger hold on another?"),
     el("ul", { class: "plain" }, known.map(({ title, hold }) => {
@@ -288,7 +282,12 @@ function holdText(rows, hold, { by }) {
 }
 
 /** The table for a spreadsheet, as lines of cells, what each airline pays, and how all is rounded. */
-export function tablesOf({ points }, { rows, format, coarse }) {
-  const own = points.map(({ title, shares }) => ({ title, totals: totalsOf(rows, shares) }));
-  return [shareLines(rows, own, format), airlineLines(rows, own, format), roundingLines(own, format, coarse)];
+export function tablesOf({ points, game }, { rows, format, coarse, today, pinned, proposal }) {
+  const own = plainPoints(points, game).map(({ key, title, note, shares }) => {
+    return { key, title: [title, note].filter(Boolean).join(" "), totals: totalsOf(rows, shares) };
+  });
+  const beside = besideLines(rows, own, { today, pinned: game.ballots ? null : pinned, proposal, game }, format);
+  const proposed = proposal?.totals ? [{ title: "Your proposal", totals: proposal.totals }] : [];
+  return [shareLines(rows, own, format, beside), airlineLines(rows, [...own, ...proposed], format),
+    roundingLines(own, format, coarse)];
 }

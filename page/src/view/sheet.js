@@ -17,7 +17,7 @@ import { listed } from "../game/words.js";
 import { lead, notices, solutionOf } from "./answer.js";
 import { beyondSheet } from "./beyond.js";
 import { beyondPower } from "./beyond-power.js";
-import { el, refill } from "./dom.js";
+import { columnHead, el, refill } from "./dom.js";
 import { knownDigest } from "./files.js";
 import { fitOnPaper } from "./fit.js";
 import { filledLines, filledText, givenText } from "./filled.js";
@@ -25,7 +25,7 @@ import { movedText, totalsOf, withSum } from "./format.js";
 import { labelOfCell } from "./cell-names.js";
 import { pinnedOf, pinnedText } from "./pinned.js";
 import { CALCULATED } from "./questions.js";
-import { columnHead, contextOf, ownSum, sameText } from "./shares-table.js";
+import { contextOf, ownSum, sameText } from "./shares-table.js";
 import { airlineLines } from "./table-lines.js";
 import { changeText, todayOf, todayTitle } from "./today.js";
 import { linesTable } from "./types-table.js";
@@ -374,7 +374,7 @@ function agreedOf(view) {
 /** The rules whose shares are on the page. */
 function shownTitles({ result, withProposal }) {
   const own = solutionOf(result) ?? result.points[0];
-  return (withProposal ? result.points : [own]).map(({ rule }) => rule);
+  return (withProposal ? result.points : [own]).map(({ title }) => title);
 }
 
 function checkOf({ result: { rule, answer, line, game }, kind, doubt, coarse }) {

@@ -1,7 +1,8 @@
 // How much the answer depends on what the page filled in: the shares by both ways to fill a table of costs.
 import { Rational, ZERO } from "../exact/rational.js";
 import { packed } from "../cases/tables.js";
-import { changesOf, changesTable, ruleIn } from "./changes.js";
+import { quoted } from "../tell/rule-names.js";
+import { changesOf, changesTable } from "./changes.js";
 import { el, refill } from "./dom.js";
 
 const MOST_PLAYERS = 10;
@@ -59,6 +60,6 @@ function largestOf(columns, { rows, format }, which = "") {
   const most = all.reduce((best, one) => (best.value.abs().less(one.value.abs()) ? one : best), { value: ZERO });
   if (most.value.isZero()) return `Filled by the other way, no share${which} changes.`;
   const way = most.value.isNegative() ? "less" : "more", size = format.by(Rational.of(most.value).abs());
-  return `Filled by the other way, the largest change${which} is that of ${rows[most.r].label}: ${size} ${way}, by the `
-    + `${ruleIn(most.column)}.`;
+  return `Filled by the other way, the largest change${which} is that of ${rows[most.r].label}: ${size} ${way} (`
+    + `${quoted(most.column)}).`;
 }

@@ -1,7 +1,7 @@
 // What the others pay, or get, if one leaves, and what the one who leaves has to be told.
 import { Rational } from "../exact/rational.js";
-import { capital } from "../game/words.js";
-import { changesOf, changesTable, ruleIn } from "./changes.js";
+import { quoted } from "../tell/rule-names.js";
+import { changesOf, changesTable } from "./changes.js";
 import { el, refill } from "./dom.js";
 import { fillsOfRest } from "./two-fills.js";
 
@@ -84,6 +84,6 @@ function ofRule(column, { label, verb, alone, game, format: { show, by } }) {
   };
   const told = (value) => (value.isZero() ? "the same" : `${by(value.abs())} ${way(value)}`);
   const verbs = game.costs ? "pay" : "get";
-  return capital(`by the ${ruleIn(column)} ${label} ${verb} ${show(own)}, and alone ${told(alone.minus(own))}; the `
-    + `others together then ${verbs} ${told(others)}.`);
+  return `${quoted(column)}: ${label} ${verb} ${show(own)}, and alone ${told(alone.minus(own))}; the others together `
+    + `then ${verbs} ${told(others)}.`;
 }

@@ -6,6 +6,7 @@ import { withoutPlace } from "../cases/links.js";
 import { network as networks } from "../cases/matrices.js";
 import { Game } from "../game/game.js";
 import { maskOf, membersOf, without } from "../game/groups.js";
+import { plainNames } from "../tell/rule-names.js";
 import { Namer } from "../tell/words.js";
 import { answer, solutionOf } from "./answers.js";
 import { fillLinks } from "./networks.js";
@@ -39,15 +40,15 @@ export function isStable(side) {
 /** By each rule the shares of both games, and which group does better by itself. */
 export function byEachRule(sides) {
   const isPrenucleolus = sides.some((side) => solutionOf(treeOf(side)).key === "prenucleolus");
-  const rules = [
-    [isPrenucleolus ? "prenucleolus" : "nucleolus", isPrenucleolus ? "Prenucleolus" : "Nucleolus", {}],
-    ["shapley", "Shapley shares", {}],
-  ];
+  const rules = [[isPrenucleolus ? "prenucleolus" : "nucleolus"], ["shapley"]];
   const isSmall = sides.every(({ n }) => n <= MOST_PER_HEAD);
-  if (isSmall) rules.push(["prenucleolus", "Prenucleolus per head", { excess: "per-head" }]);
-  return rules.map(([word, title, measure]) => {
-    const [before, after] = sides.map((side) => solutionOf({ ...treeOf(side), ...measure }, word).shares);
-    return { title, before, after, leaving: [leavingOf(sides[0], before), leavingOf(sides[1], after)] };
+  if (isSmall) rules.push(["prenucleolus", true]);
+  return rules.map(([key, perHead = false]) => {
+    const measure = perHead ? { excess: "per-head" } : {};
+    const [before, after] = sides.map((side) => solutionOf({ ...treeOf(side), ...measure }, key).shares);
+    const { plain: title, name } = plainNames(key, "", { perHead }, isPrenucleolus);
+    return { key, perHead, title, name, before, after,
+      leaving: [leavingOf(sides[0], before), leavingOf(sides[1], after)] };
   });
 }
 
