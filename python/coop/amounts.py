@@ -8,13 +8,14 @@ import re
 from contextlib import suppress
 from decimal import Decimal
 from fractions import Fraction
-from math import lcm
+from math import isfinite, lcm
 from numbers import Real
 from operator import index
 from typing import Any, Iterable, Optional, Sequence, Union
 
 from .classes import LIMITS
 from .errors import BadInput
+from .names import is_sum_word
 
 Amount = Union[int, str, Fraction, Decimal, float]
 """What may be given for a number: "12", "12.50", "1e-05" and "25/2" are texts of numbers."""
@@ -27,17 +28,15 @@ NUMBER = re.compile(r"-?([0-9]{1,40}(\.[0-9]{1,40})?([eE][-+]?[0-9]{1,2})?|[0-9]
 
 def fraction_of(value: Amount, digits: Optional[int] = None) -> Fraction:
     """The exact value. With a number of digits it is rounded to so many decimals, and floats are taken too."""
-    value = plain(value)
-    if digits is not None and (type(digits) is not int or not 0 <= digits <= MOST_DIGITS):
-        raise BadInput(f"{digits!r} isn't a number of digits from 0 to {MOST_DIGITS}")
-    if isinstance(value, float) and digits is None:
-        raise BadInput(f"{value!r} is a float: give a number of digits to round to, or a text, {str(value)!r}")
+    value, digits = plain(value), digits if digits is None else digits_of(digits)
+    if isinstance(value, float) and digits is None and isfinite(value):
+        raise BadInput(f"{float(value)!r} is a float: give a number of digits to round to, or a text, {str(value)!r}")
     if isinstance(value, str) and not NUMBER.fullmatch(value.strip()):
         raise BadInput(f"{value[:40]!r} isn't a number: write 12, 12.50, 1e-05 or 25/2")
     try:
-        exact = Fraction(value.strip() if isinstance(value, str) else value)
+        exact = Fraction(value.strip() if isinstance(value, str) else value)  # none of NaN, nor of what has no end
     except (ValueError, OverflowError):
-        raise BadInput(f"{value!r} isn't a number") from None
+        raise BadInput(f"{value} isn't a number") from None
     if max(exact.numerator.bit_length(), exact.denominator.bit_length()) > MOST_BITS:
         raise BadInput(f"a number has more than {MOST_BITS} bits")
     if isinstance(value, Decimal) and digits is None and has_digits_of_a_float(value, exact):
@@ -55,13 +54,29 @@ def plain(value: Amount) -> Amount:
         if isinstance(exponent, int) and not -MOST_BITS < exponent < MOST_BITS:
             raise BadInput(f"a number has the exponent {exponent}")
         return value
-    if not is_truth(value):
-        with suppress(TypeError):
-            return index(value)
-        if isinstance(value, Real):  # a float of fewer bits
-            with suppress(TypeError):  # NumPy's spans of time are integers by their class, and have no value
-                return float(value)
-    raise BadInput(f"{str(value)[:40]!r} isn't a number")
+    whole = whole_of(value)
+    if whole is not None:
+        return whole
+    if isinstance(value, Real) and not is_truth(value):  # a float of fewer bits
+        with suppress(TypeError):  # NumPy's spans of time are integers by their class, and have no value
+            return float(value)
+    way = "; of pairs make a mapping, as dict(pairs) does" if isinstance(value, tuple) else ""
+    raise BadInput(f"{str(value)[:40]!r} isn't a number{way}")
+
+
+def whole_of(value: Any) -> Optional[int]:
+    """The integer that a value is, of Python or of NumPy. True and False are none."""
+    with suppress(TypeError):
+        return None if is_truth(value) else index(value)
+    return None
+
+
+def digits_of(digits: Any) -> int:
+    """A number of digits, which may be an integer of NumPy."""
+    whole = whole_of(digits)
+    if whole is None or not 0 <= whole <= MOST_DIGITS:
+        raise BadInput(f"{digits!r} isn't a number of digits from 0 to {MOST_DIGITS}")
+    return whole
 
 
 def is_truth(value: Any) -> bool:
@@ -75,8 +90,8 @@ def has_digits_of_a_float(value: Decimal, exact: Fraction) -> bool:
 
 
 def fractions_of(values: Iterable[Amount], digits: Optional[int] = None) -> list[Fraction]:
-    """The exact values of a list. A text is none, though it has letters one after the other."""
-    if isinstance(values, (str, bytes)):
+    """The exact values of a list. A text is none, though it has letters one after the other, and so are bytes."""
+    if isinstance(values, (str, bytes, bytearray, memoryview)):
         raise BadInput(f"{values[:40]!r} is a text, not a list of numbers")
     require_order(values)
     require_one_dimension(values)
@@ -106,7 +121,13 @@ def amounts_of(values: Any, items: Sequence[tuple[Any, Any]], digits: Optional[i
 
 
 def label_of(label: Any) -> str:
-    """The name that a label is: its text. One that is missing, as None or NaN, is no name."""
+    """The name that a label is: its text. One that is missing, as None or NaN, is no name, and nor is one of several
+    parts, as a MultiIndex has them."""
+    if isinstance(label, (tuple, frozenset)):
+        text = ", ".join(map(str, label))
+        raise BadInput(f"the label {str(label)[:80]} has several parts: make one text of it, such as {text!r}")
+    if isinstance(label, bytes):
+        raise BadInput(f"the label {str(label)[:80]} is bytes, and no text: decode it")
     if label is None or str(label) in ("nan", "NaT", "<NA>") and not isinstance(label, str):
         raise BadInput(f"a label is missing ({label}): each number needs a name")
     return str(label)
@@ -129,8 +150,12 @@ def named_amounts(
         labels = ", ".join(str(label) for label, _ in items[:3])
         way = "leave `names` out, or give the numbers as a list, in the order of the names"
         raise BadInput(f"the numbers have names already ({labels}, ..): {way}")
-    found = amounts_of(values, items, digits)
-    return [label_of(label) for label, _ in items], found
+    own, found = [label_of(label) for label, _ in items], amounts_of(values, items, digits)
+    for name, amount in zip(own, found):
+        if len(own) > 2 and is_sum_word(name) and 2 * amount == sum(found):
+            way = "leave that row out; if it is a player, give the numbers as a list, and `names`"
+            raise BadInput(f"{name} has the sum of all others: {way}")
+    return own, found
 
 
 def require_once_each(names: Sequence[str]) -> None:
@@ -147,10 +172,10 @@ def require_order(values: Any) -> None:
 
 def count_of(count: Any, what: str, whose: str = "") -> int:
     """A count of 1 or more, which may be an integer of NumPy."""
-    with suppress(TypeError):
-        if not is_truth(count) and index(count) >= 1:
-            return index(count)
-    raise BadInput(f"{whose}{count!r} isn't a number of {what}: give 1 or more")
+    whole = whole_of(count)
+    if whole is None or whole < 1:
+        raise BadInput(f"{whose}{count!r} isn't a number of {what}: give a whole number, 1 or more")
+    return whole
 
 
 def require_one_dimension(values: Any) -> None:
@@ -176,8 +201,8 @@ def factor_for(values: list[Fraction], digits: Optional[int] = None) -> int:
     denominator is one that a document may have; else that denominator, so that all become integers. Numbers rounded to
     more than four digits are multiplied by 10 to that power, whatever they are, so that games of one source agree."""
     common = lcm(*(value.denominator for value in values))
-    if digits is not None and 10**digits > MOST_SCALE:
-        common = 10**digits
+    power = 1 if digits is None else 10 ** digits_of(digits)
+    common = power if power > MOST_SCALE else common
     if any(abs(value.numerator) * common >= LIMIT * value.denominator for value in values):
         told = f"a number, times the common denominator {common}, is 2^40 or more"
         raise BadInput(told + ("" if common == 1 else f": {advice_on_digits(values)}"))

@@ -126,13 +126,14 @@ def document_of(game: Game, shares: Optional[Proposal] = None) -> bytes:
     return game.document(shares=[written(share * game.factor) for share in rounded(game, shares, None)])
 
 
-def rounded(game: Game, shares: Proposal, digits: Optional[int]) -> list[Fraction]:
+def rounded(game: Game, shares: Proposal, digits: Optional[int], what: str = "share") -> list[Fraction]:
     """Shares by names, or in the players' order, as exact numbers in that order."""
+    require_game(game)
     items = named_items(shares)
     if items is not None:
         named = dict(zip((str(name) for name, _ in items), amounts_of(shares, items, digits)))
         if len(items) != game.n or set(named) != set(game.names):
-            raise BadInput(f"give a share to each of these names, each once: {', '.join(game.names)}")
+            raise BadInput(f"give a {what} to each of these names, each once: {', '.join(game.names)}")
         return [named[name] for name in game.names]
     return fractions_of(shares, digits)
 

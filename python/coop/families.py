@@ -11,6 +11,7 @@ from __future__ import annotations
 from random import Random
 from typing import Callable
 
+from .amounts import whole_of
 from .errors import BadInput
 from .game import MOST_IN_A_TABLE, Game
 from .linear import sums
@@ -34,8 +35,10 @@ def game(kind: str, players: int, seed: int) -> Game:
     """A game of a family."""
     if kind not in KINDS:
         raise BadInput(f"{kind!r} is no family: name one of {', '.join(KINDS)}")
-    if type(players) is not int or not 3 <= players <= MOST_IN_A_TABLE:
+    count = whole_of(players)
+    if count is None or not 3 <= count <= MOST_IN_A_TABLE:
         raise BadInput(f"{players} players: a family has 3 to {MOST_IN_A_TABLE}")
+    players = count
     draw = Random(f"{kind} {players} {seed}")
     if kind in ("votes", "votes-ties"):
         weights = [draw.randint(1, 60 if kind == "votes" else 4) for _ in range(players)]

@@ -48,7 +48,8 @@ def number(tree: Any, what: str) -> Fraction:
         return Fraction(tree)
     if type(tree) is str and FRACTION.fullmatch(tree):
         return exact(tree)
-    raise BadInput(f'{what}: {json.dumps(tree)[:40]} is no integer, nor, with "version":2, a fraction text')
+    told = json.dumps(tree, default=str)[:40]
+    raise BadInput(f'{what}: {told} is no integer, nor, with "version":2, a fraction text')
 
 
 def array(tree: Any, what: str) -> list[Any]:
@@ -169,7 +170,7 @@ class Game:
             return self.names.index(member)
         if type(member) is int and 1 <= member <= self.n:
             return member - 1
-        raise BadInput(f"{json.dumps(member)[:80]} isn't a player of the game")
+        raise BadInput(f"{json.dumps(member, default=str)[:80]} isn't a player of the game")
 
     def all_numbers(self) -> list[Fraction]:
         single = [self.single] if self.kind in SINGLE else []

@@ -8,11 +8,10 @@ answer is divided again.
 from __future__ import annotations
 
 from fractions import Fraction
-from operator import index
 from typing import Any, Callable, Iterable, Iterator, Mapping, Optional, Sequence, Union
 
 from .amounts import Amount, amounts_of, count_of, factor_for, fraction_of, fractions_of, is_truth, label_of
-from .amounts import named_amounts, named_items, require_once_each, require_order, written
+from .amounts import named_amounts, named_items, require_once_each, require_order, whole_of, written
 from .classes import CLASSES, LIMITS
 from .errors import BadInput
 from .game import MOST_IN_A_TABLE, Game, encoded
@@ -58,6 +57,7 @@ def table_of(
 ) -> Game:
     """A table from a rule: what each group is worth, or costs, by a function of the tuple of its members. Of a vote the
     function may say whether the group wins."""
+    names = checked_names(names)
     if len(names) > MOST_IN_A_TABLE:
         raise BadInput(f"{len(names)} players: a table has at most {MOST_IN_A_TABLE}")
     groups = (tuple(names[i] for i in members(group)) for group in by_mask(len(names)))
@@ -185,11 +185,14 @@ def require_none_negative(amounts: list[Fraction], names: Optional[Sequence[str]
 
 
 def require_rows(rows: Any) -> None:
-    """Refuses what is no list of rows; a text is none."""
+    """Refuses what is no list of rows; a text is none, and neither is a set or what has names for its rows."""
+    require_order(rows)
     if isinstance(rows, (str, bytes)) or not isinstance(rows, Iterable):
         raise BadInput(f"{str(rows)[:40]!r} isn't a list of rows")
     if hasattr(rows, "columns"):
         raise BadInput("a data frame isn't a list of rows: give the rows that frame.to_numpy().tolist() has")
+    if named_items(rows) is not None:
+        raise BadInput("a mapping isn't a list of rows, since their names would be lost: give a list of its values")
 
 
 def rows_of_landings(rows: Iterable[Any]) -> Iterator[tuple[str, Amount, int]]:
@@ -205,7 +208,10 @@ def rows_of_landings(rows: Iterable[Any]) -> Iterator[tuple[str, Amount, int]]:
 def rows_of(matrix: Rows, digits: Optional[int]) -> list[list[Fraction]]:
     """The rows of a matrix, none of them empty, and none of its numbers negative."""
     require_rows(matrix)
-    rows = [fractions_of(row, digits) for row in matrix]
+    listed_rows = list(matrix)
+    if any(named_items(row) is not None for row in listed_rows):
+        raise BadInput("a row of the matrix has labels, which would be lost: give a list of its values")
+    rows = [fractions_of(row, digits) for row in listed_rows]
     if not rows or not rows[0] or any(len(row) != len(rows[0]) for row in rows):
         raise BadInput("the matrix needs a row, and rows of the same length")
     require_none_negative([entry for row in rows for entry in row])
@@ -216,7 +222,9 @@ def checked_names(names: Sequence[str]) -> list[str]:
     """The names, each a text of 1 to 64 bytes that stands once."""
     names = listed_names(names)
     for name in names:
-        if not isinstance(name, str) or not 1 <= len(encoded(name, "a name")) <= MOST_NAME:
+        if not isinstance(name, str):
+            raise BadInput(f"the name {str(name)[:80]} isn't a text: give each name as a text")
+        if not 1 <= len(encoded(name, "a name")) <= MOST_NAME:
             told = f"is no name of 1 to {MOST_NAME} bytes; letters beyond ASCII have several"
             raise BadInput(f"{str(name)[:80]!r} {told}")
     require_once_each(names)
@@ -245,6 +253,8 @@ def made(
     tree: dict[str, Any] = {"class": kind}
     if names is not None:
         tree["names"] = checked_names(names)
+    if not is_truth(per_head):
+        raise BadInput(f"`per_head` is True or False, and not {per_head!r}")
     if per_head:
         tree["excess"] = "per-head"
     tree.update((key, as_json(part, factor)) for key, part in parts.items())
@@ -299,20 +309,25 @@ def listed(
 
 
 def members_of(group: Any) -> list[Union[str, int]]:
-    """The members of a group as it is written."""
+    """The members of a group as it is written; of a set, which has no order, in that of their texts."""
     if isinstance(group, str):
-        return [member.strip() for member in group.split("+")] if group else []
-    if not isinstance(group, Iterable):
+        some = [member.strip() for member in group.split("+")] if group else []
+        if "" in some:
+            raise BadInput(f"a member of the group {group[:80]!r} has no name")
+        return list(some)
+    if isinstance(group, bytes) or not isinstance(group, Iterable):
         group = [group]
+    if isinstance(group, (set, frozenset)):
+        group = sorted(group, key=str)
     return [member if isinstance(member, str) else number_of(member) for member in group]
 
 
 def number_of(member: Any) -> int:
     """The number of a player, which may be one of NumPy."""
-    try:
-        return index(member)
-    except TypeError:
-        raise BadInput(f"{str(member)[:40]!r} isn't a player: a group has names, or numbers from 1") from None
+    whole = whole_of(member)
+    if whole is None:
+        raise BadInput(f"{str(member)[:40]!r} isn't a player: a group has names, or numbers from 1")
+    return whole
 
 
 def by_groups(

@@ -63,9 +63,10 @@ def many(
 
 
 def require_apt(games: Any, executor: Any, *its_own: Any) -> None:
-    """Refuses one game, a mapping, what takes no calls, and numbers for an executor where there is none."""
-    if isinstance(games, (Game, Mapping)):
-        way = "[game]" if isinstance(games, Game) else "its .values()"
+    """Refuses what is no list of games, what takes no calls, and numbers for an executor where there is none."""
+    require_order(games)
+    if isinstance(games, Mapping) or not isinstance(games, Iterable):
+        way = "its .values()" if isinstance(games, Mapping) else "one, such as [game]"
         raise BadInput(f"a {type(games).__name__} isn't a list of games: give {way}")
     if executor is None and any(number is not None for number in its_own):
         told = "for a limit of each call give program=Server(.., seconds=..)"
@@ -78,7 +79,7 @@ def require_apt(games: Any, executor: Any, *its_own: Any) -> None:
 def words_of(commands: Union[str, Sequence[str]]) -> tuple[str, ...]:
     """The commands, each of which answers to a game alone."""
     require_order(commands)
-    words = (commands,) if isinstance(commands, str) else tuple(commands)
+    words = (commands,) if isinstance(commands, str) or not isinstance(commands, Iterable) else tuple(commands)
     for word in words or [""]:
         if word not in ON_A_GAME:
             told = f"needs more than a game (map coop.{word} over threads)" if word in COMMANDS else "is no command"

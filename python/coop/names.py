@@ -18,6 +18,12 @@ UNSEEN = frozenset(  # 0x2800 is a blank of Braille
 ISOLATE, END_OF_ISOLATE = "\u2068", "\u2069"
 
 
+# How a row is called that has the sum of others, as page/src/game/names.js has it.
+SUMS = re.compile(
+    r"all|(all )?together|sum|((grand|sub)[ -]?)?totals?( (costs?|amount|claims?|debts?|votes?))?|suma|totaa?l|totalt|"
+    r"summa|(zwischen)?summe|gesamt(summe|kosten|betrag)?|insgesamt|zusammen|somme|totale|(sous-)?total( général)?",
+    re.IGNORECASE,
+)
 # Letters of other alphabets, each in front of the Latin one that it is taken for, as page/src/game/names.js has them;
 # the twin of 1, I, l and | is l, and that of 0 and O is o.
 PAIRS = (
@@ -65,6 +71,11 @@ def escape(letter: str) -> str:
 def plain(text: str) -> str:
     """A name without what isn't seen, in the plainest form of each letter."""
     return " ".join("".join(letter for letter in unicodedata.normalize("NFKC", text) if not is_unseen(letter)).split())
+
+
+def is_sum_word(name: str) -> bool:
+    """Whether a name may be that of a row of sums."""
+    return SUMS.fullmatch(name.strip(" :")) is not None
 
 
 def looks(text: str) -> str:

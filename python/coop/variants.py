@@ -2,7 +2,7 @@
 from __future__ import annotations
 
 from fractions import Fraction
-from typing import Any, Collection, Optional
+from typing import Any, Iterable, Optional
 
 from .amounts import Amount, fraction_of
 from .errors import BadInput
@@ -11,9 +11,9 @@ from .games import made, player_of
 from .masks import mask_of, members
 
 
-def without(game: Game, leaving: Collection[Any]) -> Game:
+def without(game: Game, leaving: Iterable[Any]) -> Game:
     """The game of those who stay: each of their groups is worth, or costs, what it was."""
-    if isinstance(leaving, str):
+    if isinstance(leaving, str) or not isinstance(leaving, Iterable):
         raise BadInput(f"{leaving!r} isn't a list of names: write [{leaving!r}]")
     left = {player_of(name, game.names) for name in leaving}
     stay = [i for i in range(game.n) if i not in left]

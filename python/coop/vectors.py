@@ -7,7 +7,7 @@ be told from the other by its length: the order has to be named. (Of two players
 from __future__ import annotations
 
 from fractions import Fraction
-from typing import Callable, Optional, Sequence
+from typing import Any, Callable, Optional, Sequence
 
 from .classes import CLASSES
 from .errors import BadInput
@@ -33,6 +33,11 @@ def players_of(length: int) -> int:
     return players
 
 
+def require_known(order: Any) -> None:
+    if not isinstance(order, str) or order not in ORDERS:
+        raise BadInput(f"{order!r} isn't an order: use {', '.join(ORDERS)}")
+
+
 def groups_in(headings: Sequence[str]) -> Optional[tuple[list[str], list[int]]]:
     """The players that the headings of a vector name, and the group of each number: Ann, Bob, Ann+Bob, or 1, 2, 12. One
     number more is that of the empty group, first. None unless each group is there once."""
@@ -53,8 +58,8 @@ def in_mask_order(
 ) -> list[Fraction]:
     """The vector in mask order, without the empty group, which may stand first with 0. From three players on the order
     has to be named, unless headings have told the group of each number; these have to agree."""
-    if order is not None and order not in ORDERS:
-        raise BadInput(f"{order!r} isn't an order: use {', '.join(ORDERS)}")
+    if order is not None:
+        require_known(order)
     numbers = list(vector)
     if len(numbers) > 1 and len(numbers) & len(numbers) - 1 == 0:
         if numbers[0]:
@@ -73,6 +78,5 @@ def in_mask_order(
 
 def in_order(worths: Sequence[Fraction], order: str) -> list[Fraction]:
     """The other way: a vector in mask order, in the order that is named."""
-    if order not in ORDERS:
-        raise BadInput(f"{order!r} isn't an order: use {', '.join(ORDERS)}")
+    require_known(order)
     return [worths[group - 1] for group in ORDERS[order](players_of(len(worths)))]

@@ -11,10 +11,9 @@ from __future__ import annotations
 
 from dataclasses import dataclass
 from fractions import Fraction
-from typing import Callable, Iterator, Mapping, Optional
+from typing import Callable, Iterator, Optional
 
 from . import calls
-from .amounts import Amount, fraction_of
 from .answers import Blocked, Names, Nucleolus, Shapley, Shares
 from .errors import BadInput, Usage
 from .game import Game, require_game
@@ -40,7 +39,7 @@ class Row:
 
 
 def rules(
-    game: Game, benefits: Optional[Mapping[str, Amount]] = None, program: calls.Chosen = None
+    game: Game, benefits: Optional[calls.Proposal] = None, program: calls.Chosen = None
 ) -> Iterator[Row]:
     """A row for each rule by which the game has a division. Of `benefits`, if these are known, separable costs and
     remaining benefits takes account."""
@@ -110,7 +109,7 @@ def in_proportion(game: Game) -> Optional[Shares]:
     return spread(game, [Fraction(0)] * game.n, weights, whole)
 
 
-def remaining(game: Game, benefits: Optional[Mapping[str, Amount]] = None) -> Optional[Shares]:
+def remaining(game: Game, benefits: Optional[calls.Proposal] = None) -> Optional[Shares]:
     """Separable costs and remaining benefits, as US agencies have it since the Tennessee Valley: each bears what it
     adds to the others, and the rest goes by what is left of its benefit. That is at most what it costs alone, and
     counts as that where it isn't known (alternative cost avoided). One with nothing left bears none of the rest."""
@@ -118,9 +117,10 @@ def remaining(game: Game, benefits: Optional[Mapping[str, Amount]] = None) -> Op
     if benefits is not None:
         if not game.costs:
             raise BadInput("benefits are for costs, and this game has worths")
-        if set(benefits) != set(game.names):
-            raise BadInput(f"give the benefit of each of {', '.join(game.names)}")
-        alone = [min(cost, fraction_of(benefits[name])) for cost, name in zip(alone, game.names)]
+        known = calls.rounded(game, benefits, None, "benefit")
+        if len(known) != game.n:
+            raise BadInput(f"{len(known)} benefits for {game.n} players")
+        alone = [min(cost, benefit) for cost, benefit in zip(alone, known)]
     left = [max(Fraction(0), game.sign * (b - a)) for a, b in zip(alone, added)]
     return spread(game, added, left, whole)
 

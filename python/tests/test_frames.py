@@ -60,7 +60,7 @@ b: nan isn't a number
 P017, Bray+Dart: nan isn't a number
 number 2: nan isn't a number
 a label is missing (nan): each number needs a name
-a: 0 isn't a number of landings: give 1 or more
+a: 0 isn't a number of landings: give a whole number, 1 or more
 1 isn't a player: there are 17, 3; give a name, not a place
 17 True ['3'] ['Aer 1', 'Aer 2', 'Aer 3'] {'Aer': Fraction(2, 1)}
 [Fraction(1, 2), Fraction(3, 1)] [Fraction(1, 2), Fraction(2, 1)]

@@ -48,7 +48,7 @@ class Formulas(unittest.TestCase):
             whole - sum(added)
         ) / (50000 - added[0] + alone[1] - added[1] + alone[2] - added[2])))
         for game, benefits, sentence in (
-            (VALLEY, {"n": 1}, "give the benefit of each of n, f, p"),
+            (VALLEY, {"n": 1}, "give a benefit to each of these names, each once: n, f, p"),
             (ESTATE, {name: 1 for name in ESTATE.names}, "benefits are for costs"),
         ):
             with self.assertRaisesRegex(BadInput, sentence):
