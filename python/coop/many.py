@@ -66,7 +66,7 @@ def require_apt(games: Any, executor: Any, *its_own: Any) -> None:
     """Refuses what is no list of games, what takes no calls, and numbers for an executor where there is none."""
     require_order(games)
     if isinstance(games, Mapping) or not isinstance(games, Iterable):
-        way = "its .values()" if isinstance(games, Mapping) else "one, such as [game]"
+        way = "its .values()" if isinstance(games, Mapping) else "[game]"
         raise BadInput(f"a {type(games).__name__} isn't a list of games: give {way}")
     if executor is None and any(number is not None for number in its_own):
         told = "for a limit of each call give program=Server(.., seconds=..)"

@@ -108,7 +108,6 @@ REFUSED: list[tuple[Callable[..., Any], tuple[Any, ...], str]] = [
     (coop.propose, ("x", {"a": 1}), "str isn't a game"),
     (versus.remaining, (AIRPORT, [1, 2]), "2 benefits for 3 players"),
     (variants.without, (AIRPORT, 17), r"write \[17\]"),
-    (coop.many, ("nucleolus", AIRPORT), "a Game isn't a list of games: give one, such as .game."),
     (coop.many, ("nucleolus", None), "a NoneType isn't a list of games"),
     (coop.many, ("nucleolus", {AIRPORT}), "a set has no order"),
     (coop.many, ([], [AIRPORT]), "is no command: many takes nucleolus"),
