@@ -14,7 +14,8 @@ export const settled = () => new Promise(setImmediate);
 
 /** What a grid needs of a document. */
 class Element {
-  nodes = []; on = {}; attributes = {}; dataset = {}; classList = { toggle: nothing, remove: nothing };
+  nodes = []; on = {}; attributes = {}; dataset = {};
+  classList = { toggle: nothing, remove: nothing, contains: nothing };
 
   append(...some) {
     for (const one of some) if (one instanceof Element) one.parentElement = this;

@@ -1,6 +1,6 @@
 // Texts as people have them, pasted into the grids: what then stands in the cells, is said or asked. pasted.mjs [PART]
 // tries those that have PART in their text, and shows what comes of each.
-import { pastedDivision } from "../src/view/proposal.js";
+import { openText } from "../src/work/case-files.js";
 import { Desk, settled } from "./grids.mjs";
 
 const CELLS = { costs: "numbers.1", gains: "numbers.1", network: "names.0", market: "buyers.0" };
@@ -8,7 +8,10 @@ const [only = ""] = process.argv.slice(2);
 const SIGNS = /Signs of a list or a quotation before the names were left out/;
 const DASHES = /The dashes between names and numbers were left out/;
 
-/** A case, a text, what is in the cells (all that were there before if it is null), and what is said or asked. */
+const ANSWER = '\ufeff,nucleolus,"nucleolus, exact"\r\nSales,4.25,17/4\r\nOps,4,4\r\ntogether,8.25,33/4\r\n';
+const OF_ANSWER = /This is a table of an answer: it has the shares/;
+
+/** A case, a text or several, what is in the cells (null if they are as before), and what is said or asked. */
 const TEXTS = [
   // numbers with a unit and a time
   ["estate", "Ann\t12,000.00 EUR/year\nBo\t8,000.00 EUR/year", "Ann=12,000.00 EUR|Bo=8,000.00 EUR",
@@ -60,14 +63,46 @@ const TEXTS = [
   // persons who are numbers
   ["estate", "Flat 12\t120\nHouse 4a\t70", "Flat 12=120|House 4a=70"],
   ["estate", "4a\t70\n4b\t80\n12\t60", "4a=70|4b=80|12=60"],
+  ["estate", "#\tGläubiger\tForderung\tX\n1\tSum\t9\t\n2\t7\t5\tlate\n3\t8\t4\t", "Sum=9|7=5|8=4", /“#” was left out/],
+  ["votes", "1\tEUR 10\n2\tEUR 7", null, /Which column is “Who votes”\? “1, 2 …”/],
+  // a table of an answer, rows that stay, and lines without a group
+  ["estate", ANSWER, null, OF_ANSWER], ["costs", ANSWER, null, OF_ANSWER], ["network", ANSWER, null, OF_ANSWER],
+  ["market", ANSWER, null, OF_ANSWER],
+  ["market", ["\thut\tflat\nAnn\t5\t9\nBo\t8\t9", "P\t5\t6"], "hut|flat|P|Bo|5|6|8|9", /The rows below stay/],
+  ["costs", ["A\t8\nB\t7\nA+B\t12", "1\n2"], "A|B|1|2|12", /The numbers below stay as they were/],
+  ["estate", ["X\t1\nY\t2\nZ\t3", "P\t5"], "P=5|Y=2|Z=3", /The rows below stay as they were/],
+  ["costs", "A\t8\nB\t7\n\t0\n\t0\nA+B\t12", "A|B|8|7|12", /The group of nobody was left out/],
+  ["costs", "A\t8\nB\t7\nA+\t9\nA+B\t12", null, /Line 3: Beside a \+ a member is missing/],
+  ["votes", "Ann\t0\nBo\t0", "Ann=0|Bo=0", /The votes add to 0/],
   ["estate", "12\t120\n13\t80", null, /Which column is “Who claims”/],
   ["estate", "12 120\n13 80", null, /can part “12 120”|“13 80”/],
+  // tables of Word, LibreOffice, Markdown and the web
+  ["estate", "Ann | 120\nBo | 80", "Ann=120|Bo=80"],
+  ["estate", "Name | Claim\n--- | ---\n**Ann** | 120\nBo | 80", "Ann=120|Bo=80"],
+  ["estate", '"Ann\nRoe"\t"120"\n"Bo ""B"""\t80', 'Ann Roe=120|Bo "B"=80'],
+  ["estate", "Ann\u00a0120\nBo\u00a080", "Ann=120|Bo=80"],
+  ["estate", "Name\tClaim\nAnn\nRoe\t120\nBo\t80", "Ann|Roe=120|Bo=80", /1 empty/],
+  // amounts before names, in thousands, below zero and none
+  ["estate", "120 € Anna\n80 € Ben", "Anna=120 €|Ben=80 €", /The numbers stand before the names/],
+  ["estate", "120: Anna\n80: Ben", "Anna=120|Ben=80", /The numbers stand before the names/],
+  ["estate", "EUR 120 to Anna\nEUR 80 to Ben", "Anna=EUR 120|Ben=EUR 80", /before the names/],
+  ["estate", "120 Anna\n80 Ben", null, /nobody can part “120 Anna”/],
+  ["estate", "Ann 12k\nBo 8k", "Ann=12|Bo=8", /“k” behind/],
+  ["estate", "Ann\t$12k\nBo\t$8k", "Ann=$12|Bo=$8", /“k” behind/],
+  ["estate", "Ann 1,2 Mio. €\nBo 0,8 Mio. €", "Ann=1,2|Bo=0,8", /“Mio\. €” behind the numbers was left out/],
+  ["estate", "Ann\t1,2 Mio. €\nBo\t800 Tsd. €", null, /several units: “Mio\. €” and “Tsd\. €”/],
+  ["estate", "Ann 12 km\nBo 8 km", null, /nobody can part “Ann 12 km”/],
+  ["estate", "Ann\t(1,234)\nBo\t80", /Ann=/, /read as −1234 or as −1\.234.*can’t be negative/],
+  ["gains", "A\t\u221220\nB\t30\nA+B\t40", "A|B|\u221220|30|40"],
+  ["estate", "Ann\t120\nBo\t- €", /Bo=- €/, /Write 0, or remove it/],
+  ["estate", "Ann\t120*\nBo\t80", /120/, /number alone/],
+  ["costs", "A\t8k\nB\t7k\nA+B\t12k", "A|B|8|7|12", /“k” behind/],
 ];
 
 /** What comes of a text: the cells, and what is said, asked and wrong. */
 async function outcome(id, text, answer) {
   const desk = new Desk(id, "."), before = desk.cells();
-  await desk.paste(CELLS[id] ?? "rows.0.name", text);
+  for (const one of [text].flat()) await desk.paste(CELLS[id] ?? "rows.0.name", one);
   if (answer) await settled(desk.read().buttons.find((one) => one.textContent === answer)?.on.click({}));
   const { reading: { faults, empty, notes }, said, asked } = desk.read(), cells = desk.cells();
   const wrong = faults.map(({ sentence }) => sentence).join(" ");
@@ -76,13 +111,26 @@ async function outcome(id, text, answer) {
 }
 
 let faults = 0;
-for (const [id, text, cells, told, answer] of TEXTS.filter(([, text]) => text.includes(only))) {
+for (const [id, text, cells, told, answer] of TEXTS.filter(([, text]) => String(text).includes(only))) {
   const found = await outcome(id, text, answer);
   const isOf = cells instanceof RegExp ? cells.test(found.cells) : cells === found.cells;
   if (only) console.log(id, JSON.stringify(text), found);
   if (isOf && (told === undefined || told.test(found.told))) continue;
   faults += 1;
   console.log(`${id}: ${JSON.stringify(text)} is\n  ${found.cells}: ${found.told}\n  and not ${cells}: ${told}`);
+}
+/** Texts that are opened as a document, and what is said of them. */
+const OPENED = [
+  [ANSWER, /table of an answer: .* “Save the case” makes a file that opens here/],
+  ["Airline,Landings,A landing needs alone\nAer,3,20\nBee,2,40\n", /no saved case\. Choose “A runway”, and paste/],
+  ["Anna;120\nBen;80", /This is a table, and no saved case\. Choose the case that it is of/],
+  ['"Anna";"120"\n"Ben";"80"', /This is a table/], ["{,}", /It is no JSON text/], ["Dear all", /It is no JSON text/],
+];
+for (const [text, wanted] of OPENED) {
+  const { refusal } = openText({ text, mark: "." });
+  if (wanted.test(refusal?.sentence)) continue;
+  faults += 1;
+  console.log(`${JSON.stringify(text)}, opened: ${refusal?.sentence}, and not ${wanted}`);
 }
 console.log(`${TEXTS.length} texts that people paste, ${faults} faults`);
 process.exit(faults ? 1 : 0);

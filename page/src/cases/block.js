@@ -2,7 +2,7 @@
 import { readNumber } from "../exact/decimals.js";
 import { isSumWord, withEscapes } from "../game/names.js";
 import { UNKNOWN } from "./columns.js";
-import { withoutDashes, withoutSigns } from "./signs.js";
+import { namesFirst, withoutDashes, withoutSigns } from "./signs.js";
 import { parted } from "./units.js";
 
 const isNumber = (text = "") => text !== "" && !readNumber(text).fault;
@@ -22,6 +22,7 @@ const endsName = (word) => !NO_NAME.test(word) && !isNumber(word) && !isNumber(`
 /** What is told of numbers of rows. */
 export const ROW_NUMBERS = "The first column, of row numbers, was left out.";
 const SIGNS = "Signs of a list or a quotation before the names were left out.";
+const TURNED = "The numbers stand before the names, and were taken as theirs.";
 const DASHES = "The dashes between names and numbers were left out.";
 
 /** Why a block can't be taken in which nobody can part the line `odd`. */
@@ -34,11 +35,11 @@ export const looseText = (odd) => `Names and numbers stand in one cell each, and
  * hyphen before a number that `canBeNegative` may be a minus. */
 export function blockOf(pasted, { canBeNegative = false } = {}) {
   const { rows: signless, isSigned, isCounted: isListed } = withoutSigns(pasted);
-  const { rows: cells, loose, isCounted, isDashed, remarks = [] } = partedLines(signless, canBeNegative);
+  const { rows: cells, loose, isCounted, isDashed, isTurned, remarks = [] } = partedLines(signless, canBeNegative);
   const all = cells.map((row, k) => ({ row, line: k + 1 }));
   const kept = cells.some((row) => row.some(isText)) ? trimmed(all) : all, rows = kept.map(({ row }) => row);
   const plain = withoutCount(rows), behind = [...new Set(remarks)].map((text) => `“${withEscapes(text)}”`).join(", ");
-  const notes = [isSigned && SIGNS, isDashed && DASHES,
+  const notes = [isSigned && SIGNS, isDashed && DASHES, isTurned && TURNED,
     (plain !== rows || isCounted || isListed) && ROW_NUMBERS,
     behind && `Left out behind numbers: ${behind}.`].filter(Boolean);
   return { rows: plain, lines: kept.map(({ line }) => line), notes, loose };
@@ -100,8 +101,8 @@ function waysOf(text) {
     .filter(([name, number]) => /\p{L}/u.test(name) && isNumberOrPart(number));
 }
 
-/** A number, or one in per cent or for each year. */
-const isNumberOrPart = (text) => isNumber(text.replace(/\s?%$/, "")) || Boolean(parted(text)?.isPer);
+/** A number, or one in per cent, in thousands or for each year. */
+const isNumberOrPart = (text) => isNumber(text.replace(/\s?%$/, "")) || Boolean(parted(text)?.isSure);
 
 /** A name without dots that lead to a number. */
 const bare = (name) => name.replace(/(\s*[.…]){3,}$/, "");
@@ -127,7 +128,8 @@ function evenOf(texts) {
 function partedLines(rows, canBeNegative) {
   const lines = rows.map((row) => row.find(Boolean) ?? ""), whole = { rows };
   if (lines.filter(Boolean).length < 2 || rows.some((row) => row.filter(Boolean).length > 1)) return whole;
-  const { texts, isDashed } = withoutDashes(lines, (text) => waysOf(text).length > 0, canBeNegative);
+  const named = namesFirst(lines), isTurned = named !== lines;
+  const { texts, isDashed } = withoutDashes(named, (text) => waysOf(text).length > 0, canBeNegative);
   const ways = texts.map(waysOf), longest = ways.map(([one]) => one), isOneName = areAlike(longest);
   const even = evenOf(texts), parts = even ?? (isOneName ? ways.map((some) => some.at(-1)) : longest);
   const isTitled = parts[0] && /\s20[12]\d$/.test(texts[0]);
@@ -140,8 +142,8 @@ function partedLines(rows, canBeNegative) {
   const loose = broken ?? (even || isOneName ? undefined : texts.find((text, r) => !isSure(ways[r], text)));
   if (loose !== undefined) return { rows, loose };
   const isHead = (text, r) => r === first - 1 && /\S\s+\S/.test(text) && !/\d|:$/.test(text) && !isPerson(text);
-  const named = found.filter(([name]) => /[\p{L}\d]/u.test(name));
-  const isCounted = named.every(([name], k) => / /.test(name) && name.replace(/[.)]? .*/, "") === String(k + 1));
+  const called = found.filter(([name]) => /[\p{L}\d]/u.test(name));
+  const isCounted = called.every(([name], k) => / /.test(name) && name.replace(/[.)]? .*/, "") === String(k + 1));
   const own = ([name, ...others]) => [isCounted ? name.replace(/^\S+ /, "") : name, ...others];
   const isCountedLine = (row, r) => row && !SAYING.test(texts[r]) && isNumber(own(row)[0].split(" ")[0]);
   const counted = parts.findIndex(isCountedLine);
@@ -155,7 +157,7 @@ function partedLines(rows, canBeNegative) {
   const other = (text, r) => (isHead(text, r) ? headOf(text) : isFrame(r) ? [text] : [text.replace(/:$/, ""), ""]);
   const all = texts.map((text, r) => (parts[r] ? own(parts[r]) : other(text, r)));
   const remarks = even ? [] : texts.flatMap((text, r) => (parts[r] && REMARK.exec(text)?.[1]) || []);
-  return { rows: all, isCounted, isDashed, remarks };
+  return { rows: all, isCounted, isDashed, isTurned, remarks };
 }
 
 /** Whether all names are the same. */
@@ -179,4 +181,12 @@ export function withoutSums([heads = [], ...below]) {
   const left = [...new Set([...heads.slice(1), ...all.map(([name]) => name)].filter(isSum))];
   const kept = all.filter(([name]) => !isSum(name)).map((row) => row.filter((_, c) => columns[c] ?? true));
   return { rows: kept, left: left.map((name) => `“${withEscapes(name)}”, a sum`) };
+}
+
+/** Whether each line of a pasted text is a number, or nobody knows it. */
+export function isNumbers(pasted) {
+  const { rows, loose } = blockOf(pasted, { canBeNegative: true });
+  const texts = rows.map((row) => row.filter(Boolean)).filter(([one]) => one);
+  const isOne = ([text, other]) => !other && (/^(?!.*\d *\+)\P{L}*\d/u.test(text) || UNKNOWN.test(text));
+  return !loose && texts.every(isOne);
 }

@@ -46,19 +46,20 @@ const isHeadOf = (text, { heads, short }) => Boolean(heads?.test(text)) && (shor
 /** The column of ours for each pasted one, or none: {targets, isGuess}: `isGuess` says that the order of two columns of
  * numbers decided. Or {asked: {column, at, isOnly, canNone}}: which of the places `at` is for a column. `choice` has
  * what the user said, by keys, and `out` what is for none. */
-export function columnsFor(columns, headings, { rows = [], mark = ".", choice = {}, out = [] } = {}) {
-  const fit = new Fit(columns, pastedColumns(rows, headings, mark), { headings, choice, out }), { targets } = fit;
+export function columnsFor(columns, headings, more = {}) {
+  const { rows = [], mark = ".", choice = {}, out = [], units = new Map() } = more;
+  const all = pastedColumns(rows, headings, mark), fit = new Fit(columns, all, { headings, choice, out, units });
   const asked = fit.rivals() ?? fit.words() ?? fit.amounts();
   if (asked) return { asked };
   fit.rest();
-  return { targets, isGuess: Boolean(fit.isGuess) };
+  return { targets: fit.targets, isGuess: Boolean(fit.isGuess) };
 }
 
 class Fit {
-  constructor(columns, all, { headings, choice, out }) {
-    Object.assign(this, { columns, all, headings, choice, out });
+  constructor(columns, all, { headings, choice, out, units }) {
+    Object.assign(this, { columns, all, headings, choice, out, units });
     this.targets = all.map(({ c }) => columns.find(({ key }) => choice[key] === c));
-    const hasWords = all.some(({ isWords, isNumbers }) => isWords && !isNumbers); // then no numbers are names
+    const hasWords = all.some((one) => one.isWords && one.isFull && !one.isNumbers); // then no numbers are names
     const isOf = (one, own) => isHeadOf(one.head, own) && (own.number || !one.isNumbers || !hasWords);
     for (const is of [(one, own) => isTitle(one.head, own), isOf]) {
       for (const one of all) if (this.isOpen(one)) this.give([one], this.free((own) => is(one, own)).slice(0, 1));
@@ -99,13 +100,15 @@ class Fit {
     const words = this.open(({ isNumbers, isWords }) => isWords && !isNumbers);
     const at = this.open(({ isNumbers }) => isNumbers);
     const isMore = at.length > this.free(({ number }) => number).length, isRemark = isMore && !words[0]?.isFull;
-    if (column && this.headings && isRemark && words.length === 1) return { column, at: [at[0], ...words] };
+    const first = at.find(({ isCount }) => !isCount) ?? at[0];
+    if (column && this.headings && isRemark && words.length === 1) return { column, at: [first, ...words] };
     if (column && this.headings && words.length > 1) return { column, at: words };
     this.give(column ? words.slice(0, 1) : [], [column]);
     this.give(this.headings ? [] : words.filter((one) => this.isOpen(one) && one.isFull), this.free(isType));
     if (!column || words.length || !at.length) return null;
     const isClear = this.headings && at.length === 1 && !this.free(({ number }) => number).length;
-    if (!isClear) return { column, at, canNone: true };
+    const plain = at.filter(({ c }) => !this.units.has(c)); // a name has no unit
+    if (!isClear) return { column, at: plain.length ? plain : at, canNone: true };
     this.give(at, [column]);
     return null;
   }

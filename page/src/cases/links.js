@@ -23,6 +23,7 @@ import { plural } from "../game/words.js";
 import { blockOf, isText, withoutSums } from "./block.js";
 import { unframed } from "./frames.js";
 import { SPOILT } from "./pasting.js";
+import { answerFault } from "./saved-tables.js";
 import { withoutUnits } from "./units.js";
 
 const MOST_POINTS = mostOf("tree") + 1; // with the source
@@ -65,7 +66,8 @@ function padded(rows) {
 export function networkOf(pasted, { mark = ".", source = "", isTimes } = {}) {
   const block = blockOf(pasted), rows = withEnds(block.rows), { rows: framed, left: texts } = unframed(rows);
   const ways = [rows, framed].map((some) => readOf(some, { mark, isTimes })), [whole] = ways;
-  const found = ways.find((one) => one && !one.fault) ?? whole;
+  const found = ways.find((one) => one && !one.fault) ?? whole, saved = answerFault(pasted);
+  if (saved) return { fault: saved };
   if (!found || block.loose) {
     const isMixed = rows.flat().some(isText) && rows.flat().some((text) => /\d/.test(text) && !isText(text));
     return isMixed || block.loose ? { fault: NO_SHAPE } : null;

@@ -10,6 +10,7 @@ import { withEnds } from "./links.js";
 import { rowsOf } from "./lists.js";
 import { detoursOf } from "./detours.js";
 import { Reading } from "./reading.js";
+import { answerFault } from "./saved-tables.js";
 import { unitsText, withoutUnits } from "./units.js";
 
 export const network = {
@@ -130,7 +131,8 @@ const NO_MARKET = "This is no table of gains. Give the sellers’ names above, e
  * {names, notes}; or {fault} in words. */
 export function marketOf(pasted) {
   const block = blockOf(pasted), { rows: framed, left } = unframed(block.rows);
-  const asked = framed.flat().find((text) => ASKING.test(text));
+  const asked = framed.flat().find((text) => ASKING.test(text)), saved = answerFault(pasted);
+  if (saved) return { fault: saved };
   const { rows: given, units = [], fault } = withoutUnits(framed.filter((row) => row.some(Boolean)), 1);
   if (asked || fault || block.loose) return { fault: asked ? notGains(asked) : fault ?? NO_MARKET };
   const { rows: bare, left: sums } = withoutSums(given), [[corner = ""]] = bare, isTurned = SELLER.test(corner);

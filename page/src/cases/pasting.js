@@ -18,14 +18,23 @@ export function cellsOf(pasted) {
   const by = hasBars(lines) ? "|" : text.includes("\t") ? "\t" : text.includes(";") ? ";" : hasCommaColumns(lines) ? ","
     : "\t";
   const rows = lines.map((line) => splitLine(line, by).map((cell) => cell.trim()));
-  if (by === "|") return rows.map((row) => (row.every((cell) => /^(:?-+:?)?$/.test(cell)) ? [""] : row.slice(1, -1)));
+  if (by === "|") return rowsOfBars(lines, rows);
   return (by === "\t" && !text.includes(by) && byPlaces(lines)) || rows;
 }
 
-/** Whether a bar is at both ends of each line. */
+/** Whether a bar is at both ends of each line, or as many with blanks around within each. */
 function hasBars(lines) {
-  const kept = lines.filter((line) => line.trim());
-  return kept.length > 1 && kept.every((line) => /^\s*\|.*\|\s*$/.test(line));
+  const kept = lines.filter((line) => line.trim()), isFramed = (line) => /^\s*\|.*\|\s*$/.test(line);
+  const counts = new Set(kept.map((line) => line.split(/\s\|\s/).length)), [count] = counts;
+  return kept.length > 1 && (kept.every(isFramed) || (counts.size === 1 && count > 1));
+}
+
+/** The cells between bars, without the line below the headings, and without the signs of bold letters. */
+function rowsOfBars(lines, rows) {
+  const isFramed = lines.every((line) => !line.trim() || /^\s*\|.*\|\s*$/.test(line));
+  const isRule = (row) => row.some(Boolean) && row.every((cell) => /^(:?-+:?)?$/.test(cell));
+  const plain = (cell) => cell.replace(/^(\*\*|__|`)(.+)\1$/, "$2");
+  return rows.map((row) => (isRule(row) ? [""] : (isFramed ? row.slice(1, -1) : row).map(plain)));
 }
 
 const SURNAMES = /^[^\d,"]+, \p{L}[^\d,]*\s\p{Sc}?\d[\d.,]*\D{0,4}$/u; // Rossi, Mario 120

@@ -17,10 +17,10 @@ const DATE = /^\s*(0\d\/\d{1,2}|\d{1,2}\/0\d)\s*$/;
 
 /** What to write in the place of some texts. */
 function hintOf(text) {
-  if (/^[-–—]$/.test(text)) return " Write 0, or remove it.";
+  if (/^[-–—] ?\p{Sc}?$|^(nil|zero|none|null|keine?)$/iu.test(text)) return " Write 0, or remove it.";
   if (UNKNOWN.test(text)) return " Write the number, or clear the cell.";
-  if (/^\P{L}*\d[^%]*\p{L}/u.test(text)) return " Write the number alone, without words.";
-  return /^[\d.,]+ ?%$/.test(text) ? " Write the amount, or a product such as 1/4 * 1000." : "";
+  if (/^[\d.,]+ ?%$/.test(text)) return " Write the amount, or a product such as 1/4 * 1000.";
+  return /\d/.test(text) ? " Write the number alone, without words and signs." : "";
 }
 
 /** All cells are read by one mark: where some show which, that one settles those that can be read both ways, unless the
@@ -141,7 +141,7 @@ export class Reading {
     const [doubt] = this.doubts.values();
     if (isMarked || !doubt || this.shown.size || this.either || !isMark(this.mark)) return;
     const ways = MARKS.map(([mark]) => [cellNumber(doubt.typed, mark).value, mark]);
-    ways.sort(([one], [other]) => other.compare(one));
+    ways.sort(([one], [other]) => other.abs().compare(one.abs())); // the whole number first, be it negative
     const count = [...this.doubts.values()].reduce((all, one) => all + one.count, 0);
     this.unsure = { typed: doubt.typed, count, ways: ways.map(([value, mark]) => [String(value), mark]) };
   }

@@ -4,6 +4,7 @@ import { blockOf, looseText, PAGES } from "./block.js";
 import { columnsFor, isKnownHead, knownHeads, widthFault } from "./columns.js";
 import { leftText, unframed } from "./frames.js";
 import { headingsOf, pastedText } from "./pasting.js";
+import { answerFault } from "./saved-tables.js";
 import { singleOf, withSingle } from "./single.js";
 import { unitsText, withoutUnits } from "./units.js";
 
@@ -19,8 +20,8 @@ const PAGE = new RegExp(`^\\P{L}*(${PAGES}) ?\\d+(( ?/| \\p{L}+) ?\\d+)?\\P{L}*$
 export function sheetOf(pasted, columns, { mark, single, usual, isFirst = true, isHead, choice, out = [] }) {
   const { rows: paged, pages } = isFirst ? withoutPages(pasted) : { rows: pasted, pages: [] };
   const { rows: parted, notes: counted, loose } = isFirst ? blockOf(paged) : { rows: pasted, notes: [] };
-  const odd = loose ?? (isFirst ? noName(parted) : undefined);
-  if (odd !== undefined) return { fault: looseText(odd) };
+  const odd = loose ?? (isFirst ? noName(parted) : undefined), saved = answerFault(pasted);
+  if (odd !== undefined || saved) return { fault: saved ?? looseText(odd) };
   if (pasted.length === 1 && PROSE.test(pasted[0].join(", "))) return { fault: SENTENCE };
   const { rows: lines, left } = unframed(single ? withSingle(parted, single) : parted);
   const { rows: all, found: units, fault } = withoutUnits(lines.filter((row) => row.some(Boolean)), 1);
@@ -33,7 +34,7 @@ export function sheetOf(pasted, columns, { mark, single, usual, isFirst = true, 
   const heads = isFirst && isHead === undefined && headings && unknownHeads(headings, rows, { columns, isLine });
   if (heads) return { asked: { heads } };
   if (headings && isAcross(rows, columns)) return { fault: "Here names stand side by side. Give each a row." };
-  const found = columnsFor(columns, headings, { rows, mark, choice, out }), { targets, asked, isGuess } = found;
+  const found = columnsFor(columns, headings, { rows, mark, choice, out, units }), { targets, asked, isGuess } = found;
   if (asked) return { asked };
   const lost = widthFault(rows, headings, found, columns);
   if (lost) return { fault: lost };
@@ -75,7 +76,8 @@ function noName(rows) {
   const names = new Set(texts.map((text) => text.replace(AMOUNT, ""))), isWord = (name) => /\p{L}/u.test(name);
   const isAll = names.size > 1 && found.every(Boolean) && [...names].every(isWord);
   const pair = texts.every((text) => /^\d\S*\s+\d\S*$/.test(text)) && texts.find((text) => readNumber(text).fault);
-  if (pair && texts.length > 1) return pair;
+  const [unit, other] = new Set(texts.map((text) => /\s\d[\d.,]*\s(\p{L}{2,5})\.?$/u.exec(text)?.[1]));
+  if (texts.length > 1 && (pair || (unit && !other))) return pair || texts[0];
   const isCount = found.every((text, k) => Number(text) === k + 1);
   return texts.find(({ length }) => length > MOST_NAME) ?? (isAll && !isCount ? texts[0] : undefined);
 }

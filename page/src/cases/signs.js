@@ -30,7 +30,8 @@ export function withoutSigns(all) {
 /** Whether rows have two cells each: 1, 2, .. with a point or before a text that ends with a number, and that text. */
 function isCountedText(all) {
   const rows = all.filter((row) => row.some(Boolean)), isOf = ([number, text, other = ""], k) => {
-    return text && !other && /\p{L}/u.test(text) && number.replace(/[.)]$/, "") === String(k + 1);
+    const isText = text && /\p{L}/u.test(text) && readNumber(text).fault;
+    return isText && !other && number.replace(/[.)]$/, "") === String(k + 1);
   };
   return rows.length > 1 && rows.every(isOf) && rows.every(([number, text]) => {
     return /[.)]$/.test(number) || /^\p{L}.*\s\S*\d\S*$/u.test(text);
@@ -48,4 +49,15 @@ export function withoutDashes(texts, isParted, canBeNegative) {
   });
   const isOf = dashed.filter(Boolean).length > 1 && texts.every((text, k) => dashed[k] || !isParted(text));
   return isOf ? { texts: texts.map((text, k) => dashed[k] ?? text), isDashed: true } : { texts, isDashed: false };
+}
+
+const NUMBER = "\\d[\\d.,'’\u202f]*", OF_MONEY = "(?:[A-Z]{3}|\\p{Sc})";
+const BEFORE = new RegExp(`^((?:${OF_MONEY} ?${NUMBER}|${NUMBER} ?${OF_MONEY})(?= )|${NUMBER}(?=: ))(?: [-–—]|:)?`
+  + "(?: (?:to|for|an|für|à|pour))? (\\p{L}[^\\d:]*)$", "u");
+
+/** Lines of an amount, in money or before a colon, and a name, with the name first; others as they are. */
+export function namesFirst(texts) {
+  const found = texts.map((text) => BEFORE.exec(text)), kept = texts.filter(Boolean);
+  const isOf = kept.length > 1 && found.filter(Boolean).length === kept.length;
+  return isOf ? found.map((one) => (one ? `${one[2].trim()}: ${one[1]}` : "")) : texts;
 }

@@ -12,6 +12,7 @@ import { UNKNOWN } from "./columns.js";
 import { leftText, unframed } from "./frames.js";
 import { cellsOf, headingsOf } from "./pasting.js";
 import { Reading } from "./reading.js";
+import { answerFault } from "./saved-tables.js";
 import { unitsText, withoutUnits } from "./units.js";
 import { headingOf, manyBelow, numbersIn, vectorOf } from "./vectors.js";
 
@@ -128,8 +129,9 @@ export function withoutPlayer(state, player) {
  * then it is read again with what was said of it (`isWhole`). `told` says how it was read, `remark` what was left
  * out. */
 export function tableOf(text, names = [], order = "size", mark = ".", said = {}) {
-  const block = blockOf(cellsOf(text), { canBeNegative: true }), { rows, left } = unframed(block.rows);
-  if (block.loose) return { fault: looseText(block.loose) };
+  const cells = cellsOf(text), block = blockOf(cells, { canBeNegative: true }), { rows, left } = unframed(block.rows);
+  const saved = answerFault(cells);
+  if (block.loose || saved) return { fault: saved ?? looseText(block.loose) };
   const kept = rows.filter((row) => row.some(Boolean)), joined = groupsFirst(joinedMembers(kept));
   const isList = joined !== kept || isGroups(kept);
   const found = isList ? {} : vectorIn(text, names, order, mark);
@@ -301,8 +303,9 @@ const ALL = new RegExp("^((all|everybody|everyone|alle|tous|toutes|todos|todas|a
 function inOtherWords(all, isWhole) {
   const used = new Set(all.flatMap(({ members }) => (members.length > 1 ? members : [])));
   const alone = all.filter(({ members: [one, other] }) => other === undefined && !used.has(one));
-  const nobody = alone.find(({ members: [one] }) => NOBODY.test(one)), read = all.filter((line) => line !== nobody);
-  if (nobody && /[1-9]/.test(nobody.number)) return { fault: `${nobody.line}Here is a number without a group.` };
+  const nobody = alone.filter(({ members: [one] }) => NOBODY.test(one));
+  const read = all.filter((line) => !nobody.includes(line)), odd = nobody.find(({ number }) => /[1-9]/.test(number));
+  if (odd) return { fault: `${odd.line}Here is a number without a group.` };
   const lines = new Set(read.flatMap(({ members: [one, other] }) => (other === undefined ? one : [])));
   for (const line of alone) {
     const [text] = line.members, parts = text.split(AND).filter(Boolean);
@@ -314,7 +317,7 @@ function inOtherWords(all, isWhole) {
   const quoted = told.slice(0, MOST_TOLD).map((text) => `“${withEscapes(text)}”`).join(", ");
   const alike = told.length > 1 ? "are groups" : "is a group";
   return { read, told: (told.length ? ` ${quoted}${told.length > MOST_TOLD ? " and others" : ""} ${alike}.` : "")
-    + (nobody ? " The group of nobody was left out." : "") };
+    + (nobody.length ? " The group of nobody was left out." : "") };
 }
 
 /** Puts all players into the place of a line for all together: one that says so, or, if somebody said so (`isWhole`),
@@ -349,6 +352,7 @@ function placedList(read) {
   const numbers = Array(2 ** names.length).fill(""), places = new Map(names.map((name, i) => [name, i]));
   for (const { members, number, line } of read) {
     const stranger = members.find((member) => !places.has(member)), group = withEscapes(members.join(" + "));
+    if (stranger === "") return { fault: `${line}Beside a + a member is missing.` };
     if (stranger !== undefined) return { fault: `${line}There is no line for “${withEscapes(stranger)}” alone.` };
     const mask = maskOf(members.map((member) => places.get(member)));
     if (membersOf(mask).length < members.length) return { fault: `${line}${group}: a member occurs twice.` };

@@ -4,17 +4,21 @@ import { readNumber } from "../exact/decimals.js";
 const MOST_LETTERS = 80; // of a number with its unit
 const WORD = "\\p{L}[\\p{L}.²³]{0,11}";
 const PER = `\\s*/\\s*${WORD}|\\s+(?:per|pro|par|por|je|im|al|an?|p\\.) ?${WORD}`
-  + "|\\s+(?:\\p{L}+(?:ly|lich)|net|gross|netto|brutto)";
+  + `|\\s+(?:\\p{L}+(?:ly|lich)|net|gross|netto|brutto|(?:incl|excl|inkl|exkl|zzgl|plus|ohne)\\.? ${WORD})`;
 const BEHIND = new RegExp(`^(.*\\d.*?)(${PER})$`, "u");
-const WITH_UNIT = new RegExp(`^([-−]?\\d[\\d.,'’\\s\u202f]*?)\\s*((?:[kKM]?\\p{Sc}|%|${WORD})(?:${PER})?)$`, "u");
+const MONEY = "(?:\\p{Sc}|[A-Z]{3})", UNIT = `(?:[kKM]?\\p{Sc}|%|${WORD}(?: ?${MONEY})?)(?:${PER})?`;
+const WITH_UNIT = new RegExp(`^((?:${MONEY} ?)?[-−]?\\d[\\d.,'’\\s\u202f]*?)\\s*(${UNIT})$`, "u");
+const OF_MANY = /^(k|[kKM]?\p{Sc}|tsd|tausend|thousand|mio|mill?ion(s|en)?|mln|mn|mrd|bn)\b\.?/iu;
 
 /** The number and the unit of a text, as "12 km" and "1200 EUR/year"; null for another text, and for one that is a
- * number as it stands. A sign of money before "per year" is of the number. */
+ * number as it stands. A sign of money before "per year" is of the number. `isSure` says that the number is an amount,
+ * and no part of a name: it is in thousands, or for each of something. */
 export function parted(text) {
   if (text.length > MOST_LETTERS || !readNumber(text).fault) return null;
   const [, before, per] = BEHIND.exec(text) ?? [], isMoney = before && !readNumber(before).fault;
   const [, number, unit] = isMoney ? [text, before, per] : WITH_UNIT.exec(text) ?? [];
-  return number ? { number, unit: unit.trim().replace(/\s*\/\s*/, "/"), isPer: Boolean(isMoney) } : null;
+  const isSure = Boolean(isMoney) || OF_MANY.test(unit ?? "");
+  return number ? { number, unit: unit.trim().replace(/\s*\/\s*/, "/"), isSure } : null;
 }
 
 /** Rows without units: {rows, units}, or {fault} in words where the numbers of a column have several. The first `from`

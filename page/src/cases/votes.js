@@ -83,13 +83,14 @@ export const votes = {
 
 /** The quota of some votes: a number, or a part of all. With decimals it may have some, too. As long as other cells
  * can't be read, or a row is asked about, nothing is said of it. */
-function readBallot(reading, typed, cell, what, { values }, state) {
+function readBallot(reading, typed, cell, what, { values, cells }, state) {
   const isKnown = !reading.count && !reading.isAsking(state.isMarked), bare = bareQuota(typed);
   const part = leastOf(typed, values, reading.mark);
   const quota = part ?? reading.number(cell, bare, what, { hint: WRITE });
-  if (!quota || !isKnown) return { values };
-  if (part) tellPart(reading, { typed, cell, what, values, part }, state);
   const all = Rational.sum(values), isWhole = values.every((value) => value.isWhole());
+  if (quota && isKnown && all.isZero()) reading.fault(cells[0], "The votes add to 0, so nobody can decide.");
+  if (!quota || !isKnown || all.isZero()) return { values };
+  if (part) tellPart(reading, { typed, cell, what, values, part }, state);
   const fault = isWhole && !quota.isWhole() ? WHOLE
     : quota.isZero() || quota.isNegative() || all.less(quota)
       ? `${isWhole ? `from 1 to ${all}` : `above 0, and at most ${shortText(all)}`}, the votes of all.` : null;

@@ -101,3 +101,21 @@ export function columnHead({ title, name }, ...more) {
   const below = more.filter(Boolean).join(", ");
   return [title, name && el("small", { class: "field-name" }, name), below && el("small", {}, below)];
 }
+
+/** Asks something in the place `said` of a grid, before anything is taken: until then nothing else is said of its
+ * cells. The question goes if somebody types into them. */
+export function askIn(grid, said, parts) {
+  refill(said, parts);
+  grid.classList.toggle("asks", true);
+  const end = () => {
+    if (!grid.classList.contains("asks")) return;
+    refill(said);
+    unask(grid);
+  };
+  grid.addEventListener("input", end, { once: true });
+}
+
+/** The question of a grid is answered, or is no more. */
+export function unask(grid) {
+  grid.classList.toggle("asks", false);
+}

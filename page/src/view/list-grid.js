@@ -5,7 +5,7 @@ import { sheetOf } from "../cases/sheets.js";
 import { readNumber } from "../exact/decimals.js";
 import { withEscapes } from "../game/names.js";
 import { cellInput, moveByKeys, pasteCells, removal } from "./cells.js";
-import { button, el, refill } from "./dom.js";
+import { askIn, button, el, refill, unask } from "./dom.js";
 
 export function listGrid(kind, typed, settings) {
   return new ListGrid(kind, typed, settings).element;
@@ -160,17 +160,17 @@ class ListGrid {
     };
     const isTwo = this.kind.second && this.typed.secondQuota === undefined && key === "votes" && at.length > 1;
     this.say("");
-    refill(this.said, `Nothing was taken yet. Which column is “${title}”? `,
+    askIn(this.element, this.said, [`Nothing was taken yet. Which column is “${title}”? `,
       at.map((one) => [way(shown(one), one.c), " "]),
-      isTwo && button("Both, with two quotas", both, { class: "quiet" }), canNone && way("None", NONE));
+      isTwo && button("Both, with two quotas", both, { class: "quiet" }), canNone && way("None", NONE)]);
   }
 
   /** Asks whether the first row is one of headings; none of them is known. */
   askHead(heads, use) {
     const way = (text, isHead) => button(text, () => use(isHead), { class: "quiet" });
     this.say("");
-    return refill(this.said, `Nothing was taken yet. Is “${withEscapes(heads)}” the heading of the columns? `,
-      way("Yes, the heading", true), way("No, a row", false));
+    return askIn(this.element, this.said, [`Nothing was taken yet. Is “${withEscapes(heads)}” the heading of the `
+      + "columns? ", way("Yes, the heading", true), " ", way("No, a row", false)]);
   }
 
   /** A list with names that begins in the first row is the case; and nothing of the worked example stays beside it. */
@@ -198,10 +198,11 @@ class ListGrid {
     this.onChange();
   }
 
-  /** Says what became of a pasted list; what was left out, or not taken, is seen at once. */
+  /** Says what became of a pasted list; a column or line that was left out, or nothing taken, is seen at once. */
   say(text) {
+    unask(this.element);
     this.said.textContent = withEscapes(text);
-    this.said.classList.toggle("warn", /left out|Left out|Nothing was/.test(text));
+    this.said.classList.toggle("warn", /” was left out|Left out, as|Nothing was/.test(text));
   }
 
   /** What wasn't pasted begins as a typed row does, and that is told; a list with names has them in each row. */

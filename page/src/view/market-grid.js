@@ -25,7 +25,8 @@ class MarketGrid {
     });
     pasteCells(this.holder, (cell, pasted) => {
       const found = marketOf(pasted), fault = found.fault ?? this.faultOf(cell, found);
-      refill(this.said, fault ? `${fault} Nothing was taken.` : withEscapes(found.notes.join(" ")));
+      const told = fault ? "" : [...found.notes, this.keptText(cell, found)].filter(Boolean).join(" ");
+      refill(this.said, fault ? `${fault} Nothing was taken.` : withEscapes(told));
       if (fault) return;
       remember("Paste");
       this.change(() => this.fill(cell, found));
@@ -142,6 +143,12 @@ class MarketGrid {
     const isOdd = what === "values" ? found.names : found.values && !found.buyers === (what === "buyers");
     const isPart = isAnew ? !sides.buyers && !sides.sellers && !cell.endsWith("0.0") : isBeyond || isOdd;
     return isPart ? NO_ROOM : "";
+  }
+
+  /** What is told of rows that stay below a block with buyers. */
+  keptText(cell, found) {
+    const { isAnew, sides, bottom } = this.placeOf(cell, found), below = this.typed.buyers.slice(bottom);
+    return !isAnew && sides.buyers && below.some(Boolean) && "The rows below stay as they were.";
   }
 
   /** A block, with names before and above it or without. */

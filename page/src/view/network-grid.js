@@ -4,7 +4,7 @@ import { cellsOfNetwork, networkOf, takenText, withoutPlace, withSource } from "
 import { sourceName } from "../cases/matrices.js";
 import { withEscapes } from "../game/names.js";
 import { cellInput, moveByKeys, pasteCells, removal } from "./cells.js";
-import { button, cellOf, el, refill } from "./dom.js";
+import { askIn, button, cellOf, el, refill, unask } from "./dom.js";
 import { noLinkHelp } from "./no-link.js";
 
 const WAIT = 150; // milliseconds between the last key and filling anew
@@ -135,6 +135,7 @@ class NetworkGrid {
     const isWhole = found && (isFirst || found.fault || found.shape.includes("list") || found.shape.includes("names"));
     const cells = isWhole ? {} : pastedCells(this.kind, typed, cell, blockOf(rows).rows);
     const fault = isWhole ? found.fault : cells.fault;
+    unask(this.element);
     refill(this.said, fault && `${fault} Nothing was taken.`);
     if (fault) return undefined;
     this.remember("Paste");
@@ -143,7 +144,7 @@ class NetworkGrid {
       cells.source ||= found.points[0] === "" && found.points.some(Boolean) ? typed.source ?? "" : cells.source;
       this.change(() => Object.assign(typed, cells, { filled: {}, isSourceOpen }));
       refill(this.said, takenText(found, sourceName(typed)), isSourceOpen && this.sourceQuestion());
-      this.said.classList.toggle("warn", found.left.length > 0);
+      this.said.classList.toggle("warn", found.left.some((text) => !/, (the unit|a sum)$/.test(text)));
     } else this.change(() => Object.assign(typed, cells));
     this.help.openIfEmpty();
     if (Object.values(this.typed.filled ?? {}).includes("way")) this.help.again();
@@ -153,9 +154,9 @@ class NetworkGrid {
   /** Asked before anything is taken: a column is a price for each of another. */
   productQuestion({ price, size }, take) {
     const [one, other] = [price, size].map((text) => `“${withEscapes(text)}”`);
-    refill(this.said, `${one} looks like a price for each. Does a link cost ${one} times ${other}? `,
+    askIn(this.element, this.said, [`${one} looks like a price for each. Does a link cost ${one} times ${other}? `,
       button(`Yes, multiply by ${other}`, () => take(true), { class: "quiet" }), " ",
-      button(`No, it costs ${one}`, () => take(false), { class: "quiet" }));
+      button(`No, it costs ${one}`, () => take(false), { class: "quiet" })]);
   }
 
   /** Asked before there is an answer: nothing that was pasted says which point is the source. */

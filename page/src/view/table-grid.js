@@ -1,12 +1,11 @@
 // The grid of a table: the players, and a cell for each group, by size. Of many groups a page is shown at a time.
-import { blockOf } from "../cases/block.js";
-import { UNKNOWN } from "../cases/columns.js";
+import { blockOf, isNumbers } from "../cases/block.js";
 import { groupLabel, packed, unpacked, withoutPlayer, withPlayer } from "../cases/tables.js";
 import { masksBySize, membersOf } from "../game/groups.js";
 import { countText } from "../exact/decimals.js";
 import { withEscapes } from "../game/names.js";
 import { cellInput, moveByKeys, pasteCells, removal, removeByKey, showTips } from "./cells.js";
-import { button, cellOf, copy, el, refill } from "./dom.js";
+import { askIn, button, cellOf, copy, el, refill, unask } from "./dom.js";
 import { numbersIn } from "../cases/vectors.js";
 import { plural } from "../game/words.js";
 import { pasteBox } from "./paste-box.js";
@@ -198,7 +197,8 @@ class TableGrid {
     const { filled = [] } = this.typed;
     this.typed.filled = filled.filter((mask) => !masks.includes(mask));
     this.showGroups();
-    this.say();
+    const isKept = this.order.slice(place + kept.length).some((mask) => this.typed.numbers[mask]);
+    this.say(isKept && "The numbers below stay as they were.");
     return filled.length ? this.fillSplits(true) : this.onChange();
   }
 
@@ -336,12 +336,14 @@ class TableGrid {
     const use = (more) => () => this.takeList(text, order, close, { ...said, ...more });
     const answer = (title, more) => [button(title, use(more), { class: "quiet" }), " "];
     if (found.columns) {
-      return this.say(`Nothing was taken yet. Which column is ${this.kind.what.toLowerCase()}? `,
-        found.columns.map(({ c, title }) => answer(`“${title}”`, { column: c })));
+      const what = this.kind.what.toLowerCase();
+      return askIn(this.element, this.message, [`Nothing was taken yet. Which column is ${what}? `, found.columns
+        .map(({ c, title }) => answer(`“${title}”`, { column: c }))]);
     }
     if (found.asked) {
-      return this.say(`Is “${withEscapes(found.asked)}” all ${found.count} others together? Nothing was taken yet. `,
-        answer("Yes, all together", { isWhole: true }), answer("No, a player", { isWhole: false }));
+      return askIn(this.element, this.message, ["Nothing was taken yet. ",
+        `Is “${withEscapes(found.asked)}” all ${found.count} others together? `,
+        answer("Yes, all together", { isWhole: true }), answer("No, a player", { isWhole: false })]);
     }
     if (!state) return this.say(found.fault, " Nothing was taken.");
     close();
@@ -375,16 +377,9 @@ class TableGrid {
   }
 
   say(...parts) {
+    unask(this.element);
     refill(this.message, parts);
   }
-}
-
-/** Whether each line of a pasted text is a number, or nobody knows it. */
-function isNumbers(pasted) {
-  const { rows, loose } = blockOf(pasted, { canBeNegative: true });
-  const texts = rows.map((row) => row.filter(Boolean)).filter(([one]) => one);
-  const isOne = ([text, other]) => !other && (/^(?!.*\d *\+)\P{L}*\d/u.test(text) || UNKNOWN.test(text));
-  return !loose && texts.every(isOne);
 }
 
 /** Groups that cost more than a larger one, each with it; of very many the first ones. */

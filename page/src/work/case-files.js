@@ -4,6 +4,7 @@ import { readNumber, typedText } from "../exact/decimals.js";
 import { caseNamed } from "../cases/cases.js";
 import { faultOfCase, filledOf, isCaseFile } from "../cases/case-file.js";
 import { coarseOf } from "../cases/coarse.js";
+import { tableFault } from "../cases/saved-tables.js";
 import { packed } from "../cases/tables.js";
 import { openDocument } from "./cases.js";
 import { fillSplits } from "./splits.js";
@@ -16,6 +17,8 @@ const NOT_FOLLOWING = "The cells that the file calls filled have other numbers t
 /** A text as a case: as openDocument has it, and of a saved case `more` of what was typed, `settings`, and `notes`. */
 export function openText({ text, mark }) {
   const tree = text.includes('"coop-page"') ? treeOf(text) : null;
+  const table = tree ? undefined : tableFault(text, caseNamed("runway"));
+  if (table) return { refusal: { sentence: table } };
   return isCaseFile(tree) ? openCase(tree, mark) : withMark(openDocument({ text, mark }), mark);
 }
 
