@@ -8,10 +8,10 @@ int main(void)
     static const char words[] = "nucleolus";
     static const char document[] = "{\"game\":{\"class\":\"airport\",\"costs\":[2,4,6]}}";
     uint8_t *line = NULL;
-    size_t room = 64, count = 0;
+    size_t room = 16384, count = 0;
     uint32_t status;
     do {
-        room *= 4;
+        room *= 4; /* 64 KB at first, since after status 6 the whole work is done again */
         uint8_t *longer = realloc(line, room);
         if (longer == NULL) {
             free(line);

@@ -39,18 +39,10 @@ function shown(text) {
   return JSON.stringify(text.length > MOST_SHOWN ? `${text.slice(0, MOST_SHOWN)}..` : text);
 }
 
-async function version() {
-  const { readFileSync } = await import("node:fs");
-  const page = readFileSync(new URL("../page/coop.html", import.meta.url), "latin1");
-  const found = page.match(/The program inside: coop (\S+), of the sources/);
-  if (!found) throw new Error("the page doesn't name its version");
-  return Buffer.from(`coop ${found[1]}, answered by runtime/coop.mjs under Node ${process.version}\n`);
-}
-
 /** What the wrapper itself says to some words, or null. */
-async function ownWords([word, ...more]) {
+async function ownWords([word, ...more], ports) {
   if (more.length) return null;
-  if (word === "--version") return version();
+  if (word === "--version") return ports.versionLine("coop.mjs");
   if (word !== "--help" && word !== "-h") return null;
   const { readFileSync } = await import("node:fs");
   return readFileSync(new URL("usage.txt", import.meta.url));
@@ -59,7 +51,7 @@ async function ownWords([word, ...more]) {
 async function main(words) {
   try {
     const [ports, { coop }] = await Promise.all([import("./engine/ports.js"), import("./engine/host.js")]);
-    const own = await ownWords(words);
+    const own = await ownWords(words, ports);
     const { status, line, fault } = own ? { status: 0, line: own } : answer(words, coop, ports);
     if (fault) console.error(`coop: ${fault}`);
     ports.print(line);

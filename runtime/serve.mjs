@@ -2,7 +2,7 @@
 // coop as one process that stays, for a program that asks many times: requests on standard input, answers in their
 // order on standard output, by the module inside coop.html.
 //
-//     node runtime/serve.mjs
+//     node runtime/serve.mjs [--tell]
 //     node runtime/serve.mjs --lines COMMAND[,COMMAND..] < DOCUMENTS
 //
 // With --lines each line of the input is a document, and each answer a line: the status, a blank, and the program's
@@ -13,14 +13,18 @@
 // the document. The words follow, with a zero byte between each two, and then the document. An answer is two such
 // numbers, the status and how many bytes the line has, and the line. If the module stops, the status is 70, and the
 // line says why. The first answer comes before any request, has the status 0 and no line, and says that the module is
-// there.
+// there. The word --version asks for the version. With --tell the first word may be tell (telling.mjs), which is for the
+// Python package: what it asks for, the program doesn't do.
 //
 // The process ends with 0 if the input ends between two requests, 2 if the options are none of the above or a word
 // after --lines is no command on a document, 5 if the input ends within a request, has one that is too long, or can't
 // be read, 6 if an answer can't be written, and 70 if a file of the page is missing or the module can't be compiled.
 // SIGINT doesn't end it, unless --lines is there.
+import { setFlagsFromString } from "node:v8";
+import { runInNewContext } from "node:vm";
+
 const MOST_WORDS = 64 * 1024;
-const MOST_TOLD = 32 * 1024 * 1024; // bytes of a request, which may be several documents
+const MOST_TOLD = 32 * 1024 * 1024; // bytes of a document, which are several texts for tell
 const CHUNK = 64 * 1024;
 const HEAD = 8; // bytes of the two numbers
 const NEWLINE = 10;
@@ -94,7 +98,7 @@ class Input {
 }
 
 /** The next request, or null if there is none. */
-function requestOf(input, { MOST, READ_FAULT, PortFault }) {
+function requestOf(input, { MOST, READ_FAULT, PortFault }, tells) {
   const head = input.take(HEAD);
   if (head === null && input.left === 0) return null;
   const [words, document] = head ? [head.readUInt32LE(0), head.readUInt32LE(4)] : [0, 0];
@@ -104,7 +108,8 @@ function requestOf(input, { MOST, READ_FAULT, PortFault }) {
   const all = head && input.take(words + document);
   if (!all) throw new PortFault(READ_FAULT, "the input ends within a request");
   const typed = all.subarray(0, words).toString("utf8").split("\0"), rest = all.subarray(words);
-  return { words: words ? typed : [], document: typed[0] === "tell" ? rest : rest.subarray(0, MOST) };
+  const isTold = tells && typed[0] === "tell";
+  return { words: words ? typed : [], document: isTold ? rest : rest.subarray(0, MOST), isTold };
 }
 
 /** An answer as a frame. */
@@ -116,26 +121,41 @@ function framed({ status, line }) {
   return bytes;
 }
 
-let telling = null; // what the page tells, where it was asked for
+let telling = null; // what the page tells, if it was asked for
+let collect = null; // V8's own call that gives memory back, if it was needed
 
 /** The answer of the module, or why there is none. */
-function answerOf(engine, { words, document }) {
+function answerOf(engine, { words, document, isTold }) {
   try {
-    if (words[0] === "tell") return telling.told(engine, words.slice(1), document);
-    return engine.run(words, document);
+    if (isTold) return telling.told(engine, words.slice(1), document);
+    const answer = engine.run(words, document);
+    if (engine.memory === null) giveBack();
+    return answer;
   } catch (fault) {
     if (fault instanceof RangeError) return { status: OUT_OF_MEMORY, line: new Uint8Array(0) };
     return { status: NO_ANSWER, line: Buffer.from(`${fault.message}`) };
   }
 }
 
-async function serveFrames(engine, ports) {
+/** Gives back the memory of an instance that the engine has dropped: left to itself V8 kept 1.3 GB. */
+function giveBack() {
+  if (collect === null) {
+    setFlagsFromString("--expose-gc");
+    collect = runInNewContext("gc");
+  }
+  collect(); // which finds that nobody has the instance
+  collect(); // which frees its memory
+}
+
+async function serveFrames(engine, ports, tells) {
   process.on("SIGINT", () => {}); // Ctrl-C in a terminal reaches this process, too
   ports.print(framed({ status: 0, line: new Uint8Array(0) }));
   const input = new Input(ports);
-  for (let request; (request = requestOf(input, ports)) !== null; ) {
-    if (request.words[0] === "tell") telling ??= await import("./telling.mjs");
-    ports.print(framed(answerOf(engine, request)));
+  for (let request; (request = requestOf(input, ports, tells)) !== null; ) {
+    if (request.isTold) telling ??= await import("./telling.mjs");
+    const isVersion = request.words.length === 1 && request.words[0] === "--version";
+    const answer = isVersion ? { status: 0, line: ports.versionLine("serve.mjs") } : answerOf(engine, request);
+    ports.print(framed(answer));
   }
 }
 
@@ -150,13 +170,13 @@ function serveLines(engine, ports, commands) {
   }
 }
 
-async function serve(commands) {
+async function serve({ commands, tells }) {
   const [ports, { Engine }] = await Promise.all([import("./engine/ports.js"), import("./engine/host.js")]);
   const engine = new Engine(ports.pageModule());
   const wrong = commands?.find((command) => !reads(engine, command));
   if (wrong !== undefined) return `${JSON.stringify(wrong.slice(0, 60))} is no command on a document`;
   if (commands) serveLines(engine, ports, commands);
-  else await serveFrames(engine, ports);
+  else await serveFrames(engine, ports, tells);
   return "";
 }
 
@@ -165,13 +185,21 @@ function reads(engine, command) {
   return engine.run([command], new Uint8Array(0)).status === REFUSED;
 }
 
-async function main([option, commands, ...more]) {
-  if (option !== undefined && (option !== "--lines" || commands === undefined || more.length)) {
-    console.error("usage: node runtime/serve.mjs [--lines COMMAND[,COMMAND..]]");
+/** What the words of the call ask for, or null. */
+function askedBy([option, commands, ...more]) {
+  if (option === undefined || (option === "--tell" && commands === undefined)) return { tells: option !== undefined };
+  const isList = option === "--lines" && commands !== undefined && more.length === 0;
+  return isList ? { commands: commands.split(",") } : null;
+}
+
+async function main(words) {
+  const asked = askedBy(words);
+  if (asked === null) {
+    console.error("usage: node runtime/serve.mjs [--tell | --lines COMMAND[,COMMAND..]]");
     return USAGE;
   }
   try {
-    const wrong = await serve(commands?.split(","));
+    const wrong = await serve(asked);
     if (wrong) console.error(`coop: ${wrong}`);
     return wrong ? USAGE : 0;
   } catch (fault) {

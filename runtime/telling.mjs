@@ -1,5 +1,5 @@
-// What the page tells of documents, for a program that asks serve.mjs: by the page's own modules, and not by the proved
-// program.
+// What the page tells of documents, for a program that asks serve.mjs --tell: by the page's own modules, and not by the
+// proved program.
 //
 //     tell line [SETTINGS]       LINE DOCUMENT VERDICT, in sentences: the document that was asked about gives names and
 //                                numbers to a line that has no game, and the verdict is the line of a checker on a

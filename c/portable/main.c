@@ -1,4 +1,4 @@
-/* The program by coop_run, as crates/coop_program is: coop COMMAND < DOCUMENT. */
+/* The program by coop_run, as crates/coop_program is: coop COMMAND < DOCUMENT. Beside it, coop --version. */
 #include <signal.h>
 #include <stdio.h>
 #include <stdlib.h>
@@ -86,6 +86,8 @@ int main(int count, char **words)
     _setmode(_fileno(stdin), _O_BINARY);
     _setmode(_fileno(stdout), _O_BINARY);
 #endif
+    if (count == 2 && !strcmp(words[1], "--version"))
+        return printf("coop %s, portable C\n", coop_version()) < 0 || fflush(stdout) ? WRITE_FAULT : 0;
     if (!typed || !(line = answer(typed, length, NULL, 0, &status, &written)))
         return OUT_OF_MEMORY;
     /* A command on a document refuses an empty one, and nothing else ends so: only such a command reads. */

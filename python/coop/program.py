@@ -137,7 +137,7 @@ def page_server() -> Optional[Server]:
     if _page is None and node and runtime:
         from .server import Server
 
-        _page = Server([node, os.path.join(runtime, "serve.mjs")])
+        _page = Server([node, os.path.join(runtime, "serve.mjs"), "--tell"])
     return _page
 
 

@@ -86,8 +86,17 @@ class Answers(unittest.TestCase):
         self.assertEqual(run(["core", "x"], AIRPORT)[0], 2)
         self.assertEqual(run(["core"], b""), (3, b'{"number":2,"refused":"NotJson"}\n'))
         self.assertEqual(run(["core"], b" " * (2 << 20) + AIRPORT)[0], 3)
+        self.assertEqual(run(["tell", "mail"], b"x"), (2, b'{"usage":"words"}\n'))
+        self.assertEqual(run(["--version"], b"")[1].split(b",")[0], b"coop %s" % coop.__version__.encode())
         self.assertEqual(run(["gen", "airport", "3", "1"], b"")[0], 0)
         self.assertEqual(len(self.server.free), 1)
+
+    def test_memory_that_is_given_back(self) -> None:
+        """A document of many small values takes 440 MB."""
+        process = self.first()
+        self.assertEqual(self.server.run(["core"], b"[%s1]" % (b'{"":0},' * 280_000))[0], 3)
+        with open(f"/proc/{process}/statm", encoding="ascii") as file:
+            self.assertLess(int(file.read().split()[1]) * os.sysconf("SC_PAGE_SIZE"), 200 << 20)
 
     def test_threads(self) -> None:
         seen: list[tuple[int, int]] = []
@@ -360,7 +369,7 @@ class Frames(unittest.TestCase):
         long = b'3 {"number":1,"refused":"TooLong"}\n'
         wide = b"x" * (9 << 20) + b"\n" + b" " * (3 << 20) + b"\n" + AIRPORT
         self.assertEqual(ended(wide, ["--lines", "core"]), (0, long * 2 + core))
-        for wrong in (["--lines"], ["core"], *(["--lines", typed] for typed in ("coer", "core, shapley", "gen", ""))):
+        for wrong in (["--lines"], ["core"], ["--tell", "x"], *(["--lines", typed] for typed in ("coer", "core, shapley", "gen", ""))):
             self.assertEqual(ended(AIRPORT, wrong), (2, b""))
 
     def test_output_that_is_thrown_away(self) -> None:

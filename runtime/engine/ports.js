@@ -23,7 +23,18 @@ export class PortFault extends Error {
 
 /** The module inside the page, compiled. */
 export function pageModule() {
-  return new WebAssembly.Module(moduleIn(fs.readFileSync(new URL("../../page/coop.html", import.meta.url), "latin1")));
+  return new WebAssembly.Module(moduleIn(pageText()));
+}
+
+/** The version of the program inside the page, and the file of runtime/ that answers by it, as a line. */
+export function versionLine(file) {
+  const found = pageText().match(/The program inside: coop (\S+), of the sources/);
+  if (!found) throw new Error("the page doesn't name its version");
+  return Buffer.from(`coop ${found[1]}, answered by runtime/${file} under Node ${process.version}\n`);
+}
+
+function pageText() {
+  return fs.readFileSync(new URL("../../page/coop.html", import.meta.url), "latin1");
 }
 
 /** Whether there is a file of this name. */
