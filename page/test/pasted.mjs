@@ -1,5 +1,6 @@
 // Texts as people have them, pasted into the grids: what then stands in the cells, is said or asked. pasted.mjs [PART]
 // tries those that have PART in their text, and shows what comes of each.
+import { pastedDivision } from "../src/view/proposal.js";
 import { openText } from "../src/work/case-files.js";
 import { Desk, settled } from "./grids.mjs";
 
@@ -97,6 +98,19 @@ const TEXTS = [
   ["estate", "Ann\t120\nBo\t- €", /Bo=- €/, /Write 0, or remove it/],
   ["estate", "Ann\t120*\nBo\t80", /120/, /number alone/],
   ["costs", "A\t8k\nB\t7k\nA+B\t12k", "A|B|8|7|12", /“k” behind/],
+  // links
+  ["network", "Works\tA\tca. 12\nWorks\tB\t9\nA\tB\t4", null, /“ca\. 12” is no number\. Write the number alone/],
+  ["network", "Works\tA\t\nWorks\tB\t9", "Works|A|B|0-2|9", /2 empty/],
+  ["network", "From Works to A: 12\nFrom Works to B: 9\nFrom A to B: 4", /^Works\|A\|B/, /source: Works/],
+];
+
+/** Texts that are pasted into a proposal for Sales, Ops and Legal, and the amounts, or what is said of them. */
+const PROPOSED = [
+  ["Sales – 4 €\nOps – 5 €\nLegal – 3 €", "4 €,5 €,3 €"], ["> - Sales: 4\n> - Ops: 5\n> - Legal: 3", "4,5,3"],
+  ["Sales: 4 EUR/year\nOps: 5 EUR/year\nLegal: 3 EUR/year", "4 EUR,5 EUR,3 EUR"],
+  ["| Sales | 4 |\n|---|---|\n| Ops | 5 |\n| Legal | 3 |", "4,5,3"], ['"Sales";4\n"Ops";5\n"Legal";3', "4,5,3"],
+  ["Sales\nOps 4\nLegal 8", "No amount stands beside Sales. Write one amount beside each name, such as 12.50. Nothing "
+    + "was taken."],
 ];
 
 /** What comes of a text: the cells, and what is said, asked and wrong. */
@@ -119,6 +133,13 @@ for (const [id, text, cells, told, answer] of TEXTS.filter(([, text]) => String(
   faults += 1;
   console.log(`${id}: ${JSON.stringify(text)} is\n  ${found.cells}: ${found.told}\n  and not ${cells}: ${told}`);
 }
+for (const [text, wanted] of PROPOSED) {
+  const { texts, fault } = pastedDivision(text, ["Sales", "Ops", "Legal"], { first: 0, before: ["", "", ""] });
+  if ((fault ?? texts.join()) === wanted) continue;
+  faults += 1;
+  console.log(`${JSON.stringify(text)}, proposed: ${fault ?? texts}, and not ${wanted}`);
+}
+
 /** Texts that are opened as a document, and what is said of them. */
 const OPENED = [
   [ANSWER, /table of an answer: .* “Save the case” makes a file that opens here/],

@@ -22,7 +22,7 @@ import { isSumWord, withEscapes } from "../game/names.js";
 import { plural } from "../game/words.js";
 import { blockOf, isText, withoutSums } from "./block.js";
 import { unframed } from "./frames.js";
-import { SPOILT } from "./pasting.js";
+import { isSpoilt, SPOILT } from "./pasting.js";
 import { answerFault } from "./saved-tables.js";
 import { withoutUnits } from "./units.js";
 
@@ -70,7 +70,9 @@ export function networkOf(pasted, { mark = ".", source = "", isTimes } = {}) {
   if (saved) return { fault: saved };
   if (!found || block.loose) {
     const isMixed = rows.flat().some(isText) && rows.flat().some((text) => /\d/.test(text) && !isText(text));
-    return isMixed || block.loose ? { fault: NO_SHAPE } : null;
+    const odd = oddCost(rows, judgeOf(mark));
+    const words = odd ? `“${withEscapes(odd)}” is no number. Write the number alone.` : NO_SHAPE;
+    return isMixed || block.loose ? { fault: words } : null;
   }
   if (found.fault || found.product) return found;
   const { points, shape, left = [] } = found, twice = points.find((name, i) => name && points.indexOf(name) < i);
@@ -83,6 +85,15 @@ export function networkOf(pasted, { mark = ".", source = "", isTimes } = {}) {
   if (fault) return { fault };
   out.push(...left, ...found.units.map((unit) => `“${unit}”, the unit`));
   return { points, links, shape, left: out, told: block.notes, ...sourceOf(points, found, source) };
+}
+
+/** A cell with a number and something beside it, as "ca. 12", in a column of numbers. */
+function oddCost(rows, { isNumber }) {
+  const columns = rows.reduce((most, row) => (row.length > most.length ? row : most), []).map((_, c) => {
+    return rows.map((row) => row[c] ?? "").filter(Boolean);
+  });
+  const found = columns.filter((texts) => texts.filter(isNumber).length * 2 > texts.length);
+  return found.flat().find((text) => isSpoilt(text) && !isNumber(text));
 }
 
 /** A block as the first shape that fits, or {fault} or {product}; null for others, and where no number is. */
@@ -98,7 +109,7 @@ function readOf(given, { mark, isTimes }) {
 }
 
 const NO_SHAPE = "This is no list of from, to and cost, and no square or triangle with names.";
-const PAIR = /^(.{1,99}?)(?: (?:to|[-–—/]) |\s?(?:[–—→]|->)\s?|(?<=\S)-(?=\S))(.{1,99})$/u;
+const PAIR = /^(?:[Ff]rom (?=.* to ))?(.{1,99}?)(?: (?:to|[-–—/]) |\s?(?:[–—→]|->)\s?|(?<=\S)-(?=\S))(.{1,99})$/u;
 
 const PRICE = /\b(per|pro|je|par|each|price|rate|preis|prix|tarif)\b|\p{L}\s*\/\s*\p{L}/iu;
 const SIZE = /length|distance|metres?\b|meters?\b|\bk?m\b|länge|entfernung|longueur|quantity|menge/iu;
@@ -173,7 +184,7 @@ function joined({ entries, points }, judge) {
 
 /** A list: a link a row, with its two ends and its cost, with headings or without. */
 function listOf(rows, judge) {
-  const isHeading = !rows[0].some(judge.isNumber) && rows.length > 1, wide = rows[0].length;
+  const isHeading = isHeadOfLinks(rows, judge), wide = rows[0].length;
   const given = rows.slice(isHeading ? 1 : 0).filter((row) => row.some(Boolean)), below = withoutSum(given, judge);
   if (wide < 3 || !below.length) return null;
   const columns = rows[0].map((_, c) => c), all = (c, is) => below.every((row) => is(row[c]));
@@ -199,6 +210,14 @@ function listOf(rows, judge) {
   const left = wide > 3 && isHeading ? columns.filter((c) => ![from, to, cost].includes(c)).map((c) => rows[0][c]) : [];
   const lost = below.length < given.length ? [`“${given.at(-1).filter(Boolean).join("; ")}”, a sum`] : [];
   return { points, entries, shape: "a list of from, to, cost", left: [...left, ...lost] };
+}
+
+/** Whether the first row of a list has headings: no number, and a word above each column of numbers. A first link whose
+ * cost is missing, or is "ca. 12", has none. */
+function isHeadOfLinks([first, ...below], { isNumber }) {
+  const isCost = (c) => below.filter((row) => isNumber(row[c])).length * 2 > below.length;
+  const isWord = (text) => !isNone(text) && !isSpoilt(text);
+  return below.length > 0 && !first.some(isNumber) && first.every((text, c) => !isCost(c) || isWord(text));
 }
 
 /** The rows of a list without the last one, if it is named as a sum, or has a number and lacks an end. */

@@ -7,6 +7,9 @@ export const SPOILT = /^[^\p{L}]*\d|^#[A-Z]|^n\/?an?$/iu;
 
 const ABOUT = /^(ca\.?|approx\.?|about|circa|etwa|env\.?|~) *\d/iu; // no heading either
 
+/** Whether a text is a number with something beside it. */
+export const isSpoilt = (text) => SPOILT.test(text) || ABOUT.test(text);
+
 const QUOTED = /(?<=^|[\t;,\n])"(?:[^"\t]|"")*"(?=[\t;,\n]|$)/g; // a cell in quotes, which may have lines of its own
 
 /** Of a spreadsheet (tabs), a file with semicolons or commas, a table with bars, or one with columns by blanks. Quotes

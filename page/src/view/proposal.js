@@ -2,6 +2,7 @@
 import { readNumber, readTogether } from "../exact/decimals.js";
 import { isMark, nameOfMark, otherMark } from "../exact/marks.js";
 import { Rational } from "../exact/rational.js";
+import { withoutSigns } from "../cases/signs.js";
 import { unitsText, withoutUnits } from "../cases/units.js";
 import { isSumWord, withEscapes } from "../game/names.js";
 import { listed, plural } from "../game/words.js";
@@ -13,7 +14,11 @@ const NUMBER = /^[-−(]?\p{Sc}?\s?\d[\d.,'’\s/]*(?:\p{Sc}|[A-Z]{3})?\)?$/u;
 /** What a pasted text gives the rows, by their `labels`: {texts, said}, or {fault} in words. Lines with a name go to
  * the row that is called so; numbers alone go on below from a row. A unit behind all numbers goes. */
 export function pastedDivision(text, labels, { first, before }) {
-  const lines = text.split(/\r\n?|\n/).map((line) => line.trim().replace(/\s+/g, " ")).filter(Boolean);
+  const isOdd = labels.some((label) => /["|]/.test(label)), plain = isOdd ? (line) => line
+    : (line) => line.replace(/^ *"([^"]*)"/, "$1").replace(/ *\| */g, " ");
+  const bare = (line) => plain(line).trim().replace(/\s+/g, " ");
+  const given = text.split(/\r\n?|\n/).map(bare).filter((line) => /[^-: ]/.test(line));
+  const lines = withoutSigns(given.map((line) => [line])).rows.flat();
   const alone = withoutUnit(lines), refused = (fault) => ({ fault: `${fault} Nothing was taken.` });
   if (alone.fault === undefined && alone.numbers.every((line) => NUMBER.test(line))) {
     const rest = labels.length - first, isMore = lines.length > rest;
@@ -24,8 +29,8 @@ export function pastedDivision(text, labels, { first, before }) {
   if (twice !== undefined) return refused(`${withEscapes(labels[twice])} is there twice.`);
   const called = [...places.keys()], { numbers, told, fault, unit } = withoutUnit([...places.values()]);
   if (fault) return refused(fault);
-  const bare = (number) => (unit && number.endsWith(unit) ? number.slice(0, -unit.length).trim() : number);
-  const stranger = strangers.find(({ number }) => NUMBER.test(bare(number)));
+  const unitless = (number) => (unit && number.endsWith(unit) ? number.slice(0, -unit.length).trim() : number);
+  const stranger = strangers.find(({ number }) => NUMBER.test(unitless(number)));
   if (stranger) return refused(`No row is called “${withEscapes(stranger.name.slice(0, 40))}”.`);
   const odd = numbers.findIndex((number) => readNumber(number).fault), label = withEscapes(labels[called[odd]] ?? "");
   if (odd >= 0) return refused(`${oddText(label, numbers[odd])}. Write one amount beside each name, such as 12.50.`);
@@ -67,6 +72,7 @@ function withoutUnit(texts) {
 
 /** Why what stands beside a name is no amount. */
 function oddText(label, text) {
+  if (!text) return `No amount stands beside ${label}`;
   const isTwo = text.split(" ").every((word) => !readNumber(word).fault);
   return isTwo ? `Two numbers stand beside ${label}: “${text}”` : `“${shownLine(text)}” beside ${label} is no amount`;
 }
