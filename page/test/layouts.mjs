@@ -139,6 +139,7 @@ for (let k = 0; k < count; k++) {
   const id = pick(ids), is = HEADS[id].length && draw(3) ? { heading: listed(pick(HEADS[id])) } : {};
   const keys = Object.keys(FEATURES).filter((key) => !OPEN[id].includes(key) && !draw(OFTEN.includes(key) ? 3 : 9));
   for (const key of keys) is[key] = pick(FEATURES[key]);
+  if (is.digits) delete is.mail; // "10 471" is one number
   const names = is.letters ?? is.digits ?? is.names ?? ["Ann", "Bob", "Cleo"], layout = layoutOf(id, names, is);
   const { cell, text, wanted } = layout;
   const verdict = await judged(layout), own = tally[id];

@@ -75,6 +75,8 @@ const TEXTS = [
   ["costs", "A\t8\nB\t7\n\t0\n\t0\nA+B\t12", "A|B|8|7|12", /The group of nobody was left out/],
   ["costs", "A\t8\nB\t7\nA+\t9\nA+B\t12", null, /Line 3: Beside a \+ a member is missing/],
   ["votes", "Ann\t0\nBo\t0", "Ann=0|Bo=0", /The votes add to 0/],
+  ["votes", "471,1204\n112,18500", null, /Which column is “Who votes”\? “471, 112 …”/],
+  ["runway", "# Flygbolag Kostnad Flyg\n1 Unit 7 20 3\n2 Unit 12 40 2", null, /nobody can part “1 Unit 7 20 3”/],
   ["estate", "12\t120\n13\t80", null, /Which column is “Who claims”/],
   ["estate", "12 120\n13 80", null, /can part “12 120”|“13 80”/],
   // tables of Word, LibreOffice, Markdown and the web

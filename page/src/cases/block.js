@@ -119,7 +119,8 @@ function evenOf(texts) {
   const isWhole = (row) => row.slice(2).every((text, c) => !/^\d{3}(\D|$)/.test(text) || !/^\d{1,3}$/.test(row[c + 1]));
   const isName = ([name]) => endsName(name.split(" ").at(-1));
   const isEven = wide > 2 && found.every((row) => row.length === wide && isWhole(row) && isName(row));
-  return isEven && new Set(found.map(([name]) => name)).size === found.length ? parts : null;
+  const bareOf = ([name]) => name.replace(/^\d+[.)]? /, ""); // "1 Unit" and "2 Unit" are one name
+  return isEven && new Set(found.map(bareOf)).size === found.length ? parts : null;
 }
 
 /** Lines of one cell each, as mails have them, parted into a name and its numbers: {rows, loose}. Texts above and

@@ -50,7 +50,9 @@ function hasCommaColumns(lines) {
   const isWithin = (line) => /\p{L}/u.test(line) && !line.replace(/\d,(?=\d)/g, "").includes(",");
   const isCount = lines.length > 2 && lines.every((line, k) => line.startsWith(`${k + 1},`));
   const isNamed = [lines[0], lines.at(-1)].some((line) => /^[^\d,]*\p{L}(,[^\s,][^,]*)+$/u.test(line));
-  if (isCount || isNamed) return lines.every((line) => line.includes(","));
+  const sizes = lines.map((line) => /^[1-9]\d*,(\d+)$/.exec(line)?.[1].length ?? 0), most = Math.max(...sizes);
+  const isPairs = lines.length > 1 && most > 3 && sizes.every((size) => size > 0) && sizes.some((size) => size < most);
+  if (isCount || isNamed || isPairs) return lines.every((line) => line.includes(","));
   return lines.every((line) => line.includes(",") && !isOf(line)) && !lines.every(isWithin);
 }
 
