@@ -138,6 +138,14 @@ def rounded(game: Game, shares: Proposal, digits: Optional[int], what: str = "sh
     return fractions_of(shares, digits)
 
 
+def one_each(game: Game, values: Proposal, what: str = "share") -> list[Fraction]:
+    """Numbers by names, or in the players' order: one for each."""
+    exact = rounded(game, values, None, what)
+    if len(exact) != game.n:
+        raise BadInput(f"{len(exact)} {what}s for {game.n} players")
+    return exact
+
+
 def answered(command: str, document: bytes, game: Game, program: Chosen) -> Answer:
     return answer_from(command, *find(program).run([command], document), document, game)
 

@@ -33,7 +33,7 @@ KINDS = {
 
 def game(kind: str, players: int, seed: int) -> Game:
     """A game of a family."""
-    if kind not in KINDS:
+    if not isinstance(kind, str) or kind not in KINDS:
         raise BadInput(f"{kind!r} is no family: name one of {', '.join(KINDS)}")
     count = whole_of(players)
     if count is None or not 3 <= count <= MOST_IN_A_TABLE:

@@ -2,7 +2,9 @@
 from __future__ import annotations
 
 import os
-from typing import Optional
+from typing import Any, Optional
+
+from .errors import BadInput
 
 
 def which(name: str) -> Optional[str]:
@@ -12,6 +14,13 @@ def which(name: str) -> Optional[str]:
         if os.path.isfile(path) and os.access(path, os.X_OK):
             return path
     return None
+
+
+def words_of(command: Any) -> list[str]:
+    """The words of a command; a text is none, since nobody can say where its words end."""
+    if isinstance(command, (str, bytes)) or not command:
+        raise BadInput(f"{command!r} isn't a list of words: give the program and its words, such as ['node', 'x.mjs']")
+    return list(command)
 
 
 def processors() -> int:

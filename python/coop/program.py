@@ -15,7 +15,7 @@ from typing import TYPE_CHECKING, Optional, Protocol, Sequence, Union
 
 from .errors import BadInput, Fault, NotFound
 from .library import Library
-from .machine import spawned, which
+from .machine import spawned, which, words_of
 
 if TYPE_CHECKING:
     from .server import Server
@@ -37,7 +37,7 @@ class Command:
     """A command of the system: a program and its first words."""
 
     def __init__(self, command: Sequence[str]):
-        self.command = list(command)
+        self.command = words_of(command)
 
     def __repr__(self) -> str:
         return f"Command({self.command!r})"

@@ -16,7 +16,7 @@ from typing import IO, Any, Optional, Sequence
 from .amounts import count_of
 from .errors import Fault
 from .library import TOO_LATE
-from .machine import processors
+from .machine import processors, words_of
 
 HEAD = struct.Struct("<II")
 """The two numbers that begin a request and an answer."""
@@ -94,7 +94,7 @@ class Server:
     process doesn't count."""
 
     def __init__(self, command: Sequence[str], processes: Optional[int] = None, seconds: Optional[float] = None):
-        self.command = list(command)
+        self.command = words_of(command)
         if processes is not None:
             processes = count_of(processes, "processes")
         self.processes = processes or processors()

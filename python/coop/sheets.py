@@ -15,7 +15,7 @@ from dataclasses import dataclass, replace
 from fractions import Fraction
 from typing import Collection, Hashable, Iterable, Iterator, NamedTuple, Optional, Sequence, TypeVar
 
-from .amounts import fraction_of
+from .amounts import fraction_of, is_truth, whole_of
 from .errors import BadInput
 from .vectors import groups_in
 
@@ -68,6 +68,13 @@ class Layout:
     decimal: Optional[str] = None
     has_head: bool = False
     skip: int = 0
+
+    def __post_init__(self) -> None:
+        for given, names in ((self.separator, SEPARATORS), (self.decimal, MARKS)):
+            if given is not None and given not in names:
+                raise BadInput(f"{given!r} isn't a word for a sign: name one of {', '.join(names)}")
+        if not is_truth(self.has_head) or (whole_of(self.skip) or 0) < 0 or whole_of(self.skip) is None:
+            raise BadInput(f"`has_head` is True or False, and `skip` a number of columns, and not {self!r}")
 
 
 AS_SEEN = Layout()

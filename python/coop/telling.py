@@ -7,7 +7,7 @@ from __future__ import annotations
 
 import json
 from dataclasses import dataclass
-from typing import Any, Optional
+from typing import Any, Optional, Union
 
 from .errors import BadInput, Fault, NotFound, Slip
 from .game import bytes_of
@@ -79,9 +79,9 @@ def asked(task: str, settings: dict[str, Any], *texts: str) -> Any:
     return told([task, json.dumps(settings)], "\0".join(texts).encode("utf-8", "surrogatepass"))
 
 
-def slips(document: bytes, command: str = "nucleolus") -> tuple[Optional[Slip], Optional[Twice]]:
+def slips(document: Union[str, bytes], command: str = "nucleolus") -> tuple[Optional[Slip], Optional[Twice]]:
     """The first refusal of a command, which is the program's, and the first key that stands twice, if there are any."""
-    found = told(["slip", command], document)
+    found = told(["slip", command], bytes_of(document))
     slip, twice = found.get("slip"), found.get("twice")
     return slip and Slip(**slip), twice and Twice(**twice)
 

@@ -6,7 +6,7 @@ from typing import Any, Iterable, Optional
 
 from .amounts import Amount, fraction_of
 from .errors import BadInput
-from .game import LISTS, MOST_IN_A_TABLE, Game
+from .game import LISTS, MOST_IN_A_TABLE, Game, require_game
 from .games import made, player_of
 from .masks import mask_of, members
 
@@ -15,6 +15,7 @@ def without(game: Game, leaving: Iterable[Any]) -> Game:
     """The game of those who stay: each of their groups is worth, or costs, what it was."""
     if isinstance(leaving, str) or not isinstance(leaving, Iterable):
         raise BadInput(f"{leaving!r} isn't a list of names: write [{leaving!r}]")
+    require_game(game)
     left = {player_of(name, game.names) for name in leaving}
     stay = [i for i in range(game.n) if i not in left]
     if not stay:
@@ -61,6 +62,7 @@ def single_of(game: Game, stay: list[int]) -> dict[str, Any]:
 
 def table_of_game(game: Game) -> Game:
     """The table of what each group is worth, or costs, in a game of any class, of at most 16 players."""
+    require_game(game)
     if game.n > MOST_IN_A_TABLE:
         raise BadInput(f"{game.n} players: a table has at most {MOST_IN_A_TABLE}")
     worths = [game.sign * game.worth(group) for group in range(1, game.everyone + 1)]
@@ -71,6 +73,7 @@ def table_of_game(game: Game) -> Game:
 def overrun(game: Game, amount: Amount, per_head: bool = False) -> Game:
     """A table of which all together cost, or are worth, so much more, and every smaller group what it was. Of another
     class it is that of its groups, of which the rule of the class says no more what all together cost."""
+    require_game(game)
     table = game if game.is_table else table_of_game(game)
     worths = [*table.amounts[1:-1], table.amounts[-1] + fraction_of(amount) * table.factor]
     parts = {"players": game.n, "worths": worths}

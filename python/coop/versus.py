@@ -117,9 +117,7 @@ def remaining(game: Game, benefits: Optional[calls.Proposal] = None) -> Optional
     if benefits is not None:
         if not game.costs:
             raise BadInput("benefits are for costs, and this game has worths")
-        known = calls.rounded(game, benefits, None, "benefit")
-        if len(known) != game.n:
-            raise BadInput(f"{len(known)} benefits for {game.n} players")
+        known = calls.one_each(game, benefits, "benefit")
         alone = [min(cost, benefit) for cost, benefit in zip(alone, known)]
     left = [max(Fraction(0), game.sign * (b - a)) for a, b in zip(alone, added)]
     return spread(game, added, left, whole)

@@ -5,7 +5,8 @@ from fractions import Fraction
 from typing import Any, Callable, Iterator
 
 import coop
-from coop import families, networks, readers, runways, variants, vectors, versus, votes
+from coop import families, networks, program, readers, runways, server, sheets, variants, vectors, versus, votes
+from coop.desk import excesses, notebook, over
 
 from .asking import Answering
 
@@ -104,10 +105,23 @@ REFUSED: list[tuple[Callable[..., Any], tuple[Any, ...], str]] = [
     (networks.table_of_links, ({("source", "a", "b"): 3},), "a link has two ends"),
     (networks.table_of_links, ([("source", "a", 3)],), "aren't a mapping from pairs of names"),
     (readers.claims, (b"a,1\n", 2), "isn't the text of a file"),
+    (sheets.Layout, (";",), "';' isn't a word for a sign: name one of tab, semicolon"),
+    (sheets.Layout, (None, ","), "name one of point, comma"),
+    (sheets.Layout, (None, None, "no"), "`has_head` is True or False"),
+    (sheets.Layout, (None, None, False, -1), "`skip` a number of columns"),
+    (sheets.Layout, (None, None, False, "1"), "`skip` a number of columns"),
     # Calls
     (coop.propose, ("x", {"a": 1}), "str isn't a game"),
     (versus.remaining, (AIRPORT, [1, 2]), "2 benefits for 3 players"),
     (variants.without, (AIRPORT, 17), r"write \[17\]"),
+    (variants.without, (None, ["a"]), "NoneType isn't a game"),
+    (variants.overrun, (None, 1), "NoneType isn't a game"),
+    (excesses.excess_list, (AIRPORT, [1, 2]), "2 shares for 3 players"),
+    (families.game, (["I"], 5, 1), "is no family"),
+    (over.divided, ({"shares": [1]}, 0), "give a whole number, 1 or more"),
+    (notebook.series, ({"a": Fraction(1)}, "core", -1), "isn't a number of digits"),
+    (server.Server, ("node",), "'node' isn't a list of words"),
+    (program.Command, ([],), "isn't a list of words"),
     (coop.many, ("nucleolus", None), "a NoneType isn't a list of games"),
     (coop.many, ("nucleolus", {AIRPORT}), "a set has no order"),
     (coop.many, ([], [AIRPORT]), "is no command: many takes nucleolus"),

@@ -6,7 +6,7 @@ from fractions import Fraction
 from typing import Any, NamedTuple, Optional, Sequence
 
 from .. import telling
-from ..calls import Proposal, rounded
+from ..calls import Proposal, one_each
 from ..errors import BadInput
 from ..game import WRITER, Game
 from ..styles import EXACT, Style
@@ -24,7 +24,7 @@ class Entry(NamedTuple):
 def excess_list(game: Game, shares: Proposal) -> list[Entry]:
     """The excesses of all groups but the empty one and that of all, from the greatest; equals in mask order. Shares are
     a mapping by names or a list."""
-    found = asked(game, [Point("", [share * game.factor for share in rounded(game, shares, None)])], EXACT, is_all=True)
+    found = asked(game, [Point("", [share * game.factor for share in one_each(game, shares)])], EXACT, is_all=True)
     return [Entry(Fraction(number) / game.factor, group) for group, _, number, _ in found["lists"][0]]
 
 

@@ -11,6 +11,7 @@ from fractions import Fraction
 from importlib import import_module
 from typing import TYPE_CHECKING, Any, Iterable, Sequence
 
+from ..amounts import digits_of
 from ..errors import Fault, NotFound
 from ..game import KINDS, LISTS, TABLES, Game
 from ..masks import members
@@ -110,8 +111,9 @@ def rows(heading: str, names: Sequence[str], amounts: Sequence[Fraction]) -> str
 
 def series(shares: dict[str, Fraction], name: str, places: Any = None) -> Any:
     """A Series of fractions; or of floats of so many places, which add up as a table of shares does."""
-    pandas: Any = import_module("pandas")
     values: list[Any] = list(shares.values())
     if places is not None:
+        places = digits_of(places)
         values = [step / 10**places for step in rounded(values, places)]
+    pandas: Any = import_module("pandas")
     return pandas.Series(values, index=list(shares), name=name, dtype=object if places is None else float)

@@ -8,7 +8,7 @@ from __future__ import annotations
 
 from typing import Any, Sequence
 
-from ..amounts import written
+from ..amounts import count_of, written
 from .documents import Document
 from ..errors import BadInput
 from ..game import Game, number
@@ -20,7 +20,7 @@ OF_A_GAME = {"claims", "costs", "default", "estate", "matrix", "worths"}
 
 def divided(tree: dict[str, Any], by: int) -> dict[str, Any]:
     """A document or a line with each amount over a number."""
-    if by == 1:
+    if count_of(by, "parts") == 1:
         return tree
     try:
         return parts_divided(tree, by)
