@@ -74,7 +74,7 @@ class Finding(unittest.TestCase):
             self.assertIn("NotFound: no program found: put Node 18 or later on the path", self.found(package))
             for name in ("nodejs", "node"):
                 node = executable(tools, name, "exit 0")
-                self.assertEqual(self.found(package, PATH=f"{kit}:{tools}"), str([node, page]))
+                self.assertEqual(self.found(package, PATH=f"{kit}:{tools}"), str([node, page, "--tell"]))
             out = os.path.join(top, "crates", "coop_program", "out")
             os.makedirs(out)
             built = executable(out, "coop_program", "exit 0")

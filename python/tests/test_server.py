@@ -369,7 +369,8 @@ class Frames(unittest.TestCase):
         long = b'3 {"number":1,"refused":"TooLong"}\n'
         wide = b"x" * (9 << 20) + b"\n" + b" " * (3 << 20) + b"\n" + AIRPORT
         self.assertEqual(ended(wide, ["--lines", "core"]), (0, long * 2 + core))
-        for wrong in (["--lines"], ["core"], ["--tell", "x"], *(["--lines", typed] for typed in ("coer", "core, shapley", "gen", ""))):
+        unknown = (["--lines", typed] for typed in ("coer", "core, shapley", "gen", ""))
+        for wrong in (["--lines"], ["core"], ["--tell", "x"], *unknown):
             self.assertEqual(ended(AIRPORT, wrong), (2, b""))
 
     def test_output_that_is_thrown_away(self) -> None:
