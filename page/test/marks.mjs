@@ -6,6 +6,7 @@ import { beyondTexts } from "../src/view/beyond.js";
 
 const FREE = { entry: ".", mark: ".", settled: null, doubts: [] }; // cells that show no mark, read by the point
 const COMMAS = { ...FREE, settled: "," }; // 12,50
+const POINTS = { ...FREE, settled: "." }, LEFT = { shown: ".", isChosen: false };
 const DOUBTFUL = { ...FREE, doubts: [{}] }; // 1,234 only
 const WHOLE = { ...FREE, entry: "", settled: ",", mark: "," }; // 12,50 and 90,000, which the user calls whole
 
@@ -16,7 +17,10 @@ const file = (settings) => ["open", { isFile: true, ...settings }];
  * cells are read, and that of numbers beside them. */
 const STEPS = [
   ["a worked example", [example, ["take", FREE, false]], ".", ".", "."],
-  ["a worked example isn't followed", [example, ["take", COMMAS, false]], ".", ".", "."],
+  ["a worked example is shown as its cells", [example, ["take", COMMAS, false]], ",", ".", "."],
+  ["but no other case follows it", [example, ["take", COMMAS, false], example], ".", ".", "."],
+  ["an example after commas", [example, typed(COMMAS), example, ["take", POINTS, false]], ".", ".", "."],
+  ["a case as it was left", [example, typed(COMMAS), ["open", { before: LEFT }]], ".", ".", "."],
   ["typed numbers are followed", [example, typed(COMMAS)], ",", ".", ","],
   ["but doubtful ones aren't", [example, typed(DOUBTFUL)], ".", ".", "."],
   ["nor any when the user has chosen", [example, ["choose", "."], typed(COMMAS)], ".", ".", ","],
@@ -51,7 +55,8 @@ for (const [what, steps, shown, cells, beside] of STEPS) {
 /** The sign between thousands that is shown after cells that show one. */
 const SIGNS = [
   ["as typed", [example, typed({ ...COMMAS, thousands: "." })], "."],
-  ["of a worked example", [example, ["take", { ...COMMAS, thousands: "." }, false]], BLANK],
+  ["of a worked example", [example, ["take", { ...COMMAS, thousands: "." }, false]], "."],
+  ["of a saved case", [file({ mark: ",", thousands: "." }), typed(FREE)], "."],
   ["none typed", [example, typed({ ...COMMAS, thousands: null })], BLANK],
   ["that is the mark now", [example, typed({ ...COMMAS, thousands: "." }), ["choose", "."]], BLANK],
   ["that is no mark now", [["choose", ","], example, typed({ ...FREE, thousands: "," }), ["choose", "."]], ","],

@@ -1,4 +1,5 @@
 // Plays all scenarios in Chromium: node page/test/run.mjs PAGE TOP [--program PROGRAM] [--only TEXT] [--slack FACTOR]
+//   [--undo SEEDS]
 //
 // PAGE is the page, TOP the repository with the built program. The last line says how much was tried; the status is 0
 // where all is as expected, and 1 else. On a busy machine times may be longer by the factor.
@@ -26,6 +27,7 @@ import { parts } from "./parts.mjs";
 import { precise } from "./precise.mjs";
 import { saying } from "./saying.mjs";
 import { strangers } from "./strangers.mjs";
+import { undone } from "./undo.mjs";
 import { users } from "./users.mjs";
 
 const words = process.argv.slice(2), [page, top] = words.map((word) => resolve(word));
@@ -48,6 +50,7 @@ for (const some of [entering, assumed, saying, lecture, landings, bothWays, case
   harness.add(some);
 }
 harness.add(monkey(Number(option("--seed", "1")), Number(option("--steps", "60"))));
+harness.add(undone(option("--undo", "1").split(",").map(Number)));
 const faults = await harness.run();
 for (const line of told) console.log(line);
 process.exit(faults ? 1 : 0);

@@ -10,6 +10,7 @@ const isText = (one) => typeof one === "string" && one.length <= 200;
 const TESTS = {
   filled: isObject, coarse: (one) => isObject(one) && Object.keys(one).every((key) => coarseOf(one)?.[key]),
   decimals: (one) => typeof one === "bigint" && one >= 0n && one <= 6n, mark: isMark, entry: isMark,
+  thousands: (one) => typeof one === "string" && /^[.,’'\u202f\u00a0 ]$/.test(one),
   heading: isText, unit: isText, source: isText, proposal: (one) => Array.isArray(one) && one.every(isText),
   kept: isKept,
 };
@@ -24,12 +25,13 @@ function isKept(one) {
     && Object.values(cells).every(isText);
 }
 
-/** The file of a case: `text` is its document, `mark` that of what is shown, `entry` that of the cells. */
-export function caseText({ kind, typed, text, texts, places, mark, entry, kept: pin, paper: { heading, unit } }) {
+/** The file of a case: `text` is its document, `mark` that of what is shown, `entry` that of the cells, and `thousands`
+ * the sign between thousands, if they show one. */
+export function caseText({ kind, typed, text, texts, places, mark, entry, thousands, kept: pin, paper }) {
   const proposal = texts.some(Boolean) ? texts : undefined;
-  const { coarse, source } = typed;
-  const settings = { filled: kind.filled?.treeOf(typed), coarse, decimals: places, mark, entry, heading, unit, source };
-  const all = Object.entries({ ...settings, proposal, kept: pin });
+  const { coarse, source } = typed, { heading, unit } = paper, shown = { decimals: places, mark, entry };
+  const settings = { filled: kind.filled?.treeOf(typed), coarse, ...shown, heading, unit, source };
+  const all = Object.entries({ ...settings, proposal, kept: pin, thousands: thousands ?? undefined });
   const kept = all.filter(([, one]) => one !== undefined && one !== "");
   return `{"${WORD}":${VERSION},\n"document":${text}${kept.map(([key, one]) => {
     return `,\n"${key}":${writeJson(one)}`;

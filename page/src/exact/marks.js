@@ -43,18 +43,17 @@ function isLong({ whole, single, amounts, alone, worths, rows }) {
 export class Marks {
   /** `own` is that of the user's system. */
   constructor(own) {
-    Object.assign(this, { own, chosen: null, shown: own, isChosen: false });
+    Object.assign(this, { own, last: own, chosen: null, shown: own, isChosen: false });
     this.open({});
   }
 
-  /** A case is opened. `mark` and `entry` are those of a saved case, or of the cells before a step. A file has no mark
-   * of the case before. */
-  open({ isFile = false, mark, entry }) {
-    Object.assign(this, { thousands: null, isLong: false }); // the sign that the typed numbers show; are some long
-    if (mark || isFile) {
-      this.shown = mark ?? this.usual();
-      this.isChosen = Boolean(mark ?? this.chosen); // by the user, or in the file
-    }
+  /** A case is opened. `mark`, `thousands` and `entry` are those of a saved case, `entry` also of the cells before a
+   * step, and `before` how the case was shown when it was left. One without any follows the last; a file doesn't. */
+  open({ isFile = false, mark, entry, thousands = null, before = null }) {
+    const saved = before?.saved ?? thousands;
+    Object.assign(this, { saved, thousands: saved, isLong: false }); // the sign that numbers show; are some long
+    this.shown = before?.shown ?? mark ?? (isFile ? this.usual() : this.chosen ?? this.last);
+    this.isChosen = before?.isChosen ?? Boolean(mark ?? this.chosen); // by the user, or in the file
     this.entry = entry ?? (isFile ? this.shown : this.own); // by which the next reading is made
     this.isFresh = isFile;
     this.reading = null;
@@ -82,19 +81,26 @@ export class Marks {
   /** The user says by which those are read that can be read both ways: numbers are shown by it, too. */
   enter(mark) {
     this.entry = mark;
-    if (isMark(mark) && !this.isChosen) this.shown = mark;
+    if (isMark(mark) && !this.isChosen) this.shown = this.last = mark;
+  }
+
+  /** How the case is shown, to be so again. */
+  kept() {
+    const { shown, isChosen, saved } = this;
+    return { shown, isChosen, saved };
   }
 
   /** Takes over what a reading says of its marks, and returns the reading: numbers are then shown as the cells show it,
-   * if they are typed and no worked example (`isTyped`), by their mark until the user chooses one. */
+   * by their mark until the user chooses one. The next case follows those that are typed (`isTyped`). */
   take(reading, isTyped) {
     const { settled, doubts } = reading, isOpen = this.isFresh && settled === null && !doubts?.length;
     this.isFresh = false;
     if (isOpen) this.entry = this.shown; // no cell of a file shows one, so all beside them is read by what is shown
     this.isTyped = isTyped;
     this.reading = isOpen ? { ...reading, entry: this.shown, mark: this.shown } : reading;
-    if (!this.isChosen && isTyped && settled) this.shown = settled;
-    this.thousands = isTyped ? reading.thousands : null;
+    if (!this.isChosen && settled) this.shown = settled;
+    if (!this.isChosen && isTyped && settled) this.last = settled;
+    this.thousands = reading.thousands ?? this.saved;
     if (reading.facts) this.isLong = isLong(reading.facts);
     this.speak();
     return this.reading;

@@ -1,6 +1,6 @@
 // The panels below a case: the answer, its settings, the reasons and the evidence.
 import { sourceName } from "../cases/matrices.js";
-import { MARKS } from "../exact/marks.js";
+import { MARKS, nameOfMark } from "../exact/marks.js";
 import { answerParts, solutionOf } from "./answer.js";
 import { beyondParts } from "./beyond.js";
 import { beyondPower } from "./beyond-power.js";
@@ -107,7 +107,7 @@ export class AnswerView {
     const proposal = {
       ...session.proposal,
       set: (r, text) => session.setProposal(Object.assign([...session.texts], { [r]: text })),
-      setAll: (texts, said) => session.setProposal(texts, said), labels: rows.map(({ label }) => label),
+      setAll: (texts, said, what) => session.setProposal(texts, said, what), labels: rows.map(({ label }) => label),
     };
     return {
       rows, format: session.format(), proposal, wide, filled: filledText(session), today: todayOf(session, rows),
@@ -240,7 +240,10 @@ export class AnswerView {
     if (this.shownMore === key) return;
     this.shownMore = key;
     const settings = {
-      rows, format, mark, typed: this.typed, setEntry: isSettled ? null : (other) => session.setEntry(other),
+      rows, format, mark, typed: this.typed, setEntry: isSettled ? null : (other) => {
+        session.on.step(`The ${nameOfMark(other)} before decimals`);
+        session.setEntry(other);
+      },
       ask, assumed: (groups) => isFilled(session, groups),
       fills: fillsAsked(session, mark), network: filledNetwork(session, mark),
     };
@@ -285,7 +288,10 @@ export class AnswerView {
   measures(game) {
     const now = game.perHead ? "per-head" : "plain";
     return el("label", {}, "A group’s loss counts ", el("select", {
-      "data-cell": "measure", on: { change: (event) => this.session.setMeasure(event.target.value) },
+      "data-cell": "measure", on: { change: ({ target }) => {
+        this.session.on.step(`Count ${target.value === "plain" ? "as a whole" : "per head"}`);
+        this.session.setMeasure(target.value);
+      } },
     }, MEASURES.map(([value, title]) => el("option", { value, selected: value === now }, title))));
   }
 

@@ -14,7 +14,7 @@ import { networkGrid } from "./network-grid.js";
 import { numbered, shortened, withNames } from "../cases/mended-names.js";
 import { markChanged } from "./pinned.js";
 import { tableGrid } from "./table-grid.js";
-import { undoing } from "./undo.js";
+import { Undoing } from "./undo.js";
 
 const MOST_FAULTS = 6;
 const DECIDES = "The answer rests on these numbers. How far off the others may be, “What if” says.";
@@ -23,10 +23,11 @@ const KEYS = { player: "Alt+Delete in a name removes the player.", row: "Alt+Del
 
 /** `settings` are {mark, setEntry, notes, onReset, steps, snapshot, onUndo} and what the grids need. */
 export function casePanel(kind, typed, settings) {
-  const sample = sampleLine(kind, typed, settings), change = settings.onChange, undo = undoing(settings);
-  settings = { ...settings, onChange: (wait) => (refill(sample), undo.changed(), change(wait)) };
+  const sample = sampleLine(kind, typed, settings), change = settings.onChange, undo = new Undoing(settings);
+  const onChange = (wait, removed) => (refill(sample), change(wait, { isTyped: undo.changed(), removed }));
+  settings = { ...settings, onChange };
   const { onReset, notes = [] } = settings;
-  const grid = GRIDS[kind.grid](kind, typed, { ...settings, remember: undo.remember });
+  const grid = GRIDS[kind.grid](kind, typed, { ...settings, remember: (what) => undo.remember(what) });
   const faults = el("div", { class: "faults", role: "status" }), made = el("div", { class: "made" });
   const coarse = el("div"), legend = el("p", { class: "hint legend screen" });
   const element = el("div", { class: "case" },
@@ -34,7 +35,7 @@ export function casePanel(kind, typed, settings) {
     notes.map((note) => el("p", { class: "note" }, note)), coarse, grid, legend, faults,
     el("div", { class: "tools bottom" }, moreTools(kind, typed, grid.more, onReset), undo.element));
 
-  element.addEventListener("input", undo.typed, true);
+  undo.watch(element);
 
   /** Shows what the reading of the cells says. */
   function tell(reading) {
@@ -54,7 +55,7 @@ export function casePanel(kind, typed, settings) {
   }
 
   return {
-    element, tell, made, goTo: (cell) => goTo(grid, cell), choices: () => grid.choices?.(),
+    element, tell, made, undo, goTo: (cell) => goTo(grid, cell), choices: () => grid.choices?.(),
     setTips: (tips) => showDeciding(grid, legend, tips),
   };
 }
@@ -92,7 +93,7 @@ function cleared(kind, { secondQuota }) {
 function nameHelp({ faults }, typed, { onReset }) {
   const isTwice = faults.some(({ sentence }) => sentence.includes("occurs twice"));
   const isLong = faults.some(({ sentence }) => sentence.startsWith("A name has at most"));
-  const way = (title, change) => button(title, () => onReset(withNames(typed, change), title, true),
+  const way = (title, change) => button(title, () => onReset(withNames(typed, change), title, "named"),
     { class: "quiet" });
   return (isTwice || isLong) && el("p", { class: "tools" },
     isTwice && way("Number the names that occur twice", numbered), isLong && way("Shorten the long names", shortened));

@@ -67,9 +67,10 @@ class ListGrid {
     const { rows } = this.typed, canGo = rows.length > 1 && !(this.isBlank(row) && r === rows.length - 1);
     const remove = canGo && removal(this.body, { label: `Remove row ${r + 1}`, remove: () => {
       this.remember(`Remove ${withEscapes((row.name ?? "").trim()) || `row ${r + 1}`}`);
+      const place = rows.slice(0, r).filter((one) => !this.isBlank(one)).length;
       rows.splice(r, 1);
       this.show();
-      this.onChange();
+      this.onChange(undefined, place);
     }, next: `rows.${r}.${this.keys[0]}` });
     const cells = this.columns().map((column) => this.cellIn(row, r, column));
     return el("tr", { class: this.isBlank(row) ? "blank" : "" }, cells, el("td", { class: "tool" }, remove));

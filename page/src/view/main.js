@@ -41,6 +41,7 @@ const session = new Session({
   },
   busy: (isBusy) => view.busy(isBusy),
   fault: (fault) => view.fault(fault),
+  step: (what, isTyping) => (isTyping ? panel.undo.typing(what) : panel.undo.remember(what)),
 });
 const view = new AnswerView(session);
 const paper = new Paper(session, view);
@@ -63,16 +64,13 @@ function openCase(kind, typed, { past = new Steps(), notes = [], doubt = "", pap
   view.clear(paper);
   panel = casePanel(kind, typed, {
     ...asked(kind), steps, notes: doubt ? [doubt, ...notes] : notes,
-    onChange: (wait) => {
+    onChange: (wait, { isTyped, removed }) => {
       isUnsaved = session.isTyped = true;
+      if (!isTyped) session.moveRows(removed);
       session.changed(wait);
     },
     onWide: (isWide) => at("desk").classList.toggle("wide", isWide),
-    onReset: (next, what, isSame = false) => {
-      const { entry, isTyped, pinned } = cellsNow(), same = isSame ? { entry, isTyped, pinned } : {};
-      steps.add(what, nowTyped());
-      openCase(kind, next, { ...same, past: steps });
-    },
+    onReset: (next, what, how) => reset(kind, next, what, how),
     onUndo: (isRedo) => undo(kind, isRedo),
     snapshot: () => structuredClone(cellsNow()),
     coarsen: (how) => coarsen(kind, how),
@@ -87,6 +85,14 @@ function openCase(kind, typed, { past = new Steps(), notes = [], doubt = "", pap
   showView(kind.id);
 }
 
+/** Other cells for those of a case, as a step. `how` says how far the case stays the same: with all beside its cells,
+ * and if only names changed ("named"), with each of the own amounts in its row. */
+function reset(kind, next, what, how) {
+  const { file, typed, ...same } = structuredClone(cellsNow()), { paper, places } = nowTyped();
+  steps.add(what, how ? { file, typed, ...same } : { file, typed, ...same, paper, places });
+  openCase(kind, next, { ...(how && { ...same, paper, places, isMoved: how !== "named" }), past: steps });
+}
+
 /** What a case asks for: marks, workers, and itself as a file. */
 function asked(kind) {
   return {
@@ -98,15 +104,18 @@ function asked(kind) {
     help: (task, what) => session.reader.ask(task, what),
     caseText: () => {
       const { pinned, reading, marks } = session, kept = pinned ? keptTree(pinned, session.typed) : undefined;
-      return caseText({ ...nowTyped(), kind, kept, mark: marks.shown, entry: writtenBy(reading), text: reading.text });
+      const { shown: mark, thousands } = marks;
+      return caseText({ ...nowTyped(), kind, kept, mark, thousands, entry: writtenBy(reading), text: reading.text });
     },
   };
 }
 
 /** Undoes a step, or does it again. Within a case it brings back the cells: heading, unit and decimals stay. */
 function undo(kind, isRedo) {
-  const { paper, places } = nowTyped(), cells = steps.go(isRedo, (old) => old.paper ? nowTyped() : cellsNow());
-  openCase(kind, cells.typed, { paper, places, ...cells, past: steps });
+  const { paper, places } = nowTyped(), { marks } = cellsNow();
+  const cells = steps.go(isRedo, (old) => ({ ...structuredClone(cellsNow()), ...(old.paper && { paper, places }) }));
+  const shown = marks.isChosen && !cells.paper ? { marks } : {}; // what was chosen under Options stays
+  openCase(kind, cells.typed, { paper, places, ...cells, ...shown, past: steps });
 }
 
 /** The steps of a case whose cells are replaced; where nothing stood there but its worked example, it is none. */
@@ -118,20 +127,24 @@ function replaced(kind, what) {
 
 /** Makes the numbers of a case coarser, as the user chose, or gives a fault in words. */
 async function coarsen(kind, how) {
-  const before = cellsNow(), { typed, measure, entry, doubt, isTyped } = before, { paper, places } = nowTyped();
+  const { typed } = session, before = structuredClone(cellsNow()), { paper, places } = nowTyped();
   const what = { id: kind.id, typed: kind.pack?.(typed) ?? typed, mark: session.marks.ofCells(), how };
   const { typed: changed, coarse: fresh, fault } = await session.reader.ask("coarser", what);
   if (fault || session.typed !== typed) return fault;
   const next = { ...typed, ...(kind.unpack?.(changed) ?? changed), coarse: coarserStill(typed.coarse, fresh) };
+  const { file, ...same } = before, none = how === "whole" ? { texts: [], pinned: null, todays: null } : {};
   steps.add(WAYS[how], before);
-  openCase(kind, next, { measure, entry, doubt, isTyped, paper, places, past: steps });
+  openCase(kind, next, { ...same, ...none, paper, places, past: steps }); // other amounts are of the old numbers
   return undefined;
 }
 
 /** What stands in the cells of the case that is shown. */
 function cellsNow() {
-  const { typed, measure, texts, todays, pinned, doubt, file, isTyped, marks: { entry } } = session;
-  return { typed, measure, texts, todays, pinned, entry, doubt, file, isTyped };
+  const { typed, measure, texts, todays, pinned, doubt, file, isTyped, ownRows, isMoved, marks } = session;
+  return {
+    typed, measure, texts, todays, pinned, entry: marks.entry, doubt, file, isTyped, ownRows, isMoved,
+    marks: marks.kept(),
+  };
 }
 
 /** The same with the decimals, and what was typed below the answer. */

@@ -38,10 +38,10 @@ class NetworkGrid {
     this.show();
   }
 
-  change(doIt) {
+  change(doIt, removed) {
     doIt();
     this.show();
-    this.onChange();
+    this.onChange(undefined, removed);
   }
 
   show() {
@@ -177,7 +177,7 @@ class NetworkGrid {
   removal(k, name) {
     const remove = () => {
       this.remember(`Remove ${name}`);
-      this.change(() => this.remove(k));
+      this.change(() => this.remove(k), k);
       if (Object.values(this.typed.filled ?? {}).includes("way")) this.help.again();
     };
     const next = `names.${Math.min(k, this.typed.names.length - 2)}`;

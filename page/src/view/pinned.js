@@ -6,6 +6,7 @@ import { quoted } from "../tell/rule-names.js";
 import { button, el } from "./dom.js";
 import { changeBelow } from "./today.js";
 import { totalsOf, withSum } from "./format.js";
+import { placesIn } from "./own-rows.js";
 
 const MOST_NAMED = 4; // changed cells that a sentence names
 
@@ -27,11 +28,17 @@ export function pinnedOf(session, rows) {
   const { pinned: pin, result, typed } = session, canBe = columnsOf(result, rows).length > 0;
   const set = (next) => session.setPinned(next);
   if (!canBe || !pin) return { canBe, pin: null, keep: () => set(pinOf(session)) };
-  const gone = pin.names.filter((name) => rows.every(({ label }) => label !== name));
   return {
-    canBe, pin, gone, changed: changedCells(pin.typed, typed), kept: (key, format) => keptOf(pin, key, rows, format),
+    canBe, pin, ...othersOf(pin.names, rows), changed: changedCells(pin.typed, typed),
+    kept: (key, format) => keptOf(pin, key, rows, format),
     keep: () => set(pinOf(session)), drop: () => set(null),
   };
+}
+
+/** The names that were kept and have gone, and those that came since. */
+function othersOf(names, rows) {
+  const labels = rows.map(({ label }) => label), places = placesIn(names, labels);
+  return { gone: names.filter((_, k) => !places.includes(k)), fresh: labels.filter((_, r) => places[r] < 0) };
 }
 
 /** Rounded as they were: so that they add up, with those of an airline. */
@@ -39,12 +46,12 @@ function keptOf({ names, sums = [], shares }, key, rows, format) {
   if (!shares[key]) return null;
   const own = names.map((label, k) => ({ label, sum: sums[k] || undefined }));
   const steps = format.steps(shares[key].map(Rational.of), own), unit = new Rational(10n ** BigInt(format.places));
-  const place = new Map(names.map((name, k) => [name, k])), valueOf = (step) => new Rational(step).over(unit);
-  const values = rows.map(({ label }) => (place.has(label) ? valueOf(steps[place.get(label)]) : null));
-  const exact = rows.map(({ label }) => (place.has(label) ? Rational.of(shares[key][place.get(label)]) : null));
-  const isGone = ({ label }) => rows.every((row) => row.label !== label);
-  const gone = own.filter(isGone).map(({ label }) => ({ label, value: valueOf(steps[place.get(label)]) }));
-  return { values, exact, gone, sum: valueOf(withSum(steps).at(-1)) };
+  const places = placesIn(names, rows.map(({ label }) => label)), valueOf = (k) => new Rational(steps[k]).over(unit);
+  const values = places.map((k) => (k < 0 ? null : valueOf(k)));
+  const exact = places.map((k) => (k < 0 ? null : Rational.of(shares[key][k])));
+  const isGone = (k) => !places.includes(k), at = [...own.keys()].filter(isGone);
+  const gone = at.map((k) => ({ label: own[k].label, value: valueOf(k) }));
+  return { values, exact, gone, sum: new Rational(withSum(steps).at(-1)).over(unit) };
 }
 
 /** What a saved case has of it: the old texts of the cells that have changed since, beside what was kept. */
@@ -108,26 +115,33 @@ export function sinceKept(step, total, kept, r, format, isBeside = true) {
   return [!isBeside && el("small", { class: "was" }, `was ${format.show(before)}`), changeBelow(step, before, format)];
 }
 
-/** Who bears the change, in sentences: by one rule, {key, title, totals}, for the numbers that are shown. */
-export function pinnedText({ changed, gone, kept }, point, rows, { format, labelOfCell }) {
-  const { key, title, totals } = point;
-  const { values: before = rows.map(() => null), exact = [] } = kept(key, format) ?? {};
-  const steps = format.steps(totals, rows), unit = new Rational(10n ** BigInt(format.places));
-  const by = rows.map((_, r) => before[r] && new Rational(steps[r]).over(unit).minus(before[r]));
-  const isOther = (r) => by[r] && !by[r].isZero() && !totals[r].equals(exact[r]);
-  const told = rows.map(({ label }, r) => isOther(r) && signed(label, by[r], format)).filter(Boolean);
-  const fresh = rows.filter((_, r) => !before[r]).map(({ label }) => label), known = rows.length - fresh.length;
+/** Who bears the change, in sentences: by one rule, {key, title, name, totals}, for the numbers that are shown. */
+export function pinnedText({ changed, gone, fresh, kept }, point, rows, { format, labelOfCell }) {
   const cells = (changed ?? []).slice(0, MOST_NAMED).map(({ cell, before: old, after }) => {
     return `${labelOfCell(cell)}: ${withEscapes(old) || "empty"} → ${withEscapes(after) || "empty"}`;
   });
   const more = (changed ?? []).length - cells.length;
   return [
-    told.length ? `Against the kept answer, ${title === "Power" ? "in power" : `by ${quoted(point)}`}: ${listed(told)}`
-      + `${told.length < known ? "; the others as before" : ""}.` : "The shares are those of the kept answer.",
+    againstKept(kept(point.key, format), point, rows, { format, fresh, gone }),
     cells.length > 0 && `Changed since: ${cells.join("; ")}${more ? `; and ${plural(more, "more cell")}` : ""}.`,
     fresh.length > 0 && `New: ${fresh.join(", ")}.`,
     gone.length > 0 && `Kept, and gone since: ${gone.join(", ")}.`,
   ].filter(Boolean).join(" ");
+}
+
+/** Who has more or less than in the kept answer, by name; or why nobody can be compared. */
+function againstKept(before, point, rows, { format, fresh, gone }) {
+  const { title, totals } = point, by = title === "Power" ? "in power" : `by ${quoted(point)}`;
+  if (fresh.length === rows.length) return "Nobody here is in the kept answer, so nothing is compared.";
+  if (!before) return `The kept answer has no shares ${by}, so nothing is compared.`;
+  const steps = format.steps(totals, rows), unit = new Rational(10n ** BigInt(format.places));
+  const more = rows.map((_, r) => before.values[r] && new Rational(steps[r]).over(unit).minus(before.values[r]));
+  const isOther = (r) => more[r] && !more[r].isZero() && !totals[r].equals(before.exact[r]);
+  const told = rows.map(({ label }, r) => isOther(r) && signed(label, more[r], format)).filter(Boolean);
+  const rest = told.length < rows.length - fresh.length ? "; the others as before" : "";
+  if (told.length) return `Against the kept answer, ${by}: ${listed(told)}${rest}.`;
+  return fresh.length || gone.length ? "Those who were there before have the shares of the kept answer."
+    : "The shares are those of the kept answer.";
 }
 
 function signed(label, by, { show }) {

@@ -25,7 +25,7 @@ export function ownInput({ label }, r, own, key, title) {
         if (!pasted.includes("\n")) return;
         event.preventDefault();
         const { texts, said, fault } = pastedDivision(pasted, own.labels, { first: r, before: own.texts });
-        own.setAll(texts ?? own.texts, fault ?? said);
+        own.setAll(texts ?? own.texts, fault ?? said, "Paste your amounts");
       },
     },
   });
@@ -72,11 +72,13 @@ function wholeTexts(totals, rows, whole, { places, mark }) {
 }
 
 export function proposalTools(result, { rows, proposal, format, isOpen }) {
-  const fill = (totals) => proposal.setAll(wholeTexts(totals, rows, result.game.whole(), format));
+  const fill = (title, totals) => {
+    proposal.setAll(wholeTexts(totals, rows, result.game.whole(), format), "", `Fill it with ${title}`);
+  };
   return el("p", { class: "tools fill" }, el("span", {}, isOpen ? "Fill it with " : "Or fill it with "),
-    ways(result, rows).map(({ title, totals }) => button(title, () => fill(totals()), { class: "quiet" })),
+    ways(result, rows).map(({ title, totals }) => button(title, () => fill(title, totals()), { class: "quiet" })),
     proposal.texts.some(Boolean) && button("clear", () => {
-      proposal.setAll([]);
+      proposal.setAll([], "", "Clear your division");
       document.querySelector('[data-cell="proposal.0"]')?.focus(); // the button is gone
     }, { class: "quiet" }));
 }

@@ -4,14 +4,18 @@ import { Rational } from "../exact/rational.js";
 import { calculated } from "./calculated.js";
 import { formatOf } from "./format.js";
 import { Helper } from "./helper.js";
+import { carried, withoutRow } from "./own-rows.js";
 import { proposalOf } from "./proposal.js";
 import { askAll, judge } from "./questions.js";
 
 const WAIT = 200; // milliseconds between the last key and the question
 const BUSY = 400; // milliseconds after which the page says that it is at work
 
+const textsOf = (list) => Array.from(list, (text) => text ?? "");
+
 export class Session {
-  /** `on` is called as things happen: `stale`, `read`, `answer(came)`, `busy(isBusy)` and `fault(fault)`. */
+  /** `on` is called as things happen: `stale`, `read`, `answer(came)`, `busy(isBusy)` and `fault(fault)`; and before
+   * the user's own numbers change, `step(what, isTyping)`. */
   constructor(on) {
     this.on = on;
     this.engine = new Helper();
@@ -31,13 +35,15 @@ export class Session {
   }
 
   /** `doubt` is why the game isn't taken for the agreed one, in words; `file` is that which was opened: {name, digest},
-   * and `made`, the document that the page makes of it. The marks are those of `Marks.open`. */
+   * and `made`, the document that the page makes of it. The marks are those of `Marks.open`. The user's own amounts are
+   * of the rows `ownRows`, if these are known; by their names, if they `isMoved`. */
   open(kind, typed, { isFile = false, isTyped = isFile, ...settings } = {}) {
     const { measure = "plain", texts = [], todays = null, pinned = null, doubt = "", file = null } = settings;
-    const { places = kind.places ?? 2, mark, entry } = settings;
+    const { places = kind.places ?? 2, mark, entry, marks, thousands, ownRows = null, isMoved = false } = settings;
     Object.assign(this, { kind, typed, measure, texts, todays, pinned, doubt, places, isTyped, ownSaid: "" });
+    Object.assign(this, { ownRows, isMoved }); // whether rows may stand elsewhere than those of the own amounts
     this.wasPerHead = measure === "per-head"; // whether that was asked, by the case or by a person
-    this.marks.open({ isFile, mark, entry });
+    this.marks.open({ isFile, mark, entry, thousands, before: marks });
     Object.assign(this, { reading: null, result: null, judged: {}, proposal: proposalOf([], [], this.marks.entry) });
     this.changed(0);
     this.file = file;
@@ -110,6 +116,7 @@ export class Session {
       if (this.file) this.file.made ??= reading.text;
       if (JSON.stringify(marks.spelling()) !== before) return void this.changed(0); // for the notes, too
       Object.assign(this, { reading, judged: {} });
+      this.carryOwn(reading.rows);
       this.on.read();
       if (reading.facts) await this.ask(about, { engine, checker }, isMine);
       else this.withoutProgram(reading);
@@ -151,6 +158,25 @@ export class Session {
 
   // ---- The proposal
 
+  /** Rows changed otherwise than by typing; `removed` is the place of the only one that went, if it is known. */
+  moveRows(removed) {
+    const { ownRows: rows, texts, todays } = this;
+    if (removed === undefined || this.isMoved || !rows?.[removed]) this.isMoved = true;
+    else this.takeOwn(withoutRow({ rows, texts, todays }, removed));
+  }
+
+  /** The user's own amounts go with their rows. */
+  carryOwn(rows) {
+    const { ownRows: before, texts, todays, isMoved } = this;
+    if (!rows?.length) return;
+    this.isMoved = false;
+    this.takeOwn({ rows, ...(before ? carried({ rows: before, texts, todays }, rows, !isMoved) : { texts, todays }) });
+  }
+
+  takeOwn({ rows, texts, todays, gone }) {
+    Object.assign(this, { ownRows: rows, texts, todays }, gone && { ownSaid: gone });
+  }
+
   /** What is divided; null while nobody knows. */
   whole() {
     const { whole, kind } = this.reading.facts ?? {};
@@ -163,10 +189,11 @@ export class Session {
       ...this.judged };
   }
 
-  /** `said` is told of a text that was pasted. */
-  setProposal(texts, said = "") {
-    this.ownSaid = said;
-    this.texts = Array.from(texts, (text) => text ?? "");
+  /** `said` is told of a text that was pasted; `what` is the step, if it isn't typing. */
+  setProposal(texts, said = "", what = "") {
+    const own = textsOf(texts);
+    if (JSON.stringify(own) !== JSON.stringify(this.texts)) this.on.step(what || "Typing your division", !what);
+    Object.assign(this, { ownSaid: said, texts: own });
     this.judged = {};
     this.readProposal();
     this.on.answer("proposal");
@@ -176,15 +203,17 @@ export class Session {
 
   /** The answer that is kept to compare; null for none. No answer changes. */
   setPinned(pinned) {
+    this.on.step(pinned ? "Keep this answer" : "Stop comparing");
     this.pinned = pinned;
     this.on.read();
     this.on.answer("pinned");
   }
 
   /** What each pays or has today, a text for each row; null where the user doesn't compare. No answer changes. */
-  setTodays(texts, said = "") {
-    this.ownSaid = said;
-    this.todays = texts && Array.from(texts, (text) => text ?? "");
+  setTodays(texts, said = "", what = "") {
+    const own = texts && textsOf(texts);
+    if (JSON.stringify(own) !== JSON.stringify(this.todays)) this.on.step(what || "Typing what each has", !what);
+    Object.assign(this, { ownSaid: said, todays: own });
     this.on.answer("todays");
   }
 

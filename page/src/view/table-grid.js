@@ -69,13 +69,12 @@ class TableGrid {
     return this.order.indexOf(Number(cell.split(".")[1]));
   }
 
-  change(next) {
-    this.filling = (this.filling ?? 0) + 1; // what is being filled is of the old table
+  change(next, removed) {
     Object.assign(this.typed, next);
-    this.order = masksBySize(this.typed.names.length);
-    this.start = 0;
+    this.filling = (this.filling ?? 0) + 1; // what is being filled is of the old table
+    [this.order, this.start] = [masksBySize(this.typed.names.length), 0];
     this.show();
-    this.onChange();
+    this.onChange(undefined, removed);
   }
 
   show() {
@@ -115,7 +114,7 @@ class TableGrid {
   /** The rest of the table stays. What all who stay cost was filled mostly, so it has to be typed. */
   remove(i) {
     this.remember(`Remove ${withEscapes(this.typed.names[i].trim()) || `player ${i + 1}`}`);
-    this.change(withoutPlayer(this.typed, i));
+    this.change(withoutPlayer(this.typed, i), i);
     this.say();
     if (this.typed.filled.length) this.fillSplits(true);
   }
@@ -330,7 +329,7 @@ class TableGrid {
   }
 
   /** Takes a list, and then `close`s where it was pasted. */
-  async takeList(text, order = "size", close = () => {}, said = {}) {
+  async takeList(text, order = "size", close = null, said = {}) {
     this.say("Reading the list …");
     const found = await this.readList({ text, names: this.ownNames(), order, said }), { state, told, isOdd } = found;
     const use = (more) => () => this.takeList(text, order, close, { ...said, ...more });
@@ -346,8 +345,8 @@ class TableGrid {
         answer("Yes, all together", { isWhole: true }), answer("No, a player", { isWhole: false })]);
     }
     if (!state) return this.say(found.fault, " Nothing was taken.");
-    close();
-    this.remember("Use this list");
+    close?.();
+    this.remember(said.what ?? (close ? "Use this list" : "Paste"));
     this.change({ ...unpacked(state), opened: undefined, isUnnamed: false, filled: undefined, coarse: undefined });
     const { names, numbers } = this.typed, lacking = this.order.filter((mask) => !numbers[mask]).length;
     const read = this.order.length - lacking;
@@ -361,14 +360,14 @@ class TableGrid {
   /** A hint that the list may stand in the other order. */
   otherOrder(text, order) {
     const [other, title] = order === "size" ? ["mask", "by masks"] : ["size", "by size"];
+    const what = `Read it ${title}`, read = () => this.takeList(text, other, null, { what });
     return [" So read, some group has a lesser number than a smaller one within it; in the other order none has. ",
-      button(`Read it ${title}`, () => this.takeList(text, other), { class: "quiet" })];
+      button(what, read, { class: "quiet" })];
   }
 
   /** The names, but for those of the worked example, which are nobody's. */
-  ownNames() {
-    const { names } = this.typed, given = this.kind.example().names;
-    return names.join("\n") === given.join("\n") ? [] : names;
+  ownNames({ names } = this.typed) {
+    return names.join("\n") === this.kind.example().names.join("\n") ? [] : names;
   }
 
   isExample() {

@@ -7,7 +7,7 @@ import { proposalOf } from "./proposal.js";
 
 /** What was typed of today, read by rows, and how to change it; `texts` is null where the user doesn't compare. */
 export function todayOf(session, rows) {
-  const { todays, result } = session, setAll = (texts, said) => session.setTodays(texts, said);
+  const { todays, result } = session, setAll = (...what) => session.setTodays(...what);
   const canBe = !result.game || (!result.game.isMarket() && !result.game.ballots); // of many landings there is no game
   if (!todays || !canBe) return { canBe, texts: null, setAll };
   const set = (r, text) => setAll(Object.assign([...todays], { [r]: text }));
@@ -37,8 +37,9 @@ export function changeBelow(step, now, format) {
 export function todayTools({ costs }, { canBe, texts, setAll }) {
   const what = costs ? "what each pays today" : "what each has now";
   if (!canBe) return null;
-  if (!texts) return el("p", { class: "tools" }, button(`Compare with ${what}`, () => setAll([]), { class: "quiet" }));
-  return el("p", { class: "tools" }, button(`Without ${what}`, () => setAll(null), { class: "quiet" }),
+  const way = (title, next) => button(title, () => setAll(next, "", title), { class: "quiet" });
+  if (!texts) return el("p", { class: "tools" }, way(`Compare with ${what}`, []));
+  return el("p", { class: "tools" }, way(`Without ${what}`, null),
     el("span", { class: "hint" }, "Each share shows how much more or less it is. The column is for the table and for "
       + "paper. It isn’t saved."));
 }

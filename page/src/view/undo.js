@@ -16,12 +16,6 @@ export class Steps {
     this.undone = [];
   }
 
-  /** What is typed is one step, until another comes; `still` are the cells before it. */
-  type(still) {
-    if (this.past.at(-1)?.what !== TYPING) this.add(TYPING, still);
-    this.undone = [];
-  }
-
   /** Goes back one step, or on with `isRedo`: the cells there. `now(cells)` gives what stands in their place. */
   go(isRedo, now) {
     const [from, to] = isRedo ? [this.undone, this.past] : [this.past, this.undone];
@@ -31,33 +25,61 @@ export class Steps {
   }
 }
 
-/** The two buttons, as `element`. `remember(what)` is called before a step changes the cells, `typed()` before a key
- * does, and `changed()` behind each change; what follows a step by itself belongs to it. `snapshot()` gives the cells,
- * `onUndo(isRedo)` goes. */
-export function undoing({ steps, snapshot, onUndo }) {
-  const element = el("span");
-  let still = snapshot(), isTyped = false;
-  const way = (word, isRedo, last) => last
-    && button(`${word} “${last.what}”`, () => onUndo(isRedo), { class: "quiet" });
-  const show = () => {
-    refill(element, way("Undo", false, steps.past.at(-1)), " ", way("Redo", true, steps.undone.at(-1)));
-  };
-  show();
-  return {
-    element,
-    remember(what) {
-      steps.add(what, snapshot());
-      isTyped = false;
-      show();
-    },
-    typed() {
-      isTyped = true;
-    },
-    changed() {
-      if (isTyped) steps.type(still);
-      else still = snapshot();
-      isTyped = false;
-      show();
-    },
-  };
+const textOf = (cells) => JSON.stringify(cells, (_, one) => (typeof one === "bigint" ? String(one) : one));
+
+/** The two buttons, as `element`. `remember(what)` is called before a step changes the cells, and `typing(what)` before
+ * a key does: what is typed is one step, until another comes. `watch(panel)` sees keys and clicks in a panel by itself,
+ * and `changed()`, behind each change, says whether it was typed. What follows a step by itself belongs to it.
+ * `snapshot()` gives the cells, `onUndo(isRedo)` goes. */
+export class Undoing {
+  constructor({ steps, snapshot, onUndo }) {
+    Object.assign(this, { steps, snapshot, onUndo, element: el("span") });
+    Object.assign(this, { still: null, typed: null, clicked: null }); // the cells before a key, its step, and a click
+    this.show();
+  }
+
+  show() {
+    const { steps, onUndo } = this, way = (word, isRedo, last) => last
+      && button(`${word} “${last.what}”`, () => onUndo(isRedo), { class: "quiet" });
+    refill(this.element, way("Undo", false, steps.past.at(-1)), " ", way("Redo", true, steps.undone.at(-1)));
+  }
+
+  remember(what, cells = this.snapshot()) {
+    this.steps.add(what, cells);
+    this.typed = null;
+    this.show();
+  }
+
+  isTyping(what) {
+    return this.typed !== null && this.typed === this.steps.past.at(-1) && this.typed.what === what;
+  }
+
+  typing(what, cells) {
+    if (this.isTyping(what)) return;
+    this.remember(what, cells);
+    this.typed = this.steps.past.at(-1);
+  }
+
+  watch(panel) {
+    panel.addEventListener("input", () => { this.still = this.isTyping(TYPING) ? {} : this.snapshot(); }, true);
+    panel.addEventListener("input", () => { this.still = null; });
+    panel.addEventListener("click", ({ target }) => {
+      const one = target.closest("button");
+      this.clicked = one && { what: one.textContent, last: this.steps.past.at(-1), cells: this.snapshot() };
+    }, true);
+    panel.addEventListener("click", () => this.behindClick());
+  }
+
+  /** A button that changed cells was a step, if it didn't say so itself. */
+  behindClick() {
+    const { what, last, cells } = this.clicked ?? {}, isStep = this.clicked && last === this.steps.past.at(-1);
+    if (isStep && textOf(cells) !== textOf(this.snapshot())) this.remember(what, cells);
+    this.clicked = null;
+  }
+
+  changed() {
+    const isTyped = this.still !== null;
+    if (isTyped) this.typing(TYPING, this.still);
+    return isTyped;
+  }
 }

@@ -43,7 +43,7 @@ function treeOf(text) {
 function openCase(tree, usual) {
   const fault = faultOfCase(tree);
   if (fault) return { refusal: fault };
-  const { entry = usual, mark = usual, decimals, heading, unit, source, proposal = [], kept } = tree;
+  const { entry = usual, mark = usual, decimals, heading, unit, source, proposal = [], kept, thousands } = tree;
   const found = withMark(openDocument({ text: writeJson(tree.document), mark }), entry);
   if (found.refusal) {
     const { sentence, place } = found.refusal;
@@ -58,7 +58,7 @@ function openCase(tree, usual) {
     more: {
       ...(isFollowing ? filled : {}), ...(source && kind.isNetwork ? { source } : {}), coarse: coarseOf(tree.coarse),
     },
-    settings: { entry, mark, places: decimals && Number(decimals), paper: { heading, unit }, kept },
+    settings: { entry, mark, thousands, places: decimals && Number(decimals), paper: { heading, unit }, kept },
     notes: [OF_A_CASE, ...(isFollowing ? [] : [NOT_FOLLOWING])],
   };
 }
