@@ -136,6 +136,8 @@ const lists = [
   ["strangers: numbers that may be names are asked about", "estate", async (page, expect) => {
     await paste(page, "rows.0.name", "Lägenhet\tBelopp\tRänta\n101\t400\t4\n102\t300\t3");
     await told(page, "#case .pasted", /Nothing was taken yet\. Which column is “Who claims”\? “Lägenhet” ?“Belopp”/);
+    const shown = 'getComputedStyle(document.querySelector("#case .faults")).display';
+    expect("and nothing beside", await page.run(shown), "none");
     await page.click("“Lägenhet”");
     await told(page, "#case .pasted", /Nothing was taken yet\. Which column is “Claim”\? “Belopp” ?“Ränta”/);
     await page.click("“Belopp”");
