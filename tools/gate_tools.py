@@ -52,7 +52,7 @@ TOOLS = (
     Tool("try-engines", needs=("node",), uses=("dask", "mpirun", "parallel"), has_program=False, takes_program=False),
     Tool("try-portable", needs=("cc", "make", "ar", "node", "wasm2c"), uses=("valgrind",), has_program=False),
     Tool("fuzz-same-game", needs=("node",), has_program=False, takes_program=False),
-    Tool("try-languages", uses=("Rscript", "wasm2c", "node", "julia", "rustc"), takes_program=False, needs_kit=True),
+    Tool("try-languages", uses=("Rscript", "wasm2c", "node", "rustc"), takes_program=False, needs_kit=True),
     Tool("try-schema"),
     Tool("read-examples"),
     Tool("try-literature"),
