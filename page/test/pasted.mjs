@@ -104,6 +104,15 @@ const TEXTS = [
   ["network", "Works\tA\tca. 12\nWorks\tB\t9\nA\tB\t4", null, /“ca\. 12” is no number\. Write the number alone/],
   ["network", "Works\tA\t\nWorks\tB\t9", "Works|A|B|0-2|9", /2 empty/],
   ["network", "From Works to A: 12\nFrom Works to B: 9\nFrom A to B: 4", /^Works\|A\|B/, /source: Works/],
+  // a list in the place of another, and the number above it
+  ["estate", ["Estate\t500\nAnn\t300\nBo\t400", "Cy\t90\nDi\t80"], "Cy=90|Di=80", /gone.*The estate is still 500\./],
+  ["estate", ["Estate\t500\nAnn\t300\nBo\t400", "Bo\t90\nAnn\t80"], "Bo=90|Ann=80", /^(?!.*(gone|still 500))/],
+  ["estate", ["Estate\t500\nAnn\t300", "Masse\t4.100,00\nCy\t90\nDi\t80"], "Cy=90|Di=80", /taken as .* was 500 before/],
+  ["estate", ["Estate\t500\nAnn\t300\nBo\t400", "Estate\t70\nAnn\t300\nBo\t80"], "Ann=300|Bo=400",
+    /Nothing was taken yet\. The estate has one amount above.*500, as above 70, as pasted/],
+  ["estate", ["Estate\t500\nAnn\t300\nBo\t400", "Estate\t70\nAnn\t300\nBo\t80"], "Ann=300|Bo=80",
+    /“Estate”, 70, was left out/, "500, as above"],
+  ["votes", ["Ann\t3\nBo\t4", "Cy\t9\nDi\t8"], "Cy=9|Di=8", /rows before are gone/],
 ];
 
 /** Texts that are pasted into a proposal for Sales, Ops and Legal, and the amounts, or what is said of them. */

@@ -17,7 +17,7 @@ const PAGE = new RegExp(`^\\P{L}*(${PAGES}) ?\\d+(( ?/| \\p{L}+) ?\\d+)?\\P{L}*$
  * the rows below the headings, the column that each cell is for, and what has to be told. Or {fault}, in words; or
  * {asked}, if the user has to choose columns, or to say whether the first row has their `heads`: then it is asked
  * again with what was chosen (`choice`, `out`, `isHead`). A row with the number above the list (`single`) is none. */
-export function sheetOf(pasted, columns, { mark, single, usual, isFirst = true, isHead, choice, out = [] }) {
+export function sheetOf(pasted, columns, { mark, single, amount, usual, isFirst = true, isHead, choice, out = [] }) {
   const { rows: paged, pages } = isFirst ? withoutPages(pasted) : { rows: pasted, pages: [] };
   const { rows: parted, notes: counted, loose } = isFirst ? blockOf(paged) : { rows: pasted, notes: [] };
   const odd = loose ?? (isFirst ? noName(parted) : undefined), saved = answerFault(pasted);
@@ -42,7 +42,8 @@ export function sheetOf(pasted, columns, { mark, single, usual, isFirst = true, 
   const isPercent = own.includes("%") || targets.some((column, c) => column?.number && /%/.test(headings?.[c] ?? ""));
   const notes = [
     leftText([...left, ...pages]), ...counted, pastedText(rows, headings, targets, usual),
-    unitsText([...new Set(own)]), above && `“${word}”, ${number}, was taken as ${single.title.toLowerCase()}.`,
+    unitsText([...new Set(own)]), above && `“${word}”, ${number}, was ${
+      (amount ?? number) === number ? `taken as ${single.title.toLowerCase()}` : "left out"}.`,
   ].filter(Boolean);
   return { rows: headings ? rows.slice(1) : rows, targets, headings, notes, number, isGuess, isPercent };
 }

@@ -130,15 +130,36 @@ class ListGrid {
       mark: this.mark(), usual: columns.slice(first), isFirst: !first, ...said,
       single: single?.heads && single,
     });
-    const isOther = sheet.number && !this.isOpen(single.key) && this.typed[single.key] !== sheet.number;
-    const fault = isOther ? `${single.title} is ${this.typed[single.key]} above, and ${sheet.number} in these rows. `
-      + "Leave one of the two." : sheet.fault;
-    if (fault) return this.say(`${fault} Nothing was taken.`);
+    if (sheet.fault) return this.say(`${sheet.fault} Nothing was taken.`);
     const most = this.kind.most * 4, count = sheet.rows?.length ?? 0;
     if (count > most) return this.say(`These are ${count} rows, and at most ${most} fit. Nothing was taken.`);
-    if (sheet.asked) return this.askWhich(sheet.asked, said, (more) => this.fill(cell, pasted, more));
+    const use = (more) => this.fill(cell, pasted, more);
+    if (sheet.asked) return this.askWhich(sheet.asked, said, use);
+    const old = single && this.typed[single.key], isOther = sheet.number && old !== sheet.number;
+    const isOpen = !isOther || said.amount || this.isOpen(single.key), kept = this.keptOf(sheet);
+    if (!isOpen && kept !== "none") return this.askSingle(single.title, [old, sheet.number], said, use);
     this.remember("Paste");
-    this.take(sheet, Number(r));
+    if (!isOpen) sheet.notes.push(`${single.title} was ${old} before.`);
+    return this.take({ ...sheet, number: said.amount ?? sheet.number, kept }, Number(r));
+  }
+
+  /** Whether pasted rows are "all" those that are here, by their names, "some" of them, or "none". */
+  keptOf({ rows, targets }) {
+    const [{ key }] = this.kind.columns, at = targets.findIndex((target) => target?.key === key);
+    const namesOf = (list) => list.map((name) => (name ?? "").trim()).filter(Boolean).sort();
+    const old = namesOf(this.typed.rows.map((row) => row[key])), names = namesOf(rows.map((row) => row[at]));
+    if (names.join("\n") === old.join("\n")) return "all";
+    return at < 0 || names.some((name) => old.includes(name)) ? "some" : "none";
+  }
+
+  /** Asks which estate is meant, the one above the list or the one in pasted rows of the same people. */
+  askSingle(title, [own, other], said, use) {
+    const way = (text, where) => button(`${withEscapes(text)}, ${where}`, () => use({ ...said, amount: text }), {
+      class: "quiet",
+    });
+    this.say("");
+    askIn(this.element, this.said, [`Nothing was taken yet. ${title} has one amount above, and another in these rows. `
+      + "Which is it? ", way(own, "as above"), " ", way(other, "as pasted")]);
   }
 
   /** Whether nothing of the user's stands in the cell above the list. */
@@ -175,15 +196,15 @@ class ListGrid {
   }
 
   /** A list with names that begins in the first row is the case; and nothing of the worked example stays beside it. */
-  take({ rows, targets, headings, notes, number, isGuess, isPercent }, at) {
+  take({ rows, targets, headings, notes, number, isGuess, isPercent, kept }, at) {
     const { kind, typed } = this, isExample = this.isExample();
     const hasNames = targets.some((target) => target?.key === kind.columns[0].key), r = isExample && hasNames ? 0 : at;
     const isFree = (row) => targets.every((own) => !row[own?.key]?.trim()), isBlank = (row) => this.isBlank(row);
     const isNew = !typed.rows.every(isBlank) && typed.rows.every(isFree); // columns beside what is there
     const isWhole = r === 0 && (isExample || (hasNames && !isNew && (headings || rows.length > 1)));
     const isOther = (row, k) => !this.isBlank(row) && (isWhole || k >= r + rows.length);
-    const isOver = !isExample && typed.rows.some(isOther)
-      && (isWhole ? "The rows before are gone (Undo)." : "The rows below stay as they were.");
+    const isOver = !isExample && !(isWhole && kept === "all") && typed.rows.some(isOther)
+      && (isWhole ? `The rows before are gone (Undo).${this.stillText(number)}` : "The rows below stay as they were.");
     if (isWhole) this.leave(isExample);
     Object.assign(typed, { isUnordered: isGuess, notTwice: false, ...(kind.isVote && { isPercent }) });
     if (number) typed[kind.single.key] = number;
@@ -197,6 +218,14 @@ class ListGrid {
     this.showSingles();
     this.show();
     this.onChange();
+  }
+
+  /** What stays above a list that takes the place of another. */
+  stillText(number) {
+    const { kind: { single, second }, typed } = this;
+    return [!number && single, typed.secondQuota !== undefined && second.single].map((one) => {
+      return one && typed[one.key].trim() ? ` ${one.title} is still ${typed[one.key]}.` : "";
+    }).join("");
   }
 
   /** Says what became of a pasted list; a column or line that was left out, or nothing taken, is seen at once. */
