@@ -4,7 +4,7 @@ from __future__ import annotations
 import json
 from fractions import Fraction
 from functools import partial
-from typing import Mapping, Optional, Sequence, Union, cast
+from typing import Any, Callable, Mapping, Optional, Sequence, Union, cast
 
 from . import answers, classes
 from .amounts import Amount, amounts_of, fractions_of, named_items, written
@@ -158,6 +158,14 @@ def answer_from(command: str, status: int, data: bytes, document: bytes, game: G
         return answers.answer_of(line, status, game)
     except (ValueError, KeyError, TypeError, AttributeError, ZeroDivisionError) as fault:
         raise Fault(f"the line isn't one of coop: {line[:80]!r} ({fault})", status, line) from None
+
+
+def kept(call: Callable[..., Answer], *given: Any) -> Outcome:
+    """The answer of a call; or what has the exception, where there is none."""
+    try:
+        return call(*given)
+    except NoAnswer as fault:
+        return Failure(fault)
 
 
 def fault_of(command: str, status: int, line: str, document: bytes) -> NoAnswer:

@@ -11,8 +11,8 @@ from collections import deque
 from itertools import islice
 from typing import Any, Iterable, Iterator, Optional, Protocol, Sequence, Union
 
-from .calls import Chosen, Outcome, answer_from
-from .errors import CoopError, Failure, Lost, NoAnswer
+from .calls import Chosen, Outcome, answer_from, kept
+from .errors import CoopError, Lost, NoAnswer
 from .game import Game
 from .program import Program, find
 
@@ -67,7 +67,7 @@ class Batch:
 
     def rows(self, seconds: Optional[float]) -> Iterator[tuple[Outcome, ...]]:
         for game, document, lines in zip(self.games, self.documents, self.lines(seconds)):
-            yield tuple(outcome_of(word, line, document, game) for word, line in zip(self.words, lines))
+            yield tuple(kept(answer_from, word, *line, document, game) for word, line in zip(self.words, lines))
 
     def lines(self, seconds: Optional[float]) -> Lines:
         """All lines. A batch that was lost with its process is handed over again."""
@@ -88,13 +88,6 @@ class Batch:
                     return lines  # type: ignore[no-any-return]
                 break
         raise self.lost("the executor returned the lines of other games")
-
-
-def outcome_of(word: str, line: Line, document: bytes, game: Game) -> Outcome:
-    try:
-        return answer_from(word, *line, document, game)
-    except NoAnswer as fault:
-        return Failure(fault)
 
 
 def many_by(

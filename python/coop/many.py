@@ -8,8 +8,8 @@ from collections import deque
 from typing import TYPE_CHECKING, Any, Callable, Iterable, Iterator, Mapping, Optional, Sequence, TypeVar, Union
 
 from .amounts import count_of, require_order
-from .calls import COMMANDS, ON_A_GAME, Chosen, Outcome, answered, document_of
-from .errors import BadInput, Failure, NoAnswer
+from .calls import COMMANDS, ON_A_GAME, Chosen, Outcome, answered, document_of, kept
+from .errors import BadInput, Failure
 from .game import Game
 from .library import end_calls
 from .machine import processors as usable
@@ -99,14 +99,7 @@ def without_faults(rows: Iterator[tuple[Outcome, ...]]) -> Iterator[tuple[Outcom
 def row_of(words: Sequence[str], game: Game, program: Program) -> tuple[Outcome, ...]:
     """What each command answers to a game, whose document is made once."""
     document = document_of(game)
-    return tuple(outcome(word, document, game, program) for word in words)
-
-
-def outcome(word: str, document: bytes, game: Game, program: Program) -> Outcome:
-    try:
-        return answered(word, document, game, program)
-    except NoAnswer as fault:
-        return Failure(fault)
+    return tuple(kept(answered, word, document, game, program) for word in words)
 
 
 def spread(

@@ -11,7 +11,7 @@ from __future__ import annotations
 
 from dataclasses import dataclass
 from fractions import Fraction
-from typing import Callable, Iterator, Optional
+from typing import Callable, Iterator, NamedTuple, Optional
 
 from . import calls
 from .answers import Blocked, Names, Nucleolus, Shapley, Shares
@@ -85,12 +85,19 @@ PROVED: dict[str, Callable[[Game, calls.Chosen], object]] = {
 # ---- Those of practice
 
 
-def alone_and_added(game: Game) -> tuple[Fraction, list[Fraction], list[Fraction]]:
+class Parts(NamedTuple):
     """What all are worth or cost together, each alone, and what each adds to all the others: its separable cost."""
+
+    whole: Fraction
+    alone: list[Fraction]
+    added: list[Fraction]
+
+
+def alone_and_added(game: Game) -> Parts:
     whole = game.whole() / game.factor
     alone = [game.alone(i) / game.factor for i in range(game.n)]
     others = [game.sign * game.worth(game.everyone & ~(1 << i)) / game.factor for i in range(game.n)]
-    return whole, alone, [whole - worth for worth in others]
+    return Parts(whole, alone, [whole - worth for worth in others])
 
 
 def spread(game: Game, base: list[Fraction], weights: list[Fraction], whole: Fraction) -> Optional[Shares]:
@@ -123,29 +130,17 @@ def remaining(game: Game, benefits: Optional[calls.Proposal] = None) -> Optional
     return spread(game, added, left, whole)
 
 
-def equal_savings(game: Game) -> Optional[Shares]:
-    """Each what it costs alone, less an equal part of what all save."""
-    whole, alone, _ = alone_and_added(game)
-    return spread(game, alone, [Fraction(1)] * game.n, whole)
-
-
-def equal_charge(game: Game) -> Optional[Shares]:
-    """The equal charge method: each what it adds to the others, and an equal part of the rest."""
-    whole, _, added = alone_and_added(game)
-    return spread(game, added, [Fraction(1)] * game.n, whole)
-
-
-def equal_shares(game: Game) -> Optional[Shares]:
-    """Each the same."""
-    return spread(game, [Fraction(0)] * game.n, [Fraction(1)] * game.n, game.whole() / game.factor)
+def equally(game: Game, base: list[Fraction]) -> Optional[Shares]:
+    """A base for each, and an equal part of the rest: of what all save, if the base is what each costs alone."""
+    return spread(game, base, [Fraction(1)] * game.n, game.whole() / game.factor)
 
 
 REMAINING = "separable costs, remaining benefits"
 FORMULAS: dict[str, Callable[[Game], Optional[Shares]]] = {
     "in proportion": in_proportion,
     REMAINING: remaining,
-    "equal savings": equal_savings,
-    "equal charge": equal_charge,
-    "equal shares": equal_shares,
+    "equal savings": lambda game: equally(game, alone_and_added(game).alone),
+    "equal charge": lambda game: equally(game, alone_and_added(game).added),
+    "equal shares": lambda game: equally(game, [Fraction(0)] * game.n),
 }
 """The formulas of practice, by the names of the rules. Of a game without a division by one it gives None."""

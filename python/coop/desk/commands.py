@@ -13,7 +13,7 @@ from .documents import read_text
 from ..errors import BadInput, CoopError
 from ..game import Game, encoded
 from ..names import apart, visible, warning
-from ..sheets import MARKS, SEPARATORS, Cell, Layout, notes
+from ..sheets import MARKS, SEPARATORS, Layout
 from ..styles import MOST_PLACES, Style
 
 Output = Union[str, tuple[str, int]]
@@ -106,12 +106,6 @@ def cells_of(options: Options, chosen: Any, is_csv: bool) -> Cells:
     return cells_named(chosen.sep, chosen.decimal, chosen.bom)
 
 
-def say_notes(text: str, columns: int, layout: Layout, beside: Sequence[Cell] = ()) -> None:
-    """Says on standard error what of a file may have been meant otherwise."""
-    for sentence in notes(text, columns, layout, beside):
-        say(sentence)
-
-
 def whole(told: str, least: int, most: int) -> Callable[[str], int]:
     """How a word of a command line is read as a whole number between two."""
 
@@ -158,6 +152,11 @@ def say(sentence: str) -> None:
     print(f"{os.path.basename(sys.argv[0])}: {visible(' '.join(sentence.split()))}", file=sys.stderr)
 
 
+def say_all(sentences: Iterable[str]) -> None:
+    for sentence in sentences:
+        say(sentence)
+
+
 def warn_of(names: Sequence[str]) -> None:
     """Says on standard error which names look alike or hide something."""
     sentence = warning(names)
@@ -180,8 +179,7 @@ def documents_of(games: Iterable[Game], may_scale: bool) -> str:
         lines.append(game.document().decode() + "\n")
     if len(factors) > 1:
         raise BadInput("the games need different factors: give a number of digits, such as --digits 9")
-    for sentence in filter(None, looks):
-        say(sentence)
+    say_all(filter(None, looks))
     for factor in factors - {1}:
         say(f"all numbers were multiplied by {factor}: give the scripts that read the answers --over {factor}")
     return "".join(lines)
