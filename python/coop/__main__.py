@@ -13,7 +13,7 @@ from typing import Optional, Sequence, TextIO
 
 from .classes import COMMANDS
 from .errors import CoopError, NoAnswer, NotFound
-from .program import find, folder_of, page_folder, said
+from .program import find, part_of, said
 from .version import VERSION
 
 MOST = max(row["bytes"] for row in COMMANDS.values()) + 1  # bytes of a document, one more than any may have
@@ -72,10 +72,7 @@ def shown(text: str) -> str:
 
 
 def usage() -> str:
-    folder = folder_of("runtime", "usage.txt")
-    if folder is None:
-        raise NotFound("the list of the commands is missing: install the package again")
-    with open(os.path.join(folder, "usage.txt"), encoding="utf-8") as file:
+    with open(part_of("the list of the commands", "runtime", "usage.txt"), encoding="utf-8") as file:
         return f"{file.read()}coop page opens the page in a browser. Here coop is python -m coop."
 
 
@@ -84,10 +81,7 @@ def show_page() -> int:
     import pathlib
     import webbrowser
 
-    folder = page_folder()
-    if folder is None:
-        raise NotFound("the page is missing: install the package again")
-    page = os.path.join(folder, "coop.html")
+    page = part_of("the page", "page", "coop.html")
     status = told(page)
     webbrowser.open(pathlib.Path(page).as_uri())
     return status

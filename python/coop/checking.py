@@ -2,19 +2,18 @@
 from __future__ import annotations
 
 import json
-import os
 from functools import lru_cache
 from types import CodeType
 from typing import Any
 
 from .errors import BadInput
 from .game import bytes_of
-from .program import folder_of
+from .program import part_of
 
 
 @lru_cache(None)
 def compiled() -> CodeType:
-    path = os.path.join(folder_of("scripts", "check-anew") or "", "check-anew")
+    path = part_of("the second checker", "scripts", "check-anew")
     with open(path, "rb") as file:
         code: CodeType = compile(file.read(), path, "exec")
     return code

@@ -98,7 +98,7 @@ def found() -> Program:
     inside, why = library_inside()
     if inside:
         return inside
-    page, builder, server = page_folder(), os.path.join(TOP, "bin", "coop"), page_server()
+    page, builder, server = path_of("page", "coop.html"), os.path.join(TOP, "bin", "coop"), page_server()
     if server:
         return server
     if which("rt") and os.access(builder, os.X_OK):
@@ -133,21 +133,23 @@ def said(program: Program) -> str:
 def page_server() -> Optional[Server]:
     """The processes of Node that answer by the page's module and tell what the page does; None without Node or page."""
     global _page
-    node, runtime = which("node") or which("nodejs"), folder_of("runtime", "serve.mjs")
-    if _page is None and node and runtime:
+    node, module = which("node") or which("nodejs"), path_of("runtime", "serve.mjs")
+    if _page is None and node and module:
         from .server import Server
 
-        _page = Server([node, os.path.join(runtime, "serve.mjs"), "--tell"])
+        _page = Server([node, module, "--tell"])
     return _page
 
 
-def page_folder() -> Optional[str]:
-    """Where the page is: in an installed package, or in the repository."""
-    return folder_of("page", "coop.html")
+def path_of(*words: str) -> Optional[str]:
+    """Where a file of the project is, in an installed package or in the repository; None where it is missing."""
+    paths = (os.path.join(top, *words) for top in (os.path.dirname(os.path.abspath(__file__)), TOP))
+    return next((path for path in paths if os.path.exists(path)), None)
 
 
-def folder_of(part: str, name: str) -> Optional[str]:
-    """The folder of this name that has a file, in an installed package or in the repository."""
-    here = os.path.dirname(os.path.abspath(__file__))
-    folders = (os.path.join(here, part), os.path.join(TOP, part))
-    return next((folder for folder in folders if os.path.exists(os.path.join(folder, name))), None)
+def part_of(what: str, *words: str) -> str:
+    """Where a file is that each package has."""
+    path = path_of(*words)
+    if path is None:
+        raise NotFound(f"{what} is missing: install the package again")
+    return path

@@ -10,19 +10,17 @@ Numbers of a source were written down without the source at hand; docs/published
 from __future__ import annotations
 
 import json
-import os
 from dataclasses import dataclass, field
 from fractions import Fraction
 from typing import Any, Iterator, Optional, Union
 
 from .errors import BadInput
 from .game import WRITER, Game, encoded
-from .program import TOP
+from .program import part_of
 
 __all__ = ["Example", "example", "examples"]
 
 FILE = "examples/literature.jsonl"
-INSIDE = os.path.join(os.path.dirname(os.path.abspath(__file__)), FILE)
 KEYS = {"id", "source", "command", "document", "expected", "numbers", "remembered"}
 MORE = {"published", "unit", "note"}
 WORDS = {"numbers": ("published", "theorem", "computed"), "remembered": ("surely", "perhaps")}
@@ -106,7 +104,7 @@ def found(tree: dict[str, Any], key: str, wanted: Any) -> Any:
 def examples(path: Optional[str] = None) -> Iterator[Example]:
     """Returns the examples in their order; of a file of one's own, if a path is named. A line that isn't in form is
     BadInput."""
-    with open(path or (INSIDE if os.path.exists(INSIDE) else os.path.join(TOP, FILE)), encoding="utf-8") as file:
+    with open(path or part_of("the file of examples", *FILE.split("/")), encoding="utf-8") as file:
         for number, line in enumerate(file, 1):
             yield read(line, number)
 

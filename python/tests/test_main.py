@@ -5,7 +5,7 @@ import sys
 import tempfile
 import unittest
 
-from coop.program import TOP, page_folder
+from coop.program import TOP, path_of
 from coop.version import VERSION
 
 from .asking import needs_program
@@ -92,7 +92,7 @@ class Command(unittest.TestCase):
             with open(browser, "w", encoding="utf-8") as file:
                 file.write(f'#!/bin/sh\necho "$1" > {opened}\n')
             os.chmod(browser, 0o755)
-            page = os.path.join(page_folder() or "", "coop.html")
+            page = path_of("page", "coop.html")
             self.assertEqual(ended(["page"], BROWSER=f"{browser} %s"), (0, f"{page}\n".encode(), b""))
             with open(opened, encoding="utf-8") as file:
                 self.assertEqual(file.read(), f"file://{page}\n")

@@ -17,11 +17,11 @@ from unittest.mock import patch
 import coop
 from coop.errors import Fault
 from coop.machine import processors, which
-from coop.program import TOP, folder_of
+from coop.program import TOP, path_of
 from coop.server import HEAD, Server
 
 NODE = which("node") or which("nodejs")
-COMMAND = [NODE or "", os.path.join(folder_of("runtime", "serve.mjs") or "", "serve.mjs")]
+COMMAND = [NODE or "", path_of("runtime", "serve.mjs") or ""]
 AIRPORT = b'{"game":{"class":"airport","costs":[2,4,6]}}'
 CORE = b'{"answer":"core point","shares":["1","3/2","7/2"]}\n'
 READY = HEAD.pack(0, 0)
