@@ -116,12 +116,24 @@ const TEXTS = [
 ];
 
 /** Texts that are pasted into a proposal for Sales, Ops and Legal, and the amounts, or what is said of them. */
+const DEBTS = ["HM Revenue & Customs VAT 2023", "Barclay Energy Ltd", "Ms Okafor"];
 const PROPOSED = [
   ["Sales – 4 €\nOps – 5 €\nLegal – 3 €", "4 €,5 €,3 €"], ["> - Sales: 4\n> - Ops: 5\n> - Legal: 3", "4,5,3"],
   ["Sales: 4 EUR/year\nOps: 5 EUR/year\nLegal: 3 EUR/year", "4 EUR,5 EUR,3 EUR"],
   ["| Sales | 4 |\n|---|---|\n| Ops | 5 |\n| Legal | 3 |", "4,5,3"], ['"Sales";4\n"Ops";5\n"Legal";3', "4,5,3"],
   ["Sales\nOps 4\nLegal 8", "No amount stands beside Sales. Write one amount beside each name, such as 12.50. Nothing "
     + "was taken."],
+  ["Legal dept 3\nsales 4\nOps 5", "4,5,3", /by name: Sales and Ops\. Taken: “Legal dept” for Legal\./],
+  ["Own proposal: Sales 4\nOps 5\nLegal 3", "4,5,3"], ["Léga: 3\nOps: 5\nMr. Sales: 4", "4,5,3"],
+  ["Sales 4\nOps 5\nMarketing 3", "No row is called “Marketing”. Rows without an amount: Legal. Nothing was taken."],
+  ["Sale 4\nSales team 5\nOps 3", "“Sale” and “Sales team” would both be Sales. Nothing was taken."],
+  ["4\n5\n3\n12", "4,5,3", /“12” is the sum of the others, and was left out/], ["12\n4\n5\n3", "4,5,3"],
+  ["4\n5\n3\n13", "These are 4 numbers for 3 rows. Nothing was taken."],
+  ["HM Revenue & Customs 17,680.49\nBarclay 1,249.88\nOkafor 200\nTotal 19,130.37", "17,680.49,1,249.88,200",
+    /“Barclay” for Barclay Energy Ltd.*Left out: “Total 19,130\.37”/, DEBTS],
+  ["Barclay 3\nHM 4\nOkafor 4", "3,4,4", /Taken/, ["Barclay Bank", "HM Bank", "Ms Okafor"]],
+  ["Bank 3\nOkafor 4", "“Bank” can be Barclay Bank or HM Bank. Nothing was taken.", /^/,
+    ["Barclay Bank", "HM Bank", "Ms Okafor"]],
 ];
 
 /** What comes of a text: the cells, and what is said, asked and wrong. */
@@ -144,11 +156,11 @@ for (const [id, text, cells, told, answer] of TEXTS.filter(([, text]) => String(
   faults += 1;
   console.log(`${id}: ${JSON.stringify(text)} is\n  ${found.cells}: ${found.told}\n  and not ${cells}: ${told}`);
 }
-for (const [text, wanted] of PROPOSED) {
-  const { texts, fault } = pastedDivision(text, ["Sales", "Ops", "Legal"], { first: 0, before: ["", "", ""] });
-  if ((fault ?? texts.join()) === wanted) continue;
+for (const [text, wanted, told = /^/, labels = ["Sales", "Ops", "Legal"]] of PROPOSED) {
+  const { texts, fault, said = "" } = pastedDivision(text, labels, { first: 0, before: ["", "", ""] });
+  if ((fault ?? texts.join()) === wanted && told.test(said)) continue;
   faults += 1;
-  console.log(`${JSON.stringify(text)}, proposed: ${fault ?? texts}, and not ${wanted}`);
+  console.log(`${JSON.stringify(text)}, proposed: ${fault ?? texts}, ${said}, and not ${wanted}`);
 }
 
 /** Texts that are opened as a document, and what is said of them. */

@@ -56,10 +56,10 @@ export function beyondParts(beyond, { format, today, pinned, labelOfCell, said }
     el("h3", {}, isAll ? "Above 64 landings" : "Shapley shares above 32 landings"),
     beyondNotice(beyond),
     isAll && pinnedNote(pinned, named[0], rows, { format, labelOfCell }),
+    said && el("p", { class: "note own-said", role: "status" }, said),
     el("div", { class: "scroll" }, table(beyond, { format, today, pinned, own: (row, r) => {
       return ownInput(row, r, today, "today", todayTitle(COSTS));
     } })),
-    said && el("p", { class: "note own-said", role: "status" }, said),
     points.some(({ totals }) => format.isMoved(totals, rows)) && el("p", { class: "hint moved" }, movedText(rows)),
     isAll && el("p", { class: "tools" }, keepButton(pinned), pinTools(pinned)),
     isAll && todayTools(COSTS, today),

@@ -5,6 +5,15 @@ import { button, el } from "./dom.js";
 import { stepsOfRows, totalsOf } from "./format.js";
 import { pastedDivision } from "./proposal.js";
 
+const IN_LINE = /[,;]\s+(?=\p{L})|(?<=\d)\s+(?:and|und|et|y|e)\s+(?=\p{L})/gu; // between amounts in a line of a mail
+
+/** The column that has changed, and what was said of it, come into the window, also out of a table that scrolls. */
+function bringIntoView(cell) {
+  for (const where of [`[data-cell="${cell}"]`, "#answer .own-said"]) {
+    document.querySelector(where)?.scrollIntoView({ block: "nearest", inline: "center" });
+  }
+}
+
 /** A cell of a column that the user fills: `own` are its texts, `key` its name, `title` what it is. A text of
  * several lines that is pasted is of all rows. */
 export function ownInput({ label }, r, own, key, title) {
@@ -21,11 +30,12 @@ export function ownInput({ label }, r, own, key, title) {
       },
       paste: (event) => {
         const given = event.clipboardData?.getData("text/plain").trim() ?? "";
-        const pasted = given.includes("\n") ? given : given.replace(/[,;]\s+(?=\p{L})/gu, "\n"); // a line of a mail
+        const pasted = given.includes("\n") ? given : given.replace(IN_LINE, "\n");
         if (!pasted.includes("\n")) return;
         event.preventDefault();
         const { texts, said, fault } = pastedDivision(pasted, own.labels, { first: r, before: own.texts });
         own.setAll(texts ?? own.texts, fault ?? said, "Paste your amounts");
+        bringIntoView(`${key}.${r}`);
       },
     },
   });
@@ -74,6 +84,7 @@ function wholeTexts(totals, rows, whole, { places, mark }) {
 export function proposalTools(result, { rows, proposal, format, isOpen }) {
   const fill = (title, totals) => {
     proposal.setAll(wholeTexts(totals, rows, result.game.whole(), format), "", `Fill it with ${title}`);
+    bringIntoView("proposal.0");
   };
   return el("p", { class: "tools fill" }, el("span", {}, isOpen ? "Fill it with " : "Or fill it with "),
     ways(result, rows).map(({ title, totals }) => button(title, () => fill(title, totals()), { class: "quiet" })),

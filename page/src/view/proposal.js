@@ -6,42 +6,68 @@ import { withoutSigns } from "../cases/signs.js";
 import { unitsText, withoutUnits } from "../cases/units.js";
 import { isSumWord, withEscapes } from "../game/names.js";
 import { listed, plural } from "../game/words.js";
+import { meantRows, meantText } from "./meant-rows.js";
 
 const LINE = /^(?<name>.*?\p{L}.*?)(?:\s*[:=;,]\s*|\s+(?:[-–—]\s+)?)(?<number>[-−(]?\p{Sc}?\s?\d.*)$/u;
 const BESIDE = /^\s*[:=;,]?\s*(?:[-–—](?=\s))?\s*|\s*\(.*\p{L}.*\)$/gu; // of a number behind a name
 const NUMBER = /^[-−(]?\p{Sc}?\s?\d[\d.,'’\s/]*(?:\p{Sc}|[A-Z]{3})?\)?$/u;
 
 /** What a pasted text gives the rows, by their `labels`: {texts, said}, or {fault} in words. Lines with a name go to
- * the row that is called so; numbers alone go on below from a row. A unit behind all numbers goes. */
+ * the row that is called so, or that alone is meant; numbers alone go on below from a row. A unit behind all numbers
+ * goes. */
 export function pastedDivision(text, labels, { first, before }) {
   const isOdd = labels.some((label) => /["|]/.test(label)), plain = isOdd ? (line) => line
     : (line) => line.replace(/^ *"([^"]*)"/, "$1").replace(/ *\| */g, " ");
   const bare = (line) => plain(line).trim().replace(/\s+/g, " ");
   const given = text.split(/\r\n?|\n/).map(bare).filter((line) => /[^-: ]/.test(line));
-  const lines = withoutSigns(given.map((line) => [line])).rows.flat();
-  const alone = withoutUnit(lines), refused = (fault) => ({ fault: `${fault} Nothing was taken.` });
-  if (alone.fault === undefined && alone.numbers.every((line) => NUMBER.test(line))) {
-    const rest = labels.length - first, isMore = lines.length > rest;
-    if (isMore) return refused(`These are ${lines.length} numbers for ${plural(rest, "row")}.`);
-    return { texts: before.map((own, r) => alone.numbers[r - first] ?? own), said: alone.told };
+  const lines = withoutSigns(given.map((line) => [line])).rows.flat(), alone = withoutUnit(lines);
+  const isAlone = alone.fault === undefined && alone.numbers.every((line) => NUMBER.test(line));
+  const found = isAlone ? numbersBelow(alone, labels.length - first) : namedAmounts(lines, labels);
+  if (found.fault) return { fault: `${found.fault} Nothing was taken.` };
+  const { amounts, at = (r) => r - first, said } = found;
+  return { texts: before.map((own, r) => amounts[at(r)] ?? own), said };
+}
+
+/** Numbers alone for so many rows: one more that is the sum of the others is none. */
+function numbersBelow({ numbers, told }, most) {
+  const { read } = readTogether(numbers, "."), values = read.map(({ value }) => value);
+  const isSum = (k) => values.every(Boolean) && Rational.sum(values).equals(values[k].plus(values[k]));
+  const sum = numbers.length > 2 && numbers.length === most + 1 ? [most, 0].find(isSum) : undefined;
+  if (sum === undefined && numbers.length > most) {
+    return { fault: `These are ${numbers.length} numbers for ${plural(most, "row")}.` };
   }
+  const left = sum !== undefined && `“${numbers[sum]}” is the sum of the others, and was left out.`;
+  return { amounts: numbers.filter((_, k) => k !== sum), said: [told, left].filter(Boolean).join(" ") };
+}
+
+/** Amounts beside names: {amounts, at, said}, `at(r)` being the place of that of a row, or {fault}. */
+function namedAmounts(lines, labels) {
   const { places, strangers, out, twice } = namedLines(lines, labels);
-  if (twice !== undefined) return refused(`${withEscapes(labels[twice])} is there twice.`);
-  const called = [...places.keys()], { numbers, told, fault, unit } = withoutUnit([...places.values()]);
-  if (fault) return refused(fault);
-  const unitless = (number) => (unit && number.endsWith(unit) ? number.slice(0, -unit.length).trim() : number);
-  const stranger = strangers.find(({ number }) => NUMBER.test(unitless(number)));
-  if (stranger) return refused(`No row is called “${withEscapes(stranger.name.slice(0, 40))}”.`);
+  if (twice !== undefined) return { fault: `${withEscapes(labels[twice])} is there twice.` };
+  const others = meantBeside(strangers, labels, places), { meant = [], names = [] } = others;
+  if (others.fault) return others;
+  meant.forEach((place, k) => places.set(place, names[k].number));
+  const called = [...places.keys()], { numbers, told, fault } = withoutUnit([...places.values()]);
+  if (fault) return { fault };
   const odd = numbers.findIndex((number) => readNumber(number).fault), label = withEscapes(labels[called[odd]] ?? "");
-  if (odd >= 0) return refused(`${oddText(label, numbers[odd])}. Write one amount beside each name, such as 12.50.`);
-  if (!places.size) return refused("Give a number a line, or a name and a number in each.");
-  const quoted = out.slice(0, 3).map((line) => `“${shownLine(line)}”`);
-  const left = out.length && `Left out: ${quoted.join(", ")}${out.length > 3 ? " …" : ""}.`;
-  const taken = `Taken by name: ${listed(called.map((i) => withEscapes(labels[i])))}.`;
-  return {
-    texts: before.map((own, r) => (places.has(r) ? numbers[called.indexOf(r)] : own)),
-    said: [taken, told, left].filter(Boolean).join(" "),
-  };
+  if (odd >= 0) return { fault: `${oddText(label, numbers[odd])}. Write one amount beside each name, such as 12.50.` };
+  if (!places.size) return { fault: "Give a number a line, or a name and a number in each." };
+  const rest = out.filter((line) => names.every((one) => one.line !== line));
+  const quoted = rest.slice(0, 3).map((line) => `“${shownLine(line)}”`);
+  const exact = called.slice(0, called.length - meant.length);
+  const left = rest.length > 0 && `Left out: ${quoted.join(", ")}${rest.length > 3 ? " …" : ""}.`;
+  const taken = exact.length > 0 && `Taken by name: ${listed(exact.map((i) => withEscapes(labels[i])))}.`;
+  const more = meantText(names.map(({ name }) => name), meant, labels);
+  return { amounts: numbers, at: (r) => called.indexOf(r), said: [taken, more, told, left].filter(Boolean).join(" ") };
+}
+
+/** Lines of other names with an amount, as `names`, and the rows that they have to mean: {meant, names}, or {fault}. */
+function meantBeside(strangers, labels, places) {
+  const { unit } = withoutUnit(places.size ? [...places.values()] : strangers.map(({ number }) => number));
+  const bare = (number) => (unit && number.endsWith(unit) ? number.slice(0, -unit.length).trim() : number);
+  const names = strangers.filter(({ number }) => NUMBER.test(bare(number)));
+  const { places: meant, fault } = meantRows(names.map(({ name }) => name), labels, places);
+  return { meant, names, fault };
 }
 
 /** Lines by the row that they name: {places, strangers, out, twice}, the text beside each name, lines of other names
@@ -54,9 +80,10 @@ function namedLines(lines, labels) {
   let twice;
   for (const line of lines) {
     const place = placeOf(line), { name, number } = LINE.exec(line)?.groups ?? {};
-    if (place === undefined) {
+    const isLonger = name && place !== undefined && /\p{L}/u.test(name.slice(labels[place].length));
+    if (place === undefined || isLonger) {
       out.push(line);
-      if (name && !isSumWord(name)) strangers.push({ name, number });
+      if (name && !isSumWord(name)) strangers.push({ name, number, line });
     } else if (places.has(place)) twice ??= place;
     else places.set(place, line.slice(labels[place].length).replace(BESIDE, "").trim());
   }

@@ -39,11 +39,11 @@ export function sharesTable(result, settings) {
     proposal.totals ? "" : "unproposed", rows.length <= BRIEF ? "brief" : ""];
   return el("div", {},
     pinned && pinnedNote(pinned, columns[0], rows, settings),
+    settings.said && el("p", { class: "note own-said", role: "status" }, settings.said),
     el("div", { class: "scroll" }, el("table", { class: kinds.filter(Boolean).join(" ") },
       headOf(view), el("tbody", {}, linesOf(rows).map((line) => (line.of ? sumRow(line, view) : shareRow(line, view))),
         (kept.get(columns[0].key)?.gone ?? []).map((one, k) => goneRow(one, k, view))),
       footOf(view))),
-    settings.said && el("p", { class: "note own-said", role: "status" }, settings.said),
     proposal.told && el("p", { class: "hint" }, proposal.told),
     leavingLines(view),
     proposal.shares && sameAs(columns, proposal.shares),
