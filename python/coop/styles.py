@@ -73,9 +73,13 @@ def rounded(shares: Sequence[Fraction], places: int, whole: Optional[int] = None
     return steps
 
 
+def each(shares: Sequence[Fraction], style: Style) -> list[str]:
+    """The shares as texts. Decimals are rounded so that they add up, so equal ones may differ in the last place."""
+    return column(shares, style)[:-1]
+
+
 def column(shares: Sequence[Fraction], style: Style) -> list[str]:
-    """The shares and their sum as texts. Decimals are rounded so that they add up, so equal ones may differ in the last
-    place."""
+    """The shares and their sum as texts. Decimals are rounded so that they add up."""
     values = [*shares, sum(shares, Fraction(0))]
     if style.places is None:
         return [style(value) for value in values]
