@@ -1,0 +1,111 @@
+// The user's own amounts beside rows that are pasted anew, removed, put in or renamed, and what is said of those that
+// go. Also which kept numbers belong to which rows, and what a kept answer says of them.
+import { caseNamed } from "../src/cases/cases.js";
+import { withoutPlace } from "../src/cases/links.js";
+import { withoutPlayer } from "../src/cases/tables.js";
+import { formatOf } from "../src/view/format.js";
+import { pinnedOf, pinnedText } from "../src/view/pinned.js";
+import { Session } from "../src/view/session.js";
+import { Rational } from "../src/exact/rational.js";
+import { readCase } from "../src/work/cases.js";
+
+const rowsOf = (text) => text.split(", ").map((row) => {
+  const [name, cost, count = "1"] = row.split(" ");
+  return { name, claim: cost, cost, votes: cost, count, type: "", second: "" };
+});
+const list = (text, others = {}) => ({ estate: "9", quota: "3", rows: rowsOf(text), ...others });
+const table = (...names) => ({ names, numbers: Array.from({ length: 2 ** names.length }, (_, k) => String(k || "")) });
+const LINKS = { "0-1": "1", "0-2": "2", "0-3": "3", "1-2": "4", "1-3": "5", "2-3": "6" };
+const ways = (...names) => ({ names, links: LINKS });
+const [THREE, SORTED] = [list("Ann 3, Bo 4, Cy 5"), list("Cy 5, Ann 3, Bo 4")];
+const NONE = /^No name here is in your own column, so its amounts are gone\. Undo brings them back\.$/;
+
+/** A case, its cells before, what then happens (rows "moved", "typed", or the place of one that is removed), the cells
+ * after, the own amounts of 10, 20 and 30 then, and what is said. */
+const CARRIED = [
+  ["estate", THREE, "moved", SORTED, "30,10,20"], ["runway", THREE, "moved", SORTED, "30,10,20"],
+  ["votes", THREE, "moved", SORTED, "30,10,20"],
+  ["network", ways("A", "B", "C"), "moved", ways("C", "A", "B"), "30,10,20"],
+  ["costs", table("A", "B", "C"), "moved", table("C", "A", "B"), "30,10,20"],
+  ["gains", table("A", "B", "C"), "moved", table("B", "A", "C"), "20,10,30"],
+  ["estate", THREE, 0, list("Bo 4, Cy 5"), "20,30", /^Gone from your own column, with the row: Ann\. Undo brings it/],
+  ["runway", THREE, 1, list("Ann 3, Cy 5"), "10,30", /: Bo\./],
+  ["estate", list(" 3,  4,  5"), 0, list(" 4,  5"), "20,30", /Gone/],
+  ["costs", table("A", "B", "C"), 0, withoutPlayer(table("A", "B", "C"), 0), "20,30", /: A\./],
+  ["network", ways("A", "B", "C"), 1, withoutPlace(ways("A", "B", "C"), 1), "10,30", /: B\./],
+  ["estate", THREE, "moved", list("Ann 3, Di 2, Bo 4, Cy 5"), "10,,20,30"],
+  ["estate", THREE, "moved", list("Di 2, Eve 4, Flo 7"), ",,", NONE],
+  ["costs", table("A", "B", "C"), "moved", table("D", "E", "F"), ",,", NONE],
+  ["estate", THREE, "moved", list("Di 2, Ann 3"), ",10", /with the rows: Bo and Cy\./],
+  ["estate", THREE, "typed", list("Ann 3, Bea 4, Cy 5"), "10,20,30"],
+  ["estate", THREE, "typed", list("Cy 3, Bo 4, Ann 5"), "10,20,30"],
+  ["estate", THREE, "typed", list("Ann 3, Bo 4, Cy 5, Di 6"), "10,20,30,"],
+  ["costs", table("A", "B", "C"), "typed", table("A", "Zoe", "C"), "10,20,30"],
+  ["runway", list("Ann 3, Ann 4, Bo 5"), "moved", list("Bo 5, Ann 3, Ann 4"), "30,10,20"],
+  ["runway", list("Ann 3, Bo 4, Cy 5"), "typed", list("Ann 3, Bo 4, Cy 5, Ann 9"), "10,20,30,"],
+  ["estate", list("Ann 3, Bo 4, Ann 5", { notTwice: true }), "moved", list("Bo 4, Ann 5, Ann 3", { notTwice: true }),
+    "20,10,30"],
+];
+
+function sessionOf() {
+  const nothing = () => 0, on = ["stale", "read", "answer", "busy", "fault", "step"].map((word) => [word, nothing]);
+  const session = new Session(Object.fromEntries(on));
+  session.engine.ask = session.checker.ask = async (task, what) => {
+    if (task !== "read") throw new Error("stopped");
+    return readCase(what);
+  };
+  return session;
+}
+
+async function read(session) {
+  clearTimeout(session.timer);
+  await session.work();
+}
+
+async function carriedBy([id, before, how, after]) {
+  const session = sessionOf();
+  session.open(caseNamed(id), before, { texts: ["10", "20", "30"], todays: ["10", "20", "30"], isTyped: true });
+  await read(session);
+  session.typed = after;
+  if (how !== "typed") session.moveRows(how === "moved" ? undefined : how);
+  await read(session);
+  return { texts: session.texts.join(), todays: session.todays.join(), said: session.ownSaid };
+}
+
+let faults = 0;
+function expect(what, found, wanted) {
+  if (wanted instanceof RegExp ? wanted.test(found) : found === wanted) return;
+  faults += 1;
+  console.log(`${what}: ${found}, and not ${wanted}`);
+}
+
+for (const row of CARRIED) {
+  const [id, before, how, after, texts, said = /^$/] = row, found = await carriedBy(row);
+  const what = `${id}: ${JSON.stringify(before)}, ${how}, ${JSON.stringify(after)}`;
+  expect(what, found.texts, texts);
+  expect(`${what}, of today`, found.todays, texts);
+  expect(`${what}, said`, found.said, said);
+}
+
+/** Kept rows, the rows now with what each pays, and what is said of the two. */
+const KEPT = [
+  ["Ann Bo", "Ann Bo", "1 2", "The shares are those of the kept answer."],
+  ["Ann Bo", "Cy Di", "1 2", "Nobody here is in the kept answer, so nothing is compared. New: Cy, Di. Kept, and gone "
+    + "since: Ann, Bo."],
+  ["Ann Bo", "Ann Di", "1 2", "Those who were there before have the shares of the kept answer. New: Di. Kept, and gone "
+    + "since: Bo."],
+  ["Ann Bo", "Bo Ann", "2 1", "The shares are those of the kept answer."],
+  ["Ann Bo", "Bo Ann", "3 1", /^Against the kept answer, .*: Bo \+1\.00; the others as before\.$/],
+  ["Ann Ann", "Ann Ann", "1 3", /^Against the kept answer, .*: Ann \+1\.00; the others as before\.$/],
+];
+for (const [before, now, totals, wanted] of KEPT) {
+  const rows = now.split(" ").map((label, i) => ({ label, players: [i] }));
+  const point = { key: "nucleolus", title: "Nucleolus", shares: totals.split(" ").map(Rational.of) };
+  const pinned = { names: before.split(" "), shares: { nucleolus: ["1", "2"] }, typed: null };
+  const seen = pinnedOf({ pinned, typed: {}, result: { points: [point] } }, rows);
+  const settings = { format: formatOf(2, { mark: "." }), labelOfCell: (cell) => cell };
+  expect(`${before}, ${now}`, pinnedText(seen, { ...point, totals: point.shares }, rows, settings), wanted);
+}
+console.log(`${CARRIED.length} cases whose rows changed beside own amounts, ${KEPT.length} beside a kept answer, `
+  + `${faults} faults`);
+process.exit(faults ? 1 : 0);
