@@ -144,7 +144,7 @@ class NetworkGrid {
       cells.source ||= found.points[0] === "" && found.points.some(Boolean) ? typed.source ?? "" : cells.source;
       this.change(() => Object.assign(typed, cells, { filled: {}, isSourceOpen }));
       refill(this.said, takenText(found, sourceName(typed)), isSourceOpen && this.sourceQuestion());
-      this.said.classList.toggle("warn", found.left.some((text) => !/, (the unit|a sum)$/.test(text)));
+      this.said.classList.toggle("warn", found.left.some((text) => !text.endsWith(", the unit")));
     } else this.change(() => Object.assign(typed, cells));
     this.help.openIfEmpty();
     if (Object.values(this.typed.filled ?? {}).includes("way")) this.help.again();
