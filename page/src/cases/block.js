@@ -29,20 +29,38 @@ const DASHES = "The dashes between names and numbers were left out.";
 export const looseText = (odd) => `Names and numbers stand in one cell each, and nobody can part “${withEscapes(odd)}” `
   + "for sure. Put a tab, a semicolon or a colon before each number, or leave that line out.";
 
+/** What says that an amount is nothing. */
+const NOTHING = new RegExp("^(nil|none|nothing|zero|nichts|kein[es]?|néant|nul|rien|aucune?|niente|nulla|nada|ninguno|"
+  + "cero|geen|niets|nihil)\\.?$", "iu");
+
 /** The block of pasted `rows`: {rows, lines, notes, loose}. Lines of one cell each are parted into a name and its
  * numbers; what is empty around names and numbers goes, and so do numbers of rows, which is told. `lines` has the
  * number of each row in the text; names and numbers that still share cells, since nobody can part them, are `loose`. A
- * hyphen before a number that `canBeNegative` may be a minus. */
-export function blockOf(pasted, { canBeNegative = false } = {}) {
+ * hyphen before a number that `canBeNegative` may be a minus; where amounts may be `words`, "nil" is 0. */
+export function blockOf(pasted, { canBeNegative = false, words = false } = {}) {
   const { rows: signless, isSigned, isCounted: isListed } = withoutSigns(pasted);
-  const { rows: cells, loose, isCounted, isDashed, isTurned, remarks = [] } = partedLines(signless, canBeNegative);
-  const all = cells.map((row, k) => ({ row, line: k + 1 }));
+  const found = partedLines(signless, { canBeNegative, words });
+  const { rows: cells, loose, isCounted, isDashed, isTurned, remarks = [] } = found;
+  const { rows: counted, zeros = [] } = words ? withZeros(cells) : { rows: cells };
+  const all = counted.map((row, k) => ({ row, line: k + 1 }));
   const kept = cells.some((row) => row.some(isText)) ? trimmed(all) : all, rows = kept.map(({ row }) => row);
   const plain = withoutCount(rows), behind = [...new Set(remarks)].map((text) => `“${withEscapes(text)}”`).join(", ");
   const notes = [isSigned && SIGNS, isDashed && DASHES, isTurned && TURNED,
     (plain !== rows || isCounted || isListed) && ROW_NUMBERS,
+    zeros.length > 0 && `Taken as 0: ${zeros.map((text) => `“${text}”`).join(", ")}.`,
     behind && `Left out behind numbers: ${behind}.`].filter(Boolean);
   return { rows: plain, lines: kept.map(({ line }) => line), notes, loose };
+}
+
+/** Rows with 0 for each word that says so in a column of numbers: {rows, zeros}, the words. */
+function withZeros(rows) {
+  const zeros = new Set(), [, ...below] = rows, isZero = (text) => NOTHING.test(text);
+  const isAmounts = (c) => c > 0 && below.some((row) => isAmount(row[c] ?? ""))
+    && below.every((row) => isValue(row[c]) || isZero(row[c]) || parted(row[c]));
+  const wide = rows.reduce((most, { length }) => Math.max(most, length), 0);
+  const columns = new Set(Array.from({ length: wide }, (_, c) => c).filter(isAmounts));
+  const zeroOf = (text, c) => (columns.has(c) && isZero(text) && zeros.add(text) ? "0" : text);
+  return { rows: rows.map((row, r) => (r || isZero(row[1]) ? row.map(zeroOf) : row)), zeros: [...zeros] };
 }
 
 /** Without empty rows above and below, and empty columns on both sides. */
@@ -91,9 +109,11 @@ function isPerson(text, isBelow = true) {
 export const isLostPerson = (text) => isPerson(text) || (FULL_NAME.test(text) && !GREETING.test(text));
 
 /** The ways in which a line is a name and a number behind it, which may have blanks; behind a colon one. */
-function waysOf(text) {
+function waysOf(text, hasWords) {
   if (text.length > MOST_LETTERS) return [];
   const [, named, whole = ""] = SAYING.exec(text) ?? [], words = text.split(/\s+/);
+  const last = words.at(-1), isWord = hasWords && words.length > 1 && NOTHING.test(last);
+  if (isWord) return [[bare(words.slice(0, -1).join(" ")).replace(/\s*[:=–-]$/, ""), last]];
   const said = whole.replace(REMARK, "").replace(/(?<=[\p{L}\d])[.;,]$/u, "");
   const isSaid = UNKNOWN.test(said) || isNumber(said) || parted(said); // 12 votes
   if (said && isSaid) return PHONE.test(said) ? [] : [[bare(named), said]];
@@ -126,12 +146,13 @@ function evenOf(texts) {
 /** Lines of one cell each, as mails have them, parted into a name and its numbers: {rows, loose}. Texts above and
  * below may be other. Nothing is parted where the numbers only count, as in "Lot 1"; and where one line isn't such, or
  * a number may be a part of the name, as in "Flat 3 250", that line is `loose`. */
-function partedLines(rows, canBeNegative) {
+function partedLines(rows, { canBeNegative, words: hasWords }) {
   const lines = rows.map((row) => row.find(Boolean) ?? ""), whole = { rows };
   if (lines.filter(Boolean).length < 2 || rows.some((row) => row.filter(Boolean).length > 1)) return whole;
   const named = namesFirst(lines), isTurned = named !== lines;
   const { texts, isDashed } = withoutDashes(named, (text) => waysOf(text).length > 0, canBeNegative);
-  const ways = texts.map(waysOf), longest = ways.map(([one]) => one), isOneName = areAlike(longest);
+  const ways = texts.map((text) => waysOf(text, hasWords)), longest = ways.map(([one]) => one);
+  const isOneName = areAlike(longest);
   const even = evenOf(texts), parts = even ?? (isOneName ? ways.map((some) => some.at(-1)) : longest);
   const isTitled = parts[0] && /\s20[12]\d$/.test(texts[0]);
   if (isTitled && texts[1]) return { rows, loose: texts[0] };
@@ -170,6 +191,7 @@ function areAlike(parts) {
 /** Whether a line can be parted in one way: with a currency before the number there is one. */
 function isSure([one, other], text) {
   if (!one) return !PHONE.test(text);
+  if (NOTHING.test(one[1])) return true;
   const isOne = !other || /^[\p{Sc}\p{L}]/u.test(one[1]), last = one[0].split(/\s/).at(-1);
   if (/\s{2}|[:=]\s*\d/.test(one[0])) return false;
   return SAYING.test(text) || (isOne && endsName(last) && !/\d\s\S{1,3}$/.test(one[0]));

@@ -19,7 +19,8 @@ const PAGE = new RegExp(`^\\P{L}*(${PAGES}) ?\\d+(( ?/| \\p{L}+) ?\\d+)?\\P{L}*$
  * again with what was chosen (`choice`, `out`, `isHead`). A row with the number above the list (`single`) is none. */
 export function sheetOf(pasted, columns, { mark, single, amount, usual, isFirst = true, isHead, choice, out = [] }) {
   const { rows: paged, pages } = isFirst ? withoutPages(pasted) : { rows: pasted, pages: [] };
-  const { rows: parted, notes: counted, loose } = isFirst ? blockOf(paged) : { rows: pasted, notes: [] };
+  const whole = { rows: pasted, notes: [] };
+  const { rows: parted, notes: counted, loose } = isFirst ? blockOf(paged, { words: true }) : whole;
   const odd = loose ?? (isFirst ? noName(parted) : undefined), saved = answerFault(pasted);
   if (odd !== undefined || saved) return { fault: saved ?? looseText(odd) };
   if (pasted.length === 1 && PROSE.test(pasted[0].join(", "))) return { fault: SENTENCE };

@@ -2,10 +2,12 @@
 import { readNumber, typedText } from "../exact/decimals.js";
 import { mostOf } from "../game/classes.js";
 import { maskOf, masksBySize, membersOf } from "../game/groups.js";
-import { isSumWord, withEscapes } from "../game/names.js";
+import { withEscapes } from "../game/names.js";
 import { listed } from "../game/words.js";
 import { blockOf, looseText } from "./block.js";
 import { filledGroups } from "./filled-cells.js";
+import { inOtherWords, membersIn } from "./group-words.js";
+import { joinedMembers } from "./member-marks.js";
 import { rowsOf } from "./lists.js";
 import { oddsOf } from "./odds.js";
 import { UNKNOWN } from "./columns.js";
@@ -16,10 +18,15 @@ import { answerFault } from "./saved-tables.js";
 import { unitsText, withoutUnits } from "./units.js";
 import { headingOf, manyBelow, numbersIn, vectorOf } from "./vectors.js";
 
+const FORM = "Give each group a line: its members with + between them, then its number. Marks in columns need the "
+  + "names above them.";
+const SEVERAL_IN = /\d[,;] .*\p{L}.* \S*\d\S*$/u; // several groups in a line
 const MOST_BY_NAME = 6; // above, the document lists numbers alone: it would be too long by names
 const MOST_PLAYERS = mostOf("table");
-const MOST_TOLD = 4; // groups in other words that are named
+const MOST_TOLD = 4; // names without a line
+const MOST_SPARSE = 4; // players of whose groups most may be empty
 const MOST_LETTERS = 4000; // of a group with all its names
+const MOST_SHOWN = 120; // letters of a line that is quoted
 
 /** A table as it goes to a worker and back: one text is copied faster than 65,536. */
 export function packed({ names, numbers, opened, isUnnamed }) {
@@ -126,22 +133,25 @@ export function withoutPlayer(state, player) {
 
 /** A table from a pasted text: lines of a group, with + between its members, and its number; or numbers alone, in the
  * order of the masks or by size: {state}, or {fault} in words; or {asked, count}, a line that may be the group of all:
- * then it is read again with what was said of it (`isWhole`). `told` says how it was read, `remark` what was left
- * out. */
+ * then it is read again with what was said of it (`isWhole`). A {fault} may have a `way` on, a title and what
+ * then is said (`isZeroAlone`, `isSparse`). `told` says how it was read, `remark` what was
+ * left out. */
 export function tableOf(text, names = [], order = "size", mark = ".", said = {}) {
-  const cells = cellsOf(text), block = blockOf(cells, { canBeNegative: true }), { rows, left } = unframed(block.rows);
-  const saved = answerFault(cells);
+  const cells = cellsOf(text), block = blockOf(cells, { canBeNegative: true, words: true });
+  const { rows, left } = unframed(block.rows), saved = answerFault(cells);
   if (block.loose || saved) return { fault: saved ?? looseText(block.loose) };
-  const kept = rows.filter((row) => row.some(Boolean)), joined = groupsFirst(joinedMembers(kept));
+  const kept = rows.filter((row) => row.some(Boolean));
+  const marked = joinedMembers(kept), joined = groupsFirst(marked.rows);
   const isList = joined !== kept || isGroups(kept);
   const found = isList ? {} : vectorIn(text, names, order, mark);
   if (found.state || found.isAll) return found;
   const { rows: bare, units = [], fault = found.many } = withoutUnits(joined, 1);
   if (fault || !kept.length) return { fault: fault || "There is nothing in this list." };
-  const told = [leftText(left), ...block.notes, unitsText(units)].filter(Boolean).map((words) => ` ${words}`).join("");
+  const told = [leftText(left), ...block.notes, marked.told, unitsText(units)].filter(Boolean)
+    .map((words) => ` ${words}`).join("");
   const plain = told && !isList ? vectorIn(bare.map((row) => row.join("\t")).join("\n"), names, order, mark) : {};
   const places = new Map(block.rows.map((row, k) => [row, block.lines[k]])), lines = kept.map((row) => places.get(row));
-  const isVector = plain.state || plain.isAll || plain.many, more = { mark, ...said };
+  const isVector = plain.state || plain.isAll || plain.many, more = { mark, cells, ...said };
   const read = isVector ? { ...plain, fault: plain.fault ?? plain.many } : listOf(bare, lines, more);
   return read.state ? { ...read, remark: told + read.remark } : read;
 }
@@ -190,7 +200,9 @@ function ofNumbers(rows, named, order, mark) {
 }
 
 function headingText(line) {
-  return ` The first line, “${withEscapes(line.trim().slice(0, 40))}”, was taken as a heading.`;
+  const text = line.trim(), isLong = text.length > MOST_SHOWN;
+  const shown = `${withEscapes(text.slice(0, MOST_SHOWN))}${isLong ? " …" : ""}`;
+  return ` The first line, “${shown}”, was taken as a heading.`;
 }
 
 /** How many groups have a lesser number than the same group without a member. */
@@ -208,10 +220,10 @@ const WORTH = new RegExp("cost|gain|worth|value|saving|amount|price|profit|koste
 /** Rows of a group and its number, of such as may have headings and further columns: {rows, lines, told}. Of several
  * columns of numbers the one `column` is taken; {columns} with their titles if nobody said which; {fault} where no
  * headings say what the others are. `lines` are the numbers of the lines of the text. */
-function pairsOf(all, allLines, { mark, column }) {
+function pairsOf(all, allLines, { mark, column, cells }) {
   const headings = headingsOf(all, 1, mark) ?? yearsOf(all), skip = headings ? 1 : 0, rows = all.slice(skip);
   const lines = allLines.slice(skip), long = rows.findIndex((row) => row.slice(2).some(Boolean));
-  const told = headings ? headingText(headings.filter(Boolean).join("; ")) : "";
+  const told = headings ? headingText((cells[allLines[0] - 1] ?? headings).filter(Boolean).join("; ")) : "";
   if (long < 0) return { rows, lines, told };
   const isNumber = (text) => Boolean(text) && !readNumber(text, mark).fault;
   const shown = withEscapes(rows[long].join("; ")).slice(0, 60), line = `Line ${lines[long]}: `;
@@ -225,8 +237,7 @@ function pairsOf(all, allLines, { mark, column }) {
     return { columns: several.map((c) => ({ c, title: withEscapes(textOf(c)) })) };
   }
   if (at === undefined || (several.length > 1 && column === undefined)) {
-    return { fault: `${line}A line has a group and one number, and here one has more: “${shown}”. Members of a group `
-      + "have + between them." };
+    return { fault: `${line}A line has a group and one number, and here one has more: “${shown}”. ${FORM}` };
   }
   if (!headings && column === undefined) {
     return { fault: `${line}A line has a group and its number, and here is more: “${shown}”. Leave that out, or give `
@@ -253,22 +264,9 @@ function groupsFirst(rows) {
   return isOf ? rows.map((row) => [row[at], ...row.slice(0, at), ...row.slice(at + 1)]) : rows;
 }
 
-const IN = /^(1|x|✓|y|yes|ja|j|oui|sí)$/i, OUT = /^(0|no?|nein|non|nee|[-–—.]?)$/i;
-
-/** Rows of a group and its number, from rows below names that say with 1 and 0, x or yes, who is in the group; the same
- * rows if they are others. */
-function joinedMembers(rows) {
-  const [heads = [], ...below] = rows, names = heads.slice(0, -1), n = names.length;
-  const isMark = (text = "") => IN.test(text) || OUT.test(text);
-  const hasMarks = (row) => names.every((_, c) => isMark(row[c]));
-  const isOf = n > 1 && names.every((name) => name && !isMark(name)) && below.every(hasMarks);
-  if (!isOf || below.every((row) => isMark(row[n]))) return rows;
-  return [["", heads[n]], ...below.map((row) => [names.filter((_, c) => IN.test(row[c])).join("+"), row[n]])];
-}
-
 /** A table of rows of a group and its number; `allLines` are the numbers of their lines. */
-function listOf(given, allLines, { mark, isWhole, column }) {
-  const { rows, lines, told, fault, columns } = pairsOf(given, allLines, { mark, column });
+function listOf(given, allLines, { mark, isWhole, column, cells, ...said }) {
+  const { rows, lines, told, fault, columns } = pairsOf(given, allLines, { mark, column, cells });
   const lineOf = (k) => `Line ${lines[k]}: `;
   if (fault || columns) return { fault, columns };
   if (!rows.some(([, number = ""]) => /\d/.test(number))) {
@@ -276,6 +274,8 @@ function listOf(given, allLines, { mark, isWhole, column }) {
     const k = Math.max(0, texts.findIndex((text) => readNumber(text).fault));
     return { fault: `${lineOf(k)}“${texts[k]}” is no number, and no group has one beside it.` };
   }
+  const several = rows.findIndex((row) => SEVERAL_IN.test(row.filter(Boolean).join("; ")));
+  if (several >= 0) return { fault: `${lineOf(several)}A line has one group and its number; here are more. ${FORM}` };
   const long = rows.findIndex(([group]) => group.length > MOST_LETTERS);
   if (long >= 0) return { fault: `${lineOf(long)}A group of ${rows[long][0].length} letters is none.` };
   const open = new Set(), read = rows.map(([group, number = ""], r) => {
@@ -283,64 +283,19 @@ function listOf(given, allLines, { mark, isWhole, column }) {
     return { members: membersIn(group), number: UNKNOWN.test(number) ? "" : number, line: lineOf(r) };
   });
   const unknown = open.size ? ` A cell with ${listed([...open].map((text) => `“${text}”`))} is empty.` : "";
-  const found = inOtherWords(read, isWhole), table = found.read ? placedList(found.read) : found;
+  const found = inOtherWords(read, isWhole), table = found.read ? placedList(found.read, said) : found;
   return table.state ? { ...table, remark: told + found.told + unknown } : table;
 }
 
-/** The members of a group, as A+B, {A, B} or v(A, B). */
-function membersIn(group) {
-  const [, inside] = /^[vc]?[({[]+([^(){}[\]]*)[)}\]]+$/i.exec(group) ?? [], text = (inside ?? group).normalize("NFC");
-  return text.split(inside === undefined ? /[+∪]/ : /[+∪,;&|]/).map((member) => member.trim());
-}
-
-const NOBODY = /^(∅|none|nobody|no ?one|empty( set)?|niemand|personne|[-–—]|0|)$/i;
-const AND = /\s*(?:[&,/;|]|\b(?:and|und|et|y|e|en|och|with|mit)\b)\s*/u;
-const ALL = new RegExp("^((all|everybody|everyone|alle|tous|toutes|todos|todas|allemaal)( (of them|together|zusammen|"
-  + "ensemble|three|four|five|six|drei|vier|trois|quatre))?|[Σ∑]|ensemble|grand coalition)$", "i");
-
-/** Finds groups that are written without +, as "North & South" where both have a line, or "All", and leaves out that of
- * nobody: {read, told}, or {fault}, or {asked, count}. */
-function inOtherWords(all, isWhole) {
-  const used = new Set(all.flatMap(({ members }) => (members.length > 1 ? members : [])));
-  const alone = all.filter(({ members: [one, other] }) => other === undefined && !used.has(one));
-  const nobody = alone.filter(({ members: [one] }) => NOBODY.test(one));
-  const read = all.filter((line) => !nobody.includes(line)), odd = nobody.find(({ number }) => /[1-9]/.test(number));
-  if (odd) return { fault: `${odd.line}Here is a number without a group.` };
-  const lines = new Set(read.flatMap(({ members: [one, other] }) => (other === undefined ? one : [])));
-  for (const line of alone) {
-    const [text] = line.members, parts = text.split(AND).filter(Boolean);
-    const isGroup = parts.length > 1 && parts.every((part) => lines.has(part));
-    if (isGroup) Object.assign(line, { members: parts, words: text });
-  }
-  const { asked, count, fault } = wholeOf(read, isWhole), told = read.map(({ words }) => words).filter(Boolean);
-  if (asked || fault) return { asked, count, fault };
-  const quoted = told.slice(0, MOST_TOLD).map((text) => `“${withEscapes(text)}”`).join(", ");
-  const alike = told.length > 1 ? "are groups" : "is a group";
-  return { read, told: (told.length ? ` ${quoted}${told.length > MOST_TOLD ? " and others" : ""} ${alike}.` : "")
-    + (nobody.length ? " The group of nobody was left out." : "") };
-}
-
-/** Puts all players into the place of a line for all together: one that says so, or, if somebody said so (`isWhole`),
- * the one line that is left where all other groups are there. */
-function wholeOf(read, isWhole) {
-  const lone = read.filter(({ members }) => members.length === 1), n = lone.length - 1;
-  const inside = new Set(read.flatMap(({ members }) => (members.length > 1 ? members : [])));
-  const free = lone.filter(({ members: [one] }) => !inside.has(one));
-  const named = free.find(({ members: [one] }) => ALL.test(one) || isSumWord(one));
-  const isLast = n > 2 && free.length === 1 && read.length === 2 ** n - 1;
-  const line = named ?? (isLast ? free[0] : undefined), [text] = line?.members ?? [];
-  if (!line || n < 2) return {};
-  if (read.some(({ members }) => members.length === n)) {
-    return { fault: named && `${line.line}“${withEscapes(text)}” is none: all together have a line. Leave it out.` };
-  }
-  if (!named && isWhole === undefined) return { asked: text, count: n };
-  const others = lone.filter((one) => one !== line).map(({ members: [one] }) => one);
-  if (named || isWhole) Object.assign(line, { members: others, words: text });
-  return {};
-}
-
-function placedList(read) {
-  const names = [...new Set(read.filter(({ members }) => members.length === 1).map(({ members }) => members[0]))];
+/** The table of lines of groups: {state}, or {fault} in words; with a `way` on if lines of players alone lack, until
+ * somebody says that each gains 0 (`isZeroAlone`), and if hardly any group has a number, until that is meant
+ * (`isSparse`). */
+function placedList(read, { isZeroAlone, isSparse, isCost } = {}) {
+  const given = new Set(read.filter(({ members }) => members.length === 1).map(({ members }) => members[0]));
+  const missing = [...new Set(read.flatMap(({ members }) => members))].filter((name) => !given.has(name));
+  const own = isZeroAlone ? missing.map((name) => ({ members: [name], number: "0" })) : [], all = [...own, ...read];
+  const names = [...(isZeroAlone ? missing : []), ...given];
+  if (missing.length && !isZeroAlone) return missingText(missing, read, isCost);
   if (!names.length) return { fault: "There is no line of a player alone. A group is its members with + between." };
   if (names.length > MOST_PLAYERS) {
     return { fault: `These are ${names.length} players, and a table has at most ${MOST_PLAYERS}. A group of several is `
@@ -349,17 +304,42 @@ function placedList(read) {
   const isBare = names.length === read.length && Number.isInteger(Math.log2(names.length + 1));
   const joint = isBare && names.find((one) => names.filter((other) => one.includes(other)).length > 2);
   if (joint) return { fault: `Is “${withEscapes(joint)}” a group? Then put + between its members.` };
+  const { numbers, fault } = numbersOf(all, names), count = numbers?.filter((text, mask) => mask && text === "").length;
+  const isOdd = names.length > MOST_SPARSE && count * 2 >= 2 ** names.length && !isSparse
+    && !read.some(({ members }) => members.length === 2);
+  if (fault) return { fault };
+  return isOdd ? sparseText(names, count) : { state: { names, numbers } };
+}
+
+/** The numbers of groups by their masks: {numbers}, or {fault}. */
+function numbersOf(read, names) {
   const numbers = Array(2 ** names.length).fill(""), places = new Map(names.map((name, i) => [name, i]));
   for (const { members, number, line } of read) {
-    const stranger = members.find((member) => !places.has(member)), group = withEscapes(members.join(" + "));
-    if (stranger === "") return { fault: `${line}Beside a + a member is missing.` };
-    if (stranger !== undefined) return { fault: `${line}There is no line for “${withEscapes(stranger)}” alone.` };
-    const mask = maskOf(members.map((member) => places.get(member)));
+    const mask = maskOf(members.map((member) => places.get(member))), group = withEscapes(members.join(" + "));
     if (membersOf(mask).length < members.length) return { fault: `${line}${group}: a member occurs twice.` };
-    if (numbers[mask] !== "") return { fault: `${line}${group} occurs twice.` };
+    if (numbers[mask] !== "") return { fault: `${line}${group} occurs twice. Leave one of the lines.` };
     numbers[mask] = number;
   }
-  return { state: { names, numbers } };
+  return { numbers };
+}
+
+/** What is said of a list that gives hardly any group a number. */
+function sparseText(names, count) {
+  const some = names.slice(0, 3).map((name) => `“${withEscapes(name)}”`).join(", ");
+  const fault = `So read, these are ${names.length} players (${some} …), and ${count} of ${2 ** names.length - 1} `
+    + "groups have no number. A group is its members with + between them, such as Sales+Ops. Is it meant so?";
+  return { fault, way: ["Yes, take it", { isSparse: true }] };
+}
+
+/** What is said of names that are in groups and have no line alone. */
+function missingText(missing, read, isCost) {
+  const [name, ...others] = missing, { line } = read.find(({ members }) => members.includes(name));
+  if (!name) return { fault: `${line}Beside a + a member is missing. Write it, or leave the + out.` };
+  const some = listed(others.slice(0, MOST_TOLD).map((one) => `“${withEscapes(one)}”`));
+  const more = `${some && `, nor for ${some}`}${others.length > MOST_TOLD ? " and others" : ""}`;
+  const fault = `${line}There is no line for “${withEscapes(name)}” alone${more}. Add a line for each player alone, or `
+    + "write the names as there.";
+  return { fault, way: isCost ? undefined : ["Each of them gains 0 alone", { isZeroAlone: true }] };
 }
 
 export function groupLabel(names, mask) {

@@ -331,18 +331,22 @@ class TableGrid {
   /** Takes a list, and then `close`s where it was pasted. */
   async takeList(text, order = "size", close = null, said = {}) {
     this.say("Reading the list …");
-    const found = await this.readList({ text, names: this.ownNames(), order, said }), { state, told, isOdd } = found;
+    const what = { text, names: this.ownNames(), order, said: { ...said, isCost: this.kind.isCost } };
+    const found = await this.readList(what), { state, told, isOdd } = found;
     const use = (more) => () => this.takeList(text, order, close, { ...said, ...more });
     const answer = (title, more) => [button(title, use(more), { class: "quiet" }), " "];
-    if (found.columns) {
-      const what = this.kind.what.toLowerCase();
-      return askIn(this.element, this.message, [`Nothing was taken yet. Which column is ${what}? `, found.columns
-        .map(({ c, title }) => answer(`“${title}”`, { column: c }))]);
+    const ways = found.columns?.map(({ c, title }) => answer(`“${title}”`, { column: c })), word = this.kind.what;
+    if (ways) {
+      const asked = `Nothing was taken yet. Which column is ${word.toLowerCase()}? `;
+      return askIn(this.element, this.message, [asked, ways]);
     }
     if (found.asked) {
       return askIn(this.element, this.message, ["Nothing was taken yet. ",
         `Is “${withEscapes(found.asked)}” all ${found.count} others together? `,
         answer("Yes, all together", { isWhole: true }), answer("No, a player", { isWhole: false })]);
+    }
+    if (!state && found.way) {
+      return askIn(this.element, this.message, [`Nothing was taken yet. ${found.fault} `, answer(...found.way)]);
     }
     if (!state) return this.say(found.fault, " Nothing was taken.");
     close?.();
