@@ -231,6 +231,12 @@ def bytes_of(told: Any) -> bytes:
     return encoded(line, "the line") if isinstance(line, str) else line
 
 
+def require_table(players: int) -> None:
+    """Refuses so many players, unless a table has them."""
+    if not 1 <= players <= MOST_IN_A_TABLE:
+        raise BadInput(f"{players} players: a table has 1 to {MOST_IN_A_TABLE}")
+
+
 def require_game(game: Any) -> None:
     if not isinstance(game, Game):
         raise BadInput(f"{type(game).__name__} isn't a game: make one, such as coop.airport({{..}})")

@@ -14,7 +14,7 @@ from .amounts import Amount, amounts_of, count_of, factor_for, fraction_of, frac
 from .amounts import named_amounts, named_items, require_once_each, require_order, whole_of, written
 from .classes import CLASSES, LIMITS
 from .errors import BadInput
-from .game import MOST_IN_A_TABLE, Game, encoded
+from .game import MOST_IN_A_TABLE, Game, encoded, require_table
 from .linear import sums
 from .masks import by_mask, mask_of, members
 from .names import looks, shown
@@ -58,8 +58,7 @@ def table_of(
     """A table from a rule: what each group is worth, or costs, by a function of the tuple of its members. Of a vote the
     function may say whether the group wins."""
     names = checked_names(names)
-    if len(names) > MOST_IN_A_TABLE:
-        raise BadInput(f"{len(names)} players: a table has at most {MOST_IN_A_TABLE}")
+    require_table(len(names))
     groups = (tuple(names[i] for i in members(group)) for group in by_mask(len(names)))
     worths = [int(amount) if is_truth(amount) else amount for amount in map(worth, groups)]
     return listed("cost-table" if costs else "table", worths, names, "mask", None, digits, per_head)
@@ -341,8 +340,7 @@ def by_groups(
     are_labels = any(str(name).lstrip("-").isdigit() for name in names or ())
     numbered = not are_labels and all(type(member) is int for member in everyone)
     count = max(everyone, default=0) if numbered and names is None else len(names or everyone)
-    if not 1 <= count <= MOST_IN_A_TABLE:
-        raise BadInput(f"{count} players: a table has 1 to {MOST_IN_A_TABLE}")
+    require_table(count)
     players = [str(i + 1) for i in range(count)] if numbered else list(names or map(str, everyone))
     found: dict[int, Fraction] = {}
     for group, amount in groups:

@@ -6,7 +6,7 @@ from typing import Any, Iterator, Mapping, Optional, Sequence
 
 from .amounts import Amount, amounts_of, label_of, named_items
 from .errors import BadInput
-from .game import MOST_IN_A_TABLE, Game
+from .game import Game, require_table
 from .games import listed_names, made
 from .masks import members
 from .names import alike
@@ -29,8 +29,7 @@ def table_of_links(
     are those of the links, in their order; with them a link of another place is refused."""
     read, source = list(read_links(links, digits)), label_of(source)
     names = players_in(read, source, names)
-    if not 1 <= len(names) <= MOST_IN_A_TABLE:
-        raise BadInput(f"{len(names)} players: a table has 1 to {MOST_IN_A_TABLE}")
+    require_table(len(names))
     by_points = numbered(read, [source, *names])
     costs = [cheapest(group, by_points) for group in range(2 ** len(names))]
     if by_way_of_others:

@@ -12,7 +12,7 @@ from . import filling, games
 from .airlines import landings_in
 from .classes import CLASSES
 from .errors import BadInput
-from .game import MOST_IN_A_TABLE, Game
+from .game import Game, require_table
 from .masks import mask_of, members
 from .names import looks, shown
 from .sheets import AS_SEEN, LEFT_OUT, Cell, Layout, Row, amount_of, are_counted, by_mark, fixed_rows, hint_at
@@ -78,8 +78,7 @@ def names_of(rows: Sequence[tuple[Row, list[str]]]) -> list[str]:
         for member in group:
             if member not in names:
                 raise BadInput(f"line {row.line}: no line has the cost of {member} alone{look_alike(member, names)}")
-    if len(names) > MOST_IN_A_TABLE:
-        raise BadInput(f"{len(names)} players: a table has at most {MOST_IN_A_TABLE}")
+    require_table(len(names))
     return games.checked_names(names)
 
 

@@ -6,7 +6,7 @@ from typing import Any, Iterable, Optional
 
 from .amounts import Amount, fraction_of
 from .errors import BadInput
-from .game import LISTS, MOST_IN_A_TABLE, Game, require_game
+from .game import LISTS, Game, require_game, require_table
 from .games import made, player_of
 from .masks import mask_of, members
 
@@ -63,8 +63,7 @@ def single_of(game: Game, stay: list[int]) -> dict[str, Any]:
 def table_of_game(game: Game) -> Game:
     """The table of what each group is worth, or costs, in a game of any class, of at most 16 players."""
     require_game(game)
-    if game.n > MOST_IN_A_TABLE:
-        raise BadInput(f"{game.n} players: a table has at most {MOST_IN_A_TABLE}")
+    require_table(game.n)
     worths = [game.sign * game.worth(group) for group in range(1, game.everyone + 1)]
     parts = {"players": game.n, "worths": worths}
     return made_of(game, "cost-table" if game.costs else "table", parts, game.own_names, game.per_head)

@@ -9,8 +9,8 @@ from __future__ import annotations
 from fractions import Fraction
 from typing import Any, Callable, Optional, Sequence
 
-from .classes import CLASSES
 from .errors import BadInput
+from .game import require_table
 from .masks import by_mask, by_size, mask_of
 
 ORDERS: dict[str, Callable[[int], list[int]]] = {"mask": by_mask, "size": by_size}
@@ -19,8 +19,6 @@ ORDERS: dict[str, Callable[[int], list[int]]] = {"mask": by_mask, "size": by_siz
 EMPTY = ("", "0", "{}", "()", "\u2205")
 """Headings of the empty group."""
 
-MOST_PLAYERS: int = CLASSES["table"]["players"][1]
-
 
 def players_of(length: int) -> int:
     """How many players a vector of so many numbers has, without one for the empty group."""
@@ -28,8 +26,7 @@ def players_of(length: int) -> int:
     if length < 1 or 2**players - 1 != length:
         near = ", ".join(str(2**n - 1) for n in range(2, 7))
         raise BadInput(f"{length} numbers: a vector has 2^n - 1 ({near}, ..), or one more, 0, for the empty group")
-    if players > MOST_PLAYERS:
-        raise BadInput(f"{players} players: a table has at most {MOST_PLAYERS}")
+    require_table(players)
     return players
 
 

@@ -257,7 +257,7 @@ class Paths(unittest.TestCase):
 
     def test_what_is_refused(self) -> None:
         cases: list[tuple[str, coop.Game, Any, Amount, Amount, str]] = [
-            ("17 players: a table has at most 16", coop.voting(2, [1] * 17), "1", 0, 1, "nucleolus"),
+            ("17 players: a table has 1 to 16", coop.voting(2, [1] * 17), "1", 0, 1, "nucleolus"),
             ("quota isn't a player: there are a, b, c; of a vote name a group: who", VOTE, "quota", 0, 1, "nucleolus"),
             ("votes isn't a player: .*; of a vote", VOTE, ("votes", "a"), 0, 1, "nucleolus"),
             ("no pair of a buyer and a seller", coop.market([[1]]), ("pair", "2", "1"), 0, 1, "nucleolus"),

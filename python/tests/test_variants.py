@@ -53,7 +53,7 @@ class Variants(unittest.TestCase):
         self.assertEqual(
             runway.tree, {"class": "cost-table", "players": 2, "names": ["a", "b"], "worths": [1, 2, 3]}
         )
-        with self.assertRaisesRegex(coop.BadInput, "17 players: a table has at most 16"):
+        with self.assertRaisesRegex(coop.BadInput, "17 players: a table has 1 to 16"):
             overrun(coop.airport([1] * 17), 1)
 
     def test_numbers_that_no_document_has(self) -> None:
