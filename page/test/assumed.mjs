@@ -39,7 +39,7 @@ async function showBy(page, mark) {
 }
 
 /** What a button would save: the text of the file, and its name. */
-async function saved(page, title) {
+export async function saved(page, title) {
   await page.run(`(() => {
     const make = URL.createObjectURL, click = HTMLAnchorElement.prototype.click;
     URL.createObjectURL = (blob) => (window.savedFile = blob.text(), make.call(URL, blob));
@@ -51,7 +51,7 @@ async function saved(page, title) {
   return { name: await page.run("window.savedName"), text: await page.run("window.savedFile") };
 }
 
-async function openText(page, text) {
+export async function openText(page, text) {
   await page.run("location.hash = '#document'");
   await page.until("document.body.dataset.view === 'document'");
   await page.fill("#document textarea", text);

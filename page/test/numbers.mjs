@@ -2,12 +2,12 @@
 import { cellNumber, readNumber, thousandsIn, typedText } from "../src/exact/decimals.js";
 import { estate, runway } from "../src/cases/lists.js";
 import { networkOf } from "../src/cases/links.js";
-import { marketOf } from "../src/cases/matrices.js";
 import { cellsOf } from "../src/cases/pasting.js";
 import { sheetOf } from "../src/cases/sheets.js";
 import { tableOf } from "../src/cases/tables.js";
 import { votes } from "../src/cases/votes.js";
 import { Rational } from "../src/exact/rational.js";
+import { faultsOfMarkets, MARKETS } from "./prices.mjs";
 
 const CASES = [
   ["12", ".", "12"], ["12.50", ".", "25/2"], ["12,50", ".", "25/2"], ["12,50", ",", "25/2"], ["1,234", ".", "1234"],
@@ -173,30 +173,6 @@ for (const [text, wanted, told] of PASTED) {
   console.log(`${JSON.stringify(text)}: headings ${JSON.stringify(found)}, and it is told: ${said}`);
 }
 
-// what is pasted as a market: buyers; sellers; values, or a part of what is told
-const MARKETS = [
-  ["\t1\t2\nAnn\t5\t8\nBen\t7\t6", "Ann,Ben;1,2;5,8,7,6"], ["\tA\tB\n1\t5\t8\n2\t7\t6", "1,2;A,B;5,8,7,6"],
-  ["\tA\tB\tTotal\nAnn\t5\t8\t13\nΣ\t5\t8\t13", "Ann;A,B;5,8"], ["Ann 5 8\nBen 7 6", "Ann,Ben;;5,8,7,6"],
-  ["\t\tA\tB\t\n\tAnn\t5\t–\t\n\t\t\t\t\n\tBen\t7\t6\t", "Ann,Ben;A,B;5,,7,6"], ["A\tB\n5\t6\n7\t8", ";A,B;5,6,7,8"],
-  ["Buyer\tSeller\tGain\nAnn\tA\t5", "Ann;A;5"], ["Ann: 5\nBen: 7", /^This is no table/],
-  ["Seller\tBuyer\tGain\nA\tAnn\t5\nB\tAnn\t8\nB\tBen\t6", "Ann,Ben;A,B;5,8,,6"],
-  ["Ann - A: 5\nAnn - B: 8\nBen - A: 7\nBen - B: 6", "Ann,Ben;A,B;5,8,7,6"],
-  ["Buyer\tA\tB\tDate\nAnn\t5\t8\t01.11.2026\nBen\t7\t6\tby phone", "Ann,Ben;A,B;5,8,7,6"],
-  ["Seller \\ Buyer\tAnn\tBen\nA\t5\t7", "Ann,Ben;A;5,7"],
-  ["A B\nUnit 7 5 8\nUnit 8 7 6", /^This is no/], ["A B\n\nAnn 5 8\nBen 7 6", /^This is no/],
-  ["A B\nAnn 8'200 EUR 7'500 EUR\nBen 6'100 EUR 9 EUR", /^This/],
-  ["\tA\tB\n1\t5 k€\t8 k€\n2\t7 k€\t6 k€", "1,2;A,B;5,8,7,6"],
-  ["# A B\n1 Ann 5 8\n2 Ben 7 6", "Ann,Ben;A,B;5,8,7,6"],
-  ["Buyer 1\t5\t8\nBuyer 2\t7\t6", "Buyer 1,Buyer 2;;5,8,7,6"], ["\tA\nAnn\t5\nPrecio mínimo\t3", /what sellers want/],
-];
-for (const [text, wanted] of MARKETS) {
-  const { buyers = [], sellers = [], values = [], fault } = marketOf(cellsOf(text));
-  const found = fault ?? [buyers, sellers, values.flat()].join(";");
-  if (wanted instanceof RegExp ? wanted.test(found) : wanted === found) continue;
-  faults += 1;
-  console.log(`the market ${JSON.stringify(text)} is read as ${found}, and not ${wanted}`);
-}
-
 // the estate is a row of its own name, and no creditor's; what words say in any language; and each column that several
 // could be is asked about, and so are numbers that may be names
 const LOOSE = /^Names and numbers stand in one cell each.* or leave that line out\.$/;
@@ -345,7 +321,8 @@ for (const [quota, counts, wanted] of QUOTAS) {
   console.log(`the quota ${quota} of ${counts.join(", ")} is told: ${told}`);
 }
 
-const tried = [CLAIMS, QUOTAS, sheets, CASES, WORKED, THOUSANDS, VALUES, LISTS, PASTED, MARKETS,
-  NETWORKS].reduce((sum, { length }) => sum + length, 0);
+const tried = [CLAIMS, QUOTAS, sheets, CASES, WORKED, THOUSANDS, VALUES, LISTS, PASTED, NETWORKS, MARKETS]
+  .reduce((sum, { length }) => sum + length, 0);
+faults += faultsOfMarkets();
 console.log(`${tried} numbers and lists as people type them, ${faults} faults`);
 process.exit(faults || !CASES.length ? 1 : 0);

@@ -22,6 +22,7 @@ import { lawyer } from "./lawyer.mjs";
 import { lecture } from "./lecture.mjs";
 import { letters } from "./letters.mjs";
 import { access, large, looks } from "./looks.mjs";
+import { byLimitPrices } from "./market.mjs";
 import { monkey } from "./monkey.mjs";
 import { parts } from "./parts.mjs";
 import { precise } from "./precise.mjs";
@@ -43,6 +44,7 @@ harness.add(face);
 harness.add(strangers);
 harness.add(users);
 harness.add(figures);
+harness.add(byLimitPrices);
 harness.add(parts);
 for (const some of [entering, assumed, saying, lecture, landings, bothWays, casesTyped, tables, otherCases,
   documents(top, program), checking(top), checks(top), letters(top), lawyer(top), failing(page, top), looks, access,

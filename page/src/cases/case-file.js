@@ -1,7 +1,10 @@
 // A case as the page saves it: the document, and what a document has no place for, as which numbers were assumed.
 import { isObject, writeJson } from "../exact/json.js";
 import { isMark } from "../exact/marks.js";
+import { typedText } from "../exact/decimals.js";
+import { Rational } from "../exact/rational.js";
 import { coarseOf } from "./coarse.js";
+import { gainTexts } from "./matrices.js";
 
 const WORD = "coop-page", VERSION = 1n;
 const isText = (one) => typeof one === "string" && one.length <= 200;
@@ -12,26 +15,34 @@ const TESTS = {
   decimals: (one) => typeof one === "bigint" && one >= 0n && one <= 6n, mark: isMark, entry: isMark,
   thousands: (one) => typeof one === "string" && /^[.,’'\u202f\u00a0 ]$/.test(one),
   heading: isText, unit: isText, source: isText, proposal: (one) => Array.isArray(one) && one.every(isText),
-  kept: isKept,
+  kept: isKept, limits: isLimits,
 };
+
+const isNumberText = (text) => typeof text === "string" && /^-?\d{1,400}(\/[1-9]\d{0,400})?$/.test(text);
+
+/** Limit prices of a market: of each buyer, and of each seller. */
+function isLimits(one) {
+  return isObject(one) && Object.keys(one).sort().join() === "buyers,sellers"
+    && Object.values(one).every((list) => Array.isArray(list) && list.every(isNumberText));
+}
 
 /** An answer that was kept to compare: the rows, their shares by each rule, and the cells that have changed since. */
 function isKept(one) {
-  const isShare = (text) => typeof text === "string" && /^-?\d{1,400}(\/[1-9]\d{0,400})?$/.test(text);
   const { names, sums = names, shares, cells = {} } = isObject(one) ? one : {};
   const isList = (list, is) => Array.isArray(list) && list.length === names.length && list.every(is);
   return Array.isArray(names) && names.every((name) => typeof name === "string") && isList(sums, isText)
-    && isObject(shares) && Object.values(shares).every((list) => isList(list, isShare)) && isObject(cells)
+    && isObject(shares) && Object.values(shares).every((list) => isList(list, isNumberText)) && isObject(cells)
     && Object.values(cells).every(isText);
 }
 
-/** The file of a case: `text` is its document, `mark` that of what is shown, `entry` that of the cells, and `thousands`
- * the sign between thousands, if they show one. */
-export function caseText({ kind, typed, text, texts, places, mark, entry, thousands, kept: pin, paper }) {
+/** The file of a case: `text` is its document, `limits` are its limit prices, `mark` is that of what is shown, `entry`
+ * that of the cells, and `thousands` the sign between thousands, if they show one. */
+export function caseText({ kind, typed, text, limits, texts, places, mark, entry, thousands, kept: pin, paper }) {
   const proposal = texts.some(Boolean) ? texts : undefined;
   const { coarse, source } = typed, { heading, unit } = paper, shown = { decimals: places, mark, entry };
   const settings = { filled: kind.filled?.treeOf(typed), coarse, ...shown, heading, unit, source };
-  const all = Object.entries({ ...settings, proposal, kept: pin, thousands: thousands ?? undefined });
+  const beside = { limits: limits ?? undefined, proposal, kept: pin, thousands: thousands ?? undefined };
+  const all = Object.entries({ ...settings, ...beside });
   const kept = all.filter(([, one]) => one !== undefined && one !== "");
   return `{"${WORD}":${VERSION},\n"document":${text}${kept.map(([key, one]) => {
     return `,\n"${key}":${writeJson(one)}`;
@@ -66,4 +77,16 @@ export function filledOf(kind, names, tree) {
   const wrong = list.findIndex((one) => !Array.isArray(one) || !isRight(one, BigInt(names?.length ?? 0)));
   if (wrong >= 0) return { fault: spoilt(`filled, ${key}, item ${wrong + 1}`) };
   return typedOf(list, tree, kind);
+}
+
+/** The limit prices of a market, as what was typed has them: {limits}; or {isOther}, if they make other gains than the
+ * `typed` ones; or {fault} with its place. */
+export function limitsOf(typed, tree, mark) {
+  if (tree === undefined) return {};
+  const isOf = (side) => typed[side]?.length === tree[side].length;
+  if (!typed.values || !isOf("buyers") || !isOf("sellers")) return { fault: spoilt("limits") };
+  const texts = (list) => list.map((text) => typedText(Rational.of(text), mark));
+  const limits = { buyers: texts(tree.buyers), sellers: texts(tree.sellers) };
+  const isSame = JSON.stringify(gainTexts(limits, mark)) === JSON.stringify(typed.values);
+  return isSame ? { limits } : { isOther: true };
 }

@@ -1,5 +1,6 @@
 // Cases that are a matrix: a network of links, and buyers with sellers.
-import { typedText } from "../exact/decimals.js";
+import { cellNumber, typedText } from "../exact/decimals.js";
+import { Rational, ZERO } from "../exact/rational.js";
 import { CLASSES, mostOf } from "../game/classes.js";
 import { withEscapes } from "../game/names.js";
 import { blockOf, isText, isValue, withoutSums } from "./block.js";
@@ -84,14 +85,18 @@ export const market = {
   grid: "market",
   most: CLASSES.market.side,
   help: "What do each buyer and seller gain together if they trade? It is the worth to the buyer less the worth to the "
-    + "seller, or 0 if that is negative.",
+    + "seller, or 0 if that is negative. Limit prices of one like thing can be pasted, too.",
   example: () => ({
     buyers: ["Ann", "Ben", "Cem"],
     sellers: ["house", "flat"],
     values: [["5", "8"], ["7", "6"], ["6", "6"]],
   }),
   empty: () => ({ buyers: ["", ""], sellers: ["", ""], values: [["", ""], ["", ""]] }),
-  mapNumbers: (typed, change) => ({ ...typed, values: typed.values.map((row) => row.map(change)) }),
+  emptyLimits: () => ({ ...market.empty(), limits: { buyers: ["", ""], sellers: ["", ""] } }),
+  mapNumbers: ({ values, limits, ...typed }, change) => ({
+    ...typed, values: values.map((row) => row.map(change)),
+    ...(limits && { limits: { buyers: limits.buyers.map(change), sellers: limits.sellers.map(change) } }),
+  }),
 
   read(state, mark) {
     const reading = new Reading(mark, state), { buyers, sellers } = state;
@@ -99,15 +104,17 @@ export const market = {
       ...buyers.map((typed, i) => ({ typed, fallback: `Buyer ${i + 1}`, cell: `buyers.${i}` })),
       ...sellers.map((typed, j) => ({ typed, fallback: `Seller ${j + 1}`, cell: `sellers.${j}` })),
     ];
-    const names = reading.names(cells, "Trader");
-    const matrix = buyers.map((_, i) => sellers.map((_, j) => {
-      return reading.number(`values.${i}.${j}`, state.values[i][j], "What they gain together")?.toDocument() ?? 0n;
+    const names = reading.names(cells, "Trader"), limits = state.limits && readLimits(reading, state.limits);
+    const gains = limits ? gainsOf(limits) : buyers.map((_, i) => sellers.map((_, j) => {
+      return reading.number(`values.${i}.${j}`, state.values[i][j], "What they gain together");
     }));
     reading.close();
+    const matrix = gains.map((row) => row.map((gain) => gain?.toDocument() ?? 0n));
+    if (gains.flat().every((gain) => gain?.isWhole())) reading.version &&= {}; // though the prices have decimals
     const kind = buyers.length + sellers.length <= mostOf("assignment") ? "assignment" : "market";
     return {
       reading,
-      rows: rowsOf(names),
+      rows: rowsOf(names), limits,
       tree: { class: kind, ...reading.version, ...reading.named(names, [...buyers, ...sellers]), matrix },
     };
   },
@@ -119,13 +126,35 @@ export const market = {
   }),
 };
 
+const MOST = "The most that a buyer would pay", LEAST = "The least that a seller would take";
+
+/** The limit prices in the cells; null for one that isn't read. */
+function readLimits(reading, limits) {
+  const read = (side, what) => limits[side].map((typed, k) => {
+    return reading.number(`limits.${side}.${k}`, typed, what, { canBeNegative: true });
+  });
+  return { buyers: read("buyers", MOST), sellers: read("sellers", LEAST) };
+}
+
+/** What each pair gains by limit prices: the buyer's most less the seller's least, and nothing if that is negative. */
+export function gainsOf({ buyers, sellers }) {
+  return buyers.map((most) => sellers.map((least) => most && least && Rational.max([ZERO, most.minus(least)])));
+}
+
+/** The same of what was typed, as texts; those that nobody knows are empty. */
+export function gainTexts({ buyers, sellers }, mark) {
+  const [most, least] = [buyers, sellers].map((texts) => texts.map((text) => cellNumber(text, mark).value));
+  return gainsOf({ buyers: most, sellers: least }).map((row) => row.map((gain) => (gain ? typedText(gain, mark) : "")));
+}
+
 const SIDE = (words) => new RegExp(`^(${words})(\\s*[\\\\/|].*)?$`, "iu"); // in the corner, alone or above the other
 const SELLER = SIDE("sellers?|verkäufer|vendeurs?|vendedor|verkoper");
 const BUYER = SIDE("buyers?|bidders?|käufer|bieter|acheteurs?|comprador|koper");
 const ASKING = new RegExp("^(reserve|reservation|asking|minimum|lowest|least|seller wants|mindest|precio m|prix mini)"
   + "[\\p{L} ]*( price|preis|wants)?$", "iu");
 const NO_MARKET = "This is no table of gains. Give the sellers’ names above, each buyer’s name before its row, and in "
-  + "it what the two gain together, as a number, or nothing.";
+  + "it what the two gain together, as a number, or nothing. Lists of limit prices need headings: Buyer, Bid, Seller, "
+  + "Ask.";
 
 /** What a pasted block says of a market: {buyers, sellers, values, notes} with those of the three that are there, or
  * {names, notes}; or {fault} in words. */

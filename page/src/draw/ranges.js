@@ -15,14 +15,16 @@ function tableOf(kind, heads, rows) {
 
 // ---- A market
 
-/** The pairs that trade: who, what they gain, the price at least and at most, and that of the nucleolus. */
+/** The pairs that trade: who, what they gain, the seller's part at least and at most, and that of the nucleolus; if
+ * limit prices are known, `least` is the seller's, to which these come as the price. */
 export function dealsOf(game, matching, solution) {
   const buyers = matching["buyers best"].map(Rational.of), sellers = matching["sellers best"].map(Rational.of);
   return matching.pairs.map((pair) => {
     const [buyer, seller] = pair.map((player) => Number(player) - 1);
     const worth = game.rows[buyer][seller - game.rows.length], fair = solution?.shares[seller];
     const who = `${game.shown[buyer]} – ${game.shown[seller]}`;
-    return { who, worth, low: buyers[seller], high: sellers[seller], fair, rule: solution?.title };
+    const least = game.limits?.sellers[seller - game.rows.length];
+    return { who, worth, low: buyers[seller], high: sellers[seller], fair, rule: solution?.title, least };
   });
 }
 
@@ -30,7 +32,26 @@ export function priceOf({ show, apart }) {
   return ({ low, high }) => (low.equals(high) ? show(low) : apart(low, high).join(" to "));
 }
 
+/** The deals with prices in the place of the seller's parts. */
+function priced(deals) {
+  const plus = (least, part) => part && least.plus(part);
+  return deals.map(({ least, low, high, fair, ...deal }) => {
+    return { ...deal, low: plus(least, low), high: plus(least, high), fair: plus(least, fair) };
+  });
+}
+
 export function tradesTable(deals, format) {
+  return deals[0]?.least ? pricesTable(priced(deals), format) : partsTable(deals, format);
+}
+
+function pricesTable(deals, format) {
+  const { fair, rule } = deals[0], price = priceOf(format), number = (text) => el("td", { class: "number" }, text);
+  const rows = deals.map((deal) => el("tr", {}, el("th", { scope: "row" }, deal.who), number(format.show(deal.worth)),
+    number(price(deal).replaceAll(" ", "\u00a0")), fair && number(format.show(deal.fair))));
+  return tableOf("trades", ["Who trades", "They gain", "The price", ...(fair ? [`${rule}: the price`] : [])], rows);
+}
+
+function partsTable(deals, format) {
   const hasFair = deals.some(({ fair }) => fair), price = priceOf(format);
   const rows = deals.map((deal) => el("tr", {},
     el("th", { scope: "row" }, deal.who), el("td", { class: "number" }, format.show(deal.worth)),
@@ -46,13 +67,25 @@ export function tradesTable(deals, format) {
 const MOST_IDLE = 4; // that the first sentence names
 
 /** What is said of the parts, wherever they are. */
-export const PRICE = "The price is the seller’s own value and, on top of it, the seller’s part of the gain.";
+const PRICE = "The price is the seller’s own value and, on top of it, the seller’s part of the gain.";
+const OF_LIMITS = "The price is the seller’s least and, on top of it, the seller’s part of the gain.";
+export const priceText = (deals) => (deals[0]?.least ? OF_LIMITS : PRICE);
+
+/** The price, if limit prices are known, and all trade at the same. */
+function priceLead(deals, { show, apart }) {
+  if (!deals[0]?.least) return "";
+  const [{ low, high }, ...others] = priced(deals);
+  const isOne = others.every((deal) => deal.low.equals(low) && deal.high.equals(high));
+  const text = low.equals(high) ? `is ${show(low)}` : `is from ${apart(low, high).join(" to ")}`;
+  return isOne ? ` The price ${text}${others.length ? ", the same for all" : ""}.` : "";
+}
 
 /** The first sentence, or none if nobody trades. */
-export function tradesLead(deals, idle, value, { show }) {
+export function tradesLead(deals, idle, value, format) {
+  const { show } = format;
   const pairs = deals.length > 6 ? `${deals.length} pairs` : listed(deals.map(({ who }) => who));
   return deals.length > 0 && el("p", { class: "lead" }, `${pairs} ${deals.length > 1 ? "trade" : "trades"}: together `
-    + `they gain ${show(Rational.of(value))}.`, idle.length > 0 && idle.length <= MOST_IDLE
+    + `they gain ${show(Rational.of(value))}.${priceLead(deals, format)}`, idle.length > 0 && idle.length <= MOST_IDLE
     && ` Without a trade: ${idle.join(", ")}.`);
 }
 
@@ -68,7 +101,7 @@ export function trades(game, matching, { solution, ties, wide, ...format }) {
   const said = tradesLead(deals, idle, matching.value, format);
   const table = [tradesTable(deals, format), el("p", { class: "hint" },
     `Together they gain ${format.show(Rational.of(matching.value))}; no other pairs gain more. `,
-    ties, " ", PRICE, " The ranges say how far each can go, not ",
+    ties, " ", priceText(deals), " The ranges say how far each can go, not ",
     "that each can be chosen by itself: one holds the others. Below its range a buyer would be outbid, or ",
     "the seller rather keep it; above it the seller would be undercut, or the buyer rather not buy.",
     idle.length > 0 && ` Without a trade: ${idle.join(", ")}.`)];

@@ -5,8 +5,8 @@ import { everyoneOf, maskOf, membersOf } from "./groups.js";
 const MOST_GROUPS = 4; // players of whose groups the page knows what each is worth: those of a tetrahedron
 
 /** The facts of a game as a worker can send them. `ballots` are the votes and the quota of each ballot, where the case
- * is a vote. */
-export function factsOf(game, ballots = null) {
+ * is a vote, and `limits` the limit prices of buyers and sellers, where a market is given by these. */
+export function factsOf(game, ballots = null, limits = null) {
   const texts = (values) => values?.map(String);
   const groups = game.n <= MOST_GROUPS ? everyoneOf(2 ** game.n).map((mask) => game.worth(membersOf(mask))) : null;
   return {
@@ -15,6 +15,7 @@ export function factsOf(game, ballots = null) {
     rows: game.isMarket() ? game.rows.map(texts) : null,
     ...sumsOf(game), worths: texts(groups),
     ballots: ballots?.map(({ votes, quota }) => ({ votes: texts(votes), quota: String(quota) })),
+    limits: limits && { buyers: texts(limits.buyers), sellers: texts(limits.sellers) },
   };
 }
 
@@ -27,12 +28,13 @@ function sumsOf(game) {
 }
 
 export class Facts {
-  constructor({ amounts, single, rows, whole, alone, added, worths, ballots, ...others }) {
+  constructor({ amounts, single, rows, whole, alone, added, worths, ballots, limits, ...others }) {
     const values = (texts) => texts?.map(Rational.of);
     Object.assign(this, others, {
       amounts: values(amounts), single: single && Rational.of(single), rows: rows?.map(values),
       total: Rational.of(whole), own: values(alone), adds: values(added), groups: values(worths),
       ballots: ballots?.map(({ votes, quota }) => ({ votes: values(votes), quota: Rational.of(quota) })),
+      limits: limits && { buyers: values(limits.buyers), sellers: values(limits.sellers) },
     });
   }
 

@@ -84,8 +84,9 @@ function sampleLine(kind, typed, { onReset }) {
   is(cleared(kind, typed)) && "Fill in the cells, or paste a table from a spreadsheet into any of them.");
 }
 
-/** A vote by two quotas stays one. */
-function cleared(kind, { secondQuota }) {
+/** A vote by two quotas stays one, and a market by limit prices. */
+function cleared(kind, { secondQuota, limits }) {
+  if (limits) return kind.emptyLimits();
   return { ...kind.empty(), ...(secondQuota === undefined ? {} : { secondQuota: "" }) };
 }
 

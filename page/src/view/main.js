@@ -104,8 +104,8 @@ function asked(kind) {
     help: (task, what) => session.reader.ask(task, what),
     caseText: () => {
       const { pinned, reading, marks } = session, kept = pinned ? keptTree(pinned, session.typed) : undefined;
-      const { shown: mark, thousands } = marks;
-      return caseText({ ...nowTyped(), kind, kept, mark, thousands, entry: writtenBy(reading), text: reading.text });
+      const { shown: mark, thousands } = marks, { text, facts } = reading, entry = writtenBy(reading);
+      return caseText({ ...nowTyped(), kind, kept, mark, thousands, entry, text, limits: facts?.limits });
     },
   };
 }

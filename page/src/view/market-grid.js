@@ -1,40 +1,146 @@
-// The grid of a market: what each buyer gains with each seller.
-import { marketOf } from "../cases/matrices.js";
+// The grid of a market: what each buyer gains with each seller, or two lists of limit prices that say it.
+import { gainTexts, marketOf } from "../cases/matrices.js";
+import { partOf, pricesOf } from "../cases/prices.js";
 import { withEscapes } from "../game/names.js";
+import { plural } from "../game/words.js";
 import { cellInput, moveByKeys, pasteCells, removal } from "./cells.js";
-import { button, el, refill } from "./dom.js";
+import { button, cellOf, el, refill } from "./dom.js";
+import { gainsPart, priceLists } from "./price-lists.js";
 
 export function marketGrid(kind, typed, settings) {
   return new MarketGrid(kind, typed, settings).element;
 }
 
 const NO_ROOM = "From this cell on there aren’t as many cells. Paste it into the first one, or with the names of all.";
+const ONE_SIDE = "Here are limit prices of one side alone. Paste those of the other beside them or below.";
+const AS_PRICES = "A pair gains the buyer’s most less the seller’s least, or nothing if that is negative.";
 
 class MarketGrid {
-  constructor(kind, typed, { onChange, readCells, remember }) {
-    Object.assign(this, { kind, typed, onChange, remember });
+  constructor(kind, typed, { mark, onChange, readCells, remember }) {
+    Object.assign(this, { kind, typed, mark, onChange, remember });
     this.holder = el("div", { class: "scroll" });
     this.tools = el("p", { class: "tools" });
-    const more = el("details", { class: "inline traders" }, el("summary", {}, "Add or remove traders"), this.tools);
+    this.traders = el("details", { class: "inline traders" }, el("summary", {}, "Add or remove traders"), this.tools);
+    this.gains = el("div");
     this.none = el("p", { class: "tools" });
     this.said = el("p", { class: "hint", role: "status" });
-    this.element = el("div", {}, this.holder, this.said, more, this.none);
+    this.element = el("div", {}, this.holder, this.said, this.traders, this.gains, this.none);
+    this.element.more = el("p", { class: "tools" });
+    this.element.tell = (reading) => refill(this.gains, typed.limits && gainsPart(typed, reading));
     moveByKeys(this.holder, (cell, step) => {
       const [what, a, b] = cell.split(".");
+      if (what === "limits") return `limits.${a}.${Number(b) + step}`;
       return what === "values" ? `values.${Number(a) + step}.${b}` : `${what}.${Number(a) + step}`;
     });
-    pasteCells(this.holder, (cell, pasted) => {
-      const found = marketOf(pasted), fault = found.fault ?? this.faultOf(cell, found);
-      const told = fault ? "" : [...found.notes, this.keptText(cell, found)].filter(Boolean).join(" ");
-      refill(this.said, fault ? `${fault} Nothing was taken.` : withEscapes(told));
-      if (fault) return;
-      remember("Paste");
-      this.change(() => this.fill(cell, found));
-    }, readCells);
+    pasteCells(this.holder, (cell, rows) => this.pasted(cell, rows), readCells);
     this.show();
   }
 
   show() {
+    const { typed, kind } = this, isPrices = Boolean(typed.limits), word = isPrices ? "gains" : "limit prices";
+    this.traders.hidden = isPrices;
+    refill(this.element.more, button(`Enter ${word} instead`, () => this.turn(), { class: "quiet" }));
+    if (!isPrices) return this.showMatrix();
+    refill(this.none);
+    return refill(this.holder, priceLists(typed, {
+      most: kind.most, onInput: () => this.onChange(), add: (side) => this.addTo(side),
+      remove: (side, k, label) => removal(this.holder, {
+        label, next: `${side}.${Math.min(k, typed[side].length - 2)}`, remove: () => this.removeFrom(side, k, label),
+      }),
+    }), el("p", { class: "hint" }, AS_PRICES));
+  }
+
+  /** From gains to limit prices, and back: these make the gains then. */
+  turn() {
+    const { typed } = this, { limits, buyers, sellers } = typed, blank = (list) => list.map(() => "");
+    this.remember(limits ? "Enter gains" : "Enter limit prices");
+    this.change(() => {
+      if (!limits) return void (typed.limits = { buyers: blank(buyers), sellers: blank(sellers) });
+      if (Object.values(limits).flat().some((text) => text.trim())) typed.values = gainTexts(limits, this.mark());
+      delete typed.limits;
+    });
+    refill(this.said);
+  }
+
+  addTo(side) {
+    const [more, others] = side === "buyers" ? [1, 0] : [0, 1], { buyers, sellers } = this.typed;
+    this.remember(side === "buyers" ? "Add a buyer" : "Add a seller");
+    this.change(() => this.resize(buyers.length + more, sellers.length + others));
+    cellOf(this.holder, `${side}.${this.typed[side].length - 1}`)?.focus();
+  }
+
+  removeFrom(side, k, label) {
+    const { typed } = this;
+    this.remember(label);
+    this.change(() => {
+      for (const list of [typed[side], typed.limits?.[side]]) list?.splice(k, 1);
+      if (side === "buyers") typed.values.splice(k, 1);
+      else for (const row of typed.values) row.splice(k, 1);
+    });
+  }
+
+  // ---- What is pasted
+
+  /** Takes limit prices or gains; `said` is whose the first of two lists are. */
+  pasted(cell, rows, said) {
+    const { limits } = this.typed, prices = pricesOf(rows, said);
+    if (prices?.asked) return this.askWhose(prices.asked, (side) => this.pasted(cell, rows, side));
+    if (prices) return this.takePrices(prices);
+    const found = marketOf(rows), isGains = !limits || (found.buyers && found.sellers && found.values);
+    if (!isGains) return this.takePart(partOf(cell, rows));
+    const fault = found.fault ?? this.faultOf(cell, found), kept = !fault && this.keptText(cell, found);
+    return this.take(fault, [...found.notes ?? [], kept], () => {
+      delete this.typed.limits;
+      this.fill(cell, found);
+    });
+  }
+
+  /** Takes something, or says why not. */
+  take(fault, notes, doIt) {
+    refill(this.said, fault ? `${fault} Nothing was taken.` : withEscapes(notes.filter(Boolean).join(" ")));
+    if (fault) return;
+    this.remember("Paste");
+    this.change(doIt);
+  }
+
+  askWhose(list, use) {
+    const way = (text, side) => button(text, () => use(side), { class: "quiet" });
+    refill(this.said, `Nothing was taken yet. Whose limit prices are those of ${list}? `,
+      way("Buyers: the most they’d pay", "buyers"), " ", way("Sellers: the least they’d take", "sellers"), " ",
+      way("They are no limit prices", "none"));
+  }
+
+  /** Limit prices of both sides are the case; those of one take the place of its list. */
+  takePrices({ buyers, sellers, notes = [], fault }) {
+    const { typed, kind: { most } } = this, sides = Object.entries({ buyers, sellers }).filter(([, list]) => list);
+    const isLong = sides.some(([, list]) => list.length > most), isPart = sides.length < 2 && !typed.limits;
+    const why = fault ?? (isLong ? `A side has at most ${most} traders.` : isPart && ONE_SIDE);
+    const told = sides.map(([side, list]) => plural(list.length, side.slice(0, -1), side)).join(" and ");
+    this.take(why, [`Taken as limit prices of ${told}.`, ...notes], () => {
+      typed.limits ??= {};
+      for (const [side, list] of sides) {
+        typed[side] = list.map(({ name }) => name);
+        typed.limits[side] = list.map(({ price }) => price);
+      }
+      this.resize(typed.buyers.length, typed.sellers.length);
+    });
+  }
+
+  /** Names or prices of one list, from a cell on. */
+  takePart({ side, at, rows = [], notes, fault }) {
+    const { typed, kind: { most } } = this, length = at + rows.length, isLong = length > most;
+    this.take(fault ?? (isLong && `A side has at most ${most} traders.`), notes, () => {
+      this.resize(...["buyers", "sellers"].map((one) => Math.max(typed[one].length, one === side ? length : 0)));
+      rows.forEach(({ name, price }, k) => {
+        typed[side][at + k] = name ?? typed[side][at + k];
+        typed.limits[side][at + k] = price ?? typed.limits[side][at + k];
+      });
+    });
+  }
+
+  // ---- The matrix
+
+  showMatrix() {
     const { buyers, sellers } = this.typed, none = el("td", { class: "tool" });
     const seller = (_, j) => {
       return el("th", { scope: "col", class: "number" }, this.nameInput("sellers", j, `Seller ${j + 1}`));
@@ -49,12 +155,8 @@ class MarketGrid {
   }
 
   removal(i, name) {
-    const { buyers, values } = this.typed, label = `Remove ${withEscapes(name) || `buyer ${i + 1}`}`;
-    const remove = () => this.change(() => {
-      this.remember(label);
-      buyers.splice(i, 1);
-      values.splice(i, 1);
-    });
+    const { buyers } = this.typed, label = `Remove ${withEscapes(name) || `buyer ${i + 1}`}`;
+    const remove = () => this.removeFrom("buyers", i, label);
     return removal(this.holder, { label, remove, next: `buyers.${Math.min(i, buyers.length - 2)}` });
   }
 
@@ -110,6 +212,9 @@ class MarketGrid {
     typed.buyers = Array.from({ length: buyers }, (_, i) => typed.buyers[i] ?? "");
     typed.sellers = Array.from({ length: sellers }, (_, j) => typed.sellers[j] ?? "");
     typed.values = typed.buyers.map((_, i) => typed.sellers.map((_, j) => typed.values[i]?.[j] ?? ""));
+    for (const side of typed.limits ? ["buyers", "sellers"] : []) {
+      typed.limits[side] = typed[side].map((_, k) => typed.limits[side]?.[k] ?? "");
+    }
   }
 
   change(doIt) {

@@ -76,7 +76,8 @@ const valueAt = (typed, cell) => cell.split(".").reduce((one, key) => one?.[key]
 /** The numbers that differ from what was kept: {cell, before, after}; null if the players are others, or in another
  * order. Of a list those in rows of the same name. */
 export function changedCells(before, after) {
-  const who = ({ names = [], source = "", buyers, sellers }) => JSON.stringify([names, source, buyers, sellers]);
+  const who = ({ names = [], source = "", buyers, sellers, limits }) => JSON.stringify([names, source, buyers, sellers,
+    Boolean(limits)]);
   const found = [];
   if (!before || who(before) !== who(after)) return null;
   const compare = (cell) => {
@@ -87,6 +88,9 @@ export function changedCells(before, after) {
   for (const key of Object.keys(after.links ?? {})) compare(`links.${key}`);
   (after.numbers ?? []).forEach((_, mask) => mask && compare(`numbers.${mask}`));
   (after.values ?? []).forEach((row, i) => row.forEach((_, j) => compare(`values.${i}.${j}`)));
+  for (const [side, prices] of Object.entries(after.limits ?? {})) {
+    prices.forEach((_, k) => compare(`limits.${side}.${k}`));
+  }
   for (const [r, row] of (after.rows ?? []).entries()) {
     const isSame = before.rows?.[r]?.name === row.name;
     for (const key of Object.keys(row)) if (isSame && key !== "name") compare(`rows.${r}.${key}`);

@@ -4,7 +4,7 @@ import { countText, fractionText } from "../exact/decimals.js";
 import { barsPicture } from "../draw/bars.js";
 import { planPicture } from "../draw/plan.js";
 import {
-  dealsOf, idleOf, PRICE, powerPicture, priceOf, pricesPicture, tradesLead, tradesTable,
+  dealsOf, idleOf, powerPicture, priceOf, pricesPicture, priceText, tradesLead, tradesTable,
 } from "../draw/ranges.js";
 import { trianglePicture } from "../draw/triangle.js";
 import { Rational } from "../exact/rational.js";
@@ -106,7 +106,7 @@ function answerOf(view) {
   if (result.matching) {
     const { matching } = result, deals = dealsOf(game, matching, solutionOf(result));
     return el("section", {}, tradesLead(deals, idleOf(game, matching), matching.value, format),
-      tradesTable(deals, format), el("p", { class: "hint" }, `${PRICE} ${tiesText(game, matching)}`));
+      tradesTable(deals, format), el("p", { class: "hint" }, `${priceText(deals)} ${tiesText(game, matching)}`));
   }
   const { title } = point, totals = totalsOf(rows, point.shares);
   const context = contextOf(game, rows, format), texts = format.column(totals, rows);

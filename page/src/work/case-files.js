@@ -2,7 +2,7 @@
 import { JsonFault, parseJson, writeJson } from "../exact/json.js";
 import { readNumber, typedText } from "../exact/decimals.js";
 import { caseNamed } from "../cases/cases.js";
-import { faultOfCase, filledOf, isCaseFile } from "../cases/case-file.js";
+import { faultOfCase, filledOf, isCaseFile, limitsOf } from "../cases/case-file.js";
 import { coarseOf } from "../cases/coarse.js";
 import { tableFault } from "../cases/saved-tables.js";
 import { packed } from "../cases/tables.js";
@@ -13,6 +13,7 @@ const OF_A_CASE = "A saved case. Whether somebody has changed the file since, th
   + "its document alone.";
 const NOT_FOLLOWING = "The cells that the file calls filled have other numbers than the page would fill in, so they "
   + "stand here as typed ones.";
+const OTHER_GAINS = "The limit prices in the file make other gains than its document has, so only the gains are here.";
 
 /** A text as a case: as openDocument has it, and of a saved case `more` of what was typed, `settings`, and `notes`. */
 export function openText({ text, mark }) {
@@ -51,15 +52,17 @@ function openCase(tree, usual) {
   }
   const kind = caseNamed(found.id), typed = kind.unpack?.(found.typed) ?? found.typed;
   const { fault: wrong, ...filled } = filledOf(kind, typed.names, tree.filled);
-  if (wrong) return { refusal: wrong };
+  const { fault: odd, isOther, ...prices } = limitsOf(typed, tree.limits, entry);
+  if (wrong || odd) return { refusal: wrong ?? odd };
   const isFollowing = !kind.isTable || follows(kind, typed, filled, entry);
   return {
     ...found, isCase: true, typed: kind.pack?.(typed) ?? typed, texts: proposal,
     more: {
-      ...(isFollowing ? filled : {}), ...(source && kind.isNetwork ? { source } : {}), coarse: coarseOf(tree.coarse),
+      ...(isFollowing ? filled : {}), ...(source && kind.isNetwork ? { source } : {}), ...prices,
+      coarse: coarseOf(tree.coarse),
     },
     settings: { entry, mark, thousands, places: decimals && Number(decimals), paper: { heading, unit }, kept },
-    notes: [OF_A_CASE, ...(isFollowing ? [] : [NOT_FOLLOWING])],
+    notes: [OF_A_CASE, ...(isFollowing ? [] : [NOT_FOLLOWING]), ...(isOther ? [OTHER_GAINS] : [])],
   };
 }
 

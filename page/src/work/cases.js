@@ -24,7 +24,8 @@ const QUESTIONS = ["asked", "either", "mixed", "unsure", "swap", "part", "rest"]
 
 /** What the cells say: the rows of the answer, what is wrong, and, if nothing is, the document, its facts and game. */
 export function readCase({ id, typed, mark, measure, isMarked = typed.isMarked }) {
-  const { reading, rows, tree, ballots, landings, isBeyond } = byOneMark((by) => caseNamed(id).read(typed, by), mark);
+  const found = byOneMark((by) => caseNamed(id).read(typed, by), mark);
+  const { reading, rows, tree, ballots, landings, limits, isBeyond } = found;
   reading.askOfMixed(isMarked);
   reading.askOfUnsure(isMarked);
   const power = isBeyond && reading.isRight() ? powerBeyond(ballots, rows) : null;
@@ -44,7 +45,7 @@ export function readCase({ id, typed, mark, measure, isMarked = typed.isMarked }
   if (!tree) return read; // the program takes no such game
   const { class: name, ...others } = tree, isMeasured = measure === "per-head" && playersOf(rows) > 1;
   const game = new Game(isMeasured ? { class: name, excess: "per-head", ...others } : tree);
-  return { ...read, text: writeJson({ game: game.tree }), facts: factsOf(game, ballots), game };
+  return { ...read, text: writeJson({ game: game.tree }), facts: factsOf(game, ballots, limits), game };
 }
 
 const playersOf = (rows) => rows.reduce((sum, { players, count = 1 }) => sum + (players?.length ?? count), 0);

@@ -1,0 +1,74 @@
+// What the columns of a list of limit prices are: by their headings, and by what is in them.
+import { moneyIn, readNumber } from "../exact/decimals.js";
+import { UNKNOWN } from "./columns.js";
+import { withoutUnits } from "./units.js";
+
+export const SIDES = ["buyers", "sellers"];
+
+const words = (text) => new RegExp(`(?<!\\p{L})(${text})(?!\\p{L})`, "iu");
+const BUYS = words("buy(er|ers|ing|s)?|bidders?|purchasers?|demand|käufer(in|innen)?|kauf|bieter|nachfrag\\p{L}*"
+  + "|acheteu[rs]e?s?|achats?|comprador\\p{L}*|compras?|kopers?|koop");
+const SELLS = words("sell(er|ers|ing|s)?|vendors?|suppl(y|iers?)|verkäufer(in|innen)?|verkauf|anbieter"
+  + "|vendeu[rs]e?s?|ventes?|vendedor\\p{L}*|ventas?|verkopers?|verkoop");
+const BID = words("bids?|most|up to|m[aá]x(im\\p{L}*)?|highest|(willing(ness)?|ready) to (pay|buy)|wtp|pays?|au plus"
+  + "|höchst\\p{L}*|gebote?|zahlungsbereitschaft|bod");
+const ASK = words("asks?|asking|least|m[ií]n(im\\p{L}*)?|lowest|(willing(ness)?|ready) to (accept|sell|take)|wta"
+  + "|takes?|mindest\\p{L}*|au moins");
+const RESERVE = words("reserves?|reservation"); // of a seller, unless it is said to be a buyer's
+const PRICE = /price|preis|pri[xj]|precio|limit|valu|wert|valeur|valor|amount|betrag|montant|\p{Sc}|bereitschaft/iu;
+const NAME = words("names?|traders?|who|persons?|participants?|players?|nom|nombre|wer|händler");
+const QUANTITY = words("quantit\\p{L}*|qty|units?|pieces?|pcs|size|volumes?|lots?|shares|menge|stück\\p{L}*|anzahl"
+  + "|cantidad|aantal|how many|count|number( of \\p{L}+)?");
+const COUNT = /^(#|№|no|nr|num|id|ref|lp|pos|rank|rang)\.?$|\b(no|nr|id|ref)\.?$/iu;
+const WEAK = /^(max|min)\.?$/i; // may be a person
+const SIDE_HEAD = words("sides?|types?|roles?|b\\s*[/|]\\s*s|buy\\s*/\\s*sell|direction|seite|rolle|art|rôle|lado|tipo"
+  + "|kind|position");
+const MARKED = /^(b|s)[ .:-]?\d+$|[([](b|s)[)\]]$/i;
+
+/** What a heading says: whose price or name it is, and whether it is a price. `isSoft` gives way to a side that the
+ * columns before it have; `isBoth` says that it names both. */
+export function kindOf(head) {
+  const isBuyer = BUYS.test(head), isSeller = SELLS.test(head), isBid = BID.test(head), isAsk = ASK.test(head);
+  const isSoft = RESERVE.test(head) && !isBuyer && !isSeller, isBoth = isBuyer && isSeller;
+  const buys = isBuyer || (isBid && !isSeller), sells = isSeller || ((isAsk || isSoft) && !isBuyer);
+  const side = buys === sells ? undefined : buys ? "buyers" : "sellers";
+  const isPrice = isBid || isAsk || RESERVE.test(head) || PRICE.test(head);
+  return { side, isSoft, isBoth, isPrice, isWeak: WEAK.test(head) };
+}
+
+/** Whether a cell of a column says that somebody buys, or sells. */
+export function sideOf(text) {
+  return /^b$/i.test(text) ? "buyers" : /^s$/i.test(text) ? "sellers" : kindOf(text).side;
+}
+
+/** The same of a name, as “Buyer 1”, “Ann (seller)” or “B1”. */
+export function sideOfName(text) {
+  const letter = (MARKED.exec(text) ?? []).slice(1).find(Boolean), isBuyer = BUYS.test(text);
+  if (letter) return sideOf(letter);
+  return isBuyer === SELLS.test(text) ? undefined : isBuyer ? "buyers" : "sellers";
+}
+
+/** A column with its heading and its texts, and what it may be. */
+export function fitOf(head, texts) {
+  const filled = texts.filter(Boolean), known = filled.filter((text) => !UNKNOWN.test(text));
+  const { rows: bare = [] } = withoutUnits(known.map((text) => [text])), kind = kindOf(head);
+  const numbers = bare.filter(([text]) => !readNumber(text).fault).length, isWord = numbers * 2 <= known.length;
+  const isNumbers = known.length ? !isWord : kind.isPrice; // nobody knows a price yet
+  const isMoney = isWord && known.length > 0 && known.every((text) => text.length < 5 && moneyIn(text));
+  const few = new Set(known.map((text) => text.toLowerCase())).size;
+  const isSaid = known.every((text) => text.length < 16 && !/\d/.test(text) && sideOf(text));
+  const isSides = isWord && !isMoney && few > 1 && known.length > 2 && !kind.side
+    && (isSaid || (SIDE_HEAD.test(head) && (few === 2 || known.some((text) => sideOf(text)))));
+  const isName = !kind.isPrice && (Boolean(kind.side) || NAME.test(head));
+  return {
+    head, texts, isNumbers, isMoney, isSides, isName, ...kind,
+    isQuantity: isNumbers && !kind.isPrice && QUANTITY.test(head),
+    isCount: isNumbers && !kind.isPrice && COUNT.test(head),
+  };
+}
+
+/** The currency that a heading names, with the word for thousands before it. */
+export function isUnit(head = "") {
+  const text = head.replace(/[()[\],:]/g, " ").trim(), money = moneyIn(text), last = text.split(/\s+/).at(-1);
+  return money && `${/^[kKMT](?=\p{Sc}|[A-Z]{3})/u.exec(last)?.[0] ?? ""}${money}`;
+}
