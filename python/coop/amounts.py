@@ -151,11 +151,15 @@ def named_amounts(
         way = "leave `names` out, or give the numbers as a list, in the order of the names"
         raise BadInput(f"the numbers have names already ({labels}, ..): {way}")
     own, found = [label_of(label) for label, _ in items], amounts_of(values, items, digits)
-    for name, amount in zip(own, found):
-        if len(own) > 2 and is_sum_word(name) and 2 * amount == sum(found):
-            way = "leave that row out; if it is a player, give the numbers as a list, and `names`"
-            raise BadInput(f"{name} has the sum of all others: {way}")
+    require_no_sum(own, found, "give the numbers as a list, and `names`")
     return own, found
+
+
+def require_no_sum(names: Sequence[str], amounts: Sequence[Union[int, Fraction]], way: str) -> None:
+    """Refuses a row that is named as a sum, and has that of all others."""
+    for name, amount in zip(names, amounts):
+        if len(names) > 2 and is_sum_word(name) and 2 * amount == sum(amounts):
+            raise BadInput(f"{name} has the sum of all others: leave that row out; if it is a player, {way}")
 
 
 def require_once_each(names: Sequence[str]) -> None:

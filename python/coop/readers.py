@@ -10,6 +10,7 @@ from typing import Any, Iterator, NamedTuple, Optional, Sequence
 
 from . import filling, games
 from .airlines import landings_in
+from .amounts import require_no_sum
 from .classes import CLASSES
 from .errors import BadInput
 from .game import Game, require_table
@@ -203,7 +204,9 @@ def claims(text: str, estate: Any, *, digits: Optional[int] = None, layout: Layo
         whole = by_mark(estate.strip(), rows[0].mark, digits) if isinstance(estate, str) else estate
     except BadInput as fault:
         raise BadInput(f"the estate: {fault}") from None
-    return games.bankruptcy(whole, amounts, named_once(rows), digits=digits)
+    names = named_once(rows)
+    require_no_sum(names, amounts, "give it another name")
+    return games.bankruptcy(whole, amounts, names, digits=digits)
 
 
 def estate_beside(estate: Any) -> list[Cell]:
@@ -215,6 +218,7 @@ def landings(text: str, *, digits: Optional[int] = None, layout: Layout = AS_SEE
     """An airport from lines of an airline, what a landing of it needs alone, and how many landings; or of an airline, a
     type, how many landings, and what one needs. Headings tell the columns in whatever order (`airlines`)."""
     rows = landings_in(text, digits=digits, layout=layout)
+    require_no_sum([row.airline for row in rows], [row.landings for row in rows], "give it another name")
     return games.landings([(row.name, row.need, row.landings) for row in rows], digits=digits)
 
 

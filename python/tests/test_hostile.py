@@ -105,6 +105,8 @@ REFUSED: list[tuple[Callable[..., Any], tuple[Any, ...], str]] = [
     (networks.table_of_links, ({("source", "a", "b"): 3},), "a link has two ends"),
     (networks.table_of_links, ([("source", "a", 3)],), "aren't a mapping from pairs of names"),
     (readers.claims, (b"a,1\n", 2), "isn't the text of a file"),
+    (readers.claims, ("a,1\nb,2\nTotal,3\n", 2), "Total has the sum of all others: .* give it another name"),
+    (readers.landings, ("a,1,2\nb,2,3\nTotal,3,5\n",), "leave that row out"),
     (sheets.Layout, (";",), "';' isn't a word for a sign: name one of tab, semicolon"),
     (sheets.Layout, (None, ","), "name one of point, comma"),
     (sheets.Layout, (None, None, "no"), "`has_head` is True or False"),
