@@ -15,7 +15,7 @@ from typing import Any, Iterable, Optional, Sequence, Union
 
 from .classes import LIMITS
 from .errors import BadInput
-from .names import is_sum_word
+from .names import alike, is_sum_word, plain as plain_name
 
 Amount = Union[int, str, Fraction, Decimal, float]
 """What may be given for a number: "12", "12.50", "1e-05" and "25/2" are texts of numbers."""
@@ -23,6 +23,7 @@ Amount = Union[int, str, Fraction, Decimal, float]
 MOST_SCALE: int = LIMITS["denominator"]
 LIMIT: int = 2 ** LIMITS["bits"]
 MOST_DIGITS, MOST_BITS = 40, 4096
+KEPT = 12  # digits by which a number isn't 0; less is noise of floats
 NUMBER = re.compile(r"-?([0-9]{1,40}(\.[0-9]{1,40})?([eE][-+]?[0-9]{1,2})?|[0-9]{1,40}/0*[1-9][0-9]{0,39})")
 
 
@@ -100,7 +101,9 @@ def fractions_of(values: Iterable[Amount], digits: Optional[int] = None) -> list
     except TypeError:
         raise BadInput(f"{str(values)[:40]!r} isn't a list of numbers") from None
     try:
-        return [fraction_of(value, digits) for value in items]
+        found = [fraction_of(value, digits) for value in items]
+        require_kept(found, digits, (fraction_of(value, KEPT) for value in items))
+        return found
     except BadInput:
         if len(items) == 1:
             raise
@@ -117,7 +120,14 @@ def amounts_of(values: Any, items: Sequence[tuple[Any, Any]], digits: Optional[i
         except BadInput as fault:
             place = ", ".join(str(word) for word in (getattr(values, "name", None), label) if word not in (None, ""))
             raise BadInput(f"{place}: {fault}" if place else str(fault)) from None
+    require_kept(found, digits, (fraction_of(value, KEPT) for _, value in items))
     return found
+
+
+def require_kept(found: Iterable[Fraction], digits: Optional[int], closer: Iterable[Fraction]) -> None:
+    """Refuses numbers that all become 0 by rounding, where closer ones aren't."""
+    if digits is not None and not any(found) and any(closer):
+        raise BadInput(f"each number becomes 0 when it is rounded to {digits} digits: give more digits, or zeros")
 
 
 def label_of(label: Any) -> str:
@@ -163,9 +173,11 @@ def require_no_sum(names: Sequence[str], amounts: Sequence[Union[int, Fraction]]
 
 
 def require_once_each(names: Sequence[str]) -> None:
-    """Refuses a name that stands twice."""
+    """Refuses a name that stands twice, and names that differ by blanks or what isn't seen."""
     if len(set(names)) < len(names):
         raise BadInput(f"the name {next(name for name in names if names.count(name) > 1)!r} is given twice")
+    for some in alike(names, plain_name):
+        raise BadInput(f"{', '.join(map(ascii, some))} look the same: name each player once, or more clearly")
 
 
 def require_order(values: Any) -> None:

@@ -231,10 +231,10 @@ def bytes_of(told: Any) -> bytes:
     return encoded(line, "the line") if isinstance(line, str) else line
 
 
-def require_table(players: int) -> None:
+def require_table(players: int, asked: str = "") -> None:
     """Refuses so many players, unless a table has them."""
     if not 1 <= players <= MOST_IN_A_TABLE:
-        raise BadInput(f"{players} players: a table has 1 to {MOST_IN_A_TABLE}")
+        raise BadInput(f"{players} players: a table has 1 to {MOST_IN_A_TABLE}{asked}")
 
 
 def require_game(game: Any) -> None:

@@ -7,6 +7,7 @@ answer is divided again.
 """
 from __future__ import annotations
 
+import re
 from fractions import Fraction
 from typing import Any, Callable, Iterable, Iterator, Mapping, Optional, Sequence, Union
 
@@ -25,6 +26,7 @@ Amounts = Union[Mapping[str, Amount], Sequence[Amount]]
 Group = Union[str, int, Iterable[Union[str, int]]]
 Table = Union[Mapping[Any, Amount], Sequence[Amount]]
 Rows = Sequence[Sequence[Amount]]
+ANOTHER_SIGN = re.compile(r"[&/|,;]| and | und | et ")
 MOST_NAME = LIMITS["bytes of a name"]
 MOST_LANDINGS = CLASSES["airport"]["players"][1]
 MOST_VOTES = LIMITS["votes"]
@@ -183,14 +185,14 @@ def require_none_negative(amounts: list[Fraction], names: Optional[Sequence[str]
         raise BadInput(f"{whose}{least} is below 0")
 
 
-def require_rows(rows: Any) -> None:
+def require_rows(rows: Any, way: str = "") -> None:
     """Refuses what is no list of rows; a text is none, and neither is a set or what has names for its rows."""
     require_order(rows)
     if isinstance(rows, (str, bytes)) or not isinstance(rows, Iterable):
         raise BadInput(f"{str(rows)[:40]!r} isn't a list of rows")
     if hasattr(rows, "columns"):
-        raise BadInput("a data frame isn't a list of rows: give the rows that frame.to_numpy().tolist() has")
-    if named_items(rows) is not None:
+        raise BadInput("a data frame isn't a list of rows: give the rows that frame.to_numpy().tolist() has" + way)
+    if hasattr(rows, "keys"):
         raise BadInput("a mapping isn't a list of rows, since their names would be lost: give a list of its values")
 
 
@@ -198,6 +200,7 @@ def rows_of_landings(rows: Iterable[Any]) -> Iterator[tuple[str, Amount, int]]:
     """The rows of a list of landings: a name, what one needs alone, and how many there are."""
     require_rows(rows)
     for row in rows:
+        row = row.tolist() if hasattr(row, "tolist") else row
         if isinstance(row, str) or not isinstance(row, Sequence) or len(row) != 3:
             raise BadInput(f"{str(row)[:40]!r} isn't a row of a name, what a landing needs, and how many landings")
         name = label_of(row[0])
@@ -206,7 +209,7 @@ def rows_of_landings(rows: Iterable[Any]) -> Iterator[tuple[str, Amount, int]]:
 
 def rows_of(matrix: Rows, digits: Optional[int]) -> list[list[Fraction]]:
     """The rows of a matrix, none of them empty, and none of its numbers negative."""
-    require_rows(matrix)
+    require_rows(matrix, ", and names=[*frame.index, *frame.columns], or [*frame.columns][1:] of a network")
     listed_rows = list(matrix)
     if any(named_items(row) is not None for row in listed_rows):
         raise BadInput("a row of the matrix has labels, which would be lost: give a list of its values")
@@ -309,16 +312,16 @@ def listed(
 
 def members_of(group: Any) -> list[Union[str, int]]:
     """The members of a group as it is written; of a set, which has no order, in that of their texts."""
+    some: list[Any]
     if isinstance(group, str):
         some = [member.strip() for member in group.split("+")] if group else []
-        if "" in some:
-            raise BadInput(f"a member of the group {group[:80]!r} has no name")
-        return list(some)
-    if isinstance(group, bytes) or not isinstance(group, Iterable):
-        group = [group]
-    if isinstance(group, (set, frozenset)):
-        group = sorted(group, key=str)
-    return [member if isinstance(member, str) else number_of(member) for member in group]
+    elif isinstance(group, bytes) or not isinstance(group, Iterable):
+        some = [group]
+    else:
+        some = sorted(group, key=str) if isinstance(group, (set, frozenset)) else list(group)
+    if "" in some:
+        raise BadInput(f"a member of the group {str(group)[:80]!r} has no name")
+    return [member if isinstance(member, str) else number_of(member) for member in some]
 
 
 def number_of(member: Any) -> int:
@@ -339,9 +342,12 @@ def by_groups(
     everyone = list(dict.fromkeys(member for group, _ in groups for member in group))
     are_labels = any(str(name).lstrip("-").isdigit() for name in names or ())
     numbered = not are_labels and all(type(member) is int for member in everyone)
-    count = max(everyone, default=0) if numbered and names is None else len(names or everyone)
-    require_table(count)
-    players = [str(i + 1) for i in range(count)] if numbered else list(names or map(str, everyone))
+    labels = list(names or dict.fromkeys(map(str, everyone)))
+    if default is None and len(groups) > 1 and all(len(group) == 1 and str(group[0]).isdigit() for group, _ in groups):
+        raise BadInput("each label is one number, and no group: give a vector, such as .to_numpy(), and its `order`")
+    count = max(everyone, default=0) if numbered and names is None else len(labels)
+    require_table(count, meant(labels) if count > MOST_IN_A_TABLE else "")
+    players = [str(i + 1) for i in range(count)] if numbered else labels
     found: dict[int, Fraction] = {}
     for group, amount in groups:
         mask = mask_of(player_of(member, players) for member in group)
@@ -354,10 +360,26 @@ def by_groups(
     if missing and default is None:
         first = "+".join((names or players)[i] for i in members(missing[0]))
         lone = [name for name in players if sum(name in map(str, group) for group, _ in groups) == 1]
-        asked = f"; is {lone[0]} a player? Only one group has it" if len(lone) == 1 < len(players) else ""
+        asked = f"; is {lone[0]} a player? Only one group has it" if len(lone) == 1 < len(players) else meant(labels)
         raise BadInput(f"the group {first} is missing" + f", and {len(missing) - 1} more" * (len(missing) > 1) + asked)
     vector = [found.get(mask, default or Fraction(0)) for mask in range(1, 2 ** len(players))]
     return names if numbered else players, vector
+
+
+def meant(names: Sequence[str]) -> str:
+    """A question on the first name that may be a group of the others."""
+    for name in names:
+        if parts := parts_of(name, names):
+            return f"; is {name} the group {'+'.join(parts)}? Write + between members"
+    return ""
+
+
+def parts_of(name: str, names: Sequence[str]) -> list[str]:
+    """The players of a group that has another sign than + between its members, or none, as A,B or AB."""
+    for parts in (ANOTHER_SIGN.split(name), name):
+        if len(parts) > 1 and all(part.strip() in names for part in parts):
+            return [part.strip() for part in parts]
+    return []
 
 
 def player_of(member: Any, names: Sequence[str]) -> int:

@@ -26,11 +26,7 @@ class Margin:
     group: Names
     number: Fraction
     bound: Optional[Fraction]
-
-    @property
-    def room(self) -> Optional[Fraction]:
-        """How far the number is from its bound."""
-        return None if self.bound is None else abs(self.number - self.bound)
+    room: Optional[Fraction]
 
 
 class Margins(Sequence[Margin]):
@@ -58,7 +54,7 @@ class Margins(Sequence[Margin]):
         """The margin of a group by its mask."""
         names = tuple(self.game.names[i] for i in members(group))
         number, bound = (Fraction(self.game.sign * of[group], self.unit) for of in (self.numbers, self.bounds))
-        return Margin(names, number, None if group in self.listed else bound)
+        return Margin(names, number, *(None, None) if group in self.listed else (bound, abs(number - bound)))
 
     def counted(self) -> list[Margin]:
         """The groups whose numbers count as they are."""

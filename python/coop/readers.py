@@ -4,11 +4,11 @@ Cells stand between commas, semicolons or tabs; a `layout` says what the file do
 """
 from __future__ import annotations
 
-import re
 from fractions import Fraction
 from typing import Any, Iterator, NamedTuple, Optional, Sequence
 
 from . import filling, games
+from .amounts import KEPT, require_kept
 from .airlines import landings_in
 from .amounts import require_no_sum
 from .classes import CLASSES
@@ -21,7 +21,6 @@ from .sheets import once_each, rows_of_numbers
 from .vectors import groups_in, in_mask_order
 
 MOST_CLAIMS = CLASSES["bankruptcy"]["players"][1]
-ANOTHER_SIGN = re.compile(r"[&/|,;]| and | und | et ")
 SKIP = "; if the first column has names, use Layout(skip=1)"
 
 
@@ -114,8 +113,8 @@ def missing_groups(
 def no_player(rows: Sequence[tuple[Row, list[str], Fraction]], names: Sequence[str]) -> str:
     """Which row, where groups lack, may be of no player: a group with another sign than + in it, the sum, or all."""
     for row, group, _ in rows:
-        parts = [part.strip() for part in ANOTHER_SIGN.split(group[0])]
-        if len(group) == 1 and len(parts) > 1 and all(part in names for part in parts):
+        parts = games.parts_of(group[0], names)
+        if len(group) == 1 and parts:
             return f"; is {group[0]}, in line {row.line}, the group {'+'.join(parts)}? Write + between members"
     *others, (row, group, amount) = rows
     if len(rows) > 2 and len(group) == 1 and amount == sum(other for _, _, other in others):
@@ -154,6 +153,7 @@ def vectors(
         hints = [hint_at(row, rows, found) or SKIP * (i == found.skip == 0) for i in range(len(row.cells))]
         amounts = [amount_of(row, i, digits, hint) for i, hint in enumerate(hints)]
         try:
+            require_kept(amounts, digits, (amount_of(row, i, KEPT) for i, _ in enumerate(amounts)))
             require_told(head, told, len(amounts))
             vector = in_mask_order(amounts, order, told)
             players = len(vector).bit_length()

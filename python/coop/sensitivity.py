@@ -79,11 +79,7 @@ class Range:
     up: Optional[Fraction]
     below: Shares
     above: Shares
-
-    @property
-    def matters(self) -> bool:
-        """Whether a small change of the number changes a share."""
-        return any(self.below.values()) or any(self.above.values())
+    matters: bool
 
 
 def ranges(
@@ -108,7 +104,8 @@ def range_of(run: Run, what: Any) -> Range:
     names = names_of(run.game, place)
     down, below = run.side(-1)
     up, above = run.side(1)
-    return Range((*names[:-1], row_of(names[-1])) if others else names, number, down, up, below, above)
+    names = (*names[:-1], row_of(names[-1])) if others else names
+    return Range(names, number, down, up, below, above, any([*below.values(), *above.values()]))
 
 
 class Run:

@@ -32,7 +32,8 @@ ways = [lambda: coop.table(frame, order="mask"), lambda: coop.airport(frame), la
         lambda: coop.table(pandas.Series([1.0, float("nan")], ["Bray", "Bray+Dart"], name="P017"), digits=2),
         lambda: coop.table(numpy.array([1.0, float("nan"), 3]), digits=2),
         lambda: coop.airport(pandas.Series([1, 2], index=[1.5, float("nan")])),
-        lambda: coop.landings([("a", 1, numpy.int64(0))]),
+        lambda: coop.landings([("a", 1, numpy.int64(0))]), lambda: coop.shapley(estate).to_pandas(places=-1),
+        lambda: coop.table(pandas.Series([1, 2, 3, 4, 5, 6, 7])),
         lambda: sensitivity.along(estate, ("claim", numpy.int64(1)), -1, 1)]
 for way in ways:
     try:
@@ -45,7 +46,10 @@ print(estate_label, path.at(0) == sensitivity.along(estate, ("claim", "17"), -1,
       variants.without(estate, [17]).names, coop.landings([("Aer", 2, three)]).names,
       runways.shapley([("Aer", 2, three)]))
 objects = numpy.array(["1/2", 3, None], dtype=object)
-print(coop.airport(objects[:2]).amounts, coop.airport(numpy.float32([0.5, 2]), digits=1).amounts)
+print(coop.airport(objects[:2]).amounts, coop.airport(numpy.float32([0.5, 2]), digits=three).amounts,
+      coop.landings(pandas.DataFrame([["A", 2, 1]]).to_numpy()).names, coop.assignment(numpy.array([[1, 2]])).n)
+found = sensitivity.ranges(coop.airport([1, 2]))
+print(list(pandas.DataFrame(found).columns), list(pandas.DataFrame(sensitivity.margins(coop.nucleolus(game)))["room"]))
 """
 SAID = """InCore() InCore()
 True
@@ -53,7 +57,8 @@ a DataFrame of 2 x 3 isn't a list of numbers: one row is one game
 a DataFrame of 2 x 3 isn't a list of numbers: one row is one game
 a DataFrame of 2 x 3 isn't a list of numbers: one row is one game
 a ndarray of 2 x 3 isn't a list of numbers: one row is one game
-a data frame isn't a list of rows: give the rows that frame.to_numpy().tolist() has
+a data frame isn't a list of rows: give the rows that frame.to_numpy().tolist() has, and \
+names=[*frame.index, *frame.columns], or [*frame.columns][1:] of a network
 a data frame isn't a list of rows: give the rows that frame.to_numpy().tolist() has
 `order` is for a vector, not for a mapping; the labels of a Series name the groups: give its .to_numpy()
 b: nan isn't a number
@@ -61,9 +66,12 @@ P017, Bray+Dart: nan isn't a number
 number 2: nan isn't a number
 a label is missing (nan): each number needs a name
 a: 0 isn't a number of landings: give a whole number, 1 or more
+-1 isn't a number of digits from 0 to 40
+each label is one number, and no group: give a vector, such as .to_numpy(), and its `order`
 1 isn't a player: there are 17, 3; give a name, not a place
 17 True ['3'] ['Aer 1', 'Aer 2', 'Aer 3'] {'Aer': Fraction(2, 1)}
-[Fraction(1, 2), Fraction(3, 1)] [Fraction(1, 2), Fraction(2, 1)]
+[Fraction(1, 2), Fraction(3, 1)] [Fraction(1, 2), Fraction(2, 1)] ['A 1'] 3
+['what', 'number', 'down', 'up', 'below', 'above', 'matters'] [None, Fraction(1, 1), None, Fraction(1, 1), None, None]
 """
 
 

@@ -2,12 +2,24 @@
 import unittest
 from decimal import Decimal
 from fractions import Fraction
+from itertools import combinations
 from typing import Any, Callable
 
 import coop
 from coop import BadInput, Game
 
 HALF = Fraction(1, 2)
+
+
+class Framed(list[Any]):
+    """What looks like a data frame."""
+
+    columns = ["A"]
+
+
+def all_of(letters: str) -> list[str]:
+    """All groups, their members without a sign between."""
+    return ["".join(some) for size in range(len(letters)) for some in combinations(letters, size + 1)]
 
 
 class Constructors(unittest.TestCase):
@@ -26,6 +38,10 @@ class Constructors(unittest.TestCase):
         self.expect(coop.table({("Ann",): 1, ("Bob",): 2, frozenset(["Bob", "Ann"]): 4}), named)
         self.expect(coop.table([1, 2, 4], ["Ann", "Bob"]), named)
         self.expect(coop.table({1: 1, 2: 2, (1, 2): 4}, ["Ann", "Bob"]), named)
+        labels = {"class": "table", "names": ["17", "9"], "players": 2, "worths": [1, 2, 4]}
+        self.expect(coop.table({17: 1, 9: 2, "17+9": 4}), labels)
+        self.expect(coop.table([0.0, 1e-17, 1], digits=4), {"class": "table", "players": 2, "worths": [0, 0, 1]})
+        self.expect(coop.table([0.0, 1e-17, 0.0], digits=4), {"class": "table", "players": 2, "worths": [0, 0, 0]})
 
     def test_a_rule(self) -> None:
         people = {"A": 5, "B": 3, "C": 2}
@@ -81,6 +97,16 @@ class Constructors(unittest.TestCase):
             ("and 7 more; is x a player. Only one group", lambda: coop.table(
                 {"a": 1, "b": 1, "c": 1, "a+b": 2, "a+c": 2, "b+x": 2, "a+b+c": 3}
             )),
+            ("; is A,B the group A.B. Write", lambda: coop.table(dict.fromkeys(["A", "B", "C", "A,B", "B,C"], 1))),
+            ("31 players.*; is AB the group A.B", lambda: coop.table(dict.fromkeys(all_of("ABCDE"), 1))),
+            ("a member of .*'A', ''.* has no name", lambda: coop.table({("A", "", ""): 1, ("A", "B", ""): 2})),
+            ("no group: give a vector, such as .to_numpy", lambda: coop.table(dict.fromkeys(range(7), 1))),
+            ("no group: give a vector", lambda: coop.table(dict.fromkeys(range(1, 8), 1))),
+            ("'A', 'A ' look the same", lambda: coop.airport({"A": 2, "A ": 4})),
+            ("look the same", lambda: coop.airport([2, 4], ["A", "A\u200b"])),
+            ("becomes 0 when it is rounded to 4 digits", lambda: coop.table([1e-6, 2e-6, 4e-6], digits=4)),
+            ("becomes 0 when it is rounded to 4 digits", lambda: coop.airport({"A": 1e-6}, digits=4)),
+            ("isn't a list of rows: .* names=..frame.index,", lambda: coop.assignment(Framed())),
             ("twice", lambda: coop.table({("Ann", "Bob"): 1, ("Bob", "Ann"): 2}, default=0)),
             ("twice", lambda: coop.table({("Ann", "Ann"): 1}, default=0)),
             ("empty group", lambda: coop.table({(): 1, "Ann": 1})),
@@ -159,6 +185,15 @@ class Constructors(unittest.TestCase):
         self.expect(coop.airport([seven, 8]), {"class": "airport", "costs": [7, 8]})
         self.assertEqual(coop.table({(1,): 0, (2,): seven, (1, 2): 9}).worth(2), 7)
         self.assertEqual(coop.table({seven: 1}, default=0).n, 7)
+        fine = {"class": "airport", "costs": [10**7 // 8, 10**7]}
+        self.expect(coop.airport([0.125, 1], digits=seven), fine, 10**7)
+
+        class Row:
+            def tolist(self) -> list[Any]:
+                """As an array of NumPy, or a Series, has it."""
+                return ["A", 2, 1]
+
+        self.assertEqual(coop.landings([Row()]).names, ["A 1"])  # type: ignore[list-item]
 
 
 if __name__ == "__main__":

@@ -222,6 +222,7 @@ class Readers(unittest.TestCase):
             ("the headings don't name the groups", lambda: list(vectors("A,B,C,A+B,A+B+C\n0,0,0,3,9\n", "size"))),
             ("a StringIO isn't the text of a file", lambda: list(vectors(StringIO("1,2,4")))),  # type: ignore[arg-type]
             ("a bytes isn't the text of a file: give", lambda: groups(b"a,1\n")),  # type: ignore[arg-type]
+            ("line 1: each number becomes 0 when", lambda: list(vectors("1e-6,2e-6,4e-6\n", "mask", digits=4))),
             ("'games.csv' is the name of a file", lambda: list(vectors("games.csv", "mask"))),
             ("no line", lambda: list(vectors("\n", "mask"))),
             (f"is the name of a file: give its text, such as open.*{name}", lambda: list(vectors(__file__, "mask"))),
