@@ -18,10 +18,11 @@ UNSEEN = frozenset(  # 0x2800 is a blank of Braille
 ISOLATE, END_OF_ISOLATE = "\u2068", "\u2069"
 
 
-# How a row is called that has the sum of others, as page/src/game/names.js has it.
+# How a row is called that has the sum of others, as page/src/game/names.js and page/src/cases/sum-row.js have it.
 SUMS = re.compile(
-    r"all|(all )?together|sum|((grand|sub)[ -]?)?totals?( (costs?|amount|claims?|debts?|votes?))?|suma|totaa?l|totalt|"
-    r"summa|(zwischen)?summe|gesamt(summe|kosten|betrag)?|insgesamt|zusammen|somme|totale|(sous-)?total( général)?",
+    r"[Σ∑]|all(e|( together))?|together|ensemble|sum|"
+    r"((grand|sub)[ -]?)?totals?( (costs?|amount|claims?|debts?|votes?))?|suma|totaa?l|totalt|summa|"
+    r"(zwischen)?summe|gesamt(summe|kosten|betrag)?|insgesamt|zusammen|somme|totale|(sous-)?total( général)?",
     re.IGNORECASE,
 )
 # Letters of other alphabets, each in front of the Latin one that it is taken for, as page/src/game/names.js has them;
