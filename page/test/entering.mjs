@@ -124,6 +124,10 @@ marks.push(["numbers beside a file are read by its own mark", "estate", async (p
   await workOut(page, "120.000 240.000");
   await told(page, ".found thead", /120\u202f000,00\s+240\u202f000,00/);
   expect("no cell is another", await value(page, "rows.1.claim"), "300000");
+  await openText(page, `{"coop-page":1,"document":${estateOf(290000)},"entry":",","mark":",","thousands":"."}`);
+  await told(page, ".lead", /together 290\.000,00/);
+  await page.run("location.hash = '#costs'");
+  await told(page, ".lead", /together 12\.00/); // as in its own cells, whatever the case before shows
 }]);
 
 const ROWS = ["5 3 2 10 9 6 16", "5,3,2,10,9,6,16", "5, 3, 2, 10, 9, 6, 16", "5\t3\t2\t10\t9\t6\t16", "5;3;2;10;9;6;16",

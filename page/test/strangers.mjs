@@ -65,6 +65,18 @@ const proposals = [
     await paste(page, "proposal.0", "4.200\n4.100\n3.700");
     await told(page, "#answer", /Read with the comma before decimals: so they add to the whole\./);
     await told(page, "#answer .shares tfoot", /12.?000\.00(?!.*missing)/);
+    for (const wide of [1280, 390]) {
+      await page.look({ wide, high: 700 });
+      await page.run("scrollTo(0, 0)");
+      await paste(page, "proposal.0", "Sale 4100\nOps 4100\nLegal 3800");
+      await told(page, "#answer .own-said", /“Sale” for Sales/);
+      for (const where of [".own-said", '[data-cell="proposal.0"]']) {
+        expect(`${where} is in the window of ${wide}`, await page.run(`(() => {
+          const { top, bottom, left, right } = document.querySelector('#answer ${where}').getBoundingClientRect();
+          return top >= 0 && bottom <= innerHeight && left >= 0 && right <= innerWidth + 1;
+        })()`), true);
+      }
+    }
   }],
 ];
 

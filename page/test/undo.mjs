@@ -127,9 +127,40 @@ const mixed = (seed, count, blocks) => async (page, expect) => {
   expect(`done again: ${told}`, difference(states, await visited(page, "Redo")), "");
 };
 
+const lastStep = (page) => page.run(`document.querySelector("#case .bottom").textContent.match(/Undo “(.*?)”/)?.[1]`);
+
+/** A question that was answered and the user's own amounts stay, if what was typed after them is undone. */
+async function oneByOne(page, expect) {
+  await page.paste('[data-cell="rows.0.name"]', "OG\t103.000 €\nEG\t38.000 €");
+  await page.type("estate", "50.000 €");
+  await quiet(page);
+  await page.click(", whole");
+  await quiet(page);
+  await page.click("equal parts");
+  await quiet(page);
+  await page.click("Keep this answer to compare");
+  await page.type("rows.0.claim", "118.500 €");
+  await quiet(page);
+  const valueOf = (cell) => page.run(`document.querySelector('[data-cell="${cell}"]').value`);
+  const steps = [/^Typing$/, /^Keep this answer$/, /^Fill it with equal parts$/, /, whole$/, /^Typing$/, /^Paste$/];
+  for (const [k, step] of steps.entries()) {
+    expect("the last step", await lastStep(page), step);
+    await page.click("Undo “");
+    await quiet(page);
+    if (k) continue;
+    expect("the cell", await valueOf("rows.0.claim"), "103.000 €");
+    expect("own amounts", await valueOf("proposal.0"), "25000");
+    expect("no question", /Which is it/.test(await page.text("#case .faults")), false);
+  }
+  expect("all is undone", await valueOf("rows.0.name"), "Adler");
+}
+
 /** Of so many seeds, for each of three cases. */
 export function undone(seeds, count = 6) {
-  return seeds.flatMap((seed) => [["estate", LISTS], ["costs", TABLES], ["runway", LISTS]].map(([id, blocks]) => {
+  return [["undo: one step after the other", "estate", async (page, expect) => {
+    await page.run(WATCH);
+    await oneByOne(page, expect);
+  }], ...seeds.flatMap((seed) => [["estate", LISTS], ["costs", TABLES], ["runway", LISTS]].map(([id, blocks]) => {
     return [`undo: steps at random, ${id}, seed ${seed}`, id, mixed(seed, count, blocks)];
-  }));
+  }))];
 }

@@ -40,9 +40,12 @@ const calledLike = (one) => (other) => {
   return name(one) === name(other) && !other.disabled;
 };
 
-/** Puts new children into an element; the cell or button that had the focus has it again, and what was unfolded stays
- * so. */
+const scrolling = (element) => [...element.querySelectorAll(".scroll")];
+
+/** Puts new children into an element; the cell or button that had the focus has it again, what was unfolded stays so,
+ * and tables stay where they were scrolled to. */
 export function refill(element, ...children) {
+  const lefts = scrolling(element).map(({ scrollLeft }) => scrollLeft);
   const isOpen = new Set(summaries(element).filter((one) => one.parentElement.open).map((one) => one.textContent));
   const focused = element.contains(document.activeElement) ? document.activeElement : null;
   const cell = focused?.dataset.cell;
@@ -50,6 +53,7 @@ export function refill(element, ...children) {
   const range = hasRange ? [focused.selectionStart, focused.selectionEnd] : null;
   element.replaceChildren(...children.flat(Infinity).filter(isShown).map(madeIn(element)));
   for (const one of isOpen.size ? summaries(element) : []) one.parentElement.open ||= isOpen.has(one.textContent);
+  if (lefts.some(Boolean)) scrolling(element).forEach((one, k) => { one.scrollLeft = lefts[k] ?? 0; });
   const again = cell !== undefined ? cellOf(element, cell)
     : focused?.tagName === "BUTTON" ? [...element.querySelectorAll("button")].find(calledLike(focused)) : null;
   again?.focus({ preventScroll: true });

@@ -66,7 +66,8 @@ function openCase(kind, typed, { past = new Steps(), notes = [], doubt = "", pap
     ...asked(kind), steps, notes: doubt ? [doubt, ...notes] : notes,
     onChange: (wait, { isTyped, removed }) => {
       isUnsaved = session.isTyped = true;
-      if (!isTyped) session.moveRows(removed);
+      if (isTyped) session.ownSaid = "";
+      else session.moveRows(removed);
       session.changed(wait);
     },
     onWide: (isWide) => at("desk").classList.toggle("wide", isWide),
