@@ -236,6 +236,16 @@ class Scripts(unittest.TestCase):
             self.assertEqual(text, f"status;document;command;player 1;reason\n0;{path};core;1,00;\n")
             wide = script("many", "core", "--wide", "--places", "2", "--decimal", "comma", path)[1]
             self.assertEqual(wide.splitlines()[1], f"{path};0;1,00;")
+        pairs = (("a", "b"), ("b", "a"))
+        one, other = ('{"game":{"class":"airport","costs":[1,3],"names":["%s","%s"]}}\n' % pair for pair in pairs)
+        for text, option, head, said in (
+            (one + one, "--csv", "status,document,command,a,b,reason", ""),
+            (one + one, "--wide", "document,shapley status,shapley a,shapley b,reason", ""),
+            (one + other, "--csv", "status,document,command,player 1,player 2,reason", "another order: columns count"),
+        ):
+            status, found, errors = script("many", "shapley", option, text=text)
+            self.assertEqual((status, found.split("\n")[0]), (0, head))
+            self.assertIn(said, errors)
         for word in (["--sep", "comma"], ["--decimal", "comma"], ["--sep", "tab", "--bom"]):
             self.refused(script("many", "core", *word, PROPOSAL), "--csv")
 
@@ -570,13 +580,14 @@ class Scripts(unittest.TestCase):
         self.assertEqual(
             text.splitlines(),
             [
-                "status,document,command,player 1,player 2,player 3,reason",
+                "status,document,command,light,medium,heavy,reason",
                 f"0,{PROPOSAL},convex (Shapley shares),2/3,5/3,11/3,",
                 f"0,{PROPOSAL},convex (marginal shares),2,2,2,",
                 f"0,{PROPOSAL},nucleolus,1,3/2,7/2,",
             ],
         )
-        named = [f"convex {name} shares {i}" for name in ("Shapley", "marginal") for i in (1, 2, 3)]
+        players = ("light", "medium", "heavy")
+        named = [f"convex {name} shares {i}" for name in ("Shapley", "marginal") for i in players]
         self.assertEqual(
             script("many", "convex", "--wide", PROPOSAL, other)[1].splitlines(),
             [
