@@ -14,7 +14,7 @@ from typing import Collection, NamedTuple, Optional, Sequence
 
 from .errors import BadInput
 from .sheets import AS_SEEN, LEFT_OUT, Layout, Row, Sheet, amount_of, are_counted, cells_at, hint_at, marked
-from .sheets import note_on_points, once_each, require_width, sheet_of, unparted
+from .sheets import note_on_points, once_each, require_layout, require_width, sheet_of, unparted
 
 AIRLINE, TYPE, COUNT, NEED = "airline", "type", "landings", "need"
 THREE, FOUR = (AIRLINE, NEED, COUNT), (AIRLINE, TYPE, COUNT, NEED)
@@ -70,6 +70,7 @@ def landings_in(text: str, *, digits: Optional[int] = None, layout: Layout = AS_
 
 
 def found_in(text: str, layout: Layout) -> Found:
+    require_layout(layout)
     widths: Collection[int] = range(3, MOST_COLUMNS + 1) if layout.has_head else (3, 4)
     sheet = sheet_of(text, widths, layout)
     if not sheet.has_width(widths) and sheet_of(text, range(3, MOST_COLUMNS + 1), layout).is_named:

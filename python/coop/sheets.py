@@ -13,7 +13,7 @@ import re
 import unicodedata
 from dataclasses import dataclass, replace
 from fractions import Fraction
-from typing import Collection, Hashable, Iterable, Iterator, NamedTuple, Optional, Sequence, TypeVar
+from typing import Any, Collection, Hashable, Iterable, Iterator, NamedTuple, Optional, Sequence, TypeVar
 
 from .amounts import fraction_of, is_truth, whole_of
 from .errors import BadInput
@@ -100,8 +100,14 @@ def told_sign(text: str) -> tuple[str, Optional[str]]:
     return ("\n" + text[match.end() :], match[1]) if match else (text, None)
 
 
+def require_layout(layout: Any) -> None:
+    if not isinstance(layout, Layout):
+        raise BadInput(f"{layout!r} isn't a layout: make one by coop.sheets.Layout(..)")
+
+
 def signs_in(text: str, layout: Layout, may_be_blank: bool) -> tuple[str, list[str]]:
     """The text, and the signs that may stand between its cells, the likeliest first."""
+    require_layout(layout)
     if isinstance(text, os.PathLike) or isinstance(text, str) and (FILE.fullmatch(text) or os.path.isfile(text)):
         raise BadInput(f"{str(text)!r} is the name of a file: give its text, such as open({str(text)!r}).read()")
     if not isinstance(text, str):

@@ -107,6 +107,8 @@ REFUSED: list[tuple[Callable[..., Any], tuple[Any, ...], str]] = [
     (readers.claims, (b"a,1\n", 2), "isn't the text of a file"),
     (readers.claims, ("a,1\nb,2\nTotal,3\n", 2), "Total has the sum of all others: .* give it another name"),
     (readers.landings, ("a,1,2\nb,2,3\nTotal,3,5\n",), "leave that row out"),
+    (lambda: readers.claims("a,1\n", 1, layout={"skip": 1}), (), "isn't a layout: make one"),  # type: ignore[arg-type]
+    (lambda: readers.landings("a,1,2\n", layout=None), (), "isn't a layout: make one"),  # type: ignore[arg-type]
     (sheets.Layout, (";",), "';' isn't a word for a sign: name one of tab, semicolon"),
     (sheets.Layout, (None, ","), "name one of point, comma"),
     (sheets.Layout, (None, None, "no"), "`has_head` is True or False"),
