@@ -78,14 +78,35 @@ const TEXTS = [
   ["costs", "A 8\nB 7\nbeide zusammen 12", "A|B|8|7|12", /“beide zusammen” is a group/],
   ["costs", "A 8\nB 7\nC 6\nD 5\nE 4", null, /these are 5 players .* 26 of 31 groups have no number/],
   ["costs", "A 8\nB 7\nC 6\nD 5\nE 4", /^A\|B\|C\|D\|E\|8\|7/, /5 players, 5 groups/, "Yes, take it"],
-  ["gains", "Einkauf\tA\tB\tErsparnis\n1\tx\t\t0\n2\t\tx\t0\n3\tx\tx\t9", "A|B|0|0|9", /“Einkauf”, before .* left out/],
+  ["gains", "Einkauf\tA\tB\tErsparnis\n1\tx\t\t0\n2\t\tx\t0\n3\tx\tx\t9", "A|B|0|0|9", /“Einkauf”, before .* out/],
   ["costs", "Offers\n;A;B;Cost\nV 1;1;0;8,5\nV 2;0;1;7\nV 3;1;1;9", "A|B|8,5|7|9", /“V 1 …”, before/],
-  ["costs", "A alone 5, B alone 4\nA and B 7; A 3\nall 9", null, /Line 1: .*here are more\. Give each group a line/],
+  ["costs", "A alone 5, B alone 4\nA and B 7; A 3\nall 9", null, /Line 1: .*here are more\. Give each/],
   ["costs", "Dredging the harbour, in kEUR\nA 8\nB 7\nA+B 9", "A|B|8|7|9", /“Dredging the harbour, in kEUR”/],
   // amounts that are words
   ["estate", "Flat A: £380\nFlat B: £465\nShop: nil", "Flat A=£380|Flat B=£465|Shop=0", /Taken as 0: “nil”/],
   ["estate", "Ann\t12\nBo\tnéant\nCy\t5", "Ann=12|Bo=0|Cy=5", /Taken as 0: “néant”/],
   ["costs", "A – 8 €\nB – nichts\nA+B – 9 €", "A|B|8 €|0|9 €", /Taken as 0: “nichts”/],
+  // what there is to divide
+  ["estate", "Ann\t20\nBo\t30\nAvailable in estate\t40", "Ann=20|Bo=30", /“Available in estate”, 40, was taken as the/],
+  ["estate", "Ann 20\nBo 30\nFunds available for distribution: £40", "Ann=20|Bo=30", /, £40, was taken as the estate/],
+  ["estate", "Ann\t20\nBo\t30\nVerfügbar\t40", "Ann=20|Bo=30", /“Verfügbar”, 40, was taken as the estate/],
+  ["estate", "Actif disponible\t40\nAnn\t20\nBo\t30", "Ann=20|Bo=30", /“Actif disponible”, 40, was taken/],
+  ["estate", "Ann\t20\nBo\t30\nCash at bank, net\t40", /Cash at bank/, /Is “Cash at bank, net”, 40, what/],
+  ["estate", "Ann\t20\nBo\t30\nCash at bank, net\t40", "Ann=20|Bo=30", /0 empty/, "Yes, it is the estate"],
+  ["estate", "Hi,\nthe estate comes to 84,000 after costs.\n\nAnn\t20\nBo\t30", "Ann=20|Bo=30",
+    /as it is no row: “the estate .*Is 84,000 what there is to divide\? Yes, 84,000/],
+  ["estate", "Who\tClaim filed\tAdmitted\nAnn\t20\t20\nBo\t30\t25\nCy\t9\tno", null, /Which column is “Claim”/],
+  ["estate", "Creditor\tClaim filed\tAdmitted\nAnn\t20\t20\nBo\t30\t25\nCy\t9\trejected", /Cy=rejected/,
+    /no number: “rejected”\. Write a number: 0, if there is none/, "“Admitted”"],
+  // votes with a second quota, or in a sentence
+  ["votes", "Commune\tVoix\tHabitants\nA\t7\t4 310\nB\t5\t2 875\n\nMajorité : 10 voix et 5 000", "A=7|B=5",
+    /no row: “Majorité .*“Majorité .* names a quota.*Use “Habitants” as second votes/],
+  ["votes", "Commune\tVoix\tHabitants\nA\t7\t4 310\nB\t5\t2 875", /A=7\|B=5/, /“Habitants” is “Second votes”/,
+    "Use “Habitants” as second votes"],
+  ["votes", "8.2 The consent of at least 75% of the Shares.\nVance 41, Ruiz 26.5, Dee 15, Ott 7.5 and Trust 10",
+    "Vance=41|Ruiz=26.5|Dee=15|Ott=7.5|Trust=10", /parted between them.*names a quota: type it above/],
+  ["votes", "Ann 41,5, Bo 26,5 und Cy 32", "Ann=41,5|Bo=26,5|Cy=32", /parted between them/],
+  ["votes", "Who\tShares\t%\nAnn\t4,100\t41.00%\nBo\t750\t7.50%", /4,100/, /^((?!Which is it).)*$/],
   // persons who are numbers
   ["estate", "Flat 12\t120\nHouse 4a\t70", "Flat 12=120|House 4a=70"],
   ["estate", "4a\t70\n4b\t80\n12\t60", "4a=70|4b=80|12=60"],
@@ -143,6 +164,7 @@ const TEXTS = [
 /** Texts that are pasted into a proposal for Sales, Ops and Legal, and the amounts, or what is said of them. */
 const DEBTS = ["HM Revenue & Customs VAT 2023", "Barclay Energy Ltd", "Ms Okafor"];
 const PROPOSED = [
+  ["Own proposal of the mayor: Ops 8,300, Sales 9,000 and Legal 7,250", "9,000,8,300,7,250"],
   ["Sales – 4 €\nOps – 5 €\nLegal – 3 €", "4 €,5 €,3 €"], ["> - Sales: 4\n> - Ops: 5\n> - Legal: 3", "4,5,3"],
   ["Sales: 4 EUR/year\nOps: 5 EUR/year\nLegal: 3 EUR/year", "4 EUR,5 EUR,3 EUR"],
   ["| Sales | 4 |\n|---|---|\n| Ops | 5 |\n| Legal | 3 |", "4,5,3"], ['"Sales";4\n"Ops";5\n"Legal";3', "4,5,3"],

@@ -6,6 +6,7 @@ import { headingsOf } from "./pasting.js";
 
 const MOST_TOLD = 4;
 const MOST_LETTERS = 60;
+const YEAR = /(?<!\d)(?:19|20)\d\d(?!\d)/g;
 const NOTE = /^([(*†]|sources?\b|notes?\b|remarks?\b|quellen?\b|hinweis|anmerkung|stand\b)/iu;
 
 const filledOf = (row) => row.filter(Boolean);
@@ -46,9 +47,14 @@ function apart(lines, [, ...others], isBeside) {
 
 /** What is told of these. */
 export function leftText(left) {
-  const shown = left.slice(0, MOST_TOLD).map((words) => {
+  const shown = (words) => {
     return `“${withEscapes(words.slice(0, MOST_LETTERS))}${words.length > MOST_LETTERS ? " …" : ""}”`;
-  });
-  const more = left.length > MOST_TOLD ? " …" : "";
-  return left.length ? `Left out, as no number stands beside: ${shown.join(", ")}${more}.` : "";
+  };
+  const textOf = (why, all) => all.length > 0 && `Left out, as ${why}: ${all.slice(0, MOST_TOLD).map(shown).join(", ")}`
+    + `${all.length > MOST_TOLD ? " …" : ""}.`;
+  const hasNumber = (text) => /\d/.test(text.replace(YEAR, "")), isOne = left.filter(hasNumber).length < 2;
+  return [
+    textOf("no number stands beside", left.filter((text) => !hasNumber(text))),
+    textOf(isOne ? "it is no row" : "these are no rows", left.filter(hasNumber)),
+  ].filter(Boolean).join(" ");
 }

@@ -8,6 +8,7 @@ import { Reading } from "./reading.js";
 import { bytesOf } from "../game/words.js";
 import { askOfSum, isEmpty } from "./sum-row.js";
 import { askOfTwice } from "./twice.js";
+import { askOfWhole, ESTATE, wholeIn } from "./whole-words.js";
 
 // words in the headings of columns, in English, German and French
 const MONEY = "\\b(?:eur|usd|gbp|chf)\\b|\\p{Sc}";
@@ -15,10 +16,9 @@ const COST = new RegExp("cost|need|price|fee|charge|amount|kosten|preis|betrag|g
   + MONEY, "iu");
 const heads = (words) => new RegExp(`^(?!.*(${COST.source})).*(${words})`, "iu"); // and no word of a cost
 const CREDITOR = /creditor|claimant|lender|party|name|gläubiger|schuldeis|créancier|acreedor/iu;
-const CLAIM = new RegExp("claim(?!ant)|amount|owed|debt|due\\b|forderung|betrag|schuld(?!n|eis)|créance|montant|"
+const CLAIM = new RegExp("claim(?!ant)|admitted|allowed\\b|filed|lodged|angemeldet|festgestellt|anerkannt|admise?|"
+  + "amount|owed|debt|due\\b|forderung|betrag|schuld(?!n|eis)|créance|montant|"
   + MONEY, "iu");
-const ESTATE = new RegExp("^(the |die )?((net |total |available )?(estate|assets)|available|(insolvenz|teilungs)?masse"
-  + "|actif|to (distribute|divide))( value| net(to)?)?( \\(.*\\))?[:.]?$", "iu");
 const MOST_LANDINGS = mostOf("airport"), MOST_CLAIMS = mostOf("bankruptcy"), MOST_NAME = LIMITS["bytes of a name"];
 
 export const runway = {
@@ -129,7 +129,7 @@ export const estate = {
   unit: "claim",
   grid: "list",
   mapNumbers: numbersMapped,
-  single: { key: "estate", title: "The estate", help: "what there is to divide", heads: ESTATE },
+  single: { key: "estate", title: "The estate", help: "what there is to divide", heads: ESTATE, lineOf: wholeIn },
   columns: [
     { key: "name", title: "Who claims", wide: true, placeholder: "Claimant", heads: CREDITOR },
     { key: "claim", title: "Claim", number: true, heads: CLAIM },
@@ -150,6 +150,7 @@ export const estate = {
     const { reading, rows, names, named, values, cells } = readList(state, mark, "claim", "The claim", "Claimant");
     if (!askOfSum(reading, state, ["claim"])) reading.notes.push(...sumRow(names, values));
     askOfTwice(reading, state, ["claim"]);
+    askOfWhole(reading, state);
     faultOfGroups(reading, state);
     const whole = reading.number("estate", state.estate, "The estate");
     reading.close();

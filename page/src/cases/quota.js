@@ -8,26 +8,40 @@ const NAME = "(?:the |die )?(?:(?:simple|absolute|qualified|two-thirds|2/3|einfa
   + "quota|quorum|threshold|majority|mehrheit|majorité|benötigt|erforderlich|(?:votes |seats )?(?:needed|required))"
   + "(?: needed| required| absolue)?(?: (?:for|to) [^:]*)?(?: \\(.*\\))?";
 const NAMED = new RegExp(`^${NAME}\\s*[:=]\\s*`, "iu");
-const WHOM = "votes|seats|shares|capital|members|stimmen|sitze|anteile|aktien|mitglieder|voix|sièges|stemmen|zetels";
+const WHOM = "votes|seats|shares|capital|members|shareholders|inhabitants|habitants|einwohner|communes|stimmen|sitze"
+  + "|anteile|aktien|mitglieder|voix|sièges|stemmen|zetels";
 const BEHIND = new RegExp("\\s*(?:of (?:all|the)|(?:of (?:all |the )*|aller |der |des |van (?:de |alle )?)?"
   + `(?:${WHOM})(?: present| cast)?)$`, "iu");
 const MAJORITY = /^((the|a|die|la) )?((simple|absolute|einfache) )?(majority|mehrheit|majorité( simple| absolue)?)$/;
 const UNANIMOUS = /^(all|everybody|unanim(ity|ous)|alle|einstimmig|unanimité)$/;
 const SIGNS = { "½": "1/2", "⅓": "1/3", "⅔": "2/3", "¼": "1/4", "¾": "3/4", "⅗": "3/5", "⅘": "4/5" };
-const COUNTS = { one: 1, two: 2, three: 3, four: 4, ein: 1, zwei: 2, drei: 3, un: 1, deux: 2, trois: 3, a: 1 };
+const COUNTS = {
+  one: 1, two: 2, three: 3, four: 4, five: 5, six: 6, seven: 7, eight: 8, ein: 1, zwei: 2, drei: 3, un: 1, deux: 2,
+  trois: 3, a: 1,
+};
 const PARTS = [/^(half|hälfte|moitié|helft)$/, /^(thirds?|drittel|tiers)$/, /^(quarters?|viertel|quarts?)$/,
   /^(fifths?|fünftel)$/];
 const PER_CENT = /^(.*?)\s*(?:%|per ?cent|prozent|pour cent)$/;
+const SOME_OF = /^(\S+) (?:out of|of|von|sur|di|van)(?: the| den| les)? (\S+)$/; // "3 of 5"
 const FRACTIONS = [3, 6, 7].flatMap((den) => Array.from({ length: den - 1 }, (_, k) => [k + 1, den]));
 
 /** What names the quota above a list of votes. */
 export const QUOTA = new RegExp(`^${NAME}[:.]?$`, "iu");
 
+const IN_A_LINE = /majorit|quota|quorum|mehrheit|consent|threshold|at least|mindestens|au moins|zustimm|required/iu;
+
+/** The first of some texts that names a quota, and has a number. */
+export function quotaLine(texts) {
+  const text = texts.find((one) => IN_A_LINE.test(one) && /\d/.test(one));
+  return text && { text };
+}
+
 /** A quota without its name, and without whose votes it is a part of. */
 export const bareQuota = (typed = "") => typed.trim().replace(/\s+/g, " ").replace(NAMED, "").replace(BEHIND, "");
 
 /** Whether a text says a quota. */
-export const isQuota = (text) => !readNumber(text).fault || partIn(text, ".", []) !== null;
+export const isQuota = (text) => !readNumber(text).fault || partIn(text, ".", []) !== null
+  || SOME_OF.test(bareQuota(text).toLowerCase().replace(LEAST, ""));
 
 /** What part of all votes a text says: {part, isMore}; null for another text, such as a number of votes. */
 function partIn(typed, mark, votes) {
@@ -35,6 +49,9 @@ function partIn(typed, mark, votes) {
   const isOneMore = /\S ?(\+ ?1|plus one|plus eins|plus un)$/.test(text), isMore = MORE.test(text) || isOneMore;
   const bare = text.replace(MORE, "").replace(LEAST, "").replace(/ ?(\+ ?1|plus one|plus eins|plus un)$/, "");
   if (MAJORITY.test(bare)) return { part: Rational.of("1/2"), isMore: true };
+  const [, some, many] = SOME_OF.exec(bare) ?? [], whole = Rational.sum(votes);
+  const [count, of] = [some, many].map((word) => Rational.of(String(COUNTS[word] ?? (/^\d+$/.test(word) ? word : 0))));
+  if (!count.isZero() && whole.equals(of)) return { part: count.over(of), isMore };
   if (UNANIMOUS.test(bare)) return { part: Rational.of(1), isMore: false };
   const short = bare.replace(/[ -]*(majority|mehrheit)$/, ""), part = ofWords(short) ?? ofNumbers(short, mark, votes);
   return part && { part, isMore };

@@ -20,7 +20,8 @@ function hintOf(text) {
   if (/^[-–—] ?\p{Sc}?$|^(nil|zero|none|null|keine?)$/iu.test(text)) return " Write 0, or remove it.";
   if (UNKNOWN.test(text)) return " Write the number, or clear the cell.";
   if (/^[\d.,]+ ?%$/.test(text)) return " Write the amount, or a product such as 1/4 * 1000.";
-  return /\d/.test(text) ? " Write the number alone, without words and signs." : "";
+  return /\d/.test(text) ? " Write the number alone, without words and signs."
+    : " Write a number: 0, if there is none.";
 }
 
 /** All cells are read by one mark: where some show which, that one settles those that can be read both ways, unless the
@@ -33,7 +34,7 @@ export function byOneMark(read, mark) {
 
 export class Reading {
   /** `opened` are the names of a document in whose cells nothing was typed yet; `isUnnamed` says that it has none. */
-  constructor(mark, { opened = [], isUnnamed = false } = {}) {
+  constructor(mark, { opened = [], isUnnamed = false, beside } = {}) {
     Object.assign(this, { mark, opened: new Set(opened), isUnnamed });
     this.faults = []; // {cell, sentence}
     this.count = 0; // of faults
@@ -41,6 +42,7 @@ export class Reading {
     this.doubts = new Map(); // of numbers that the decimal mark decides, by how they were read: the first, and how many
     this.thousands = new Set(); // signs between thousands
     this.shown = new Map(); // marks that stand in front of decimals beyond doubt, each with a text that shows it
+    if (beside) this.shown.set(beside.mark, beside.text); // of a column that was pasted with these
     this.money = undefined; // which the first number names that names one
     this.asked = null; // a row that may be the sum of the others: {r, name}
     this.mixed = null; // a number that would have decimals, though it hardly looks so: {typed, proof, count, value}

@@ -3,6 +3,7 @@ import { readNumber } from "../exact/decimals.js";
 import { blockOf, looseText, PAGES } from "./block.js";
 import { columnsFor, isKnownHead, knownHeads, widthFault } from "./columns.js";
 import { leftText, unframed } from "./frames.js";
+import { partedInLine } from "./in-line.js";
 import { headingsOf, pastedText } from "./pasting.js";
 import { answerFault } from "./saved-tables.js";
 import { singleOf, withSingle } from "./single.js";
@@ -10,6 +11,7 @@ import { unitsText, withoutUnits } from "./units.js";
 
 const MOST_NAME = 80; // letters
 const PROSE = /\d[^\t]*\s\p{L}{2,}\s[^\t]*\s\d+ ?\S*, /u;
+const IN_LINE = "The line of names and numbers was parted between them.";
 const SENTENCE = "This is one sentence. Give each a line: the name, a tab and the number.";
 const PAGE = new RegExp(`^\\P{L}*(${PAGES}) ?\\d+(( ?/| \\p{L}+) ?\\d+)?\\P{L}*$`, "iu");
 
@@ -18,12 +20,13 @@ const PAGE = new RegExp(`^\\P{L}*(${PAGES}) ?\\d+(( ?/| \\p{L}+) ?\\d+)?\\P{L}*$
  * {asked}, if the user has to choose columns, or to say whether the first row has their `heads`: then it is asked
  * again with what was chosen (`choice`, `out`, `isHead`). A row with the number above the list (`single`) is none. */
 export function sheetOf(pasted, columns, { mark, single, amount, usual, isFirst = true, isHead, choice, out = [] }) {
-  const { rows: paged, pages } = isFirst ? withoutPages(pasted) : { rows: pasted, pages: [] };
+  const { rows: given, isParted } = isFirst ? partedInLine(pasted) : { rows: pasted };
+  const { rows: paged, pages } = isFirst ? withoutPages(given) : { rows: pasted, pages: [] };
   const whole = { rows: pasted, notes: [] };
   const { rows: parted, notes: counted, loose } = isFirst ? blockOf(paged, { words: true }) : whole;
   const odd = loose ?? (isFirst ? noName(parted) : undefined), saved = answerFault(pasted);
   if (odd !== undefined || saved) return { fault: saved ?? looseText(odd) };
-  if (pasted.length === 1 && PROSE.test(pasted[0].join(", "))) return { fault: SENTENCE };
+  if (given.length === 1 && PROSE.test(pasted[0].join(", "))) return { fault: SENTENCE };
   const { rows: lines, left } = unframed(single ? withSingle(parted, single) : parted);
   const { rows: all, found: units, fault } = withoutUnits(lines.filter((row) => row.some(Boolean)), 1);
   const { above, word, number, fault: several } = !fault && single ? singleOf(all, single) : {};
@@ -42,11 +45,31 @@ export function sheetOf(pasted, columns, { mark, single, amount, usual, isFirst 
   const own = [...units].filter(([c]) => targets[c]).map(([, unit]) => unit);
   const isPercent = own.includes("%") || targets.some((column, c) => column?.number && /%/.test(headings?.[c] ?? ""));
   const notes = [
-    leftText([...left, ...pages]), ...counted, pastedText(rows, headings, targets, usual),
+    leftText([...left, ...pages]), isParted && IN_LINE, ...counted, pastedText(rows, headings, targets, usual),
     unitsText([...new Set(own)]), above && `“${word}”, ${number}, was ${
       (amount ?? number) === number ? `taken as ${single.title.toLowerCase()}` : "left out"}.`,
   ].filter(Boolean);
-  return { rows: headings ? rows.slice(1) : rows, targets, headings, notes, number, isGuess, isPercent };
+  const below = headings ? rows.slice(1) : rows, line = number ? undefined : single?.lineOf?.(left);
+  const beside = besides(below, headings, targets, mark);
+  return { rows: below, targets, headings, notes, number, isGuess, isPercent, line, ...beside };
+}
+
+/** What is in columns that were left out: `spare` are those of numbers, and `beside` is the mark that they show. */
+function besides(rows, headings, targets, mark) {
+  const heads = (headings ?? []).map((head, c) => ({ head, c })).filter(({ head, c }) => head && !targets[c]);
+  const spare = heads.filter(({ head, c }) => isSpare(rows.map((row) => row[c]), mark, head));
+  return { spare, beside: shownIn(rows.flatMap((row) => row.filter((_, c) => !targets[c])), mark) };
+}
+
+/** Whether a column that was left out may be other votes: it has numbers, and no parts of a whole. */
+const isSpare = (texts, mark, head) => !/%|per ?cent|prozent/i.test(head) && texts.some(Boolean)
+  && texts.every((text) => !text || !readNumber(text, mark).fault);
+
+/** The mark that texts show beyond doubt before decimals: {mark, text}; undefined where none does, or both. */
+function shownIn(texts, mark) {
+  const found = texts.map((text) => ({ text, mark: readNumber(text.replace(/ ?%$/, ""), mark).by }));
+  const shown = found.filter((one) => one.mark), [first] = shown;
+  return shown.every((one) => one.mark === first.mark) ? first : undefined;
 }
 
 /** A first row that may be a person as well as headings: no word of it is known, and one at most is above numbers. In

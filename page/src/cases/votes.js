@@ -5,7 +5,7 @@ import { LIMITS, mostOf } from "../game/classes.js";
 import { membersOf } from "../game/groups.js";
 import { withEscapes } from "../game/names.js";
 import { numbersMapped, readList } from "./lists.js";
-import { bareQuota, isQuota, leastOf, QUOTA, roundedPart } from "./quota.js";
+import { bareQuota, isQuota, leastOf, QUOTA, quotaLine, roundedPart } from "./quota.js";
 import { askOfSum } from "./sum-row.js";
 import { askOfTwice } from "./twice.js";
 
@@ -31,7 +31,7 @@ export const votes = {
   isVote: true,
   places: 3,
   single: {
-    key: "quota", title: "Votes needed", heads: QUOTA, reads: isQuota,
+    key: "quota", title: "Votes needed", heads: QUOTA, reads: isQuota, lineOf: quotaLine,
     help: "The least number that is enough, or a part of all votes: 2/3, 60 %, more than 1/2.",
   },
   columns: [
@@ -54,7 +54,7 @@ export const votes = {
   read(state, mark) {
     const isDouble = state.secondQuota !== undefined;
     const rows = state.rows.map(({ name, votes }) => ({ name, votes }));
-    const { opened, isUnnamed } = state, own = { rows, opened, isUnnamed };
+    const { opened, isUnnamed, beside } = state, own = { rows, opened, isUnnamed, beside };
     const list = readList(own, mark, "votes", "The number of votes", "Voter"), { reading, names } = list;
     for (const ask of [askOfSum, askOfTwice]) ask(reading, state, isDouble ? ["votes", "second"] : ["votes"]);
     const ballots = [readBallot(reading, state.quota, "quota", "The quota", list, state)], [{ quota }] = ballots;

@@ -10,7 +10,7 @@ import { doubtNotes } from "./doubts.js";
 export function questions(reading, typed, settings) {
   const { asked, swap, perHead, mixed, unsure, part, rest, either } = reading;
   return [
-    asked && (asked.ways ? twiceQuestion : sumQuestion)(asked, typed, settings),
+    asked && (asked.ways ? twiceQuestion : asked.amount ? wholeQuestion : sumQuestion)(asked, typed, settings),
     swap && swapQuestion(swap, typed, settings),
     perHead && perHeadQuestion(perHead, settings), mixed && mixedQuestion(mixed, reading, settings),
     rest ? restQuestion(rest, typed, reading, settings) : part && partQuestion(part, typed, settings),
@@ -34,6 +34,18 @@ function sumQuestion({ r, name, isLast, off }, typed, { onReset, onChange }) {
   const asked = `${row}${which} Is it ${sum} of ${others}? ${told}It would count as one more.${rest}`;
   return el("p", { class: "note" }, asked,
     button("Yes, remove it", without, { class: "quiet" }), name && button("No, it counts", keep, { class: "quiet" }));
+}
+
+/** Asks whether a row is what there is to divide, and no claim. */
+function wholeQuestion({ r, name, amount }, typed, { onReset, onChange }) {
+  const rows = typed.rows.filter((_, k) => k !== r), keep = () => {
+    typed.notWhole = [...(typed.notWhole ?? []), name];
+    onChange(0);
+  };
+  const take = () => onReset({ ...typed, estate: amount, rows }, "The estate", true);
+  const asked = `Is “${withEscapes(name)}”, ${withEscapes(amount)}, what there is to divide, and no claim? `;
+  return el("p", { class: "note" }, asked, button("Yes, it is the estate", take, { class: "quiet" }), " ",
+    button("No, a claim", keep, { class: "quiet" }));
 }
 
 /** Asks what rows of one name are, or rows that are the same: `ways` are the rows that each answer makes. */

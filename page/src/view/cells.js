@@ -49,9 +49,9 @@ export function moveByKeys(element, neighbour) {
   });
 }
 
-/** What is pasted over several cells goes to `fill(cell, rows, text)`; a text for one cell is pasted as ever. A long
- * one is read by `readCells`, beside the page. */
-export function pasteCells(element, fill, readCells) {
+/** What is pasted over several cells goes to `fill(cell, rows, text)`; a text for one cell is pasted as ever,
+ * if it isn't several rows (`isSeveral`). A long one is read by `readCells`, beside the page. */
+export function pasteCells(element, fill, readCells, isSeveral = () => false) {
   element.addEventListener("paste", async (event) => {
     const text = event.clipboardData?.getData("text/plain") ?? "", cell = event.target.dataset?.cell;
     if (cell === undefined || cell === "find") return;
@@ -61,7 +61,7 @@ export function pasteCells(element, fill, readCells) {
       return;
     }
     const rows = cellsOf(text);
-    if (rows.length < 2 && rows[0].length < 2) return;
+    if (rows.length < 2 && rows[0].length < 2 && !isSeveral(rows)) return;
     event.preventDefault();
     fill(cell, rows, text);
   });

@@ -1,5 +1,6 @@
 // The grid of a list: a runway, an estate, a vote. A row is added while the last one is filled.
 import { NONE } from "../cases/columns.js";
+import { partedInLine } from "../cases/in-line.js";
 import { SPOILT } from "../cases/pasting.js";
 import { sheetOf } from "../cases/sheets.js";
 import { readNumber } from "../exact/decimals.js";
@@ -25,7 +26,7 @@ class ListGrid {
       const [, r, key] = cell.split(".");
       return `rows.${Number(r) + step}.${key}`;
     });
-    pasteCells(table, (cell, rows) => this.fill(cell, rows), readCells, { isWhole: true });
+    pasteCells(table, (cell, rows) => this.fill(cell, rows), readCells, (rows) => partedInLine(rows).isParted);
     this.showSingles();
     this.show();
   }
@@ -140,7 +141,36 @@ class ListGrid {
     if (!isOpen && kept !== "none") return this.askSingle(single.title, [old, sheet.number], said, use);
     this.remember("Paste");
     if (!isOpen) sheet.notes.push(`${single.title} was ${old} before.`);
-    return this.take({ ...sheet, number: said.amount ?? sheet.number, kept }, Number(r));
+    this.take({ ...sheet, number: said.amount ?? sheet.number, kept }, Number(r));
+    return this.offer(sheet, said, use);
+  }
+
+  /** Offers what else a pasted text may say: the estate, a quota, or second votes. */
+  offer({ line, spare = [], targets }, said, use) {
+    const { kind: { single, second }, typed } = this, quoted = (text) => `“${withEscapes(text)}”`;
+    const isOpen = single && !typed[single.key].trim(), told = this.said.textContent;
+    const isTwo = second && typed.secondQuota === undefined;
+    const give = () => {
+      this.remember(single.title);
+      typed[single.key] = line.amount;
+      this.say(`${told} ${line.amount} was taken as ${single.title.toLowerCase()}.`);
+      this.showSingles();
+      this.onChange();
+    };
+    const turn = (head, c) => () => {
+      this.remember("Two quotas");
+      this.turnDouble();
+      const votes = targets.findIndex((own) => own?.key === "votes");
+      if (c) use({ ...said, choice: { ...said.choice, votes, second: c } });
+    };
+    const way = (text, use) => [" ", button(text, use, { class: "quiet" })];
+    const parts = [
+      line?.amount && isOpen && [` Is ${line.amount} what there is to divide?`, way(`Yes, ${line.amount}`, give)],
+      line && second && ` ${quoted(line.text)} names a quota: type it above.`,
+      isTwo && spare.map(({ head, c }) => way(`Use ${quoted(head)} as second votes`, turn(head, c))),
+      isTwo && line && !spare.length && way("Two quotas at once", turn()),
+    ];
+    this.said.append(...parts.flat(Infinity).filter(Boolean));
   }
 
   /** Whether pasted rows are "all" those that are here, by their names, "some" of them, or "none". */
@@ -196,7 +226,7 @@ class ListGrid {
   }
 
   /** A list with names that begins in the first row is the case; and nothing of the worked example stays beside it. */
-  take({ rows, targets, headings, notes, number, isGuess, isPercent, kept }, at) {
+  take({ rows, targets, headings, notes, number, isGuess, isPercent, kept, beside }, at) {
     const { kind, typed } = this, isExample = this.isExample();
     const hasNames = targets.some((target) => target?.key === kind.columns[0].key), r = isExample && hasNames ? 0 : at;
     const isFree = (row) => targets.every((own) => !row[own?.key]?.trim()), isBlank = (row) => this.isBlank(row);
@@ -206,7 +236,7 @@ class ListGrid {
     const isOver = !isExample && !(isWhole && kept === "all") && typed.rows.some(isOther)
       && (isWhole ? `The rows before are gone (Undo).${this.stillText(number)}` : "The rows below stay as they were.");
     if (isWhole) this.leave(isExample);
-    Object.assign(typed, { isUnordered: isGuess, notTwice: false, ...(kind.isVote && { isPercent }) });
+    Object.assign(typed, { isUnordered: isGuess, notTwice: false, beside, ...(kind.isVote && { isPercent }) });
     if (number) typed[kind.single.key] = number;
     const filled = rows.map((row, k) => {
       const target = (typed.rows[r + k] ??= this.blank());

@@ -2,6 +2,7 @@
 import { readNumber, readTogether } from "../exact/decimals.js";
 import { isMark, nameOfMark, otherMark } from "../exact/marks.js";
 import { Rational } from "../exact/rational.js";
+import { linesByName } from "../cases/in-line.js";
 import { withoutSigns } from "../cases/signs.js";
 import { unitsText, withoutUnits } from "../cases/units.js";
 import { isSumWord, withEscapes } from "../game/names.js";
@@ -19,7 +20,7 @@ export function pastedDivision(text, labels, { first, before }) {
   const isOdd = labels.some((label) => /["|]/.test(label)), plain = isOdd ? (line) => line
     : (line) => line.replace(/^ *"([^"]*)"/, "$1").replace(/ *\| */g, " ");
   const bare = (line) => plain(line).trim().replace(/\s+/g, " ");
-  const given = text.split(/\r\n?|\n/).map(bare).filter((line) => /[^-: ]/.test(line));
+  const given = linesByName(text, labels).split(/\r\n?|\n/).map(bare).filter((line) => /[^-: ]/.test(line));
   const lines = withoutSigns(given.map((line) => [line])).rows.flat(), alone = withoutUnit(lines);
   const isAlone = alone.fault === undefined && alone.numbers.every((line) => NUMBER.test(line));
   const found = isAlone ? numbersBelow(alone, labels.length - first) : namedAmounts(lines, labels);

@@ -1,0 +1,37 @@
+// Words for what there is to divide: a row or a line that is called so is no claim.
+import { readNumber } from "../exact/decimals.js";
+import { isEmpty } from "./sum-row.js";
+
+const FOR = "available|on hand|in hand|at (?:the )?bank|left|now|for (?:distribution|division|(?:unsecured )?creditors"
+  + "|dividends?)|to (?:be )?(?:distributed?|divided?|shared?)|in (?:the )?(?:estate|bank)";
+const OF_MONEY = "estate|assets|funds|cash|proceeds|amount|sum|money|monies|balance";
+const IN_GERMAN = "(?:insolvenz|teilungs|konkurs)?masse|nachlass|verfügbar(?:e[rsn]?)?(?: (?:masse|mittel|betrag|summe"
+  + "|vermögen|nachlass))?|zu verteilen(?:de[rs]?)?(?: (?:masse|betrag|summe))?|zur verteilung(?: verfügbar)?";
+const IN_OTHERS = "actif(?: net)?(?: (?:disponible|à répartir|réalisé))?|disponible|à répartir"
+  + "|masse (?:active|à répartir)|boedel|activo|attivo";
+
+/** What names the estate for certain. */
+export const ESTATE = new RegExp("^(?:the |die |der |das |le |la |l['’]|net |total |gross |remaining |available )*(?:"
+  + `(?:${OF_MONEY})(?: (?:${FOR}))+|estate|assets|available(?: (?:${FOR}|funds|assets|cash|estate))*|${IN_GERMAN}`
+  + `|${IN_OTHERS}|to (?:be )?(?:distributed?|divided?))(?: value| net(?:to)?)?(?: \\(.*\\))?[:.]?$`, "iu");
+
+const PERHAPS = new RegExp("(?<!\\p{L})(?:available|distribut\\p{L}*|verfügbar\\p{L}*|verteil\\p{L}*|disponible"
+  + "|répartir|nachlass|\\p{L}*masse|estate|actif|cash|funds|proceeds|\\p{L}*erlös|vermögen|boedel)(?!\\p{L})", "iu");
+const AMOUNT = /\p{Sc}?\s?\d(?:[\d.,'’\u00a0\u202f]*\d)?(?:\s?\p{Sc})?/gu;
+
+/** Asks of the first and the last row, if its name may be that of the estate, unless somebody said that it is a claim
+ * (`state.notWhole`). Another question comes first. */
+export function askOfWhole(reading, state) {
+  const kept = state.rows.map((row, r) => ({ row, r })).filter(({ row }) => !isEmpty(row)), { notWhole = [] } = state;
+  const found = kept.length > 2 && [kept.at(-1), kept[0]].find(({ row }) => PERHAPS.test(row.name));
+  if (!found || reading.asked || state.notSums === true || notWhole.includes(found.row.name.trim())) return;
+  reading.asked = { r: found.r, name: found.row.name.trim(), amount: found.row.claim };
+}
+
+/** The one number of a line that may say what there is to divide: {text, amount}, or undefined. */
+export function wholeIn(texts) {
+  return texts.filter((text) => PERHAPS.test(text)).map((text) => {
+    const [amount, other] = text.match(AMOUNT) ?? [];
+    return !other && amount && !readNumber(amount).fault ? { text, amount: amount.trim() } : undefined;
+  }).find(Boolean);
+}
