@@ -1,6 +1,6 @@
 // The decimal marks of a page and its case: what is shown, and by which numbers in and beside the cells are read.
 import { decimal, readTogether } from "../src/exact/decimals.js";
-import { BLANK, Marks, onlyMark, spoken, writtenBy } from "../src/exact/marks.js";
+import { BLANK, isLong, Marks, onlyMark, spoken, writtenBy } from "../src/exact/marks.js";
 import { Rational } from "../src/exact/rational.js";
 import { beyondTexts } from "../src/view/beyond.js";
 
@@ -37,6 +37,8 @@ const STEPS = [
   ["an undo brings the cells' mark back", [example, typed(COMMAS), ["open", { entry: "," }]], ",", ",", "."],
 ];
 
+const keptSign = ["open", { isFile: true, mark: ".", thousands: "," }];
+
 let faults = 0, count = 0;
 function expect(what, found, wanted) {
   count += 1;
@@ -44,6 +46,17 @@ function expect(what, found, wanted) {
   faults += 1;
   console.log(`${what}: ${JSON.stringify(found)}, and not ${JSON.stringify(wanted)}`);
 }
+
+for (const [what, steps, wanted] of [
+  ["a saved case parts thousands by the sign that it keeps", [keptSign, ["take", FREE, true]], [",", 3]],
+  ["and by the usual sign without such", [file({ mark: "." }), ["take", FREE, true]], [BLANK, 4]],
+]) {
+  const marks = new Marks(".");
+  for (const [step, ...words] of steps) marks[step](...words);
+  const { thousands, least } = marks.spelling();
+  expect(what, [thousands, least], wanted);
+}
+expect("another game by its own numbers", new Marks(".").spelling(isLong({ whole: "12000" })).least, 3);
 
 for (const [what, steps, shown, cells, beside] of STEPS) {
   const marks = new Marks(".");

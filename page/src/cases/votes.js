@@ -148,8 +148,8 @@ function votingGame(reading, { named }, ballot) {
   }
   if (by > 1n) {
     const rounded = common === by ? "" : ", rounded up";
-    reading.notes.push(`All votes are divided by ${by}, and the quota with them${rounded}: `
-      + "which groups win stays the same.");
+    reading.notes.push(`These are more votes than the program counts, ${MOST_VOTES}. So all are divided by ${by}, and `
+      + `the quota with them${rounded}: which groups win stays the same.`);
   }
   return { class: "voting", ...named, quota: (quota + by - 1n) / by, weights: votes.map((one) => one / by) };
 }

@@ -34,7 +34,7 @@ export function onlyMark(marks) {
 export const writtenBy = ({ settled, mark }) => settled ?? mark;
 
 /** Whether a number of a game has five digits before its decimals. */
-function isLong({ whole, single, amounts, alone, worths, rows }) {
+export function isLong({ whole, single, amounts, alone, worths, rows }) {
   const digits = (text) => Number((text ?? "0").split("/")[0]) / Number((text ?? "1").split("/")[1] ?? 1);
   return [whole, single, amounts, alone, worths, rows].flat(2).some((text) => Math.abs(digits(text)) >= 10000);
 }
@@ -62,9 +62,9 @@ export class Marks {
 
   /** How numbers are shown. A sign between thousands that is the decimal mark now gives way to the usual one. Four
    * digits are parted beside longer ones, in all that is told of a case. */
-  spelling() {
+  spelling(isLong = this.isLong) {
     const isClear = this.thousands && this.thousands !== this.shown;
-    return { mark: this.shown, thousands: isClear ? this.thousands : BLANK, least: isClear || this.isLong ? 3 : 4 };
+    return { mark: this.shown, thousands: isClear ? this.thousands : BLANK, least: isClear || isLong ? 3 : 4 };
   }
 
   speak() {

@@ -19,6 +19,7 @@ import { fillSeals } from "./seals.js";
 import { tablesOf } from "./shares-table.js";
 import { csvButton, tabbed } from "./table-lines.js";
 import { todayOf } from "./today.js";
+import { unitIn } from "./unit.js";
 import { waitingParts } from "./waiting.js";
 import { fillsAsked, fillsPart } from "./two-fills.js";
 import { whyBody } from "./why.js";
@@ -221,6 +222,14 @@ export class AnswerView {
     const text = at("answer-body").querySelector(".lead, .notice, .hint")?.textContent ?? "";
     if (at("said").textContent !== text) at("said").textContent = text;
     this.showPeek(this.session.result);
+  }
+
+  /** What a pasted table says of the unit of its amounts; a single number says nothing. */
+  takeUnit(text) {
+    if (!/[\t\n;]/.test(text.trim())) return;
+    this.typed.pastedUnit = unitIn(text);
+    this.shownPaper = null;
+    if (at("paper-body").childElementCount) this.showPaper();
   }
 
   showPaper() {

@@ -159,20 +159,20 @@ function sumRow({ sum, of }, { rows, columns, format, values, own, isKept }) {
 }
 
 /** The same on the one page; what one landing pays stands there by its type, where each has one. */
-export function beyondSheet(beyond, { format, unit, today, pinned, labelOfCell }) {
+export function beyondSheet(beyond, { format, unit, today, pinned, labelOfCell, sign }) {
   const { rows, points } = beyond, named = plainPoints(points, COSTS);
   const shown = today.texts?.some(Boolean) ? today : {};
   const own = (_, r) => shown.values[r] && format.show(shown.values[r]);
   const kind = `shares dense${rows.every(({ type }) => type) ? " whole" : ""}`;
   return [
     el("section", {}, leadOf(beyond, format),
-      unit?.trim() && el("p", { class: "hint" }, `All amounts are in ${unit.trim()}.`),
+      unit && el("p", { class: "hint" }, `All amounts are in ${unit}.`),
       table(beyond, { format, today: shown, pinned, own }, kind),
       pinned.pin && el("p", { class: "hint" }, pinnedText(pinned, named[0], rows, { format, labelOfCell })),
       points.some(({ totals }) => format.isMoved(totals, rows)) && el("p", { class: "hint" }, movedText(rows))),
     el("section", {}, typesTable(rows, named, format)),
     el("section", {}, el("h2", {}, "How it was found"), beyondTexts(beyond).map((text) => el("p", {}, text))),
-    el("p", { class: "sign" }, "Agreed on by", el("span"), "on", el("span", { class: "short" })),
+    sign,
     el("section", {}, el("p", { class: "hint" }, document.querySelector("footer p").textContent)),
   ];
 }

@@ -16,6 +16,7 @@ import { Session } from "./session.js";
 import { demo } from "./demo.js";
 import { startCards } from "./start.js";
 import { Steps } from "./undo.js";
+import { unitOf } from "./unit.js";
 import { verifyPanel } from "./verify.js";
 import { showPart, showView, viewOfAddress, watchAnswer, watchParts } from "./views.js";
 
@@ -106,7 +107,8 @@ function asked(kind) {
     caseText: () => {
       const { pinned, reading, marks } = session, kept = pinned ? keptTree(pinned, session.typed) : undefined;
       const { shown: mark, thousands } = marks, { text, facts } = reading, entry = writtenBy(reading);
-      return caseText({ ...nowTyped(), kind, kept, mark, thousands, entry, text, limits: facts?.limits });
+      const sheet = { ...view.typed, unit: unitOf(view.typed) };
+      return caseText({ ...nowTyped(), paper: sheet, kind, kept, mark, thousands, entry, text, limits: facts?.limits });
     },
   };
 }
@@ -187,6 +189,9 @@ function listen() {
   });
   watchAnswer();
   watchParts();
+  at("case").addEventListener("paste", ({ clipboardData }) => {
+    view.takeUnit(clipboardData?.getData("text/plain") ?? "");
+  });
   let width = innerWidth;
   addEventListener("resize", () => {
     if (innerWidth !== width && session.result) view.show();
@@ -221,7 +226,7 @@ function begin() {
     },
   });
   verify = verifyPanel({
-    format: () => session.format(),
+    format: (facts) => session.format(facts),
     onOpen: (text, doubt, from) => documents.open(text, { doubt, isChecked: true, from }),
     onPrint: () => paper.print("check"),
   });

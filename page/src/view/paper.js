@@ -4,6 +4,7 @@ import { countText } from "../exact/decimals.js";
 import { masksBySize } from "../game/groups.js";
 import { button, el, refill } from "./dom.js";
 import { dayText, showSheet } from "./sheet.js";
+import { unitOf } from "./unit.js";
 
 const MOST_GROUPS = 1023; // that are printed, all groups of ten players
 const ON_SCREEN = 63; // of the groups, those that stand in the grid
@@ -14,7 +15,7 @@ const at = (id) => document.getElementById(id);
 export function paperPart(session, typed) {
   const field = (key, label, value, wide) => el("label", { class: "single" }, el("span", { class: "field" }, label),
     el("input", {
-      type: "text", value: typed[key] ?? value, "data-cell": `paper.${key}`, maxlength: 200, class: wide ? "wide" : "",
+      type: "text", value: value, "data-cell": `paper.${key}`, maxlength: 200, class: wide ? "wide" : "",
       autocomplete: "off", on: { input: (event) => { typed[key] = event.target.value; } },
     }));
   const own = el("input", {
@@ -34,7 +35,10 @@ export function paperPart(session, typed) {
     el("p", { class: "hint" }, "One page for a board or a court: who, how much, a picture, the reasons, what is ",
       "agreed on, and how to check it. Or everything on this page, with the amounts that were worked out, and the ",
       "check of a line if it is of this case."),
-    field("heading", "Heading", session.kind.title, true), field("unit", "Unit of money", "", false),
+    field("heading", "Heading", typed.heading ?? session.kind.title, true),
+    field("unit", "Unit of money", unitOf(typed), false),
+    typed.pastedUnit && typed.unit === undefined && el("p", { class: "hint" }, `“${typed.pastedUnit}” is that of the `,
+      "table that was pasted."),
     el("label", { class: "single" }, own, " Put the other columns on the one page too"),
     el("p", { class: "tools" },
       button("Print one page", printed("sheet"), { class: "main" }), button("Print everything", printed("all"))), said);
@@ -74,11 +78,11 @@ export class Paper {
 
   /** The heading, the day and the unit of what isn't the one page. */
   head(what, isCase) {
-    const { heading, unit } = this.view.typed;
+    const { heading } = this.view.typed, unit = unitOf(this.view.typed);
     const own = what === "check" ? "The check of a line" : (isCase && heading?.trim()) || "";
     return [
       el("p", {}, own && el("b", {}, own), own && " – ", dayText()),
-      what === "all" && unit?.trim() && el("p", {}, `All amounts are in ${unit.trim()}.`),
+      what === "all" && unit && el("p", {}, `All amounts are in ${unit}.`),
     ];
   }
 

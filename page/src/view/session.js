@@ -1,5 +1,5 @@
 // The case that is worked on: what was typed, what was read of it, and the answers of the program.
-import { Marks } from "../exact/marks.js";
+import { isLong, Marks } from "../exact/marks.js";
 import { Rational } from "../exact/rational.js";
 import { calculated } from "./calculated.js";
 import { formatOf } from "./format.js";
@@ -73,9 +73,9 @@ export class Session {
     this.changed(0);
   }
 
-  /** How numbers are shown. */
-  format() {
-    return formatOf(this.places, this.marks.spelling());
+  /** How numbers are shown; of another game by its `facts`. */
+  format(facts) {
+    return formatOf(this.places, this.marks.spelling(facts ? isLong(facts) : undefined));
   }
 
   setMeasure(measure) {

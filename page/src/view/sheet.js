@@ -28,6 +28,7 @@ import { CALCULATED } from "./questions.js";
 import { contextOf, ownSum, sameText } from "./shares-table.js";
 import { airlineLines } from "./table-lines.js";
 import { changeText, todayOf, todayTitle } from "./today.js";
+import { unitOf } from "./unit.js";
 import { linesTable } from "./types-table.js";
 import { isHard } from "./why-pair.js";
 
@@ -43,6 +44,7 @@ const MOST_LEVELS = 1100; // characters of what the levels behind the first sett
 const MOST_DOCUMENT = 420; // characters of the game's document that are printed
 const MOST_SAVING = 8; // rows of whom each saving is named
 const MOST_ALONE = 900; // the same if there is no picture
+const MOST_SIGNING = 12; // parties that have a line each
 
 const OPEN = "Open coop.html from the project’s repository (the sender has to give you its address). Its “About this "
   + "page” has to name the SHA-256 that is at the foot of this sheet. Choose";
@@ -67,7 +69,7 @@ function fillSheet(sheet, session, typed) {
   const isBeyond = result?.beyond && !result.game;
   if (!isBeyond && (!result || result.refusal || !result.points.length)) return refill(sheet);
   const { rows } = reading, format = session.format(), today = todayOf(session, rows);
-  const { heading, unit, withProposal } = typed, { coarse } = session.typed, pinned = pinnedOf(session, rows);
+  const { heading, withProposal } = typed, unit = unitOf(typed), { coarse } = session.typed, pinned = pinnedOf(session, rows);
   const labelOf = (cell) => labelOfCell(cell, session);
   const points = isBeyond ? [] : plainPoints(result.points, result.game);
   const view = { ...session, heading, unit, withProposal, rows, format, today, coarse, pinned, labelOfCell: labelOf,
@@ -85,7 +87,7 @@ function beyondOn(sheet, view) {
   const { result: { beyond } } = view;
   sheet.className = "tight";
   refill(sheet, headOf(view), beyond.game ? beyondPower(beyond, { ...view, wide: WIDE, isPaper: true })
-    : beyondSheet(beyond, view));
+    : beyondSheet(beyond, { ...view, sign: signing(beyond.rows) }));
 }
 
 function headOf({ heading, kind }) {
@@ -128,7 +130,7 @@ function answerOf(view) {
     others.map((other) => [el("td", { class: "number" }, other.texts.at(-1)), other.exact && el("td")]));
   return el("section", {},
     !game.ballots && !game.isMarket() && (airlinesOf(view, point) ?? lead(result, point, { rows, format })),
-    unit?.trim() && el("p", { class: "hint" }, `All amounts are in ${unit.trim()}.`),
+    unit && el("p", { class: "hint" }, `All amounts are in ${unit}.`),
     halves(rows.length, heads.filter((head) => head !== undefined), line, [goneLines(kept, heads, format), sum]),
     format.isMoved(totals, rows) && el("p", { class: "hint" }, `${movedText(rows)} The fractions are exact.`),
     coarse?.times && [{ title, totals }, ...beside].map((one) => {
@@ -368,7 +370,18 @@ function agreedOf(view) {
     isShort ? el("p", { class: "document" }, text)
       : el("p", { class: "hint" }, `The file, ${countText(new TextEncoder().encode(text).length + 1)} bytes as the `
         + "page writes it, isn’t printed. Keep it with this sheet."),
-    !doubt && el("p", { class: "sign" }, "Agreed on by", el("span"), "on", el("span", { class: "short" })));
+    !doubt && signing(rows));
+}
+
+/** A line to sign for each party, of airlines one for all their rows; one for all if there are many. */
+function signing(rows) {
+  const who = [...new Set(rows.map(({ label, sum = label }) => sum))];
+  if (who.length > MOST_SIGNING) {
+    return el("p", { class: "sign" }, "Agreed on by", el("span"), "on", el("span", { class: "short" }));
+  }
+  return el("div", { class: "signs" }, el("p", {}, "Agreed on by"), who.map((name) => {
+    return el("p", { class: "sign" }, el("b", {}, name), el("span"), "on", el("span", { class: "short" }));
+  }));
 }
 
 /** The rules whose shares are on the page. */

@@ -39,7 +39,8 @@ export function verifyPanel({ format, onOpen, onPrint }) {
 
 class VerifyPanel {
   constructor(format, onOpen, onPrint) {
-    Object.assign(this, { format, onOpen, onPrint, line: "", agreed: "", turn: 0, text: null });
+    Object.assign(this, { onOpen, onPrint, line: "", agreed: "", turn: 0, text: null });
+    this.format = () => format(this.facts); // by the numbers of the line, and not by those of the case
     this.from = { ofLine: {}, ofGame: {} }; // where the two texts come from
     this.helpers = [new Helper(), new Helper()];
     this.answers = el("div", { class: "answers", "aria-live": "polite" });
@@ -102,6 +103,7 @@ class VerifyPanel {
       const seen = await this.helpers[0].ask("lookAtLine", { line, agreed });
       if (!isMine()) return undefined;
       this.sums = this.sumsOf(agreed, seen, isMine);
+      this.facts = seen.facts;
       const game = seen.facts ? new Facts(seen.facts) : null, found = {};
       refill(this.means, meaning(seen.answer, game?.perHead));
       if (!seen.fault && !seen.hasCertificate) return await this.askBare(seen, game, isMine);

@@ -1,0 +1,22 @@
+// The unit of money: what was typed for paper, or else the one that a pasted table has in its headings or numbers.
+
+const SIGN = "(?:[kKTM]|Mio\\.? ?|Tsd\\.? ?|thousand |million )?(?:\\p{Sc}|EUR|USD|GBP|CHF|SEK|NOK|DKK|PLN|CZK|HUF|JPY|"
+  + "CAD|AUD|NZD|INR|CNY|BRL|MXN|ZAR|TRY|kr)";
+const IN_HEAD = new RegExp(`[(\\[]\\s*(?:in )?(${SIGN})\\s*[)\\]]|\\bin (${SIGN})\\s*$`, "u");
+const BESIDE = new RegExp(`^[-−(]?\\d[\\d.,'’\\s\\u202f]*(${SIGN})\\)?$|^(\\p{Sc}|[A-Z]{3})\\s?[-−]?\\d[\\d.,'’\\s\\u202f]*$`, "u");
+
+/** The one unit that the cells of a pasted text show; "" if they show none, or several. */
+export function unitIn(text) {
+  const found = new Set();
+  for (const cell of text.split(/[\t\n\r;|]/)) {
+    const [, head, behind] = IN_HEAD.exec(cell.trim()) ?? [], [, after, before] = BESIDE.exec(cell.trim()) ?? [];
+    const unit = head ?? behind ?? after ?? before;
+    if (unit) found.add(unit.trim());
+  }
+  return found.size === 1 ? [...found][0] : "";
+}
+
+/** The unit of the amounts of a case on paper. */
+export function unitOf({ unit, pastedUnit = "" }) {
+  return (unit ?? pastedUnit).trim();
+}
