@@ -59,6 +59,10 @@ export const desk = [
     expect("changed", await page.text(".pinned"), /Against the kept answer.*Changed since: Carle and Brook: 35 → 20\./);
     expect("marked", await page.run("document.querySelector('.changed').dataset.cell"), "links.2-3");
     await page.type("proposal.1", "31/8");
+    const hides = "(one) => one.scrollWidth > one.clientWidth";
+    const places = "[...document.querySelectorAll('#answer-body .scroll')]";
+    expect("all columns are seen", await page.run(`${places}.some(${hides})`),
+      false);
     const table = await savedFile(page, "Save the table (CSV)");
     const heads = /^,Fairest [\w ]+,[^\r]*,Each its own link,[^\r]*,Kept: Fairest [\w ]+,[^\r]*,Your proposal\r/;
     expect("the table has what stands beside the shares", table.replace("\ufeff", ""), heads);

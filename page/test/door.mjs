@@ -162,7 +162,7 @@ const questions = [
   }],
   ["door: one unit behind all numbers is left out, and two are asked for", "estate", async (page, expect) => {
     await pasted(page, [["Who", "Claim"], ["Anna", "500 kg"], ["Ben", "600 kg"]]);
-    await told(page, "#case .pasted", /“kg” behind the numbers was left out, as their unit/);
+    await told(page, "#case .pasted", /“kg” behind the numbers is taken as their unit/);
     expect("the cells", await cells(page), "Anna|500|Ben|600");
     await pasted(page, [["Who", "Claim"], ["Cem", "700 kg"], ["Dora", "8 t"]]);
     await told(page, "#case .pasted", /several units: “kg” and “t”\. Give all in one\. Nothing was taken/);
@@ -170,7 +170,7 @@ const questions = [
     await page.run("location.hash = '#costs'");
     await page.until(`document.querySelector('[data-cell="numbers.1"]') && ${READY}`);
     await page.paste('[data-cell="numbers.1"]', "A\t10 k€\nB\t8 k€\nA+B\t12 k€");
-    await told(page, "#case", /“k€” behind the numbers was left out/);
+    await told(page, "#case", /“k€” behind the numbers is taken as their unit/);
     await told(page, "#answer .lead", /A pays 7\.00 and B pays 5\.00/);
     await page.run("location.hash = '#market'");
     await page.until(`document.querySelector('[data-cell="buyers.0"]') && ${READY}`);

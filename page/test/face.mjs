@@ -65,6 +65,14 @@ const answers = [
     await told(page, "#case .sample", /Worked example/);
     await pasted(page, [["North", 30], ["South", 50]]);
     expect("gone by a paste", await page.text("#case .sample"), "");
+    await told(page, "#answer .lead", /North pays/);
+    const answer = await page.text("#answer-body");
+    expect("nothing of landings where each has one", /landing|runway/i.test(answer), false);
+    await pasted(page, [["Airline", "Cost (k€)"], ["North", 30], ["South", 50]]);
+    await settle(page);
+    const sheet = await sheetOf(page);
+    expect("the unit of the table", sheet, /All amounts are in k€\./);
+    expect("a line to sign for each", sheet, /Agreed on byNorthonSouthon/);
   }],
   ["face: a wrong game is a no", "verify", async (page, expect) => {
     const agreed = '{"game":{"class":"bankruptcy","estate":200,"claims":[100,200,300]}}';

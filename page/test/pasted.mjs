@@ -17,7 +17,7 @@ const TEXTS = [
   // numbers with a unit and a time
   ["estate", "Ann\t12,000.00 EUR/year\nBo\t8,000.00 EUR/year", "Ann=12,000.00 EUR|Bo=8,000.00 EUR",
     /“\/year” behind the/],
-  ["estate", "Ann\t120 € p.a.\nBo\t80 € p.a.", "Ann=120 €|Bo=80 €", /“p\.a\.” behind the numbers was left out/],
+  ["estate", "Ann\t120 € p.a.\nBo\t80 € p.a.", "Ann=120 €|Bo=80 €", /“p\.a\.” behind the numbers is taken as their unit/],
   ["estate", "Ann: 120 EUR per month\nBo: 80 EUR per month", "Ann=120 EUR|Bo=80 EUR", /“per month” behind/],
   ["estate", "Ann 120 EUR / Jahr\nBo 80 EUR / Jahr", "Ann=120 EUR|Bo=80 EUR", /“\/Jahr” behind/],
   ["estate", "Ann\t120 EUR/year\nBo\t80 EUR/month", null, /several units: “\/year” and “\/month”\. Give all in one/],

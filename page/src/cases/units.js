@@ -37,8 +37,8 @@ export function withoutUnits(rows, from = 0) {
   return { rows: found.size ? rows.map((row) => row.map(bare)) : rows, units: [...new Set(found.values())], found };
 }
 
-/** What is told of units that were left out. */
+/** What is told of units behind numbers. */
 export function unitsText(units) {
-  return units.length > 0 && `${units.map((unit) => `“${unit}”`).join(" and ")} behind the numbers was left out, as `
-    + "their unit.";
+  const are = units.length > 1 ? "are taken as their units" : "is taken as their unit";
+  return units.length > 0 && `${units.map((unit) => `“${unit}”`).join(" and ")} behind the numbers ${are}.`;
 }

@@ -1,6 +1,6 @@
 // Votes: by one quota, which is a game of its own class, or by two at once, which is a table of who wins.
 import { gcd, lcm, Rational } from "../exact/rational.js";
-import { shortText, typedText } from "../exact/decimals.js";
+import { countText, shortText, typedText } from "../exact/decimals.js";
 import { LIMITS, mostOf } from "../game/classes.js";
 import { membersOf } from "../game/groups.js";
 import { withEscapes } from "../game/names.js";
@@ -148,8 +148,8 @@ function votingGame(reading, { named }, ballot) {
   }
   if (by > 1n) {
     const rounded = common === by ? "" : ", rounded up";
-    reading.notes.push(`These are more votes than the program counts, ${MOST_VOTES}. So all are divided by ${by}, and `
-      + `the quota with them${rounded}: which groups win stays the same.`);
+    reading.notes.push(`The program counts up to ${countText(MOST_VOTES)} votes. So all are divided by ${by}, and the `
+      + `quota with them${rounded}: which groups win stays the same.`);
   }
   return { class: "voting", ...named, quota: (quota + by - 1n) / by, weights: votes.map((one) => one / by) };
 }

@@ -78,7 +78,7 @@ export function morePictures(result, settings) {
 const HUNDRED = Rational.of(100);
 const SPLIT = "One player alone and all the others together gain least by joining. What one gains the other loses, so "
   + "no division is better for both.";
-const RUNWAY = "No group pays more than its own runway; who gains least comes first.";
+const RUNWAY = "No group pays more than it would cost alone; who gains least comes first.";
 
 /** One sentence of the reasons: what the rule of the class says, or how those are treated that gain least. */
 function becauseOf({ game, reasons }) {

@@ -120,7 +120,7 @@ function oddList(odds, grid, onLower) {
     return el("li", {}, button(sentence, () => goTo(grid, cell), { class: "fault gentle" }));
   });
   const asked = odds.length > 1 ? "Are these numbers right?" : "Is this number right?";
-  return el("div", { class: "note" }, el("p", {}, asked), el("ul", { class: "odds" }, items),
+  return el("div", { class: "note asked" }, el("p", {}, asked), el("ul", { class: "odds" }, items),
     isLower && el("p", { class: "tools" }, button("Lower them to the cheapest way", onLower, { class: "quiet" })));
 }
 

@@ -32,7 +32,7 @@ function sumQuestion({ r, name, isLast, off }, typed, { onReset, onChange }) {
   const [own, all] = (off ?? []).map((text) => shortText(Rational.of(text)));
   const told = off ? `It says ${own}, the others add to ${all}. ` : "";
   const asked = `${row}${which} Is it ${sum} of ${others}? ${told}It would count as one more.${rest}`;
-  return el("p", { class: "note" }, asked,
+  return el("p", { class: "note asked" }, asked,
     button("Yes, remove it", without, { class: "quiet" }), name && button("No, it counts", keep, { class: "quiet" }));
 }
 
@@ -56,7 +56,7 @@ function twiceQuestion({ name, more, ways, canKeep }, typed, { onReset, onChange
     onChange(0);
   };
   const occurs = more ? ` and ${more} more occur` : " occurs";
-  return el("p", { class: "note" }, `“${withEscapes(name)}”${occurs} twice. What is it? `,
+  return el("p", { class: "note asked" }, `“${withEscapes(name)}”${occurs} twice. What is it? `,
     ways.map(([title, rows]) => [way(title, rows), " "]),
     canKeep && button("Both count", keep, { class: "quiet" }));
 }
@@ -70,13 +70,13 @@ function swapQuestion({ count, cost, name }, typed, { onReset, onChange }) {
     onChange(0);
   };
   const shown = (text) => `“${withEscapes(text.trim())}”`;
-  return el("p", { class: "note" }, `Are ${shown(count)} the landings of ${name}, and does one need ${shown(cost)}? `,
+  return el("p", { class: "note asked" }, `Are ${shown(count)} the landings of ${name}, and does one need ${shown(cost)}? `,
     button("No, swap the columns", swapped, { class: "quiet" }), button("Yes, so it is", keep, { class: "quiet" }));
 }
 
 /** Per head is another rule, so nobody gets other shares without a word. */
 function perHeadQuestion(players, { setMeasure }) {
-  return el("p", { class: "note" }, "A group’s loss was to count per head. That is worked out for up to 8 players, ",
+  return el("p", { class: "note asked" }, "A group’s loss was to count per head. That is worked out for up to 8 players, ",
     `and here are ${countText(players)}. By the group as a whole the shares are others. `,
     button("Count it as a whole", () => setMeasure("plain"), { class: "quiet" }));
 }
@@ -86,7 +86,7 @@ function eitherQuestion({ typed, ways: [[less, one], [more, other]] }, { setEntr
   const way = (count, mark) => button(`${count} ${count === "1" ? "landing" : "landings"}`, () => setEntry(mark), {
     class: "quiet",
   });
-  return el("p", { class: "note" }, `“${withEscapes(typed.trim())}” can be read as ${less} or as ${more}, and no `,
+  return el("p", { class: "note asked" }, `“${withEscapes(typed.trim())}” can be read as ${less} or as ${more}, and no `,
     "other number here shows which. Which is it? ", way(less, one), way(more, other));
 }
 
@@ -96,7 +96,7 @@ function mixedQuestion({ typed, value, whole, proof, count }, { settled, mark },
   const quoted = (text) => `“${withEscapes(text.trim())}”`, more = count > 1 ? ` and ${count - 1} like it` : "";
   const way = (text, by) => button(text, () => setEntry(by), { class: "quiet" });
   const shown = quotedText(Rational.of(value), mark);
-  return el("p", { class: "note" },
+  return el("p", { class: "note asked" },
     `${quoted(proof)} shows which mark comes before decimals. So ${quoted(typed)}${more} `,
     `would be ${shown}, with decimals. Or are these whole numbers, as ${countText(whole)}? `,
     way(`${countText(whole)}, whole`, WHOLE), way(`${shown}, with decimals`, settled ?? DECIMALS));
@@ -107,7 +107,7 @@ function unsureQuestion({ typed, count, ways: [[more, one], [less, other]] }, { 
   const shown = (text) => quotedText(Rational.of(text), mark), quoted = `“${withEscapes(typed.trim())}”`;
   const way = (text, by, how) => button(`${shown(text)}, ${how}`, () => setEntry(by), { class: "quiet" });
   const like = count > 1 ? ` So can the ${count} numbers like it.` : "";
-  return el("p", { class: "note" }, `${quoted} can be read as ${shown(more)} or as ${shown(less)}, and no other `,
+  return el("p", { class: "note asked" }, `${quoted} can be read as ${shown(more)} or as ${shown(less)}, and no other `,
     `number here shows which.${like} Which is it? `, way(more, one, "whole"), " ", way(less, other, "with decimals"));
 }
 
@@ -118,7 +118,7 @@ function partQuestion({ cell, typed, text, ways: [exact, rounded] }, state, { on
     onChange(0);
   };
   const votes = (count) => `${shortText(Rational.of(count))} votes`;
-  return el("p", { class: "note" }, `“${withEscapes(typed.trim())}” asks for ${votes(exact)}, and ${text} for `,
+  return el("p", { class: "note asked" }, `“${withEscapes(typed.trim())}” asks for ${votes(exact)}, and ${text} for `,
     `${votes(rounded)}. Which is meant? `,
     button(`${text}, ${votes(rounded)}`, () => onReset({ ...state, [cell]: text }, `Take ${text}`, true), {
       class: "quiet",
@@ -136,7 +136,7 @@ function restQuestion({ cell, typed, ways: [[, ofAll], [sum, ofThese]] }, state,
   };
   const asked = isOut ? `Of all 100 % ${quoted} is ${shown(ofAll)}, which these never reach. If others vote, add them. `
     : `Is ${quoted} meant of all 100 %${most.less(all) ? ", of which others have the rest and don’t vote" : ""}? `;
-  return el("p", { class: "note" }, `The votes add to ${shown(sum)} %. ${asked}`,
+  return el("p", { class: "note asked" }, `The votes add to ${shown(sum)} %. ${asked}`,
     !isOut && button(`Of 100 %: at least ${shown(ofAll)}`, () => onReset(ofHundred, "Of 100 %", true), {
       class: "quiet",
     }), " ", button(`Of these: at least ${shown(ofThese)}`, keep, { class: "quiet" }));

@@ -233,6 +233,9 @@ export function holdsPart({ points, game }, { rows, format, proposal }) {
     })));
 }
 
+/** Whether a row has several landings; where none has, nothing is told of landings. */
+const isSeveral = (rows) => rows.some(({ players }) => players.length > 1);
+
 /** What is known of each beside the shares, and its sum where one may add it up. */
 export function contextOf(game, rows, { show, column }) {
   if (game.isMarket()) return null;
@@ -246,7 +249,7 @@ export function contextOf(game, rows, { show, column }) {
     const texts = column(rows.map(({ players: [i] }) => game.amounts[i]));
     return { title: "Claim", texts, sum: texts.at(-1) };
   }
-  if (game.kind === "airport") return of(game.amounts, "Each landing needs");
+  if (game.kind === "airport") return of(game.amounts, isSeveral(rows) ? "Each landing needs" : "Needs alone");
   return of(game.own, game.costs ? "Costs alone" : "Worth alone");
 }
 
@@ -266,11 +269,11 @@ function leavingText(game, { group, excess }, { show, by }) {
 }
 
 /** Of a runway the groups of all landings up to an amount, as a sentence names them; null for other groups. */
-function needingAtMost({ kind, amounts, n }, group, show) {
+function needingAtMost({ kind, amounts, n, landings }, group, show) {
   if (kind !== "airport" || group.length < FEW) return null;
   const most = Rational.max(group.map((i) => amounts[i]));
   const isAll = amounts.every((amount, i) => most.less(amount) || group.includes(i));
-  return isAll && group.length < n ? `all landings that need at most ${show(most)}` : null;
+  return isAll && group.length < n ? `all ${landings ? "landings " : ""}that need at most ${show(most)}` : null;
 }
 
 function holdText(rows, hold, { by }) {
