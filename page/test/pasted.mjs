@@ -138,7 +138,7 @@ const TEXTS = [
   ["estate", "120 Anna\n80 Ben", null, /nobody can part “120 Anna”/],
   ["estate", "Ann 12k\nBo 8k", "Ann=12|Bo=8", /“k” behind/],
   ["estate", "Ann\t$12k\nBo\t$8k", "Ann=$12|Bo=$8", /“k” behind/],
-  ["estate", "Ann 1,2 Mio. €\nBo 0,8 Mio. €", "Ann=1,2|Bo=0,8", /“Mio\. €” behind the numbers was left out/],
+  ["estate", "Ann 1,2 Mio. €\nBo 0,8 Mio. €", "Ann=1,2|Bo=0,8", /“Mio\. €” behind the numbers is taken as their unit/],
   ["estate", "Ann\t1,2 Mio. €\nBo\t800 Tsd. €", null, /several units: “Mio\. €” and “Tsd\. €”/],
   ["estate", "Ann 12 km\nBo 8 km", null, /nobody can part “Ann 12 km”/],
   ["estate", "Ann\t(1,234)\nBo\t80", /Ann=/, /read as −1234 or as −1\.234.*can’t be negative/],
