@@ -149,7 +149,7 @@ async function oneByOne(page, expect) {
     await quiet(page);
     if (k) continue;
     expect("the cell", await valueOf("rows.0.claim"), "103.000 €");
-    expect("own amounts", await valueOf("proposal.0"), "25000");
+    expect("own amounts", await valueOf("proposal.0"), "25000,00");
     expect("no question", /Which is it/.test(await page.text("#case .faults")), false);
   }
   expect("all is undone", await valueOf("rows.0.name"), "Adler");
