@@ -185,6 +185,8 @@ for (const [name, text, told] of [
   ["a mark in front", `\ufeff${plain}`, /nobody sees/],
   ["an answer", `> ${plain.replace(",", ",\n> ")}`, /begin with “>”/],
   ["a letter around it", `Dear all,\n${plain}\nYours`, /before the first \{[\s\S]*after the last \}/],
+  ["an answer, wrapped, with braces around", `{s. u.}\n> ${plain.replace("tw", "t\n> w")}\n\nGruß {F}`, /with “>”/],
+  ["quoted by bars", `| ${plain.replace("tw", "t\n| w")}`, /with “>”/],
   ["broken lines", plain.replace("tw", "t\nw"), /broken into lines/],
   ["packed", plain.replaceAll(",", "=2C").replace("one", "o=\nne"), /quoted-printable/],
   ["quote marks", plain.replace(/"(\w)/g, "“$1").replace(/"/g, "”"), /typographic/],
@@ -193,6 +195,8 @@ for (const [name, text, told] of [
   expect(`${name}, told`, unreadable(text).join("\n"), told);
 }
 expect("nothing to mend", mended('{"a":'), null);
+expect("no other advice beside the way", unreadable(`> ${plain}`, true).join(), "Its lines begin with “>”, as in the "
+  + "answer to a mail.");
 
 // ---- Amounts, names of rules, and the reasons of an estate
 

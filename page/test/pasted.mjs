@@ -86,6 +86,12 @@ const TEXTS = [
   ["estate", "Flat A: £380\nFlat B: £465\nShop: nil", "Flat A=£380|Flat B=£465|Shop=0", /Taken as 0: “nil”/],
   ["estate", "Ann\t12\nBo\tnéant\nCy\t5", "Ann=12|Bo=0|Cy=5", /Taken as 0: “néant”/],
   ["costs", "A – 8 €\nB – nichts\nA+B – 9 €", "A|B|8 €|0|9 €", /Taken as 0: “nichts”/],
+  ["estate", "Debts of the club in kEUR\nAnn 20\nBo 30", "Ann=20|Bo=30", /“Debts of the club in kEUR”, was taken/],
+  ["votes", "Quorum: 3 of 5\nAnn 1\nBo 1\nCy 3", "Ann=1|Bo=1|Cy=3", /“Quorum”, 3 of 5, was taken as votes needed/],
+  ["costs", "Dorp A alleen: 12\nDorp B alleen: 11\nallebei: 18", "Dorp A|Dorp B|12|11|18", /“allebei” is a group/],
+  ["estate", "Ann owes 120, Bo 80, Cy 40", "Ann=120|Bo=80|Cy=40", /parted between them/],
+  ["costs", "A\t450 T€\nB\t320 T€\nA+B\t690.000 €", /450 T€/, /“450 T€”\. Write it out, as 1 200 000/],
+  ["network", "Pipe quotes (GBP)\nWell - A: 42\nWell - B: 61\nA - B: 23", /^Well\|A\|B/, /“Pipe quotes \(GBP\)”, a/],
   // what there is to divide
   ["estate", "Ann\t20\nBo\t30\nAvailable in estate\t40", "Ann=20|Bo=30", /“Available in estate”, 40, was taken as the/],
   ["estate", "Ann 20\nBo 30\nFunds available for distribution: £40", "Ann=20|Bo=30", /, £40, was taken as the estate/],

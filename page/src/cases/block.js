@@ -98,6 +98,7 @@ const GREETING = new RegExp("^(hi|hello|hey|dear|hallo|liebe[rs]?|sehr|guten|bon
 const PERSON = /^\p{Lu}[\p{L}'’. -]*(, ?\p{Lu}[\p{L}'’. -]{0,40}:?|:)$/u; // "Rossi, M", or "Cleo:"
 const FULL_NAME = /^\p{Lu}[\p{L}'’.-]*( \p{Lu}[\p{L}'’.-]*){0,2}$/u;
 const PHONE = /(^|[:=]\s*)\+?0\d{5,}$/;
+const SOME_OF = /^\d+ (?:of|von|sur|de|van) \d+$/; // a quota
 const SAYING = /^(.*\S)(?:\s*[:=]\s*|\s{2,})([^\s:=].*)$/u;
 
 /** Whether a line without a number may be a person: "Rossi, M"; and "Cleo:" below a list. */
@@ -115,7 +116,7 @@ function waysOf(text, hasWords) {
   const last = words.at(-1), isWord = hasWords && words.length > 1 && NOTHING.test(last);
   if (isWord) return [[bare(words.slice(0, -1).join(" ")).replace(/\s*[:=–-]$/, ""), last]];
   const said = whole.replace(REMARK, "").replace(/(?<=[\p{L}\d])[.;,]$/u, "");
-  const isSaid = UNKNOWN.test(said) || isNumber(said) || parted(said); // 12 votes
+  const isSaid = SOME_OF.test(said) || UNKNOWN.test(said) || isNumber(said) || parted(said); // 12 votes
   if (said && isSaid) return PHONE.test(said) ? [] : [[bare(named), said]];
   return words.map((_, k) => [bare(words.slice(0, k).join(" ")), words.slice(k).join(" ")])
     .filter(([name, number]) => /\p{L}/u.test(name) && isNumberOrPart(number));

@@ -16,14 +16,15 @@ const ALONE = [ // a name and such a word
 ];
 const EACH = new RegExp("^(?:(?:each|every(?:one|body)?|any(?:one|body)|jede[rs]?|chacune?|ciascun[oa]|cada un[oa]|"
   + `ieder(?:een)?)(?: one| of them)? )?(?:${LONE}|einzeln|individually|separately)$`, "iu");
-const COUNTS = ["two|zwei|beiden?|both|deux|due|dos|twee", "three|drei|trois|tre|tres|drie",
+const COUNTS = ["two|zwei|beiden?|both|allebei|ambos|entramb[ie]|deux|due|dos|twee", "three|drei|trois|tre|tres|drie",
   "four|vier|quatre|quattro|cuatro", "five|fünf|cinq|cinque|cinco|vijf", "six|sechs|sei|seis|zes", "seven|sieben|sept",
   "eight|acht|huit"];
 const COUNT = `\\d+|${COUNTS.join("|")}`;
 const COUNTED = new RegExp(`(?:^|\\s)(${COUNT})(?=\\s|$)`, "iu");
 const ALL = new RegExp("^(?:(?:(?:all|alle|tous|toutes|tutt[ie]|tod[oa]s|allemaal)"
-  + `(?: of (?:them|us)| the| les| e| l[oa]s)?(?: (?:${COUNT}))?|both(?: of them)?|beide|alle beide)(?: (?:${WITH}))?`
-  + `|everybody|everyone|[Σ∑]|${WITH}|grand coalition|(?:the )?whole group)$`, "iu");
+  + `(?: of (?:them|us)| the| les| e| l[oa]s)?(?: (?:${COUNT}))?`
+  + "|both(?: of them)?|beide|alle beide|allebei|ambos|entramb[ie])"
+  + `(?: (?:${WITH}))?|everybody|everyone|[Σ∑]|${WITH}|grand coalition|(?:the )?whole group)$`, "iu");
 const PERHAPS = new RegExp(`^(?:(?:the|die|les?|i|los|las|de) )?(?:${COUNT})(?: of them)?(?: (?:${WITH}))?$`, "iu");
 
 const quoted = (texts) => texts.slice(0, MOST_TOLD).map((text) => `“${withEscapes(text)}”`).join(", ")

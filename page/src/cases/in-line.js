@@ -5,6 +5,7 @@ const END = "(?=\\s*(?:[,;.]|\\s(?:and|und|et|e|y|en)\\s|$))";
 const ITEM = new RegExp(`\\s*([^\\d,;:]*\\p{L}[^\\d,;:]*?)\\s*[ :=]\\s*(${NUMBER})${END}\\s*(?:[,;.]\\s*)*`
   + "(?:(?:and|und|et|e|y|en)\\s+)?", "uy");
 const BEHIND = new RegExp(`^\\s*(?:[:=–-]|gets|pays|bekommt|zahlt)?\\s*(${NUMBER})${END}`, "u");
+const VERB = /\s(?:owes|has|holds|claims|gets|pays|wants|schuldet|hat|hält|fordert|bekommt|zahlt|doit)$/u;
 const SHORT = /^\D{1,60}\s\p{Sc}?\d[\d.,]*$/u; // a line of a name and its number
 
 /** The names and numbers of a line of nothing else, each name once; null for another. */
@@ -14,7 +15,7 @@ function itemsOf(line) {
   while (ITEM.lastIndex < line.length) {
     const item = ITEM.exec(line);
     if (!item) return null;
-    found.push([item[1].trim(), item[2].trim()]);
+    found.push([item[1].trim().replace(VERB, ""), item[2].trim()]);
   }
   return found.length > 1 && new Set(found.map(([name]) => name)).size === found.length ? found : null;
 }

@@ -83,8 +83,15 @@ export function networkOf(pasted, { mark = ".", source = "", isTimes } = {}) {
   }
   const { links, fault } = joined(found, found.judge), out = whole === found ? [] : texts.map((text) => `“${text}”`);
   if (fault) return { fault };
+  if (rows !== block.rows) out.push(...titleOf(pasted, block));
   out.push(...left, ...found.units.map((unit) => `“${unit}”, the unit`));
   return { points, links, shape, left: out, told: block.notes, ...sourceOf(points, found, source) };
+}
+
+/** The line above links whose ends share a cell, if it is no word for them: told as it was. */
+function titleOf(pasted, { rows, lines }) {
+  const k = rows.findIndex((row) => row.some(Boolean)), text = (pasted[lines[k] - 1] ?? []).filter(Boolean).join("; ");
+  return PAIR.test(rows[k][0]) || HEADS.some((head) => head.test(text)) ? [] : [`“${text}”, a heading`];
 }
 
 /** A cell with a number and something beside it, as "ca. 12", in a column of numbers. */

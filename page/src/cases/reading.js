@@ -15,11 +15,14 @@ const MOST_KEPT = 200; // faults that are kept with their cells; of the others o
 
 const DATE = /^\s*(0\d\/\d{1,2}|\d{1,2}\/0\d)\s*$/;
 
+const LARGE = /\d\s*(?:k|t|m|mn|mio|mia|tsd|bn|million(?:en|s)?|thousand|tausend)\.?\s*(?:\p{Sc}|[a-z]{3})?$/iu;
+
 /** What to write in the place of some texts. */
 function hintOf(text) {
   if (/^[-–—] ?\p{Sc}?$|^(nil|zero|none|null|keine?)$/iu.test(text)) return " Write 0, or remove it.";
   if (UNKNOWN.test(text)) return " Write the number, or clear the cell.";
   if (/^[\d.,]+ ?%$/.test(text)) return " Write the amount, or a product such as 1/4 * 1000.";
+  if (LARGE.test(text)) return " Write it out, as 1 200 000, or leave the word away in all cells.";
   return /\d/.test(text) ? " Write the number alone, without words and signs."
     : " Write a number: 0, if there is none.";
 }

@@ -1,6 +1,7 @@
 // A table that was pasted into a list: what stands around it goes, and each of its columns finds the one it is for.
 import { readNumber } from "../exact/decimals.js";
 import { blockOf, looseText, PAGES } from "./block.js";
+import { withEscapes } from "../game/names.js";
 import { columnsFor, isKnownHead, knownHeads, widthFault } from "./columns.js";
 import { leftText, unframed } from "./frames.js";
 import { partedInLine } from "./in-line.js";
@@ -10,6 +11,7 @@ import { singleOf, withSingle } from "./single.js";
 import { unitsText, withoutUnits } from "./units.js";
 
 const MOST_NAME = 80; // letters
+const MOST_HEADS = 3; // words of two headings in a line
 const PROSE = /\d[^\t]*\s\p{L}{2,}\s[^\t]*\s\d+ ?\S*, /u;
 const IN_LINE = "The line of names and numbers was parted between them.";
 const SENTENCE = "This is one sentence. Give each a line: the name, a tab and the number.";
@@ -32,7 +34,8 @@ export function sheetOf(pasted, columns, { mark, single, amount, usual, isFirst 
   const { above, word, number, fault: several } = !fault && single ? singleOf(all, single) : {};
   if (fault || several) return { fault: fault ?? several };
   const usually = columns.filter(({ optional }) => !optional), from = usually.findIndex((column) => column.number);
-  const rows = all.filter((row) => row !== above), headings = isHead === false ? null
+  const body = all.filter((row) => row !== above), title = isFirst ? titleOf(given, body, columns) : null;
+  const rows = title ? body.slice(1) : body, headings = isHead === false || title ? null
     : headingsOf(rows, Math.max(0, from), mark) ?? knownHeads(rows, columns);
   const isLine = pasted.every((row) => row.filter(Boolean).length < 2); // and no row of cells
   const heads = isFirst && isHead === undefined && headings && unknownHeads(headings, rows, { columns, isLine });
@@ -43,9 +46,12 @@ export function sheetOf(pasted, columns, { mark, single, amount, usual, isFirst 
   const lost = widthFault(rows, headings, found, columns);
   if (lost) return { fault: lost };
   const own = [...units].filter(([c]) => targets[c]).map(([, unit]) => unit);
-  const isPercent = own.includes("%") || targets.some((column, c) => column?.number && /%/.test(headings?.[c] ?? ""));
+  const isPercent = own.includes("%") || /%/.test(title ?? "")
+    || targets.some((column, c) => column?.number && /%/.test(headings?.[c] ?? ""));
   const notes = [
-    leftText([...left, ...pages]), isParted && IN_LINE, ...counted, pastedText(rows, headings, targets, usual),
+    leftText([...left, ...pages]), isParted && IN_LINE, ...counted,
+    title && `The first line, “${withEscapes(title)}”, was taken as a heading.`,
+    pastedText(rows, headings, targets, usual),
     unitsText([...new Set(own)]), above && `“${word}”, ${number}, was ${
       (amount ?? number) === number ? `taken as ${single.title.toLowerCase()}` : "left out"}.`,
   ].filter(Boolean);
@@ -59,6 +65,16 @@ function besides(rows, headings, targets, mark) {
   const heads = (headings ?? []).map((head, c) => ({ head, c })).filter(({ head, c }) => head && !targets[c]);
   const spare = heads.filter(({ head, c }) => isSpare(rows.map((row) => row[c]), mark, head));
   return { spare, beside: shownIn(rows.flatMap((row) => row.filter((_, c) => !targets[c])), mark) };
+}
+
+/** The line of several words above names and numbers that was parted as they are, and has a word for one of the
+ * `columns`: no heading of each; null if there is none. */
+function titleOf(given, [first = []], columns) {
+  const bare = (text) => text.replace(/\s+/g, ""), own = bare(first.join(""));
+  const lines = given.map((row) => row.filter(Boolean));
+  const line = lines.find(([text, other]) => text && !other && bare(text) === own)?.[0];
+  const isTitle = first.length === 2 && line && !/\d/.test(line) && line.split(/\s+/).length > MOST_HEADS;
+  return isTitle && first.some((text) => isKnownHead(text, columns)) ? line : null;
 }
 
 /** Whether a column that was left out may be other votes: it has numbers, and no parts of a whole. */

@@ -12,7 +12,7 @@ const DONE = [
   [/^[\ufeff\u200b\u200e\u200f\u2060]/, "Before it is a mark that nobody sees (a byte order mark, or a "
     + "blank without width)."],
   [/\}\s*\{"(answer|game|refused|usage)"/, "It has more than one line: give one at a time."],
-  [/^\s*>/m, "Its lines begin with “>”, as in the answer to a mail."],
+  [/^\s*[>|]/m, "Its lines begin with “>”, as in the answer to a mail."],
   [/=3D|=\r?\n/, "It is written as mail programs pack texts (“quoted-printable”), with “=” at the ends of lines."],
   [/^\s*[^{\s>\ufeff\u200b]/, "Other words come before the first {."],
   [/\}[^{}]*[^\s{}][^{}]*$/, "Other words come after the last }."],
@@ -20,21 +20,39 @@ const DONE = [
   [/[^,{}[\]:\s"]\r?\n[^\s]/, "It was broken into lines in the middle of a word."],
 ];
 
-/** What a person may do about a text that is no JSON, in sentences. */
-export function unreadable(text) {
+/** What has happened to a text that is no JSON, and what a person may do about it, unless it `isMended`, in
+ * sentences. */
+export function unreadable(text, isMended = false) {
   if (text.length > MOST_READ || !/[{}]/.test(text)) return [];
-  return [...DONE.filter(([pattern]) => pattern.test(text)).map(([, sentence]) => sentence), COPY];
+  const done = DONE.filter(([pattern]) => pattern.test(text)).map(([, sentence]) => sentence);
+  return isMended ? done : [...done, COPY];
 }
 
 /** The text without what a mail program did to it; null where that is no JSON either, or nothing was done. */
 export function mended(text) {
   if (text.length > MOST_READ) return null;
-  const plain = text.replace(MARKS, "").replace(/^[ \t]*(>[ \t]?)+/gm, "");
+  const plain = text.replace(MARKS, "").replace(/^[ \t]*([>|][ \t]?)+/gm, "");
   const from = plain.indexOf("{"), to = plain.lastIndexOf("}");
   if (from < 0 || to < from) return null;
-  const inside = plain.slice(from, to + 1), unbroken = inside.replace(/\r?\n/g, "");
-  const ways = [inside, unbroken, unpacked(inside), unbroken.replace(QUOTES, '"'), inside.replace(QUOTES, '"')];
+  const own = [plain.slice(from, to + 1), objectIn(plain)].filter(Boolean);
+  const ways = own.flatMap((inside) => {
+    const unbroken = inside.replace(/\r?\n/g, "");
+    return [inside, unbroken, unpacked(inside), unbroken.replace(QUOTES, '"'), inside.replace(QUOTES, '"')];
+  });
   return ways.find((way) => way && way !== text && isJson(way)) ?? null;
+}
+
+/** The first object in a text, to the brace that ends it; null where none does. */
+function objectIn(text) {
+  const from = text.search(/\{\s*"/);
+  for (let k = from, depth = 0, isString = false; from >= 0 && k < text.length; k++) {
+    const letter = text[k];
+    if (isString && letter === "\\") k += 1;
+    else if (letter === '"') isString = !isString;
+    else if (!isString) depth += letter === "{" ? 1 : letter === "}" ? -1 : 0;
+    if (depth === 0) return text.slice(from, k + 1);
+  }
+  return null;
 }
 
 /** Quoted-printable, undone. */

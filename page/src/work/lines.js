@@ -54,7 +54,8 @@ export function compared(line, agreed, ask) {
 }
 
 function helpOf(line) {
-  return { help: unreadable(line), mended: mended(line) };
+  const text = mended(line);
+  return { help: unreadable(line, text !== null), mended: text };
 }
 
 /** For asking the program anew: the shares as texts, and the game of which they may be, its own or the agreed. */
