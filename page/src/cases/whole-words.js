@@ -2,8 +2,8 @@
 import { readNumber } from "../exact/decimals.js";
 import { isEmpty } from "./sum-row.js";
 
-const FOR = "available|on hand|in hand|at (?:the )?bank|left|now|for (?:distribution|division|(?:unsecured )?creditors"
-  + "|dividends?)|to (?:be )?(?:distributed?|divided?|shared?)|in (?:the )?(?:estate|bank)";
+const FOR = "available|on hand|in hand|at (?:the )?bank|left|now|(?:for|to) (?:distribution|division"
+  + "|(?:unsecured )?creditors|dividends?)|to (?:be )?(?:distributed?|divided?|shared?)|in (?:the )?(?:estate|bank)";
 const OF_MONEY = "estate|assets|funds|cash|proceeds|amount|sum|money|monies|balance";
 const IN_GERMAN = "(?:insolvenz|teilungs|konkurs)?masse|nachlass|verfügbar(?:e[rsn]?)?(?: (?:masse|mittel|betrag|summe"
   + "|vermögen|nachlass))?|zu verteilen(?:de[rs]?)?(?: (?:masse|betrag|summe))?|zur verteilung(?: verfügbar)?";

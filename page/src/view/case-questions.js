@@ -44,7 +44,7 @@ function wholeQuestion({ r, name, amount }, typed, { onReset, onChange }) {
   };
   const take = () => onReset({ ...typed, estate: amount, rows }, "The estate", true);
   const asked = `Is “${withEscapes(name)}”, ${withEscapes(amount)}, what there is to divide, and no claim? `;
-  return el("p", { class: "note" }, asked, button("Yes, it is the estate", take, { class: "quiet" }), " ",
+  return el("p", { class: "note asked" }, asked, button("Yes, it is the estate", take, { class: "quiet" }), " ",
     button("No, a claim", keep, { class: "quiet" }));
 }
 
