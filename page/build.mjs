@@ -47,16 +47,14 @@ function modulesOf(entry) {
   return found;
 }
 
-/** The modules that page and worker share, which stand in the page once, and those of each alone. */
+/** The modules that page and worker share, which stand in the page once, and those of each alone; and what unpacks
+ * those of the page. */
 function scriptsOf() {
-  const page = modulesOf("view/main.js"), worker = modulesOf("worker.js");
+  const [page, worker, begin] = ["view/main.js", "worker.js", "view/begin.js"].map(modulesOf);
   const isShared = ([path]) => page.has(path) && worker.has(path);
   const script = (modules) => `"use strict";\n${modules.map(([, code]) => code).join("\n")}`;
-  return {
-    SHARED: inScript(script([...worker].filter(isShared))),
-    WORKER: script([...worker].filter((one) => !isShared(one))),
-    PAGE: inScript(script([...page].filter((one) => !isShared(one)))),
-  };
+  const [PAGE, WORKER, first] = [page, worker, begin].map((all) => script([...all].filter((one) => !isShared(one))));
+  return { SHARED: inScript(script([...worker].filter(isShared))), WORKER, PAGE, BEGIN: inScript(first) };
 }
 
 const names = new Map();
@@ -102,22 +100,23 @@ function inScript(code) {
 
 /** `own` is the module as it stands in a page, and `out` a page that may stand there already. */
 function pageOf(own, commit, out) {
-  const { WORKER, ...plain } = scriptsOf(), text = (name) => readFileSync(join(SRC, name), "utf8");
-  const scripts = { ...plain, MODULE: own, WORKER: packedText(WORKER, out) };
+  const { WORKER, PAGE, ...plain } = scriptsOf(), text = (name) => readFileSync(join(SRC, name), "utf8");
+  const packed = { WORKER: packedText(WORKER, "worker-code", out), PAGE: packedText(PAGE, "page-code", out) };
+  const scripts = { ...plain, ...packed, MODULE: own };
   const styles = ["palette.css", "style.css", "answer.css", "picture.css", "narrow.css", "print.css"];
   return text("page.html")
     .replace("VERSION", version())
     .replaceAll("COMMIT", commit)
     .replaceAll("DIGEST", createHash("sha256").update(unpacked(own)).digest("hex"))
     .replace("/* STYLE */", () => styles.map(styleOf).join("\n"))
-    .replace(/\/\* (SHARED|MODULE|WORKER|PAGE) \*\//g, (_, name) => scripts[name]);
+    .replace(/\/\* (SHARED|MODULE|WORKER|PAGE|BEGIN) \*\//g, (_, name) => scripts[name]);
 }
 
-/** A text packed by zlib, in base64; as the page at `out` has it where that is the same, since other versions may pack
- * otherwise. */
-function packedText(text, out) {
+/** A text packed by zlib, in base64; as the page at `out` has it in the element `id` where that is the same, since
+ * other versions may pack otherwise. */
+function packedText(text, id, out) {
   const page = existsSync(out) ? readFileSync(out, "utf8") : "";
-  const [, old] = /id="worker-code" type="text\/plain">\s*([\w+/=]+)\s*</.exec(page) ?? [];
+  const [, old] = new RegExp(`id="${id}" type="text/plain">\\s*([\\w+/=]+)\\s*<`).exec(page) ?? [];
   const isSame = old && inflateSync(Buffer.from(old, "base64")).toString() === text;
   return isSame ? old : deflateSync(text, { level: 9 }).toString("base64");
 }

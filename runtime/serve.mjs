@@ -13,8 +13,8 @@
 // the document. The words follow, with a zero byte between each two, and then the document. An answer is two such
 // numbers, the status and how many bytes the line has, and the line. If the module stops, the status is 70, and the
 // line says why. The first answer comes before any request, has the status 0 and no line, and says that the module is
-// there. The word --version asks for the version. With --tell the first word may be tell (telling.mjs), which is for the
-// Python package: what it asks for, the program doesn't do.
+// there. The word --version asks for the version. With --tell the first word may be tell (telling.mjs), for the Python
+// package: what it asks for, the program doesn't do.
 //
 // The process ends with 0 if the input ends between two requests, 2 if the options are none of the above or a word
 // after --lines is no command on a document, 5 if the input ends within a request, has one that is too long, or can't

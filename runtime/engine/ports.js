@@ -68,8 +68,8 @@ export function print(bytes) {
   for (let count = 0; count < bytes.length; ) count += moved(() => fs.writeSync(1, bytes, count), WRITE_FAULT);
 }
 
-// What a call of the system gives, such as how many bytes it moved. While a pipe isn't ready it is tried again, ever less
-// often: to ask costs the processor, and whoever reads may be slow.
+// What a call of the system gives, such as how many bytes it moved. While a pipe isn't ready it is tried again, ever
+// less often: to ask costs the processor, and whoever reads may be slow.
 function moved(call, status) {
   for (let pause = 1; ; pause = Math.min(2 * pause, MOST_PAUSE)) {
     try {
