@@ -177,7 +177,7 @@ const lists = [
     await settle(page);
     expect("by size", await message(page), /Read by size[\s\S]*Number 4, 6, is that of Player 1 \+ Player 2/);
     expect("answer", await page.text(".lead"), /4.50, .*4.50 .*3.00/);
-    await page.click("Undo “Use this list”");
+    await page.click("Undo “Read it by size”");
     await settle(page);
     expect("undone", await page.text(".lead"), /2.00, .*2.00 .*8.00/);
   }],
