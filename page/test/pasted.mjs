@@ -100,7 +100,7 @@ const TEXTS = [
   ["estate", "Ann\t20\nBo\t30\nCash at bank, net\t40", /Cash at bank/, /Is “Cash at bank, net”, 40, what/],
   ["estate", "Ann\t20\nBo\t30\nCash at bank, net\t40", "Ann=20|Bo=30", /0 empty/, "Yes, it is the estate"],
   ["estate", "Hi,\nthe estate comes to 84,000 after costs.\n\nAnn\t20\nBo\t30", "Ann=20|Bo=30",
-    /as it is no row: “the estate .*Is 84,000 what there is to divide\? Yes, 84,000/],
+    /no rows: “Hi,”, “the estate .*Is 84,000 what there is to divide\? Yes, 84,000/],
   ["estate", "Who\tClaim filed\tAdmitted\nAnn\t20\t20\nBo\t30\t25\nCy\t9\tno", null, /Which column is “Claim”/],
   ["estate", "Creditor\tClaim filed\tAdmitted\nAnn\t20\t20\nBo\t30\t25\nCy\t9\trejected", /Cy=rejected/,
     /no number: “rejected”\. Write a number: 0, if there is none/, "“Admitted”"],

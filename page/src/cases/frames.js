@@ -50,11 +50,8 @@ export function leftText(left) {
   const shown = (words) => {
     return `“${withEscapes(words.slice(0, MOST_LETTERS))}${words.length > MOST_LETTERS ? " …" : ""}”`;
   };
-  const textOf = (why, all) => all.length > 0 && `Left out, as ${why}: ${all.slice(0, MOST_TOLD).map(shown).join(", ")}`
-    + `${all.length > MOST_TOLD ? " …" : ""}.`;
-  const hasNumber = (text) => /\d/.test(text.replace(YEAR, "")), isOne = left.filter(hasNumber).length < 2;
-  return [
-    textOf("no number stands beside", left.filter((text) => !hasNumber(text))),
-    textOf(isOne ? "it is no row" : "these are no rows", left.filter(hasNumber)),
-  ].filter(Boolean).join(" ");
+  const hasNumber = left.some((text) => /\d/.test(text.replace(YEAR, "")));
+  const why = !hasNumber ? "no number stands beside" : left.length > 1 ? "these are no rows" : "it is no row";
+  const more = left.length > MOST_TOLD ? " …" : "";
+  return left.length ? `Left out, as ${why}: ${left.slice(0, MOST_TOLD).map(shown).join(", ")}${more}.` : "";
 }
