@@ -46,7 +46,7 @@ export class Undoing {
 
   remember(what, cells = this.snapshot()) {
     this.steps.add(what, cells);
-    this.typed = null;
+    this.typed = this.still = null;
     this.show();
   }
 
