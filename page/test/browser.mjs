@@ -118,7 +118,7 @@ class Page {
 
   async open(url) {
     await this.send("Page.navigate", { url });
-    await this.until("document.readyState === 'complete'");
+    await this.until("document.readyState === 'complete' && !document.getElementById('page-code')"); // it has begun
   }
 
   async run(expression) {

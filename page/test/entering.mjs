@@ -147,7 +147,7 @@ const lists = [
     await useList(page, "1\t2\t3\n4\t5\t6");
     expect("two rows", await message(page), /2 rows of 3 numbers, so 2 games/);
     await useList(page, "A\t5\t7\nB\t3\t7\nA+B\t9\t7");
-    expect("three columns", await message(page), /a group and one number, and here one has more: “A; 5; 7”/);
+    expect("three columns", await message(page), /Nothing was taken yet\. Which column is the gain\?/);
     expect("and nothing changed", await page.text(".lead"), /together 16.00/);
   }],
 
