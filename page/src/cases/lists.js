@@ -16,8 +16,8 @@ const COST = new RegExp("cost|need|price|fee|charge|amount|kosten|preis|betrag|g
   + MONEY, "iu");
 const heads = (words) => new RegExp(`^(?!.*(${COST.source})).*(${words})`, "iu"); // and no word of a cost
 const CREDITOR = /creditor|claimant|lender|party|name|gläubiger|schuldeis|créancier|acreedor/iu;
-const CLAIM = new RegExp("claim(?!ant)|admitted|allowed\\b|(?:filed|lodged)(?! ?(?:on|\\(?da))|angemeldet|festgestellt|anerkannt|admise?|"
-  + "amount|owed|debt|due\\b|forderung|betrag|schuld(?!n|eis)|créance|montant|"
+const CLAIM = new RegExp("claim(?!ant)|admitted|allowed\\b|(?:filed|lodged)(?! ?(?:on|\\(?da))|angemeldet|festgestellt|"
+  + "anerkannt|admise?|amount|owed|debt|due\\b|forderung|betrag|schuld(?!n|eis)|créance|montant|"
   + MONEY, "iu");
 const MOST_LANDINGS = mostOf("airport"), MOST_CLAIMS = mostOf("bankruptcy"), MOST_NAME = LIMITS["bytes of a name"];
 
