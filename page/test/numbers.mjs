@@ -109,11 +109,16 @@ const LISTS = [
   ["1\tA\t8\n2\tB\t7\n3\tA+B\t10", "8 7 10"], ["8\tA\n7\tB\n9\tA+B", "8 7 9"],
   ["Costs 2026\n\n8\n\n6\n8\n10\n6\n12", /6 numbers alone|is no number/],
   ["[".repeat(100000) + "1", "1"], ["[(3.50), [4], -1]", "3.50 4 -1"],
+  // a sum of the lines of one player each isn't what all pay together, until somebody says so
+  ["A\t8\nB\t7\nSumme\t15", "Summe 2 sum"], ["A\t1.200\nB\t1.300,50\nTotal:\t2.500,50", "Total: 2 sum"],
+  ["A\t8\nB\t7\nSumme\t15", "8 7 15", true], ["A\t8\nB\t7\nSumme\t15", "8 7 ", "sum"],
+  ["A\t8\nB\t7\nC\t5\nA+B\t9\nTotal\t20", "Total 3 sum"], ["A\t8\nB\t?\nTotal\t8", "8  8"],
+  ["A\t8\nB\t7\nTotal\t12", "8 7 12"], ["A\t8\nB\t7\nAll\t15", "8 7 15"],
 ];
-for (const [text, wanted] of LISTS) {
-  const { state, fault, asked, count, columns } = tableOf(text);
+for (const [text, wanted, isWhole] of LISTS) {
+  const { state, fault, asked, count, isSum, columns } = tableOf(text, [], "size", ".", { isWhole });
   const which = columns?.map(({ title }) => title).join("?");
-  const found = fault ?? which ?? (asked ? `${asked} ${count}` : state.numbers.slice(1).join(" "));
+  const found = fault ?? which ?? (asked ? `${asked} ${count}${isSum ? " sum" : ""}` : state.numbers.slice(1).join(" "));
   if (wanted instanceof RegExp ? wanted.test(found) : wanted === found) continue;
   faults += 1;
   console.log(`the list ${JSON.stringify(text.slice(0, 80))} is read as ${found}, and not ${wanted}`);

@@ -1,6 +1,7 @@
 // Groups as people write them without a + between their members: "Villars seul", "North and South", "les trois". What
 // is so read is told, and asked where it isn't certain.
 import { readNumber } from "../exact/decimals.js";
+import { Rational } from "../exact/rational.js";
 import { isSumWord, withEscapes } from "../game/names.js";
 
 const MOST_TOLD = 4; // groups in other words that are named
@@ -39,7 +40,8 @@ export function membersIn(group) {
 }
 
 /** Finds groups that are written without +, as "North & South" where both have a line, or "All", and leaves out that of
- * nobody: {read, told}, or {fault}, or {asked, count}. Lines are {members, number, line}, which is changed. */
+ * nobody: {read, told}, or {fault}, or {asked, count, isSum}. `isWhole` is what was said of the line that was asked
+ * about: "sum" leaves it out. Lines are {members, number, line}, which is changed. */
 export function inOtherWords(all, isWhole) {
   const used = new Set(all.flatMap(({ members }) => (members.length > 1 ? members : [])));
   const alone = all.filter((line) => isLone(line) && !used.has(line.members[0]));
@@ -50,12 +52,14 @@ export function inOtherWords(all, isWhole) {
   const read = all.filter((line) => !nobody.includes(line) && line !== each);
   const words = withoutAlone(read, used);
   for (const line of andGroups(read, used)) Object.assign(line, { members: line.parts, words: line.members[0] });
-  const { asked, count, fault } = wholeOf(read, isWhole);
-  if (asked || fault) return { asked, count, fault };
+  const { asked, count, isSum, fault, sum } = wholeOf(read, isWhole);
+  if (asked || fault) return { asked, count, isSum, fault };
+  if (sum) read.splice(read.indexOf(sum), 1);
   const { read: full, told: ofEach = "", fault: clash } = each ? withEach(read, each) : { read };
   if (clash) return { fault: clash };
   const groups = read.map((line) => line.words).filter(Boolean), be = groups.length > 1 ? "are groups" : "is a group";
-  const told = (groups.length ? ` ${quoted(groups)} ${be}.` : "") + (words.length
+  const ofSum = sum ? ` “${withEscapes(sum.members[0])}” was left out, as a sum of other lines.` : "";
+  const told = ofSum + (groups.length ? ` ${quoted(groups)} ${be}.` : "") + (words.length
     ? ` ${quoted(words)} beside the names was left out.` : "") + ofEach;
   return { read: full, told: told + (nobody.length ? " The group of nobody was left out." : "") };
 }
@@ -107,8 +111,17 @@ function countIn(text) {
   return word === undefined ? undefined : place < 0 ? Number(word) : place + 2;
 }
 
+/** Whether a number is the sum of those of lines, by one of the two decimal marks. */
+function isSumOf(number, lines) {
+  return [".", ","].some((mark) => {
+    const [own, ...values] = [number, ...lines.map((line) => line.number)].map((text) => readNumber(text, mark).value);
+    return Boolean(own) && values.every(Boolean) && own.equals(Rational.sum(values));
+  });
+}
+
 /** Puts all players into the place of a line for all together: one that says so; or, if somebody said so (`isWhole`),
- * one that says how many, or the one line that is left where all other groups are there. */
+ * one that says how many, or the one line that is left where all other groups are there. One that is named as a sum,
+ * and is that of the lines of one player each, is asked about. */
 function wholeOf(read, isWhole) {
   const textOf = ({ members: [one] }) => one, lone = read.filter(isLone);
   const inside = new Set(read.flatMap(({ members }) => (members.length > 1 ? members : [])));
@@ -124,7 +137,9 @@ function wholeOf(read, isWhole) {
   if (read.some(({ members }) => members.length === n)) {
     return { fault: named && `${line.line}“${withEscapes(text)}” is none: all together have a line. Leave it out.` };
   }
-  if (!isSure && isWhole === undefined) return { asked: text, count: n };
+  const isSum = line === named && isSumWord(text) && isSumOf(line.number, lone.filter((one) => one !== line));
+  if (isSum && isWhole === "sum") return { sum: line };
+  if ((isSum || !isSure) && isWhole === undefined) return { asked: text, count: n, isSum };
   if (isSure || isWhole) Object.assign(line, { members: [...all].filter((one) => one !== text), words: text });
   return {};
 }

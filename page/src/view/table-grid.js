@@ -341,9 +341,8 @@ class TableGrid {
       return askIn(this.element, this.message, [asked, ways]);
     }
     if (found.asked) {
-      return askIn(this.element, this.message, ["Nothing was taken yet. ",
-        `Is “${withEscapes(found.asked)}” all ${found.count} others together? `,
-        answer("Yes, all together", { isWhole: true }), answer("No, a player", { isWhole: false })]);
+      const [asked, ...both] = wholeAsked(found, this.kind);
+      return askIn(this.element, this.message, [`Nothing was taken yet. ${asked} `, both.map((one) => answer(...one))]);
     }
     if (!state && found.way) {
       return askIn(this.element, this.message, [`Nothing was taken yet. ${found.fault} `, answer(...found.way)]);
@@ -390,9 +389,4 @@ function namedGroups(above) {
   const named = above.filter(Boolean), rest = above.length - named.length;
   return named.length > 0 && el("details", { class: "named" }, el("summary", {}, "Which, and the larger groups"),
     el("ul", {}, named.map((text) => el("li", {}, text)), rest > 0 && el("li", {}, `and ${rest} more`)));
-}
-
-/** Which group a number was read as, where the orders differ. */
-function placeOf({ place, number, mask }, names) {
-  return place ? ` Number ${place}, ${withEscapes(number)}, is that of ${groupLabel(names, mask)}.` : "";
 }

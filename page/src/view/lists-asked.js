@@ -1,0 +1,19 @@
+// What is asked and said of a list of groups that was read.
+import { groupLabel } from "../cases/tables.js";
+import { withEscapes } from "../game/names.js";
+
+/** What is asked of a line that may be all together, and the two answers. */
+export function wholeAsked({ asked, count, isSum }, { isCost }) {
+  const line = `Is “${withEscapes(asked)}”`;
+  if (!isSum) return [`${line} all ${count} others together?`,
+    ["Yes, all together", { isWhole: true }], ["No, a player", { isWhole: false }]];
+  const what = `what all ${isCost ? "pay" : "gain"} together`;
+  return [`${line} ${what}, or only the sum of the ${count} lines of one player each?`,
+    [isCost ? "What all pay together" : "What all gain together", { isWhole: true }],
+    ["Only the sum: leave it out", { isWhole: "sum" }]];
+}
+
+/** Which group a number was read as, where the orders differ. */
+export function placeOf({ place, number, mask }, names) {
+  return place ? ` Number ${place}, ${withEscapes(number)}, is that of ${groupLabel(names, mask)}.` : "";
+}
