@@ -1,9 +1,11 @@
 // Runways of more landings than the program takes: what the page calculates by itself, and that it says so.
 import { countText } from "../exact/decimals.js";
+import { OWN_PROVED } from "../tell/proved.js";
 import { plainPoints, quoted } from "../tell/rule-names.js";
 import { Rational } from "../exact/rational.js";
 import { extremes } from "./extremes.js";
 import { columnHead, el } from "./dom.js";
+import { footText } from "./sheet-check.js";
 import { movedText, withSum } from "./format.js";
 import { keepButton, pinnedNote, pinnedText, pinTools, sinceKept } from "./pinned.js";
 import { linesOf, ownSum, shareCell } from "./shares-table.js";
@@ -171,8 +173,9 @@ export function beyondSheet(beyond, { format, unit, today, pinned, labelOfCell, 
       pinned.pin && el("p", { class: "hint" }, pinnedText(pinned, named[0], rows, { format, labelOfCell })),
       points.some(({ totals }) => format.isMoved(totals, rows)) && el("p", { class: "hint" }, movedText(rows))),
     el("section", {}, typesTable(rows, named, format)),
-    el("section", {}, el("h2", {}, "How it was found"), beyondTexts(beyond).map((text) => el("p", {}, text))),
+    el("section", {}, el("h2", {}, "How it was found"), beyondTexts(beyond).map((text) => el("p", {}, text)),
+      el("p", {}, OWN_PROVED)),
     sign,
-    el("section", {}, el("p", { class: "hint" }, document.querySelector("footer p").textContent)),
+    el("section", {}, el("p", { class: "hint" }, footText())),
   ];
 }

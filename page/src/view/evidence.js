@@ -4,6 +4,7 @@ import { listed } from "../game/words.js";
 import { coarseNumbers, coarseText } from "../tell/coarse-text.js";
 import { failureText } from "../tell/failures.js";
 import { plainPoints, ruleFile } from "../tell/rule-names.js";
+import { COMPARE } from "../tell/whence.js";
 import { button, el } from "./dom.js";
 import { fileButtons, fingerprint, shown } from "./files.js";
 import { CALCULATED } from "./questions.js";
@@ -75,7 +76,7 @@ export function evidenceParts(result, { kind, typed: { coarse }, file: opened },
       el("li", {}, "Send the line: the answer with its evidence. ", fileButtons(line, file)),
       el("li", {}, "The others open this page, choose “Check an answer”, and give it both files: is it the agreed ",
         "game, and does the certificate hold? They should get the page not from you, but from the project’s ",
-        "repository. Its “About this page” has to name the same SHA-256. Tell them the address of that repository.")),
+        `repository: tell them its address. ${COMPARE}`)),
     el("p", { class: "tools" }, button("Check an answer that you received", () => 0, { "data-show": "verify" })),
     shown("The game’s file", result.text), shown("The line with its evidence", line.trim()),
     meaning(answer, game.perHead),

@@ -11,12 +11,14 @@ import { Rational } from "../exact/rational.js";
 import { fileNames } from "../cases/coarse.js";
 import { coarseText, dividedText } from "../tell/coarse-text.js";
 import { tiesText } from "../tell/other-pairs.js";
-import { plainPoints, ruleFile, sourceOf } from "../tell/rule-names.js";
+import { OWN_PROVED } from "../tell/proved.js";
+import { plainPoints, sourceOf } from "../tell/rule-names.js";
 import { Namer } from "../tell/words.js";
 import { listed } from "../game/words.js";
 import { lead, notices, solutionOf } from "./answer.js";
 import { beyondSheet } from "./beyond.js";
 import { beyondPower } from "./beyond-power.js";
+import { checkOf } from "./sheet-check.js";
 import { columnHead, el, refill } from "./dom.js";
 import { knownDigest } from "./files.js";
 import { fitOnPaper } from "./fit.js";
@@ -46,9 +48,6 @@ const MOST_SAVING = 8; // rows of whom each saving is named
 const MOST_ALONE = 900; // the same if there is no picture
 const MOST_SIGNING = 12; // parties that have a line each
 
-const OPEN = "Open coop.html from the project’s repository (the sender has to give you its address). Its “About this "
-  + "page” has to name the SHA-256 that is at the foot of this sheet. Choose";
-const TYPE_IN = " Or simply type the numbers into that page: the answer has to be the same.";
 const AREA = "The dark area, if there is one, contains the divisions by which no group could do better by itself.";
 const OF_FILE = " This is the SHA-256 of the file. The box below contains the same numbers, as this page writes them.";
 const OF_TEXT = " This is the SHA-256 of the text in the box below, with a line end after it.";
@@ -86,7 +85,8 @@ function fillSheet(sheet, session, typed) {
 function beyondOn(sheet, view) {
   const { result: { beyond } } = view;
   sheet.className = "tight";
-  refill(sheet, headOf(view), beyond.game ? beyondPower(beyond, { ...view, wide: WIDE, isPaper: true })
+  refill(sheet, headOf(view), beyond.game
+    ? [beyondPower(beyond, { ...view, wide: WIDE, isPaper: true }), el("p", { class: "hint" }, OWN_PROVED)]
     : beyondSheet(beyond, { ...view, sign: signing(beyond.rows) }));
 }
 
@@ -345,7 +345,7 @@ function toldOf({ sentences, items, last = "" }) {
   return told.filter(Boolean);
 }
 
-// ---- What is agreed on, and how to check it
+// ---- What is agreed on
 
 /** Names the file with the numbers: the file that was opened, as long as they are its own, otherwise the page's. */
 function numbersOf({ file, kind, coarse, result: { text } }) {
@@ -388,17 +388,4 @@ function signing(rows) {
 function shownTitles({ result, withProposal }) {
   const own = solutionOf(result) ?? result.points[0];
   return (withProposal ? result.points : [own]).map(({ title }) => title);
-}
-
-function checkOf({ result: { rule, answer, line, game }, kind, doubt, coarse }) {
-  const foot = document.querySelector("footer p").textContent;
-  if (doubt) return el("section", {}, el("p", { class: "hint" }, foot));
-  const steps = line && !game.ballots
-    ? `${OPEN} “Check an answer”, and give it the agreed file and the line with the certificate, `
-      + `${fileNames(kind.id, coarse).line}-${ruleFile(answer, game.perHead)}.json. `
-      + `Two independent checkers say whether these shares are the ${rule} of the agreed game. `
-      + "You can check by hand, too: the page lists the form and the eight conditions under “What a yes means”."
-    : `${OPEN} “Open a saved case”, and give it the agreed file. It works out the answer anew.`;
-  return el("section", {}, el("h2", {}, "How to check it"), el("p", {}, steps, TYPE_IN),
-    el("p", { class: "hint" }, foot));
 }

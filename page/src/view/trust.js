@@ -63,7 +63,7 @@ function trusted() {
         `translation. On ${COMPARED} documents the module was compared with the program as it is built for Linux.`),
       el("li", {}, el("b", {}, "The page’s own checker. "), "It is some 800 lines of JavaScript in this file, shares ",
         "nothing with the program, and isn’t proved. You trust these lines and this browser.")),
-    el("p", {}, "Each of the two answers by itself. The project has a third checker, in Python. Nothing that you type ",
-      "leaves this page, and nothing is kept."),
+    el("p", {}, "Each of the two answers by itself. They share no code, but have the same makers. The project has a third ",
+      "checker, in Python. Nothing that you type leaves this page, and nothing is kept."),
   ];
 }

@@ -1,0 +1,26 @@
+// The end of the one printed page: how to check it, what is proved, and by which page it was made.
+import { fileNames } from "../cases/coarse.js";
+import { provedText } from "../tell/proved.js";
+import { ruleFile } from "../tell/rule-names.js";
+import { COMPARE } from "../tell/whence.js";
+import { el } from "./dom.js";
+
+const TAKE = "Take coop.html from the project’s repository (the sender has to give you its address). ";
+const TYPE_IN = " Or simply type the numbers into that page: the answer has to be the same.";
+
+/** By which page the sheet was made. */
+export const footText = () => document.querySelector("footer p").textContent;
+
+export function checkOf({ result: { rule, answer, line, game, points }, kind, doubt, coarse, withProposal }) {
+  if (doubt) return el("section", {}, el("p", { class: "hint" }, footText()));
+  const hasLine = line && !game.ballots;
+  const steps = hasLine
+    ? `Choose “Check an answer”, and give it the agreed file and the line with the certificate, `
+      + `${fileNames(kind.id, coarse).line}-${ruleFile(answer, game.perHead)}.json. `
+      + `Two checkers that share no code, by the same makers, say whether these shares are the ${rule} of the agreed `
+      + "game. You can check by hand, too: the page lists the form and the eight conditions under “What a yes means”."
+    : "Choose “Open a saved case”, and give it the agreed file. It works out the answer anew.";
+  return el("section", {}, el("h2", {}, "How to check it"), el("p", {}, `${TAKE}${COMPARE} ${steps}${TYPE_IN}`),
+    el("p", {}, provedText(hasLine && rule, withProposal && points.length > 1)),
+    el("p", { class: "hint" }, footText()));
+}
