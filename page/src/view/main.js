@@ -237,6 +237,7 @@ function begin() {
   session.warmUp();
   beginDemo();
   if (viewOfAddress()) show(viewOfAddress());
+  at("page-code").remove(); // its packed text isn’t needed any more
 }
 
 unpackWorkers().then(begin);
