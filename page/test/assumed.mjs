@@ -112,7 +112,7 @@ export const assumed = [
     await told(page, MESSAGE, /1 of them cost more than a larger group/);
     const named = await page.run("document.querySelector('.named ul').textContent");
     expect("named", named, "Aston + Dale: 184,9 (Aston + Bray + Dale: 175,0)");
-    await told(page, ".fills summary", /the largest change is that of \w+: [\d,]+ (less|more), by/);
+    await told(page, ".fills summary", /the largest change is that of \w+: [\d,]+ (less|more) \(“/);
     await page.run("dispatchEvent(new Event('beforeprint'))");
     const sheet = await page.run("document.getElementById('sheet').textContent");
     expect("on paper, of its rule", sheet, /Filled by the other way, no share of what stands here changes\./);
@@ -165,7 +165,7 @@ export const assumed = [
 
   ["a list that is refused stays where it is, with its line", "costs", async (page, expect) => {
     await useList(page, "Sales;8\nOps;7\nSales+Opps;9");
-    await told(page, MESSAGE, /^Line 3: There is no line for “Opps” alone\. Nothing was taken\.$/);
+    await told(page, MESSAGE, /^Line 3: There is no line for “Opps” alone\. Add a line .*Nothing was taken\.$/);
     expect("open", await page.run("document.querySelector('.more-tools details').open"), true);
     await page.fill("details.inline textarea", "group;cost\nSales;8\nOps;7\n\nOps;9");
     await page.click("Use this list");
