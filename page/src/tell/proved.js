@@ -4,11 +4,11 @@ const GIVEN = "Nobody proves that the numbers given are right.";
 
 /** `rule` is that of the certificate, if there is one; `isBeside` says that other columns are there. */
 export function provedText(rule, isBeside) {
-  const shown = `The certificate is enough to show that these shares are the ${rule}, whoever made it.`;
-  const source = "The source of the program is proved; how this page reads numbers, what it calculates itself, and its "
-    + "words aren’t.";
-  return [rule ? shown : "These numbers have no certificate.", rule && isBeside && "No other column has one.", source,
-    GIVEN].filter(Boolean).join(" ");
+  return [
+    rule ? "The certificate is enough, whoever made it." : "These numbers have no certificate.",
+    rule && isBeside && `Only the ${rule} has one.`,
+    "The program’s source is proved; the page’s reading, its own columns and its words aren’t.", GIVEN,
+  ].filter(Boolean).join(" ");
 }
 
 /** The same of numbers that the page calculates itself, and says so. */

@@ -18,9 +18,8 @@ export function checkOf({ result: { rule, answer, line, game, points }, kind, do
     ? `Choose “Check an answer”, and give it the agreed file and the line with the certificate, `
       + `${fileNames(kind.id, coarse).line}-${ruleFile(answer, game.perHead)}.json. `
       + `Two checkers that share no code, by the same makers, say whether these shares are the ${rule} of the agreed `
-      + "game. You can check by hand, too: the page lists the form and the eight conditions under “What a yes means”."
+      + "game. “What a yes means” has the eight conditions, to check by hand."
     : "Choose “Open a saved case”, and give it the agreed file. It works out the answer anew.";
   return el("section", {}, el("h2", {}, "How to check it"), el("p", {}, `${TAKE}${COMPARE} ${steps}${TYPE_IN}`),
-    el("p", {}, provedText(hasLine && rule, withProposal && points.length > 1)),
-    el("p", { class: "hint" }, footText()));
+    el("p", { class: "hint" }, `${provedText(hasLine && rule, withProposal && points.length > 1)} ${footText()}`));
 }
