@@ -119,7 +119,7 @@ const rules = [
     expect("nor below", /\d{4}\./.test(await page.text("#margins")), false);
   }],
   ["face: a level’s reason that can’t be said gives way to two side by side on paper", "costs", (page) => {
-    return page.until("(dispatchEvent(new Event('beforeprint')), /gains least by joining .* stronger hold/s"
+    return page.until("(dispatchEvent(new Event('beforeprint')), /The reasons of level 2 are longer: “Why” .*gains least by joining .* stronger hold/s"
       + ".test(document.getElementById('sheet').textContent))");
   }],
   ["face: the cells of a network hold their numbers", "network", async (page, expect) => {

@@ -34,14 +34,14 @@ async function cents(page, expect) {
   expect("on paper", sheet, rule);
   expect("the claims on paper", sheet, /together259.501.00184.300.50/);
   expect("decimals as in the table", sheet, /The estate of 184.300.50 is/);
-  const where = /project’s repository \(the sender has to give you its address\)\. Compare the SHA-256/;
+  const where = /project’s repository \(the sender has to give you its address\)\. Compare its SHA-256/;
   expect("where the page is", sheet, where);
-  expect("the file’s own sum", sheet, /of that file with CHANGELOG\.md there: certutil -hashfile/);
+  expect("the file’s own sum", sheet, /SHA-256 with CHANGELOG\.md there, by certutil -hashfile/);
   expect("whose checkers", sheet, /Two checkers that share no code, by the same makers, say/);
-  expect("what is proved", sheet, /whoever made it\. The program’s source is proved; .* its words aren’t\. Nobody/);
+  expect("what is proved", sheet, /whoever made it, .* it\. The program’s source is proved; .* its words aren’t\. Nobody/);
   expect("by typing", sheet, /simply type the numbers into that page: the answer has to be the same/);
   const steps = await page.text("#evidence .steps");
-  expect("handing on", steps, /the project’s\s+repository: tell them its address\. Compare the SHA-256 of that file/);
+  expect("handing on", steps, /the project’s\s+repository: tell them its address\. Compare its SHA-256/);
 }
 
 async function besideNucleolus(page, expect) {

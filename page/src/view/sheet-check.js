@@ -18,7 +18,7 @@ export function checkOf({ result: { rule, answer, line, game, points }, kind, do
     ? `Choose “Check an answer”, and give it the agreed file and the line with the certificate, `
       + `${fileNames(kind.id, coarse).line}-${ruleFile(answer, game.perHead)}.json. `
       + `Two checkers that share no code, by the same makers, say whether these shares are the ${rule} of the agreed `
-      + "game. “What a yes means” has the eight conditions, to check by hand."
+      + "game."
     : "Choose “Open a saved case”, and give it the agreed file. It works out the answer anew.";
   return el("section", {}, el("h2", {}, "How to check it"), el("p", {}, `${TAKE}${COMPARE} ${steps}${TYPE_IN}`),
     el("p", { class: "hint" }, `${provedText(hasLine && rule, withProposal && points.length > 1)} ${footText()}`));

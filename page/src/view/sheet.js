@@ -43,6 +43,7 @@ const MANY_ROWS = 5; // above, letters are smaller, and a picture is lower
 const LONG = 900; // characters of the reasons above which they are, too
 const MOST_TOLD = 800; // characters of the first reason that are printed in full
 const MOST_LEVELS = 1100; // characters of what the levels behind the first settle
+const MOST_CUT = 4; // levels without their reason that are named
 const MOST_DOCUMENT = 420; // characters of the game's document that are printed
 const MOST_SAVING = 8; // rows of whom each saving is named
 const MOST_ALONE = 900; // the same if there is no picture
@@ -309,40 +310,47 @@ function reasonsOf({ result, pair, rows, format }) {
   }
   const [said, isChosen] = pair ?? [];
   const [principle, next] = reasons, levels = reasons.filter(({ isLevel }) => isLevel).length;
-  const sentences = [...principle.sentences, ...(next ? toldOf(next) : [])], behind = levelsBehind(reasons, next);
-  if (next?.isLevel && levels > 1 && !behind.length) {
-    sentences.push(`This is the first of ${levels} levels. The certificate contains all of them.`);
-  }
+  const first = next && toldOf(next), { told: behind, cut } = levelsBehind(reasons, next);
+  const sentences = [...principle.sentences, ...(first ?? [])], isOne = next?.isLevel && levels > 1 && !behind.length;
+  if (isOne) sentences.push(`This is the first of ${levels} levels: “Why” on the page has them all.`);
+  const lacking = [...(first?.isCut && next.isLevel ? [next.title] : []), ...cut];
   const isCore = points.find(({ key }) => key === answer)?.verdict?.isCore;
   const saved = savingsText(game, points[0], rows, format);
   return el("section", {}, el("h2", {}, `Why: the ${rule}`), saved && el("p", {}, saved),
     el("p", {}, sentences.join(" ")),
     behind.length > 0 && el("ul", { class: "levels" }, behind.map((text) => el("li", {}, text))),
-    el("p", {}, isCore && "By these shares no group does better by itself. ",
+    el("p", {}, lacking.length > 0 && cutText(lacking), isCore && "By these shares no group does better by itself. ",
       `No other division meets the principle: there is exactly one ${rule} (${sourceOf(game.perHead)}).`),
     (isChosen || (next?.isLevel && reasons.some(isHard))) && el("p", {}, said));
 }
 
-/** What the later levels say: who is worst off, why if that can be said, and what is settled; or only what is settled,
- * as there is room. */
+/** What the later levels say, `told`: who is worst off, why if that can be said, and what is settled; or only what is
+ * settled, as there is room. `cut` are the titles of those whose reason is left out. */
 function levelsBehind(reasons, next) {
-  if (!next?.isLevel) return [];
-  const others = reasons.slice(2).filter(({ isLevel }) => isLevel);
+  const others = next?.isLevel ? reasons.slice(2).filter(({ isLevel }) => isLevel) : [];
   const short = others.map(({ title, brief }) => `${title}: ${brief}`);
   const long = others.map(({ title, sentences, brief, items }) => {
     const told = isHard({ isLevel: true, sentences }) ? [sentences[0], sentences[1], brief] : sentences;
     return [`${title}:`, ...(items.length ? items.map(({ label }) => label) : told)].join(" ");
   });
-  const isShort = (some) => some.join(" ").length <= MOST_LEVELS;
-  return isShort(long) ? long : isShort(short) ? short : [];
+  const isShort = (some) => some.join(" ").length <= MOST_LEVELS, titles = (some) => some.map(({ title }) => title);
+  if (isShort(long)) return { told: long, cut: titles(others.filter(isHard)) };
+  return isShort(short) ? { told: short, cut: titles(others) } : { told: [], cut: [] };
 }
 
-/** The first reason: with its items, or without, or its first sentences and the last one, as there is room. */
+/** Where the reasons are that are left out. */
+function cutText(titles) {
+  const numbers = titles.map((title) => title.replace(/^Levels? /, "")), isOne = /^Level [^,]*$/.test(titles.join());
+  const some = numbers.length > MOST_CUT ? "most levels" : `level${isOne ? "" : "s"} ${listed(numbers)}`;
+  return `The reasons of ${some} are longer: “Why” on the page has them. `;
+}
+
+/** The first reason: with its items, or without, or its first sentences and the last one (`isCut`), as there is room. */
 function toldOf({ sentences, items, last = "" }) {
   const whole = [...sentences, ...items.map(({ label }) => label), last], short = [...sentences, last];
-  const isShort = (some) => some.join(" ").length <= MOST_TOLD;
-  const told = isShort(whole) ? whole : isShort(short) ? short : [...short.slice(0, 2), sentences.at(-1)];
-  return told.filter(Boolean);
+  const isShort = (some) => some.join(" ").length <= MOST_TOLD, isCut = !isShort(short) && sentences.length > 3;
+  const told = isShort(whole) ? whole : isCut ? [...short.slice(0, 2), sentences.at(-1)] : short;
+  return Object.assign(told.filter(Boolean), { isCut });
 }
 
 // ---- What is agreed on
