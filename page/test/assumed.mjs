@@ -198,7 +198,7 @@ export const assumed = [
     const others = /no share of the others without Dale changes/;
     expect("by the other way to fill", leaves, others);
     await choose(page, "leaves", "Colne");
-    const change = /largest change of the others without Colne is that of \w+: [\d,]+ (more|less), by/;
+    const change = /largest change of the others without Colne is that of \w+: [\d,]+ (more|less) \(“/;
     await told(page, ".leaves .found", change);
     expect("by each rule", leaves, /“Fairest to [\w ]+”: Dale pays [\d,]+, and alone [\d,]+ more; the others together/);
     await choose(page, "pair.0", "Aston");

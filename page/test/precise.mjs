@@ -175,7 +175,7 @@ const excesses = [
     expect("without one", /Your proposal/.test(await page.text(".excesses")), false);
     for (const [r, text] of ["40", "40", "40"].entries()) await page.type(`proposal.${r}`, text);
     await told(page, ".excesses thead", /Your proposal\s+by whom/);
-    expect("where it differs", await page.text(".excesses"), /and Your proposal at place 1\./);
+    expect("where it differs", await page.text(".excesses"), /and “Your proposal” at place 1\./);
     await page.type("proposal.0", "41");
     await page.until("!/Your proposal/.test(document.querySelector('.excesses thead')?.innerText ?? 'Your proposal')");
   }],

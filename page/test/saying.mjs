@@ -212,6 +212,7 @@ saying.push(
     await page.click("Paste a whole list");
     await page.fill("details.inline textarea", [...alone, `${towns.join("+")}\t15671.4`].join("\n"));
     await page.click("Use this list");
+    await page.click("Yes, take it"); // hardly any group
     await noted(page, /246 cells are still empty/);
     await page.click("Fill the empty ones");
     await settle(page);

@@ -38,7 +38,8 @@ def games(kill: Callable[[], None]) -> Iterator[coop.Game]:
 
 def rows(executor: Any, kill: Callable[[], None]) -> None:
     """Prints what many says by an executor."""
-    found = coop.many(("nucleolus", "shapley"), games(kill), executor=executor, batch=BATCH, seconds=120)
+    limits: Any = {"executor": executor, "batch": BATCH, "seconds": 120} if executor else {}
+    found = coop.many(("nucleolus", "shapley"), games(kill), **limits)
     try:
         for plain, shapley in found:
             print(*(",".join(map(str, one.shares.values())) for one in (plain, shapley)), flush=True)
