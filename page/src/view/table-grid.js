@@ -8,6 +8,7 @@ import { cellInput, moveByKeys, pasteCells, removal, removeByKey, showTips } fro
 import { askIn, button, cellOf, copy, el, refill, unask } from "./dom.js";
 import { numbersIn } from "../cases/vectors.js";
 import { plural } from "../game/words.js";
+import { placeOf, wholeAsked } from "./lists-asked.js";
 import { pasteBox } from "./paste-box.js";
 
 const MOST_WHOLE = 6; // players whose groups are all shown
