@@ -1,7 +1,7 @@
 """Rules side by side: the program's, and those that contracts and agencies use; each division judged by the program.
 
     for row in coop.versus.rules(game):
-        print(row.rule, row.shares, row.leaving, row.by)
+        print(row.rule, row.shares or row.reason, row.leaving, row.by)
 
 The shares by the nucleolus and Shapley are the program's. The formulas of practice are worked out here, in fractions,
 and nobody has proved them. What is said of each division, that no group could do better or which one could, is the
@@ -11,10 +11,10 @@ from __future__ import annotations
 
 from dataclasses import dataclass
 from fractions import Fraction
-from typing import Callable, Iterator, NamedTuple, Optional
+from typing import Callable, NamedTuple, Optional, Union
 
 from . import calls
-from .answers import Blocked, Names, Nucleolus, Shapley, Shares
+from .answers import Blocked, Names, NoImputation, Nucleolus, Shapley, Shares
 from .errors import BadInput, Usage
 from .game import Game, require_game
 
@@ -24,37 +24,52 @@ __all__ = ["FORMULAS", "Row", "alone_and_added", "rules"]
 @dataclass(frozen=True)
 class Row:
     """A rule and its division. `leaving` is the group that could do better by itself by the most, and `by` how much: of
-    a division in the core there is none. `is_proved` says whether the shares are the program's."""
+    a division in the core there is none. `is_proved` says whether the shares are the program's. If the rule has no
+    division in this game, `shares` is None, and `reason` says why."""
 
     rule: str
-    shares: Shares
+    shares: Optional[Shares]
     is_proved: bool
-    leaving: Optional[Names]
-    by: Optional[Fraction]
+    leaving: Optional[Names] = None
+    by: Optional[Fraction] = None
+    reason: str = ""
 
     @property
     def is_in_core(self) -> bool:
-        """Whether no group could do better by itself."""
-        return self.leaving is None
+        """Whether there is a division, and no group could do better by itself."""
+        return self.shares is not None and self.leaving is None
 
 
-def rules(
-    game: Game, benefits: Optional[calls.Proposal] = None, program: calls.Chosen = None
-) -> Iterator[Row]:
-    """A row for each rule by which the game has a division. Of `benefits`, if these are known, separable costs and
-    remaining benefits takes account."""
+def rules(game: Game, benefits: Optional[calls.Proposal] = None, program: calls.Chosen = None) -> list[Row]:
+    """Returns a row for each rule: of any game the same rules in the same order. Of `benefits`, if these are known,
+    separable costs and remaining benefits takes account."""
     require_game(game)
+    rows = []
     for rule, find in PROVED.items():
-        try:
-            answer = find(game, program)
-        except Usage:  # more players than the command takes
-            continue
-        if isinstance(answer, (Nucleolus, Shapley)):
-            yield judged(game, rule, answer.shares, True, program)
+        found = divided_by(find, game, program)
+        rows.append(Row(rule, None, True, reason=found) if isinstance(found, str) else judged(
+            game, rule, found, True, program
+        ))
     for rule, formula in FORMULAS.items():
         shares = formula(game) if rule != REMAINING else remaining(game, benefits)
-        if shares is not None:
-            yield judged(game, rule, shares, False, program)
+        if shares is None:
+            rows.append(Row(rule, None, False, reason=WANTING[rule]))
+        else:
+            rows.append(judged(game, rule, shares, False, program))
+    return rows
+
+
+def divided_by(find: Callable[[Game, calls.Chosen], object], game: Game, program: calls.Chosen) -> Union[Shares, str]:
+    """The shares by a rule of the program; or why there are none."""
+    try:
+        answer = find(game, program)
+    except Usage as fault:
+        return str(fault).partition(": ")[2]
+    if isinstance(answer, NoImputation):
+        alone, ends = ("cost", "pays more") if game.costs else ("are worth", "gets less")
+        return f"alone they {alone} {answer.singles} in sum, and together {answer.total}, so somebody {ends} than alone"
+    assert isinstance(answer, (Nucleolus, Shapley))
+    return answer.shares
 
 
 def judged(game: Game, rule: str, shares: Shares, is_proved: bool, program: calls.Chosen) -> Row:
@@ -62,7 +77,7 @@ def judged(game: Game, rule: str, shares: Shares, is_proved: bool, program: call
     said = calls.propose(game, shares, program)
     if isinstance(said, Blocked):
         return Row(rule, shares, is_proved, said.coalition, said.excess)
-    return Row(rule, shares, is_proved, None, None)
+    return Row(rule, shares, is_proved)
 
 
 # ---- The program's
@@ -144,3 +159,9 @@ FORMULAS: dict[str, Callable[[Game], Optional[Shares]]] = {
     "equal shares": lambda game: equally(game, [Fraction(0)] * game.n),
 }
 """The formulas of practice, by the names of the rules. Of a game without a division by one it gives None."""
+
+WANTING = {
+    "in proportion": "the numbers that it goes by add to 0, and there is something to share",
+    REMAINING: "nobody has a benefit that remains, so nothing says who bears the rest",
+}
+"""Why a formula has no division in some game."""

@@ -65,15 +65,36 @@ class Judged(unittest.TestCase):
     def test_rows(self) -> None:
         rows = {row.rule: row for row in versus.rules(RUNWAY)}
         self.assertEqual(list(rows), [*versus.PROVED, *versus.FORMULAS])
-        self.assertEqual(words(rows["Shapley shares"].shares), "2/3 5/3 11/3")
+        self.assertEqual(words(rows["Shapley shares"].shares or {}), "2/3 5/3 11/3")
         self.assertEqual([row.rule for row in rows.values() if not row.is_proved], list(versus.FORMULAS))
         self.assertEqual([row.rule for row in rows.values() if not row.is_in_core], [])
         blocked = coop.airport({"small": 1, "large": 9})
         same = {row.rule: row for row in versus.rules(blocked)}["equal shares"]
         self.assertEqual((same.leaving, same.by), (("small",), Fraction(7, 2)))
         with self.assertRaisesRegex(BadInput, "str isn't a game"):
-            list(versus.rules("game"))  # type: ignore[arg-type]
-        self.assertNotIn("nucleolus per head", [row.rule for row in versus.rules(coop.airport([1] * 9))])
+            versus.rules("game")  # type: ignore[arg-type]
+
+    def test_always_all_rows(self) -> None:
+        """Each game has the same rows, which may be read twice; a rule without a division says why, and isn't stable."""
+        sum_of_costs = "alone they cost 5 in sum, and together 6, so somebody pays more than alone"
+        sum_of_gains = "alone they are worth 5/2 in sum, and together 2, so somebody gets less than alone"
+        nothing = "the numbers that it goes by add to 0, and there is something to share"
+        many = "the game has more players than the command serves"
+        no_rest = versus.WANTING[versus.REMAINING]
+        both = ("nucleolus", "nucleolus per head")
+        cases: list[tuple[coop.Game, dict[str, str]]] = [
+            (coop.cost_table({"a": 2, "b": 3, "a+b": 6}), {**dict.fromkeys(both, sum_of_costs), versus.REMAINING: no_rest}),
+            (coop.table({"a": "1/2", "b": 2, "a+b": 2}), {**dict.fromkeys(both, sum_of_gains), versus.REMAINING: no_rest}),
+            (coop.table({"a": 0, "b": 0, "a+b": 2}), {"in proportion": nothing}),
+            (coop.airport([1] * 9), {"nucleolus per head": many}),
+            (RUNWAY, {}),
+        ]
+        for game, reasons in cases:
+            rows = versus.rules(game)
+            self.assertEqual([row.rule for row in rows], [*versus.PROVED, *versus.FORMULAS])
+            self.assertEqual({row.rule: row.reason for row in rows if row.reason}, reasons)
+            lacking = {row.rule: (row.shares, row.is_in_core) for row in rows if row.shares is None}
+            self.assertEqual(lacking, dict.fromkeys(reasons, (None, False)))
 
     def test_published(self) -> None:
         """Both nucleoli and the Shapley shares of Lund and of the Tennessee Valley, and who would leave."""
@@ -81,21 +102,31 @@ class Judged(unittest.TestCase):
             rows = {row.rule: row for row in versus.rules(solved.example(f"{name}-nucleolus").game)}
             for rule, part in (("nucleolus", "nucleolus"), ("Shapley shares", "shapley")):
                 example = solved.example(f"{name}-{part}")
-                self.assertEqual(list(rows[rule].shares.values()), list(map(Fraction, example.expected["shares"])))
+                self.assertEqual(list((rows[rule].shares or {}).values()), list(map(Fraction, example.expected["shares"])))
             self.assertEqual((rows["nucleolus"].leaving, rows[versus.REMAINING].leaving), (None, leaving))
 
     @needs_node
     def test_told(self) -> None:
         game = coop.airport({"small": 1, "large": 9})
-        rows = list(versus.rules(game))
+        rows = versus.rules(game)
         text = told(game, rows, Style(2))
         self.assertIn("small          0.50                0.50            0.50           0.90\n", text)
         self.assertIn("By equal shares: small alone could save 3.50, and no group more.\n", text)
         self.assertIn("It didn’t work out: in proportion;", " ".join(text.split()))
         lines = csv(game, rows, EXACT).splitlines()
         self.assertEqual(lines[:2] + lines[-1:], [
-            "rule,player,share,leaving,by", "nucleolus,small,1/2,,", "equal shares,large,9/2,small,7/2"
+            "rule,player,share,leaving,by,reason", "nucleolus,small,1/2,,,", "equal shares,large,9/2,small,7/2,"
         ])
+
+    @needs_node
+    def test_told_without_a_division(self) -> None:
+        game = coop.cost_table({"a": 2, "b": 3, "a+b": 6})
+        rows = versus.rules(game)
+        why = "alone they cost 5 in sum, and together 6, so somebody pays more than alone"
+        text = told(game, rows, EXACT)
+        self.assertIn(f"By nucleolus there is no division: {why}.", " ".join(text.split()))
+        self.assertNotIn("nucleolus", text.split("\n\n")[0])
+        self.assertIn(f'\nnucleolus per head,b,,,,"{why}"', csv(game, rows, EXACT))
 
 
 if __name__ == "__main__":

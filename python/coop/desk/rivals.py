@@ -16,14 +16,17 @@ MOST_COLUMNS = 4  # of a table on paper
 
 
 def told(game: Game, rows: Sequence[Row], say: Style) -> str:
-    """Tables of some rules each, and what the program says of their divisions."""
-    parts = [table(game, rows[k : k + MOST_COLUMNS], say) for k in range(0, len(rows), MOST_COLUMNS)]
-    return "\n".join([*parts, "".join(filled(sentence) + "\n" for sentence in verdicts(game, rows, say))])
+    """Tables of some rules each, what the program says of their divisions, and which rules have none."""
+    some = [row for row in rows if row.shares is not None]
+    parts = [table(game, some[k : k + MOST_COLUMNS], say) for k in range(0, len(some), MOST_COLUMNS)]
+    sentences = [*verdicts(game, some, say), *(f"By {row.rule} there is no division: {row.reason}." for row in rows if row.reason)]
+    return "\n".join([*parts, "".join(filled(sentence) + "\n" for sentence in sentences)])
 
 
 def table(game: Game, rows: Sequence[Row], say: Style) -> str:
+    """The names, and the shares by each of some rules that have them."""
     names = ["", *(line.name for line in lines_of(game.names))]
-    columns = [[row.rule, *column([row.shares[name] for name in game.names], say)] for row in rows]
+    columns = [[row.rule, *column([(row.shares or {})[name] for name in game.names], say)] for row in rows]
     return aligned(list(zip(names, *columns)))
 
 
@@ -39,11 +42,13 @@ def verdicts(game: Game, rows: Sequence[Row], say: Style) -> list[str]:
 
 def csv(game: Game, rows: Sequence[Row], say: Style, cells: Cells = PLAIN) -> str:
     """A line for each rule and player: the rule, the player, the share; and on each the group that could do better by
-    the most, and by how much."""
-    head = ["rule", "player", "share" + (f", {say.unit}" if say.unit else ""), "leaving", "by"]
+    the most, and by how much, or the reason why the rule has no shares."""
+    head = ["rule", "player", "share" + (f", {say.unit}" if say.unit else ""), "leaving", "by", "reason"]
     lines = [head]
     for row in rows:
         leaving = "+".join(row.leaving or ())
         by = "" if row.by is None else cells.number(row.by, say)
-        lines += [[row.rule, safe(name), cells.number(q, say), safe(leaving), by] for name, q in row.shares.items()]
+        for name in game.names:
+            share = "" if row.shares is None else cells.number(row.shares[name], say)
+            lines.append([row.rule, safe(name), share, safe(leaving), by, row.reason])
     return csv_text(lines, cells)
