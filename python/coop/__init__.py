@@ -21,6 +21,7 @@ from .game import Game
 from .games import airport, assignment, bankruptcy, cost_table, landings, market, table, table_of, tree, voting
 from .many import many
 from .program import find
+from .rounding import rounded
 from .version import VERSION as __version__
 
 MODULES = (  # fmt: skip
@@ -50,6 +51,6 @@ __all__ = [  # fmt: skip
     "Failure", "Fault", "Game", "InCore", "InPrekernel", "Lost", "Matching", "No", "NoAnswer", "NoImputation",
     "NoMemory", "NotConvex", "NotEfficient", "NotFound", "NotInPrekernel", "Nucleolus", "Refused", "Shapley", "Usage",
     "Yes", "airport", "assignment", "bankruptcy", "bird", "check", "convex", "core", "cost_table", "find", "kernel",
-    "landings", "least_core", "many", "market", "matching", "nucleolus", "prenucleolus", "propose", "shapley",
-    "table", "table_of", "tree", "voting",
+    "landings", "least_core", "many", "market", "matching", "nucleolus", "prenucleolus", "propose", "rounded",
+    "shapley", "table", "table_of", "tree", "voting",
 ]

@@ -13,7 +13,8 @@ from typing import Optional, Sequence, TextIO
 
 from .classes import COMMANDS
 from .errors import CoopError, NoAnswer, NotFound
-from .program import find, part_of, said
+from .parts import part_of
+from .program import find, said
 from .version import VERSION
 
 MOST = max(row["bytes"] for row in COMMANDS.values()) + 1  # bytes of a document, one more than any may have

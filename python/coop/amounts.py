@@ -27,6 +27,14 @@ KEPT = 12  # digits by which a number isn't 0; less is noise of floats
 NUMBER = re.compile(r"-?([0-9]{1,40}(\.[0-9]{1,40})?([eE][-+]?[0-9]{1,2})?|[0-9]{1,40}/0*[1-9][0-9]{0,39})")
 
 
+class TooGreat(BadInput):
+    """A number is too great for a document; `value` is the greatest one."""
+
+    def __init__(self, sentence: str, value: Fraction):
+        super().__init__(sentence)
+        self.value = value
+
+
 def fraction_of(value: Amount, digits: Optional[int] = None) -> Fraction:
     """The exact value. With a number of digits it is rounded to so many decimals, and floats are taken too."""
     value, digits = plain(value), digits if digits is None else digits_of(digits)
@@ -118,10 +126,25 @@ def amounts_of(values: Any, items: Sequence[tuple[Any, Any]], digits: Optional[i
         try:
             found.append(fraction_of(value, digits))
         except BadInput as fault:
-            place = ", ".join(str(word) for word in (getattr(values, "name", None), label) if word not in (None, ""))
+            place = place_in(values, label)
             raise BadInput(f"{place}: {fault}" if place else str(fault)) from None
     require_kept(found, digits, (fraction_of(value, KEPT) for _, value in items))
     return found
+
+
+def place_in(values: Any, label: Any) -> str:
+    """A label behind the name of its Series, which is that of a row or a column of a data frame."""
+    return ", ".join(str(word) for word in (getattr(values, "name", None), label) if word not in (None, ""))
+
+
+def place_of(values: Any, sought: Fraction, digits: Optional[int]) -> str:
+    """The label of a number among those that were given, or its place in their list; "" if it isn't there."""
+    items = named_items(values)
+    listed = items if items is not None else [(f"number {k + 1}", value) for k, value in enumerate(values)]
+    for label, value in listed:
+        if fraction_of(value, digits) == sought:
+            return place_in(values, "+".join(map(str, label)) if isinstance(label, (tuple, frozenset)) else label)
+    return ""
 
 
 def require_kept(found: Iterable[Fraction], digits: Optional[int], closer: Iterable[Fraction]) -> None:
@@ -220,8 +243,10 @@ def factor_for(values: list[Fraction], digits: Optional[int] = None) -> int:
     power = 1 if digits is None else 10 ** digits_of(digits)
     common = power if power > MOST_SCALE else common
     if any(abs(value.numerator) * common >= LIMIT * value.denominator for value in values):
-        told = f"a number, times the common denominator {common}, is 2^40 or more"
-        raise BadInput(told + ("" if common == 1 else f": {advice_on_digits(values)}"))
+        greatest = max(values, key=abs)
+        times = "" if common == 1 else f", times the common denominator {common},"
+        told = f"{str(greatest)[:40]}{times} is 2^40 or more"
+        raise TooGreat(told + ("" if common == 1 else f": {advice_on_digits(values)}"), greatest)
     return 1 if common <= MOST_SCALE else common
 
 

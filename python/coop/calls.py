@@ -95,16 +95,33 @@ def matching(game: Game, program: Chosen = None) -> answers.Matching:
 
 def check(line: Union[str, bytes, answers.Nucleolus], program: Chosen = None) -> Union[answers.Yes, answers.No]:
     """Whether the certificate of a line shows that its shares are the nucleolus, or the prenucleolus, of its game. Of
-    an answer it is asked with the shares and the certificate that the answer has, which somebody may have changed."""
-    document = bytes_of(line)
+    an answer it is asked with the shares and the certificate that the answer has now."""
+    document = to_check(line)
     game = line.game if isinstance(line, answers.Nucleolus) else game_of(document)
-    if isinstance(line, answers.Nucleolus):
-        tree = json.loads(line.line)
-        shares = [str(share * game.factor) for share in rounded(game, line.shares, None)]
-        if shares != tree["shares"] or line.certificate != tree["certificate"]:
-            tree.update(shares=shares, certificate=line.certificate)
-            document = encoded(WRITER.encode(tree), "a name")
     return cast("Union[answers.Yes, answers.No]", answered("check", document, game, program))
+
+
+def to_check(line: Any) -> bytes:
+    """What `check` reads of a line. An answer without a certificate is refused."""
+    if isinstance(line, (Answer, Failure)) and not isinstance(line, answers.Nucleolus):
+        told = "only an answer of nucleolus or prenucleolus with shares has one"
+        raise BadInput(f"{type(line).__name__} has no certificate to check: {told}")
+    return bytes_now(line)
+
+
+def bytes_now(told: Any) -> bytes:
+    """The bytes of a line, a document or a game; of an answer its line with the shares and the certificate that the
+    answer has now, which somebody may have changed."""
+    shares = getattr(told, "shares", None)
+    if not isinstance(told, Answer) or shares is None:
+        return bytes_of(told)
+    tree = json.loads(told.line)
+    now: dict[str, Any] = {"shares": [str(q * told.game.factor) for q in rounded(told.game, shares, None)]}
+    if isinstance(told, answers.Nucleolus):
+        now["certificate"] = told.certificate
+    if all(tree[key] == part for key, part in now.items()):
+        return bytes_of(told)
+    return encoded(WRITER.encode({**tree, **now}), "a name")
 
 
 def game_of(document: bytes) -> Game:

@@ -6,9 +6,9 @@ from functools import lru_cache
 from types import CodeType
 from typing import Any
 
+from .calls import to_check
 from .errors import BadInput
-from .game import bytes_of
-from .program import part_of
+from .parts import part_of
 
 
 @lru_cache(None)
@@ -20,11 +20,12 @@ def compiled() -> CodeType:
 
 
 def verdict(data: Any) -> dict[str, Any]:
-    """The line of yes or no to a document, as a tree; what is none to check is bad input."""
+    """The line of yes or no to a document, as a tree; what is none to check is bad input. Of an answer it is that to
+    the shares and the certificate that the answer has now, as of `coop.check`."""
     module: dict[str, Any] = {"__name__": "check_anew"}
     exec(compiled(), module)  # anew each time, since it keeps the excesses that it finds
     try:
-        tree: dict[str, Any] = json.loads(module["line_for"](bytes_of(data)))
+        tree: dict[str, Any] = json.loads(module["line_for"](to_check(data)))
     except module["Refused"] as fault:
         raise BadInput(str(fault)) from None
     return tree

@@ -11,8 +11,8 @@ import re
 from fractions import Fraction
 from typing import Any, Callable, Iterable, Iterator, Mapping, Optional, Sequence, Union
 
-from .amounts import Amount, amounts_of, count_of, factor_for, fraction_of, fractions_of, is_truth, label_of
-from .amounts import named_amounts, named_items, require_once_each, require_order, whole_of, written
+from .amounts import Amount, TooGreat, amounts_of, count_of, factor_for, fraction_of, fractions_of, is_truth, label_of
+from .amounts import named_amounts, named_items, place_of, require_once_each, require_order, whole_of, written
 from .classes import CLASSES, LIMITS
 from .errors import BadInput
 from .game import MOST_IN_A_TABLE, Game, encoded, require_table
@@ -26,7 +26,7 @@ Amounts = Union[Mapping[str, Amount], Sequence[Amount]]
 Group = Union[str, int, Iterable[Union[str, int]]]
 Table = Union[Mapping[Any, Amount], Sequence[Amount]]
 Rows = Sequence[Sequence[Amount]]
-ANOTHER_SIGN = re.compile(r"[&/|,;]| and | und | et ")
+ANOTHER_SIGN = re.compile(r"[-_&/|,;]| and | und | et ")
 MOST_NAME = LIMITS["bytes of a name"]
 MOST_LANDINGS = CLASSES["airport"]["players"][1]
 MOST_VOTES = LIMITS["votes"]
@@ -89,7 +89,7 @@ def airport(
     """An airport by what each landing needs alone."""
     names, amounts = named_amounts(costs, names, digits)
     require_none_negative(amounts, names)
-    return made("airport", {"costs": amounts}, names, per_head, digits)
+    return made("airport", {"costs": amounts}, names, per_head, digits, costs)
 
 
 def landings(rows: Iterable[tuple[str, Amount, int]], *, digits: Optional[int] = None, per_head: bool = False) -> Game:
@@ -124,7 +124,7 @@ def bankruptcy(
     require_none_negative(amounts, names)
     if sum(amounts) < whole:
         raise BadInput(f"the claims add to {sum(amounts)}, less than the estate of {whole}: each gets its claim")
-    return made("bankruptcy", {"claims": amounts, "estate": whole}, names, per_head, digits)
+    return made("bankruptcy", {"claims": amounts, "estate": whole}, names, per_head, digits, claims)
 
 
 def tree(
@@ -248,10 +248,16 @@ def made(
     names: Optional[Sequence[str]] = None,
     per_head: bool = False,
     digits: Optional[int] = None,
+    given: Any = None,
 ) -> Game:
-    """The game of a class and its parts: numbers, lists of numbers, and items of `sparse`."""
+    """The game of a class and its parts: numbers, lists of numbers, and items of `sparse`. A number that is too great
+    is told with its label in what was given."""
     amounts = list(numbers_in(parts))
-    factor = factor_for(amounts, digits)
+    try:
+        factor = factor_for(amounts, digits)
+    except TooGreat as fault:
+        place = "" if given is None else place_of(given, fault.value, digits)
+        raise BadInput(f"{place}: {fault}" if place else str(fault)) from None
     tree: dict[str, Any] = {"class": kind}
     if names is not None:
         tree["names"] = checked_names(names)
@@ -307,7 +313,7 @@ def listed(
     else:
         groups = list(zip([members_of(group) for group, _ in items], amounts_of(amounts, items, digits)))
         names, vector = by_groups(groups, names, None if default is None else fraction_of(default, digits))
-    return made(kind, {"players": len(vector).bit_length(), "worths": vector}, names, per_head, digits)
+    return made(kind, {"players": len(vector).bit_length(), "worths": vector}, names, per_head, digits, amounts)
 
 
 def members_of(group: Any) -> list[Union[str, int]]:

@@ -16,11 +16,13 @@ from typing import TYPE_CHECKING, Optional, Protocol, Sequence, Union
 from .errors import BadInput, Fault, NotFound
 from .library import Library
 from .machine import spawned, which, words_of
+from .parts import TOP as TOP
+from .parts import path_of as path_of
+from .parts import serving
 
 if TYPE_CHECKING:
     from .server import Server
 
-TOP = os.path.dirname(os.path.dirname(os.path.dirname(os.path.abspath(__file__))))
 BUILT = os.path.join(TOP, "crates", "coop_program", "out", "coop_program")  # in a repository
 LIBRARIES = ("libcoop.so", "libcoop.dylib", "coop.dll")  # inside a package
 LIBRARY = re.compile(r"\.(so(\.[0-9]+)*|dylib|dll)$")  # with or without a version
@@ -133,23 +135,9 @@ def said(program: Program) -> str:
 def page_server() -> Optional[Server]:
     """The processes of Node that answer by the page's module and tell what the page does; None without Node or page."""
     global _page
-    node, module = which("node") or which("nodejs"), path_of("runtime", "serve.mjs")
-    if _page is None and node and module:
+    command = serving()
+    if _page is None and command:
         from .server import Server
 
-        _page = Server([node, module, "--tell"])
+        _page = Server([*command, "--tell"])
     return _page
-
-
-def path_of(*words: str) -> Optional[str]:
-    """Where a file of the project is, in an installed package or in the repository; None where it is missing."""
-    paths = (os.path.join(top, *words) for top in (os.path.dirname(os.path.abspath(__file__)), TOP))
-    return next((path for path in paths if os.path.exists(path)), None)
-
-
-def part_of(what: str, *words: str) -> str:
-    """Where a file is that each package has."""
-    path = path_of(*words)
-    if path is None:
-        raise NotFound(f"{what} is missing: install the package again")
-    return path

@@ -14,9 +14,10 @@ import weakref
 from typing import IO, Any, Optional, Sequence
 
 from .amounts import count_of
-from .errors import Fault
+from .errors import Fault, NotFound
 from .library import TOO_LATE
 from .machine import processors, words_of
+from .parts import serving
 
 HEAD = struct.Struct("<II")
 """The two numbers that begin a request and an answer."""
@@ -90,11 +91,16 @@ class Worker:
 
 class Server:
     """A program that stays: `command` begins one process of it, and there are at most so many, one a processor unless
-    their number is named. A call that takes more than so many seconds is ended, with the status 124; the start of a
-    process doesn't count."""
+    their number is named. Without a command it is the package's own module under Node. A call that takes more than so
+    many seconds is ended, with the status 124; the start of a process doesn't count."""
 
-    def __init__(self, command: Sequence[str], processes: Optional[int] = None, seconds: Optional[float] = None):
-        self.command = words_of(command)
+    def __init__(
+        self,
+        command: Optional[Sequence[str]] = None,
+        processes: Optional[int] = None,
+        seconds: Optional[float] = None,
+    ):
+        self.command = own_command() if command is None else words_of(command)
         if processes is not None:
             processes = count_of(processes, "processes")
         self.processes = processes or processors()
@@ -178,6 +184,14 @@ class Server:
     def close(self) -> None:
         """Ends the processes that are free. A later call begins new ones."""
         stop_all(self.free, self.owner)
+
+
+def own_command() -> list[str]:
+    """The command of the package's own module under Node."""
+    command = serving()
+    if not command:
+        raise NotFound("there is no Node on the path (18 or later, nodejs.org): install it, or give a command")
+    return command
 
 
 def begin_anew(server: weakref.ref[Server]) -> None:

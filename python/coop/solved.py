@@ -16,7 +16,7 @@ from typing import Any, Iterator, Optional, Union
 
 from .errors import BadInput
 from .game import WRITER, Game, encoded
-from .program import part_of
+from .parts import part_of
 
 __all__ = ["Example", "example", "examples"]
 

@@ -3,7 +3,9 @@ import unittest
 from decimal import Decimal
 from fractions import Fraction
 from numbers import Real
+from typing import Any, Callable
 
+import coop
 from coop import BadInput
 from coop.amounts import Amount, factor_for, fraction_of, written
 from coop.styles import Style, column, decimal, rounded
@@ -22,6 +24,14 @@ class bool_:
 
     def __index__(self) -> int:
         return 1
+
+
+class Row(dict[Any, Any]):
+    """A row of a data frame: numbers by labels, with a name."""
+
+    def __init__(self, name: str, numbers: dict[Any, Any]):
+        super().__init__(numbers)
+        self.name = name
 
 
 class Amounts(unittest.TestCase):
@@ -75,6 +85,43 @@ class Amounts(unittest.TestCase):
                 factor_for(values)
         self.assertEqual(factor_for([Fraction(300), Fraction(287577520, 10**9)], 9), 10**9)
         self.assertRaises(BadInput, factor_for, [Fraction(300), Fraction(2875775201, 10**10)], 10)
+
+    def test_a_number_too_great_has_its_place(self) -> None:
+        """The row and the column of a data frame, a name, or the place in a list; and the number, as it counts."""
+        great = 2**40
+        lane = Row("lane-010", {"Arc": 3, "Blu": 2, "Arc+Blu": great})
+        cases: list[tuple[Callable[[], Any], str]] = [
+            (lambda: coop.cost_table(lane), "^lane-010, Arc\\+Blu: 1099511627776 is 2\\^40 or more$"),
+            (lambda: coop.cost_table({("a",): 3, ("b",): 2, ("a", "b"): great}), "^a\\+b: 1099511627776 is"),
+            (lambda: coop.table([1, great, 3], order="mask"), "^number 2: 1099511627776 is"),
+            (lambda: coop.airport({"small": 1, "large": great}), "^large: 1099511627776 is"),
+            (lambda: coop.bankruptcy(5, {"Ann": great, "Bob": 1}), "^Ann: 1099511627776 is"),
+            (lambda: coop.bankruptcy(great, {"Ann": great - 1, "Bob": 1}), "^1099511627776 is"),
+            (lambda: coop.airport({"a": "1/7", "b": great // 2, "c": "1/3"}), "^b: 549755813888, times the common "
+             "denominator 21, is 2\\^40 or more: round to fewer digits, at most 0 "),
+            (lambda: coop.table({"a": 0.5, "b": 1, "a+b": 1e9 + 0.125}, digits=9), "^a\\+b: 8000000001/8, times"),
+            (lambda: coop.assignment([[1, great]]), "^1099511627776 is"),
+        ]
+        for make, sentence in cases:
+            with self.assertRaisesRegex(BadInput, sentence):
+                make()
+
+    def test_a_division_is_rounded(self) -> None:
+        """So that it adds up: by names as they are given, or as a list; also one of floats."""
+        thirds: dict[str, Amount] = {"a": Fraction(100, 3), "b": Fraction(100, 3), "c": Fraction(100, 3)}
+        found = coop.rounded(thirds, 2)
+        self.assertEqual((list(found), sum(found.values())), (["a", "b", "c"], 100))
+        self.assertEqual(list(found.values()), [Fraction("33.34"), Fraction("33.33"), Fraction("33.33")])
+        self.assertEqual(coop.rounded([600 * 0.1 / 0.7, 600 * 0.6 / 0.7], 1), [Fraction("85.7"), Fraction("514.3")])
+        self.assertEqual(coop.rounded(Row("lane", {1: 0.5, 2: 0.5}), 0), {"1": 1, "2": 0})
+        for shares, places, sentence in (
+            ([1, 2], -1, "isn't a number of digits"),
+            ({"a": "x"}, 2, "a: 'x' isn't a number"),
+            ({1: 2, "1": 3}, 2, "the name '1' is given twice"),
+            ("12", 2, "is a text"),
+        ):
+            with self.assertRaisesRegex(BadInput, sentence):
+                coop.rounded(shares, places)  # type: ignore[call-overload]
 
     def test_a_decimal_of_a_float(self) -> None:
         with self.assertRaisesRegex(BadInput, "all the digits of the float 0.1: make it of a text, Decimal\\('0.1'\\)"):

@@ -13,6 +13,7 @@ from typing import Any, Iterator, Union
 
 import coop
 from coop import answers
+from coop.checking import verdict
 from coop.program import TOP
 from coop.server import Server
 
@@ -42,6 +43,7 @@ class Calls(unittest.TestCase):
         spoilt = replace(answer, shares=dict(answer.shares))
         spoilt.shares["light"] = Fraction(99)
         self.assertIsInstance(coop.check(spoilt), answers.No)
+        self.assertEqual((verdict(answer)["answer"], verdict(spoilt)["answer"]), ("yes", "no"))
         spoilt.shares["light"] = 1.0  # type: ignore[assignment]
         with self.assertRaisesRegex(coop.BadInput, "light: 1.0 is a float"):
             coop.check(spoilt)
@@ -54,6 +56,11 @@ class Calls(unittest.TestCase):
         none = coop.nucleolus(coop.table([1, 2, 2]))
         assert isinstance(none, answers.NoImputation)
         self.assertEqual((none.singles, none.total, bool(none)), (3, 2, False))
+        failed = coop.Failure(coop.Usage("too many", 2))
+        for call in (coop.check, verdict):
+            for other in (none, coop.shapley(AIRPORT), failed):
+                with self.assertRaisesRegex(coop.BadInput, f"{type(other).__name__} has no certificate to check"):
+                    call(other)  # type: ignore[operator]
 
     def test_the_core(self) -> None:
         point, empty = coop.core(AIRPORT), coop.core(MAJORITY)

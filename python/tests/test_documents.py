@@ -21,8 +21,10 @@ from coop.desk.report import report
 from coop.styles import Style
 from coop.telling import same
 
-from .asking import needs_node
+from .asking import needs_node, needs_program
 from .test_reasons import AIRPORT, solved
+
+RUNWAY = coop.airport({"light": 2, "medium": 4, "heavy": 6})
 
 
 class Files(unittest.TestCase):
@@ -238,6 +240,50 @@ class Page(HTMLParser):
 
     def handle_data(self, data: str) -> None:
         self.texts.append(data)
+
+
+@needs_program
+@needs_node
+class OfAnswers(unittest.TestCase):
+    """Pictures, papers and reasons of answers as the calls give them, with the shares that they have now."""
+
+    def test_pictures(self) -> None:
+        nucleolus, shapley = coop.nucleolus(RUNWAY), coop.shapley(RUNWAY)
+        seen = [row.text or "" for row in texts_of(picture([nucleolus, shapley, nucleolus]))]
+        for name in ("nucleolus 1", "Shapley shares", "nucleolus 2"):
+            self.assertTrue(any(text.startswith(name) for text in seen), (name, seen))
+        self.assertEqual(picture(nucleolus), picture(nucleolus.line))
+        self.assertEqual(picture(nucleolus.line.encode()), picture([nucleolus]))
+        fine = coop.shapley(coop.airport(["0.00001", 2, 3, 4]))
+        self.assertIn("1/400000", picture(fine))
+        core = coop.core(coop.airport([1, 2]))
+        none = coop.nucleolus(coop.table([1, 2, 2]))
+        for given, sentence in (
+            (none, "NoImputation has no shares to draw"),
+            ([none, shapley], "NoImputation has no shares to draw"),
+            (coop.Failure(coop.Usage("too many", 2)), "Failure isn't an answer or a line"),
+            ([RUNWAY], "Game isn't an answer or a line"),
+            (5, "int isn't an answer or a line"),
+        ):
+            with self.assertRaisesRegex(BadInput, sentence):
+                picture(given)  # type: ignore[arg-type]
+        self.assertIn("<svg", picture(core))
+
+    def test_papers(self) -> None:
+        answer = coop.nucleolus(RUNWAY)
+        assert isinstance(answer, coop.Nucleolus)
+        page = Page(report(answer))
+        self.assertIn("3/2", page.texts)
+        self.assertEqual(report(answer), report(answer.line, "", Style()))
+        fine = coop.prenucleolus(coop.airport(["0.00001", 2, 3, 4]))
+        self.assertIn("1/200000", Page(report(fine)).texts)
+        with self.assertRaisesRegex(BadInput, "Shapley has no certificate to check"):
+            report(coop.shapley(RUNWAY))
+        answer.shares["light"] += 1
+        with self.assertRaisesRegex(BadInput, "the line: "):
+            report(answer)
+        self.assertEqual(reasons(answer)[1], 1)
+        self.assertIn("2.00", answer._repr_html_())
 
 
 class Reports(unittest.TestCase):

@@ -98,6 +98,9 @@ class Constructors(unittest.TestCase):
                 {"a": 1, "b": 1, "c": 1, "a+b": 2, "a+c": 2, "b+x": 2, "a+b+c": 3}
             )),
             ("; is A,B the group A.B. Write", lambda: coop.table(dict.fromkeys(["A", "B", "C", "A,B", "B,C"], 1))),
+            ("; is A-B the group A.B. Write", lambda: coop.table(dict.fromkeys(["A", "B", "C", "A-B", "B-C"], 1))),
+            ("; is A_B the group A.B. Write", lambda: coop.table(dict.fromkeys(["A", "B", "C", "A_B", "B_C"], 1))),
+            ("; is A / B the group A.B", lambda: coop.table(dict.fromkeys(["A", "B", "C", "A / B", "B / C"], 1))),
             ("31 players.*; is AB the group A.B", lambda: coop.table(dict.fromkeys(all_of("ABCDE"), 1))),
             ("a member of .*'A', ''.* has no name", lambda: coop.table({("A", "", ""): 1, ("A", "B", ""): 2})),
             ("no group: give a vector, such as .to_numpy", lambda: coop.table(dict.fromkeys(range(7), 1))),

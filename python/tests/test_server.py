@@ -65,6 +65,25 @@ def press_ctrl_c(done: threading.Event) -> None:
         pause = 5
 
 
+class Command(unittest.TestCase):
+    @needs_node
+    def test_its_own(self) -> None:
+        """Without a command it is the package's module, wherever it is called."""
+        server = Server(seconds=60)
+        self.addCleanup(server.close)
+        with tempfile.TemporaryDirectory() as folder:
+            here = os.getcwd()
+            os.chdir(folder)
+            self.addCleanup(os.chdir, here)
+            self.assertEqual((server.command, server.run(["core"], AIRPORT)), (COMMAND, (0, CORE)))
+            os.chdir(here)
+
+    def test_no_node(self) -> None:
+        with patch("coop.parts.which", return_value=None):
+            with self.assertRaisesRegex(coop.NotFound, "there is no Node on the path .*, or give a command"):
+                Server()
+
+
 @needs_node
 class Answers(unittest.TestCase):
     def setUp(self) -> None:

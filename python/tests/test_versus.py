@@ -75,16 +75,16 @@ class Judged(unittest.TestCase):
             versus.rules("game")  # type: ignore[arg-type]
 
     def test_always_all_rows(self) -> None:
-        """Each game has the same rows, which may be read twice; a rule without a division says why, and isn't stable."""
+        """Each game has the same rows; a rule without a division says why, and isn't stable."""
         sum_of_costs = "alone they cost 5 in sum, and together 6, so somebody pays more than alone"
         sum_of_gains = "alone they are worth 5/2 in sum, and together 2, so somebody gets less than alone"
         nothing = "the numbers that it goes by add to 0, and there is something to share"
         many = "the game has more players than the command serves"
-        no_rest = versus.WANTING[versus.REMAINING]
+        rest = {versus.REMAINING: versus.WANTING[versus.REMAINING]}
         both = ("nucleolus", "nucleolus per head")
         cases: list[tuple[coop.Game, dict[str, str]]] = [
-            (coop.cost_table({"a": 2, "b": 3, "a+b": 6}), {**dict.fromkeys(both, sum_of_costs), versus.REMAINING: no_rest}),
-            (coop.table({"a": "1/2", "b": 2, "a+b": 2}), {**dict.fromkeys(both, sum_of_gains), versus.REMAINING: no_rest}),
+            (coop.cost_table({"a": 2, "b": 3, "a+b": 6}), {**dict.fromkeys(both, sum_of_costs), **rest}),
+            (coop.table({"a": "1/2", "b": 2, "a+b": 2}), {**dict.fromkeys(both, sum_of_gains), **rest}),
             (coop.table({"a": 0, "b": 0, "a+b": 2}), {"in proportion": nothing}),
             (coop.airport([1] * 9), {"nucleolus per head": many}),
             (RUNWAY, {}),
@@ -102,7 +102,8 @@ class Judged(unittest.TestCase):
             rows = {row.rule: row for row in versus.rules(solved.example(f"{name}-nucleolus").game)}
             for rule, part in (("nucleolus", "nucleolus"), ("Shapley shares", "shapley")):
                 example = solved.example(f"{name}-{part}")
-                self.assertEqual(list((rows[rule].shares or {}).values()), list(map(Fraction, example.expected["shares"])))
+                expected = list(map(Fraction, example.expected["shares"]))
+                self.assertEqual(list((rows[rule].shares or {}).values()), expected)
             self.assertEqual((rows["nucleolus"].leaving, rows[versus.REMAINING].leaving), (None, leaving))
 
     @needs_node

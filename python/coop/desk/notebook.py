@@ -12,14 +12,14 @@ from importlib import import_module
 from typing import TYPE_CHECKING, Any, Iterable, Sequence
 
 from ..amounts import digits_of
-from ..errors import Fault, NotFound
+from ..errors import BadInput, Fault, NotFound
 from ..game import KINDS, LISTS, TABLES, Game
 from ..masks import members
 from ..names import apart, safe
 from ..styles import EXACT, Style, column, rounded
-from .documents import Document, Point, rule_of, shares_in
-from .over import divided
-from .pictures import picture
+from .documents import Point
+from .over import as_given
+from .pictures import picture, shares_now
 from .reasons import parts_of
 
 if TYPE_CHECKING:
@@ -32,11 +32,10 @@ AMOUNTS = {"airport": "needs alone", "bankruptcy": "claims", "voting": "votes"}
 
 
 def of_answer(answer: Answer) -> str:
-    tree, game = divided(json.loads(answer.line), answer.game.factor), told(answer.game)
-    points = [Point(rule_of(name, game), shares, game) for name, shares in shares_in(Document("", tree))]
+    points = shares_now(answer)
     if points:
-        return "\n".join(map(with_table, points)) + drawn(game, points)
-    has_game = tree["answer"] not in ("yes", "no")
+        return "\n".join(map(with_table, points)) + drawn(as_given(answer.game), points)
+    has_game = json.loads(answer.line)["answer"] not in ("yes", "no")
     document = answer.game.document() if has_game else None
     try:
         parts = parts_of(answer.line.encode(), document, EXACT, over=answer.game.factor if has_game else 1)[0]
@@ -54,11 +53,6 @@ def paragraph(part: dict[str, Any]) -> str:
     items = "".join(f"<li>{text(item['label'])}</li>" for item in part["items"])
     last = f"<p>{text(part['last'])}</p>" if part.get("last") else ""
     return f"<p>{text(' '.join(part['sentences']))}</p>" + (f"<ul>{items}</ul>" if items else "") + last
-
-
-def told(game: Game) -> Game:
-    """A game with its numbers as they were given."""
-    return game if game.factor == 1 else Game(divided({"game": game.tree}, game.factor)["game"])
 
 
 def with_table(point: Point) -> str:
@@ -81,19 +75,19 @@ def table(heads: Sequence[str], rows: Iterable[Sequence[Any]]) -> str:
 
 
 def drawn(game: Game, points: Sequence[Point]) -> str:
-    """A picture of some points, where their game is small and there is Node."""
+    """A picture of some points, where their game is small and there is Node. Changed shares may have no place in it."""
     if game.n > MOST_DRAWN or game.kind == "market":
         return ""
     try:
         found = picture(points, title=game.title(), style=EXACT)
-    except (Fault, NotFound):
+    except (BadInput, Fault, NotFound):
         return ""
     return "\n" + found[found.index("<svg") :]
 
 
 def of_game(game: Game) -> str:
     """A game as HTML: its class, and its numbers where they are few."""
-    exact = told(game)
+    exact = as_given(game)
     measure = ", excess per head" * exact.per_head
     title = f"<p><strong>{html.escape(KINDS[exact.kind].capitalize())}</strong>, {exact.n} players{measure}</p>"
     if exact.kind in TABLES and exact.everyone <= MOST_GROUPS:

@@ -55,5 +55,10 @@ def amounts(part: Any, by: int) -> Any:
     return written(number(part, "an amount") / by)
 
 
+def as_given(game: Game) -> Game:
+    """A game with its numbers as they were given."""
+    return game if game.factor == 1 else Game(divided({"game": game.tree}, game.factor)["game"])
+
+
 def all_divided(documents: Sequence[Document], by: int) -> list[Document]:
     return [Document(document.where, divided(document.tree, by)) for document in documents]

@@ -6,8 +6,9 @@ import re
 from typing import Any, Optional, Union
 
 from .. import checking, telling
-from ..errors import BadInput
 from ..answers import Answer
+from ..calls import bytes_now
+from ..errors import BadInput
 from ..game import WRITER, Game, bytes_of
 from ..styles import EXACT, Style
 from .documents import decoded, one_in
@@ -25,7 +26,7 @@ def reasons(
 ) -> tuple[str, int]:
     """The sentences of a line, with all amounts over a number, and 1 if they tell that a certificate fails, else 0. The
     document that was asked about gives names and numbers to a line that has no game, and the place of a slip."""
-    parts, status = parts_of(bytes_of(line), None if document is None else bytes_of(document), say, where, over)
+    parts, status = parts_of(bytes_now(line), None if document is None else bytes_of(document), say, where, over)
     return "\n\n".join(map(paragraph, parts)) + "\n", status
 
 

@@ -19,7 +19,8 @@ def told(game: Game, rows: Sequence[Row], say: Style) -> str:
     """Tables of some rules each, what the program says of their divisions, and which rules have none."""
     some = [row for row in rows if row.shares is not None]
     parts = [table(game, some[k : k + MOST_COLUMNS], say) for k in range(0, len(some), MOST_COLUMNS)]
-    sentences = [*verdicts(game, some, say), *(f"By {row.rule} there is no division: {row.reason}." for row in rows if row.reason)]
+    lacking = [f"By {row.rule} there is no division: {row.reason}." for row in rows if row.reason]
+    sentences = [*verdicts(game, some, say), *lacking]
     return "\n".join([*parts, "".join(filled(sentence) + "\n" for sentence in sentences)])
 
 
