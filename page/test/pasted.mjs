@@ -12,6 +12,9 @@ const DASHES = /The dashes between names and numbers were left out/;
 const ANSWER = '\ufeff,nucleolus,"nucleolus, exact"\r\nSales,4.25,17/4\r\nOps,4,4\r\ntogether,8.25,33/4\r\n';
 const OF_ANSWER = /This is a table of an answer: it has the shares/;
 
+const PIPES = "Ketel\tA\t40\t31\t999\nKetel\tB\t55\t31\t888\nA\tB\t10\t31\t77";
+const PIPES_OF = (cost) => `van\tnaar\tmeter\tprijs per m\t${cost}\n${PIPES}`;
+
 /** A case, a text or several, what is in the cells (null if they are as before), and what is said or asked. */
 const TEXTS = [
   // numbers with a unit and a time
@@ -156,6 +159,13 @@ const TEXTS = [
   ["network", "Works\tA\tca. 12\nWorks\tB\t9\nA\tB\t4", null, /“ca\. 12” is no number\. Write the number alone/],
   ["network", "Works\tA\t\nWorks\tB\t9", "Works|A|B|0-2|9", /2 empty/],
   ["network", "From Works to A: 12\nFrom Works to B: 9\nFrom A to B: 4", /^Works\|A\|B/, /source: Works/],
+  ["network", PIPES_OF("kosten"), "Ketel|A|B|0-1|999|0-2|888|1-2|77",
+    /“meter”, “prijs per m”\. A link costs “kosten”\. Nothing says/],
+  ["network", PIPES_OF("total"), null, /by “meter” No, it costs “prijs per m” No, .* “total”/],
+  ["network", PIPES_OF("total"), /\|0-1\|40\*31\|/,
+    /: “total”\. A link costs “meter” times “prijs per m”\./, "Yes, multiply by “meter”"],
+  ["network", PIPES_OF("total"), /\|0-1\|31\|/, /: “meter”, “total”\. A/, "No, it costs “prijs per m”"],
+  ["network", PIPES_OF("total"), /\|0-1\|999\|/, /A link costs “total”/, "No, it costs “total”"],
   // a list in the place of another, and the number above it
   ["estate", ["Estate\t500\nAnn\t300\nBo\t400", "Cy\t90\nDi\t80"], "Cy=90|Di=80", /gone.*The estate is still 500\./],
   ["estate", ["Estate\t500\nAnn\t300\nBo\t400", "Bo\t90\nAnn\t80"], "Bo=90|Ann=80", /^(?!.*(gone|still 500))/],

@@ -16,12 +16,13 @@
 // The numbers of any other block go to the cells where they were pasted. The source is the point that has the source's
 // name already; otherwise the only one with a name such as reservoir or Wasserwerk; otherwise the first of a half. If
 // there is none, the page asks.
-import { cellNumber, readNumber } from "../exact/decimals.js";
+import { cellNumber } from "../exact/decimals.js";
 import { mostOf } from "../game/classes.js";
 import { isSumWord, withEscapes } from "../game/names.js";
 import { plural } from "../game/words.js";
 import { blockOf, isText, withoutSums } from "./block.js";
 import { unframed } from "./frames.js";
+import { byCost, costsIn } from "./link-costs.js";
 import { isSpoilt, SPOILT } from "./pasting.js";
 import { answerFault } from "./saved-tables.js";
 import { withoutUnits } from "./units.js";
@@ -60,12 +61,11 @@ function padded(rows) {
 }
 
 /** What a pasted block says of a whole network: {points, source, links, said}, `links` by "i-j" of the points; {fault}
- * if it contradicts itself; {product} if one of its columns is a price for each of another, and nobody said `isTimes`,
- * whether the two are to be multiplied; null if it is numbers alone, or names alone, for the cells where it was
- * pasted. */
-export function networkOf(pasted, { mark = ".", source = "", isTimes } = {}) {
+ * if it contradicts itself; {product} if one of its columns is a price for each of another, and nobody said what the
+ * `cost` is; null if it is numbers alone, or names alone, for the cells where it was pasted. */
+export function networkOf(pasted, { mark = ".", source = "", cost } = {}) {
   const block = blockOf(pasted), rows = withEnds(block.rows), { rows: framed, left: texts } = unframed(rows);
-  const ways = [rows, framed].map((some) => readOf(some, { mark, isTimes })), [whole] = ways;
+  const ways = [rows, framed].map((some) => readOf(some, { mark, cost })), [whole] = ways;
   const found = ways.find((one) => one && !one.fault) ?? whole, saved = answerFault(pasted);
   if (saved) return { fault: saved };
   if (!found || block.loose) {
@@ -85,7 +85,7 @@ export function networkOf(pasted, { mark = ".", source = "", isTimes } = {}) {
   if (fault) return { fault };
   if (rows !== block.rows) out.push(...titleOf(pasted, block));
   out.push(...left, ...found.units.map((unit) => `“${unit}”, the unit`));
-  return { points, links, shape, left: out, told: block.notes, ...sourceOf(points, found, source) };
+  return { points, links, shape, left: out, told: [...block.notes, ...found.told], ...sourceOf(points, found, source) };
 }
 
 /** The line above links whose ends share a cell, if it is no word for them: told as it was. */
@@ -104,42 +104,20 @@ function oddCost(rows, { isNumber }) {
 }
 
 /** A block as the first shape that fits, or {fault} or {product}; null for others, and where no number is. */
-function readOf(given, { mark, isTimes }) {
+function readOf(given, { mark, cost }) {
   const hasNames = given.flat().some(isText), kept = given.filter((row) => !hasNames || row.some(Boolean));
   const { rows: bare, units = [], fault } = withoutUnits(padded(kept), 1), judge = judgeOf(mark);
   if (fault) return { fault };
-  const product = productOf(bare, mark), rows = product && isTimes ? multiplied(bare, product) : bare;
-  if (product && isTimes === undefined) return { product };
+  const product = costsIn(bare, mark), meant = product && (product.whole ?? cost);
+  if (product && meant === undefined) return { product };
+  const { rows, left: out = [], told = [] } = product ? byCost(bare, product, meant) : { rows: bare };
   if (rows.length < 2 || !rows.flat().some(judge.isNumber)) return null;
   const found = listOf(rows, judge) ?? labelledOf(rows, judge) ?? namedOf(rows, judge) ?? squareOf(rows, judge);
-  return found && { ...found, units, judge };
+  return found && { ...found, left: [...found.left ?? [], ...out], told, units, judge };
 }
 
 const NO_SHAPE = "This is no list of from, to and cost, and no square or triangle with names.";
 const PAIR = /^(?:[Ff]rom (?=.* to ))?(.{1,99}?)(?: (?:to|[-–—/]) |\s?(?:[–—→]|->)\s?|(?<=\S)-(?=\S))(.{1,99})$/u;
-
-const PRICE = /\b(per|pro|je|par|each|price|rate|preis|prix|tarif)\b|\p{L}\s*\/\s*\p{L}/iu;
-const SIZE = /length|distance|metres?\b|meters?\b|\bk?m\b|länge|entfernung|longueur|quantity|menge/iu;
-
-/** Of a list with headings, the column of a price for each, and that of a length: {price, size} with their headings;
- * undefined where it has no two such columns of numbers. */
-function productOf([heads = [], ...below], mark) {
-  const kept = below.filter((row) => row.some(Boolean));
-  const isNumeric = (c) => kept.length > 0 && kept.every((row) => !readNumber(row[c], mark).fault);
-  const numeric = heads.map((_, c) => c).filter((c) => /\p{L}/u.test(heads[c]) && isNumeric(c));
-  const price = numeric.find((c) => PRICE.test(heads[c]));
-  const size = numeric.find((c) => c !== price && SIZE.test(heads[c]));
-  return price !== undefined && size !== undefined ? { price: heads[price], size: heads[size] } : undefined;
-}
-
-/** The rows with the product of two columns, as a cost, in the place of both. Its cell works it out. */
-function multiplied([heads, ...below], product) {
-  const [price, size] = [heads.indexOf(product.price), heads.indexOf(product.size)];
-  const others = (row) => row.filter((_, c) => c !== price && c !== size);
-  return [[...others(heads), "Cost"], ...below.filter((row) => row.some(Boolean)).map((row) => {
-    return [...others(row), `${row[size]}*${row[price]}`];
-  })];
-}
 
 /** Rows as "Alby-Brook" and 12, in a cell or two, as rows of two ends and a number, if all are such below a heading and
  * some place has several links: "Anne-Marie" and "Jean-Luc" are places. */
@@ -214,7 +192,8 @@ function listOf(rows, judge) {
   const entries = below.map((row) => [place(row[from]), place(row[to]), row[cost]]).map(([i, j, text]) => {
     return i < j ? [i, j, text] : [j, i, text];
   });
-  const left = wide > 3 && isHeading ? columns.filter((c) => ![from, to, cost].includes(c)).map((c) => rows[0][c]) : [];
+  const rest = wide > 3 && isHeading ? columns.filter((c) => ![from, to, cost].includes(c)) : [];
+  const left = rest.map((c) => `“${rows[0][c]}”`);
   const lost = below.length < given.length ? [`“${given.at(-1).filter(Boolean).join("; ")}”, a sum`] : [];
   return { points, entries, shape: "a list of from, to, cost", left: [...left, ...lost] };
 }

@@ -1,5 +1,6 @@
 // The grid of a network: what a link between each two places costs.
 import { blockOf, isText } from "../cases/block.js";
+import { TIMES } from "../cases/link-costs.js";
 import { cellsOfNetwork, networkOf, takenText, withoutPlace, withSource } from "../cases/links.js";
 import { sourceName } from "../cases/matrices.js";
 import { withEscapes } from "../game/names.js";
@@ -128,10 +129,10 @@ class NetworkGrid {
   }
 
   /** A whole network takes the place of all cells; a block of numbers goes where it was pasted. */
-  pasted(cell, rows, isTimes) {
+  pasted(cell, rows, cost) {
     const { typed } = this, isFirst = ["source", "names.0", "links.0-1"].includes(cell);
-    const found = networkOf(rows, { mark: this.mark(), source: typed.source, isTimes });
-    if (found?.product) return this.productQuestion(found.product, (isIt) => this.pasted(cell, rows, isIt));
+    const found = networkOf(rows, { mark: this.mark(), source: typed.source, cost });
+    if (found?.product) return this.productQuestion(found.product, (own) => this.pasted(cell, rows, own));
     const isWhole = found && (isFirst || found.fault || found.shape.includes("list") || found.shape.includes("names"));
     const cells = isWhole ? {} : pastedCells(this.kind, typed, cell, blockOf(rows).rows);
     const fault = isWhole ? found.fault : cells.fault;
@@ -151,12 +152,13 @@ class NetworkGrid {
     return undefined;
   }
 
-  /** Asked before anything is taken: a column is a price for each of another. */
-  productQuestion({ price, size }, take) {
-    const [one, other] = [price, size].map((text) => `“${withEscapes(text)}”`);
-    askIn(this.element, this.said, [`${one} looks like a price for each. Does a link cost ${one} times ${other}? `,
-      button(`Yes, multiply by ${other}`, () => take(true), { class: "quiet" }), " ",
-      button(`No, it costs ${one}`, () => take(false), { class: "quiet" })]);
+  /** Asked before anything is taken: a column is a price for each of another, and maybe a third has the product. */
+  productQuestion({ price, size, total }, take) {
+    const [one, other, third] = [price, size, total ?? ""].map((text) => `“${withEscapes(text)}”`);
+    const way = (text, cost) => [button(text, () => take(cost), { class: "quiet" }), " "];
+    const asked = `${one} looks like a price for each. Does a link cost ${one} times ${other}? `;
+    askIn(this.element, this.said, [asked, way(`Yes, multiply by ${other}`, TIMES),
+      way(`No, it costs ${one}`, price), total !== undefined && way(`No, it costs ${third}`, total)]);
   }
 
   /** Asked before there is an answer: nothing that was pasted says which point is the source. */
