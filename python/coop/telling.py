@@ -11,6 +11,7 @@ from typing import Any, Optional, Union
 
 from .errors import BadInput, Fault, NotFound, Slip
 from .game import bytes_of
+from .parts import path_of
 from .program import page_server
 
 MOST = 32 * 1024 * 1024  # bytes of what is asked at once
@@ -19,6 +20,7 @@ TOO_LATE = 124
 UNTOLD = 2
 NEEDLESS = "answers don't need it where another program is there"
 NO_NODE = f"there is no Node on the path (18 or later, nodejs.org), whose process tells this; {NEEDLESS}"
+NO_RUNTIME = f"the folders runtime and page, whose modules tell this, are missing beside the package; {NEEDLESS}"
 Part = dict[str, Any]
 """A part of what is told: sentences, and perhaps a title, items with a label and a text each, and a last sentence."""
 
@@ -54,7 +56,7 @@ def told(words: list[str], document: bytes) -> Any:
         raise BadInput(f"these are {len(document):,} bytes, and at most {MOST:,} are told of")
     server = page_server()
     if server is None:
-        raise NotFound(NO_NODE)
+        raise NotFound(NO_NODE if path_of("runtime", "serve.mjs") else NO_RUNTIME)
     try:
         status, line = server.run(["tell", *words], document, SECONDS)
     except Fault as fault:

@@ -56,6 +56,8 @@ class Processes(unittest.TestCase):
     def test_none(self) -> None:
         with patch("coop.telling.page_server", lambda: None):
             self.refused(NotFound, "no Node on the path")
+            with patch("coop.telling.path_of", lambda *words: None):
+                self.refused(NotFound, "the folders runtime and page, .* are missing beside the package")
 
     def test_one_that_ends(self) -> None:
         with patch("coop.telling.page_server", lambda: Server([sys.executable, "-c", ""])):
