@@ -282,7 +282,7 @@ const messy = [
       + "All;56.000 €");
     await page.click("Fill the empty ones by the best split");
     await told(page, "#case .note[role=status]", /2 groups were filled/);
-    expect("by the comma", await page.run(`document.querySelector('[data-cell="numbers.3"]').value`), "5001,5");
+    expect("by the comma", await page.run(`document.querySelector('[data-cell="numbers.3"]').value`), "5.001,5");
   }],
   ["door: of votes in per cent that aren’t all it is asked", "votes", async (page, expect) => {
     await page.type("quota", "2/3");

@@ -265,9 +265,12 @@ const fills = [
   ["filled groups follow what is typed", "costs", async (page, expect) => {
     await page.type("numbers.3", "");
     await noted(page, /1 cell is still empty/);
+    expect("when which is right", await page.text("#case"), /such a group would go in parts, .* of a larger group/);
     await page.click("Fill the empty ones");
     await settle(page);
     expect("filled", await value(page, "numbers.3"), "15.5");
+    const counted = /The shares of “By what each adds” and “The agencies’ rule” rest on filled numbers/;
+    expect("which count it", await page.text("#answer-body .filled-note"), counted);
     await page.type("numbers.1", "6");
     await page.until(`document.querySelector('[data-cell="numbers.3"]').value === "13.5"`);
     await settle(page);

@@ -119,8 +119,8 @@ const rules = [
     expect("nor below", /\d{4}\./.test(await page.text("#margins")), false);
   }],
   ["face: a level’s reason that can’t be said gives way to two side by side on paper", "costs", (page) => {
-    return page.until("(dispatchEvent(new Event('beforeprint')), /The reasons of level 2 are longer: “Why” .*gains least by joining .* stronger hold/s"
-      + ".test(document.getElementById('sheet').textContent))");
+    return page.until("(dispatchEvent(new Event('beforeprint')), /The reasons of level 2 are longer: “Why” .*gains "
+      + "least by joining .* stronger hold/s.test(document.getElementById('sheet').textContent))");
   }],
   ["face: the cells of a network hold their numbers", "network", async (page, expect) => {
     await page.type("links.0-1", "3045.75");

@@ -38,7 +38,7 @@ async function cents(page, expect) {
   expect("where the page is", sheet, where);
   expect("the file’s own sum", sheet, /SHA-256 with CHANGELOG\.md there, by certutil -hashfile/);
   expect("whose checkers", sheet, /Two checkers that share no code, by the same makers, say/);
-  expect("what is proved", sheet, /whoever made it, .* it\. The program’s source is proved; .* its words aren’t\. Nobody/);
+  expect("what is proved", sheet, /whoever made it, .*The program’s source is proved; .* words aren’t\. Nobody/);
   expect("by typing", sheet, /simply type the numbers into that page: the answer has to be the same/);
   const steps = await page.text("#evidence .steps");
   expect("handing on", steps, /the project’s\s+repository: tell them its address\. Compare its SHA-256/);

@@ -4,9 +4,11 @@ import { estate, runway } from "../src/cases/lists.js";
 import { networkOf } from "../src/cases/links.js";
 import { cellsOf } from "../src/cases/pasting.js";
 import { sheetOf } from "../src/cases/sheets.js";
-import { tableOf } from "../src/cases/tables.js";
+import { costs, tableOf } from "../src/cases/tables.js";
 import { votes } from "../src/cases/votes.js";
 import { Rational } from "../src/exact/rational.js";
+import { withThousands } from "../src/work/case-files.js";
+import { fillSplits } from "../src/work/splits.js";
 import { faultsOfMarkets, MARKETS } from "./prices.mjs";
 
 const CASES = [
@@ -118,7 +120,8 @@ const LISTS = [
 for (const [text, wanted, isWhole] of LISTS) {
   const { state, fault, asked, count, isSum, columns } = tableOf(text, [], "size", ".", { isWhole });
   const which = columns?.map(({ title }) => title).join("?");
-  const found = fault ?? which ?? (asked ? `${asked} ${count}${isSum ? " sum" : ""}` : state.numbers.slice(1).join(" "));
+  const found = fault ?? which ?? (asked ? `${asked} ${count}${isSum ? " sum" : ""}`
+    : state.numbers.slice(1).join(" "));
   if (wanted instanceof RegExp ? wanted.test(found) : wanted === found) continue;
   faults += 1;
   console.log(`the list ${JSON.stringify(text.slice(0, 80))} is read as ${found}, and not ${wanted}`);
@@ -328,8 +331,33 @@ for (const [quota, counts, wanted] of QUOTAS) {
   console.log(`the quota ${quota} of ${counts.join(", ")} is told: ${told}`);
 }
 
-const tried = [CLAIMS, QUOTAS, sheets, CASES, WORKED, THOUSANDS, VALUES, LISTS, PASTED, NETWORKS, MARKETS]
-  .reduce((sum, { length }) => sum + length, 0);
+// what is filled has its thousands parted as the typed numbers have them, and so has what a saved case gives back
+const FILLED = [
+  ["4,250,000;1,400,000;", ".", "5,650,000"], ["4.250.000;1.400,50;", ",", "4.251.400,5"],
+  ["4250000;1400000;", ".", "5650000"], ["4’250’000;1’400’000;", ".", "5’650’000"],
+];
+for (const [typed, mark, wanted] of FILLED) {
+  const numbers = ["", ...typed.split(";"), "1", "", "", "9"].join("\n"), names = ["A", "B", "C"];
+  const { state, fault } = fillSplits({ typed: { names, numbers }, mark, costs: true });
+  const found = fault ?? state.numbers;
+  if (found.split("\n")[3] === wanted) continue;
+  faults += 1;
+  console.log(`${typed} is filled as ${JSON.stringify(found)}, and not by ${wanted}`);
+}
+const SAVED = [
+  [",", ".", "4,250,000;1,400,000;650.5"], [".", ",", "4.250.000;1.400.000;650,5"],
+  [undefined, ".", "4250000;1400000;650.5"],
+];
+for (const [thousands, entry, wanted] of SAVED) {
+  const texts = ["", "4250000", "1400000", `650${entry}5`], typed = { names: ["A", "B"], numbers: texts };
+  const found = withThousands(costs, typed, entry, thousands).numbers.slice(1).join(";");
+  if (found === wanted) continue;
+  faults += 1;
+  console.log(`a saved case with ${thousands} and ${entry} is opened as ${found}, and not ${wanted}`);
+}
+
+const tried = [FILLED, SAVED, CLAIMS, QUOTAS, sheets, CASES, WORKED, THOUSANDS, VALUES, LISTS, PASTED, NETWORKS,
+  MARKETS].reduce((sum, { length }) => sum + length, 0);
 faults += faultsOfMarkets();
 console.log(`${tried} numbers and lists as people type them, ${faults} faults`);
 process.exit(faults || !CASES.length ? 1 : 0);

@@ -133,9 +133,9 @@ export function withoutPlayer(state, player) {
 
 /** A table from a pasted text: lines of a group, with + between its members, and its number; or numbers alone, in the
  * order of the masks or by size: {state}, or {fault} in words; or {asked, count}, a line that may be the group of all,
- * or with `isSum` only a sum: then it is read again with what was said of it (`isWhole`). A {fault} may have a `way` on, a title and what
- * then is said (`isZeroAlone`, `isSparse`). `told` says how it was read, `remark` what was
- * left out. */
+ * or with `isSum` only a sum: then it is read again with what was said of it (`isWhole`). A {fault} may have a `way`
+ * on, a title and what then is said (`isZeroAlone`, `isSparse`). `told` says how it was read, `remark` what was left
+ * out. */
 export function tableOf(text, names = [], order = "size", mark = ".", said = {}) {
   const cells = cellsOf(text), block = blockOf(cells, { canBeNegative: true, words: true });
   const { rows, left } = unframed(block.rows), saved = answerFault(cells);

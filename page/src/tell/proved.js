@@ -5,7 +5,8 @@ const GIVEN = "Nobody proves that the numbers given are right.";
 /** `rule` is that of the certificate, if there is one; `isBeside` says that other columns are there. */
 export function provedText(rule, isBeside) {
   return [
-    rule ? "The certificate is enough, whoever made it, and a pencil can check it." : "These numbers have no certificate.",
+    rule ? "The certificate is enough, whoever made it, and a pencil can check it."
+      : "These numbers have no certificate.",
     rule && isBeside && `Only the ${rule} has one.`,
     "The program’s source is proved; the page’s reading, its own columns and its words aren’t.", GIVEN,
   ].filter(Boolean).join(" ");

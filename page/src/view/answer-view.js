@@ -8,7 +8,7 @@ import { labelOfCell } from "./cell-names.js";
 import { pictureButtons } from "./save-picture.js";
 import { button, cellOf, copy, el, refill } from "./dom.js";
 import { evidenceParts } from "./evidence.js";
-import { filledLines, filledText, isFilled } from "./filled.js";
+import { countedText, filledLines, filledText, isFilled } from "./filled.js";
 import { otherAmounts } from "./other-amounts.js";
 import { ownDivision } from "./own-division.js";
 import { paperPart } from "./paper.js";
@@ -111,7 +111,8 @@ export class AnswerView {
       setAll: (texts, said, what) => session.setProposal(texts, said, what), labels: rows.map(({ label }) => label),
     };
     return {
-      rows, format: session.format(), proposal, wide, filled: filledText(session), today: todayOf(session, rows),
+      rows, format: session.format(), proposal, wide, today: todayOf(session, rows),
+      filled: `${filledText(session) ?? ""} ${countedText(session, result.points ?? [], result.game)}`.trim(),
       pinned: pinnedOf(session, rows), labelOfCell: (cell) => labelOfCell(cell, session), result,
       remark: filledLines(session, rows), source: sourceName(session.typed),
       coarse: session.typed.coarse, typed: this.typed, ask: session.askAbout(result),

@@ -1,7 +1,8 @@
 // What the page filled in by itself, in sentences: it has to be told wherever the answer goes.
 import { groupLabel } from "../cases/tables.js";
-import { maskOf, masksBySize } from "../game/groups.js";
+import { maskOf, masksBySize, membersOf } from "../game/groups.js";
 import { listed } from "../game/words.js";
+import { plainPoints } from "../tell/rule-names.js";
 
 const MOST_TOLD = 5; // players, with 31 groups
 const MOST_GIVEN = 1500; // characters of groups with their numbers
@@ -18,6 +19,15 @@ export function givenText({ kind, typed }) {
   const masks = masksBySize(typed.names.length).filter((mask) => !typed.filled?.includes(mask));
   const told = masks.map((mask) => `${groupLabel(typed.names, mask)} ${(typed.numbers[mask] ?? "").trim()}`).join("; ");
   return told.length > MOST_GIVEN ? "" : `Given were: ${told}.`;
+}
+
+/** Which rules count filled numbers whatever they are, in a sentence; "" for none. */
+export function countedText({ kind, typed: { filled = [], names } }, points, game) {
+  const isOfRest = (mask) => membersOf(mask).length === names.length - 1, keys = ["shapley"];
+  if (!kind.isTable || !filled.length) return "";
+  if (filled.some(isOfRest)) keys.push("agencies");
+  const titles = plainPoints(points, game).filter(({ key }) => keys.includes(key)).map(({ title }) => `“${title}”`);
+  return titles.length ? `The shares of ${listed(titles)} rest on filled numbers.` : "";
 }
 
 /** Whether the page filled the number of one of these groups. */

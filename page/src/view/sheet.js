@@ -22,7 +22,7 @@ import { checkOf } from "./sheet-check.js";
 import { columnHead, el, refill } from "./dom.js";
 import { knownDigest } from "./files.js";
 import { fitOnPaper } from "./fit.js";
-import { filledLines, filledText, givenText } from "./filled.js";
+import { countedText, filledLines, filledText, givenText } from "./filled.js";
 import { movedText, totalsOf, withSum } from "./format.js";
 import { labelOfCell } from "./cell-names.js";
 import { pinnedOf, pinnedText } from "./pinned.js";
@@ -345,7 +345,7 @@ function cutText(titles) {
   return `The reasons of ${some} are longer: “Why” on the page has them. `;
 }
 
-/** The first reason: with its items, or without, or its first sentences and the last one (`isCut`), as there is room. */
+/** The first reason: with its items, or without, or its first sentences and the last one (`isCut`), as is room. */
 function toldOf({ sentences, items, last = "" }) {
   const whole = [...sentences, ...items.map(({ label }) => label), last], short = [...sentences, last];
   const isShort = (some) => some.join(" ").length <= MOST_TOLD, isCut = !isShort(short) && sentences.length > 3;
@@ -370,7 +370,8 @@ function agreedOf(view) {
   const isShort = text.length <= (rows.length > MOST_PICTURED ? MOST_ALONE : MOST_DOCUMENT);
   const given = (filled || !isShort) && givenText(view);
   const ofBox = isShort && (view.file?.made === text ? OF_FILE : OF_TEXT);
-  const what = el("p", {}, numbersOf(view), ofBox, filled && ` ${filled}`, given && ` ${given}`,
+  const what = el("p", {}, numbersOf(view), ofBox, filled && ` ${filled}`,
+    filled && view.withProposal && ` ${countedText(view, view.result.points, view.result.game)}`, given && ` ${given}`,
     fills?.text === text && ` ${fills.told(shownTitles(view))}`,
     coarse && ` ${coarseText(coarse)}`);
   return el("section", {}, el("h2", {}, doubt ? "Not agreed on" : "What is agreed on"),

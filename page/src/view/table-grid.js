@@ -20,6 +20,9 @@ const SEVERAL = "A cell takes one number, and these lines have several, so nothi
   + "numbers, or lines of a group and its number.";
 const OTHER = "These aren’t as many numbers as groups from this cell on. Nothing was taken. Paste those of all groups "
   + "into the first cell, or lines of a group and its number.";
+const FILLS_OF_COSTS = "The first is right if such a group would go in parts, each by a cost that is known. The second "
+  + "is right if it could also take the works of a larger group.";
+const FILLS_OF_GAINS = "That is right if such a group could do no more together than in parts.";
 const SIZES = ["", "Alone", "Two together", "Three together", "Four together", "Five together", "Six together"];
 
 /** `readList({text, names, order})` reads a pasted list, beside the page; `remember(what)` offers to undo it. */
@@ -237,7 +240,7 @@ class TableGrid {
       }),
       isCost && button("Fill them no dearer than a larger group", () => this.fillBy("larger"), {
         class: "quiet", title: "The cheapest of the splits of a group, and of the larger groups that hold it",
-      })));
+      }), el("span", { class: "hint" }, isCost ? FILLS_OF_COSTS : FILLS_OF_GAINS)));
   }
 
   fillBy(how) {

@@ -1,6 +1,7 @@
 // What is opened: a document, a line, or a case as the page saved it.
 import { JsonFault, parseJson, writeJson } from "../exact/json.js";
-import { readNumber, typedText } from "../exact/decimals.js";
+import { groupedText, readNumber, typedText } from "../exact/decimals.js";
+import { isMark } from "../exact/marks.js";
 import { caseNamed } from "../cases/cases.js";
 import { faultOfCase, filledOf, isCaseFile, limitsOf } from "../cases/case-file.js";
 import { coarseOf } from "../cases/coarse.js";
@@ -32,6 +33,18 @@ function withMark(found, mark) {
   return { ...found, typed: kind.pack?.(typed) ?? typed };
 }
 
+/** Cells with the sign between thousands that they had, if some number then shows which mark is that of decimals. */
+export function withThousands(kind, typed, mark, thousands) {
+  let isShown = !isMark(thousands);
+  const grouped = kind.mapNumbers(typed, (text) => {
+    const { value } = readNumber(text, mark), own = value ? groupedText(value, mark, thousands) : text;
+    const { by, doubt } = readNumber(own, mark);
+    isShown ||= Boolean(by) && !doubt;
+    return own;
+  });
+  return isShown && thousands ? grouped : typed;
+}
+
 function treeOf(text) {
   try {
     return parseJson(text);
@@ -54,9 +67,10 @@ function openCase(tree, usual) {
   const { fault: wrong, ...filled } = filledOf(kind, typed.names, tree.filled);
   const { fault: odd, isOther, ...prices } = limitsOf(typed, tree.limits, entry);
   if (wrong || odd) return { refusal: wrong ?? odd };
+  const cells = withThousands(kind, typed, entry, thousands);
   const isFollowing = !kind.isTable || follows(kind, typed, filled, entry);
   return {
-    ...found, isCase: true, typed: kind.pack?.(typed) ?? typed, texts: proposal,
+    ...found, isCase: true, typed: kind.pack?.(cells) ?? cells, texts: proposal,
     more: {
       ...(isFollowing ? filled : {}), ...(source && kind.isNetwork ? { source } : {}), ...prices,
       coarse: coarseOf(tree.coarse),

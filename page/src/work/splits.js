@@ -1,6 +1,7 @@
 // Groups that nobody has put a number on: what they cost, or are worth, by their best split into groups that have one.
 import { lcm, Rational } from "../exact/rational.js";
-import { typedText } from "../exact/decimals.js";
+import { groupedText } from "../exact/decimals.js";
+import { isMark, onlyMark } from "../exact/marks.js";
 import { withEscapes } from "../game/names.js";
 import { byOneMark, Reading } from "../cases/reading.js";
 import { groupLabel, packed, unpacked } from "../cases/tables.js";
@@ -16,7 +17,7 @@ const MOST_NAMED = 300; // groups that are named
 export function fillSplits({ typed, mark, costs, filled = [], how = "split", again = false, isMarked = true }) {
   const { names, numbers: given } = unpacked(typed), old = new Set(filled), all = given.length - 1;
   const numbers = given.map((text, mask) => (old.has(mask) ? "" : text));
-  const { values, scale, by, fault } = scaledValues(numbers, mark, isMarked);
+  const { values, scale, by, thousands, fault } = scaledValues(numbers, mark, isMarked);
   if (fault) return { fault };
   const best = bestSplits(how === "larger" ? heldByLarger(values).map(({ value }) => value) : values, costs);
   const fresh = [], hasWhole = values[all] !== null;
@@ -24,7 +25,7 @@ export function fillSplits({ typed, mark, costs, filled = [], how = "split", aga
     if (!mask || mask === all || values[mask] !== null || best[mask] === null || (again && !old.has(mask))) return text;
     fresh.push(mask);
     values[mask] = best[mask];
-    return typedText(new Rational(BigInt(best[mask]), scale), by);
+    return groupedText(new Rational(BigInt(best[mask]), scale), by, thousands);
   });
   const lacking = texts.filter((text, mask) => mask && mask !== all && !text.trim()).length;
   const above = abovesOf(values, fresh, { names, texts });
@@ -64,7 +65,9 @@ function scaledValues(numbers, mark, isMarked) {
   if (reading.isTooFine) return { fault: "The numbers are too fine: they have no common denominator to 65,536." };
   const scale = values.reduce((all, value) => (value ? lcm(all, value.den) : all), 1n);
   const whole = values.map((value) => value && Number((value.num * scale) / value.den));
-  return { scale, values: whole, by: reading.settles() ?? mark };
+  const settled = reading.settles(); // where that is open, a sign between thousands could be read as a decimal mark
+  const sign = onlyMark(reading.thousands), isClear = settled || !isMark(sign);
+  return { scale, values: whole, by: settled ?? mark, thousands: isClear ? sign : null };
 }
 
 function valuesOf(numbers, mark) {
