@@ -40,6 +40,8 @@ const DRAWN = {
 };
 const LINKS = { "what-if": "What if", evidence: "Evidence", paper: "On paper", files: "Files" };
 
+const OF_FRACTIONS = "Exact numbers have ÷ in fractions: a spreadsheet would take 1/3 for a date.";
+
 const at = (id) => document.getElementById(id);
 
 export class AnswerView {
@@ -159,8 +161,10 @@ export class AnswerView {
     const { session } = this, { reading, result, kind } = session, hasMade = made.childElementCount > 0;
     const points = result?.points ?? [], format = session.format().plain(), tables = () => {
       const { rows } = session.reading, beside = { today: todayOf(session, rows), pinned: pinnedOf(session, rows) };
-      return tablesOf(session.result, { rows, format, coarse: session.typed.coarse, proposal: session.proposal,
-        ...beside });
+      const { coarse } = session.typed, filled = filledText(session), { proposal } = session;
+      const all = tablesOf(session.result, { rows, format, coarse, proposal, ...beside });
+      const notes = [all.flat(2).some((text) => /^-?\d+\/\d+$/.test(text)) && OF_FRACTIONS, filled].filter(Boolean);
+      return [...all, notes.map((note) => [note])];
     };
     at("files").hidden = !hasMade;
     if (!hasMade || !reading) return;

@@ -2,6 +2,7 @@
 import { groupLabel } from "../cases/tables.js";
 import { countText } from "../exact/decimals.js";
 import { masksBySize } from "../game/groups.js";
+import { OWN_PROVED, provedText } from "../tell/proved.js";
 import { button, el, refill } from "./dom.js";
 import { dayText, showSheet } from "./sheet.js";
 import { unitOf } from "./unit.js";
@@ -31,10 +32,13 @@ export function paperPart(session, typed) {
       button("Print them", () => printAs(what), { class: "quiet" })]);
     if (count === 1) printAs(what);
   };
+  const { line, rule } = session.result ?? {};
   return el("div", { class: "paper-part" },
     el("p", { class: "hint" }, "One page for a board or a court: who, how much, a picture, the reasons, what is ",
       "agreed on, and how to check it. Or everything on this page, with the amounts that were worked out, and the ",
       "check of a line if it is of this case."),
+    line && el("p", { class: "hint" }, `The one page is to sign the ${rule}. If you agreed on `,
+      "another rule, put the other columns there too, and name the rule in the heading."),
     field("heading", "Heading", typed.heading ?? session.kind.title, true),
     field("unit", "Unit of money", unitOf(typed), false),
     typed.pastedUnit && typed.unit === undefined && el("p", { class: "hint" }, `“${typed.pastedUnit}” is that of the `,
@@ -83,7 +87,15 @@ export class Paper {
     return [
       el("p", {}, own && el("b", {}, own), own && " – ", dayText()),
       what === "all" && unit && el("p", {}, `All amounts are in ${unit}.`),
+      what === "all" && isCase && !this.view.isHidden && this.proved(),
     ];
+  }
+
+  /** What is proved of the answer. */
+  proved() {
+    const { line, rule, game, points = [], beyond } = this.session.result ?? {};
+    if (points.length) return el("p", { class: "hint" }, provedText(line && !game.ballots && rule, points.length > 1));
+    return beyond && el("p", { class: "hint" }, OWN_PROVED);
   }
 
   /** All groups of a table with their numbers, where the grid shows a part of them. */
