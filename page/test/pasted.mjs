@@ -12,15 +12,20 @@ const DASHES = /The dashes between names and numbers were left out/;
 const ANSWER = '\ufeff,nucleolus,"nucleolus, exact"\r\nSales,4.25,17/4\r\nOps,4,4\r\ntogether,8.25,33/4\r\n';
 const OF_ANSWER = /This is a table of an answer: it has the shares/;
 
+const MINUTES = "Minutes, item 6 - Access road to the two quarries\n\nSection A (main road, 3.2 km): EUR 480,000 - used "
+  + "by Hartmann Quarry, Steinberg Quarry\nSection B (fork): EUR 150,000 - used by Hartmann Quarry";
+const LINKS = "Works\tA\t12\nWorks\tB\t9\nA\tB\t4", LINKED = "Works|A|B|0-1|12|0-2|9|1-2|4";
+const TRADES = "\thut\tflat\nAnn\t5\t9\nBo\t8\t9", SAME = "Yes, to the same by other names", NAMES = "Ann\t3\nBo\t4";
 const PIPES = "Ketel\tA\t40\t31\t999\nKetel\tB\t55\t31\t888\nA\tB\t10\t31\t77";
 const PIPES_OF = (cost) => `van\tnaar\tmeter\tprijs per m\t${cost}\n${PIPES}`;
 
-/** A case, a text or several, what is in the cells (null if they are as before), and what is said or asked. */
+/** A case (and a cell for the last text), a text or several, what is in the cells (null if they are as before), and
+ * what is said or asked. */
 const TEXTS = [
   // numbers with a unit and a time
   ["estate", "Ann\t12,000.00 EUR/year\nBo\t8,000.00 EUR/year", "Ann=12,000.00 EUR|Bo=8,000.00 EUR",
     /“\/year” behind the/],
-  ["estate", "Ann\t120 € p.a.\nBo\t80 € p.a.", "Ann=120 €|Bo=80 €", /“p\.a\.” behind the numbers is taken as their unit/],
+  ["estate", "Ann\t120 € p.a.\nBo\t80 € p.a.", "Ann=120 €|Bo=80 €", /“p\.a\.” behind the numbers is taken as their/],
   ["estate", "Ann: 120 EUR per month\nBo: 80 EUR per month", "Ann=120 EUR|Bo=80 EUR", /“per month” behind/],
   ["estate", "Ann 120 EUR / Jahr\nBo 80 EUR / Jahr", "Ann=120 EUR|Bo=80 EUR", /“\/Jahr” behind/],
   ["estate", "Ann\t120 EUR/year\nBo\t80 EUR/month", null, /several units: “\/year” and “\/month”\. Give all in one/],
@@ -166,6 +171,25 @@ const TEXTS = [
     /: “total”\. A link costs “meter” times “prijs per m”\./, "Yes, multiply by “meter”"],
   ["network", PIPES_OF("total"), /\|0-1\|31\|/, /: “meter”, “total”\. A/, "No, it costs “prijs per m”"],
   ["network", PIPES_OF("total"), /\|0-1\|999\|/, /A link costs “total”/, "No, it costs “total”"],
+  // names alone are taken as such only where no number of others stands beside them, and sentences are no names
+  ["network", MINUTES, null, /“Minutes, item 6 - Access road .* quarries” is no name, .* cost\. Nothing was taken/],
+  ["network", "North\nSouth", "North|South", /Taken as the names of 2 places\./],
+  ["network", [LINKS, MINUTES], LINKED, /is no name/],
+  ["network", [LINKS, "North\nSouth"], LINKED, /Nothing was taken yet\. These are names alone\. Do the costs here/],
+  ["network", [LINKS, "North\nSouth"], "Works|North|South|0-1|12|0-2|9|1-2|4", /the names of 2/, SAME],
+  ["network", [LINKS, "North\nSouth"], "North|South", /names of 2 places/, "No, these are other places: empty the costs"],
+  ["market", MINUTES, null, /is no name, .* row of gains\. Nothing was taken/],
+  ["market", [TRADES, "Cy\nDi"], "hut|flat|Ann|Bo|5|9|8|9", /These are names alone\. Do the numbers here/],
+  ["market", [TRADES, "Cy\nDi"], "hut|flat|Cy|Di|5|9|8|9", /names of 2 traders/, SAME],
+  ["market", [TRADES, "Cy\nDi"], "hut|flat|Cy|Di||||", /2 buyers/, "No, these are other traders: empty the numbers"],
+  ["costs", MINUTES, null, /Line 1: .* Nothing was taken/], ["gains", MINUTES, null, /Nothing was taken/],
+  ["votes", MINUTES, null, /Nothing was taken/], ["runway", MINUTES, null, /Nothing was taken/],
+  ["estate", "The members met on Monday, and agreed.\nNobody was against it.", null, /is no name, .* Nothing was/],
+  ["estate rows.0.claim", MINUTES, null, /These are no numbers, and this column is “Claim”/],
+  ["estate rows.1.name", ["Ann\t30\nBo\t40", "Cy\nDi"], "Ann=30|Bo=40", /These are names alone/],
+  ["estate rows.1.name", ["Ann\t30\nBo\t40", "Cy\nDi"], "Ann=30|Cy|Di", /2 empty/,
+    "No, these are other names: empty the numbers"],
+  ["votes", [NAMES, "Cy\nDi"], "Cy|Di", /rows before are gone/],
   // a list in the place of another, and the number above it
   ["estate", ["Estate\t500\nAnn\t300\nBo\t400", "Cy\t90\nDi\t80"], "Cy=90|Di=80", /gone.*The estate is still 500\./],
   ["estate", ["Estate\t500\nAnn\t300\nBo\t400", "Bo\t90\nAnn\t80"], "Bo=90|Ann=80", /^(?!.*(gone|still 500))/],
@@ -200,9 +224,10 @@ const PROPOSED = [
 ];
 
 /** What comes of a text: the cells, and what is said, asked and wrong. */
-async function outcome(id, text, answer) {
-  const desk = new Desk(id, "."), before = desk.cells();
-  for (const one of [text].flat()) await desk.paste(CELLS[id] ?? "rows.0.name", one);
+async function outcome(of, text, answer) {
+  const [id, cell = CELLS[id] ?? "rows.0.name"] = of.split(" ");
+  const desk = new Desk(id, "."), before = desk.cells(), all = [text].flat(), first = CELLS[id] ?? "rows.0.name";
+  for (const one of all) await desk.paste(one === all.at(-1) ? cell : first, one);
   if (answer) await settled(desk.read().buttons.find((one) => one.textContent === answer)?.on.click({}));
   const { reading: { faults, empty, notes }, said, asked } = desk.read(), cells = desk.cells();
   const wrong = faults.map(({ sentence }) => sentence).join(" ");

@@ -1,5 +1,6 @@
 // A table that was pasted into a list: what stands around it goes, and each of its columns finds the one it is for.
 import { readNumber } from "../exact/decimals.js";
+import { isBareName, notNames } from "./bare-names.js";
 import { blockOf, looseText, PAGES } from "./block.js";
 import { withEscapes } from "../game/names.js";
 import { columnsFor, isKnownHead, knownHeads, widthFault } from "./columns.js";
@@ -15,6 +16,7 @@ const MOST_HEADS = 3; // words of two headings in a line
 const PROSE = /\d[^\t]*\s\p{L}{2,}\s[^\t]*\s\d+ ?\S*, /u;
 const IN_LINE = "The line of names and numbers was parted between them.";
 const SENTENCE = "This is one sentence. Give each a line: the name, a tab and the number.";
+const AS_ROWS = "Give each row a name, a tab and a number, and leave other lines out.";
 const PAGE = new RegExp(`^\\P{L}*(${PAGES}) ?\\d+(( ?/| \\p{L}+) ?\\d+)?\\P{L}*$`, "iu");
 
 /** Pasted rows for the `columns` from a cell on, of which `usual` go without saying: {rows, targets, headings, notes},
@@ -27,7 +29,8 @@ export function sheetOf(pasted, columns, { mark, single, amount, usual, isFirst 
   const whole = { rows: pasted, notes: [] };
   const { rows: parted, notes: counted, loose } = isFirst ? blockOf(paged, { words: true }) : whole;
   const odd = loose ?? (isFirst ? noName(parted) : undefined), saved = answerFault(pasted);
-  if (odd !== undefined || saved) return { fault: saved ?? looseText(odd) };
+  const lineText = (text) => (/\d/.test(text) ? looseText(text) : notNames([text], AS_ROWS));
+  if (odd !== undefined || saved) return { fault: saved ?? lineText(odd) };
   if (given.length === 1 && PROSE.test(pasted[0].join(", "))) return { fault: SENTENCE };
   const { rows: lines, left } = unframed(single ? withSingle(parted, single) : parted);
   const { rows: all, found: units, fault } = withoutUnits(lines.filter((row) => row.some(Boolean)), 1);
@@ -120,7 +123,8 @@ function noName(rows) {
   const [unit, other] = new Set(texts.map((text) => /\s\d[\d.,]*\s(\p{L}{2,5})\.?$/u.exec(text)?.[1]));
   if (texts.length > 1 && (pair || (unit && !other))) return pair || texts[0];
   const isCount = found.every((text, k) => Number(text) === k + 1);
-  return texts.find(({ length }) => length > MOST_NAME) ?? (isAll && !isCount ? texts[0] : undefined);
+  const isNoName = (text) => text.length > MOST_NAME || (texts.length > 1 && !isBareName(text));
+  return texts.find(isNoName) ?? (isAll && !isCount ? texts[0] : undefined);
 }
 
 /** Rows without the numbers of pages between them: {rows, pages}. */

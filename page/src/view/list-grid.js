@@ -1,5 +1,5 @@
 // The grid of a list: a runway, an estate, a vote. A row is added while the last one is filled.
-import { NONE } from "../cases/columns.js";
+import { NONE, UNKNOWN } from "../cases/columns.js";
 import { partedInLine } from "../cases/in-line.js";
 import { SPOILT } from "../cases/pasting.js";
 import { sheetOf } from "../cases/sheets.js";
@@ -7,6 +7,9 @@ import { readNumber } from "../exact/decimals.js";
 import { withEscapes } from "../game/names.js";
 import { cellInput, moveByKeys, pasteCells, removal } from "./cells.js";
 import { askIn, button, el, refill, unask } from "./dom.js";
+import { askNames } from "./names-asked.js";
+
+const NAMED = { things: "names", numbers: "numbers" };
 
 export function listGrid(kind, typed, settings) {
   return new ListGrid(kind, typed, settings).element;
@@ -131,18 +134,46 @@ class ListGrid {
       mark: this.mark(), usual: columns.slice(first), isFirst: !first, ...said,
       single: single?.heads && single,
     });
-    if (sheet.fault) return this.say(`${sheet.fault} Nothing was taken.`);
+    const fault = sheet.fault ?? (first ? this.wordsFault(pasted, columns[first]) : undefined);
+    if (fault) return this.say(`${fault} Nothing was taken.`);
     const most = this.kind.most * 4, count = sheet.rows?.length ?? 0;
     if (count > most) return this.say(`These are ${count} rows, and at most ${most} fit. Nothing was taken.`);
     const use = (more) => this.fill(cell, pasted, more);
     if (sheet.asked) return this.askWhich(sheet.asked, said, use);
     const old = single && this.typed[single.key], isOther = sheet.number && old !== sheet.number;
     const isOpen = !isOther || said.amount || this.isOpen(single.key), kept = this.keptOf(sheet);
+    if (said.isSame === undefined && this.isOver(sheet, Number(r))) {
+      this.say("");
+      return askNames(this.element, this.said, NAMED, (isSame) => use({ ...said, isSame }));
+    }
     if (!isOpen && kept !== "none") return this.askSingle(single.title, [old, sheet.number], said, use);
     this.remember("Paste");
     if (!isOpen) sheet.notes.push(`${single.title} was ${old} before.`);
+    if (said.isSame === false) this.emptied(Number(r), count);
     this.take({ ...sheet, number: said.amount ?? sheet.number, kept }, Number(r));
     return this.offer(sheet, said, use);
+  }
+
+  /** Why words alone don’t go into a column of numbers. */
+  wordsFault(pasted, { number, title }) {
+    const texts = pasted.flat().filter(Boolean), isBegun = (text) => /^\P{L}*[\d?]/u.test(text);
+    const isWord = (text) => !isBegun(text) && readNumber(text).fault && !UNKNOWN.test(text);
+    const words = `These are no numbers, and this column is “${title}”. Paste names into the first column.`;
+    return number && texts.every(isWord) ? words : undefined;
+  }
+
+  /** Whether names alone, below the first row, go over others with numbers. */
+  isOver({ rows, targets }, r) {
+    const [{ key }] = this.kind.columns, hasMore = (row) => this.keys.some((one) => one !== key && row[one]?.trim());
+    const isAlone = targets.some((own) => own?.key === key) && targets.every((own) => !own || own.key === key);
+    const over = this.typed.rows.slice(r, r + rows.length);
+    return r > 0 && isAlone && !this.isExample() && over.some((row) => row[key]?.trim() && hasMore(row));
+  }
+
+  /** Empties some rows, whose numbers aren’t of the names that come. */
+  emptied(r, count) {
+    const { rows } = this.typed;
+    for (let k = r; k < Math.min(r + count, rows.length); k++) rows[k] = this.blank();
   }
 
   /** Offers what else a pasted text may say: the estate, a quota, or second votes. */
@@ -262,7 +293,7 @@ class ListGrid {
   say(text) {
     unask(this.element);
     this.said.textContent = withEscapes(text);
-    this.said.classList.toggle("warn", /” was left out|Left out, as|Nothing was/.test(text));
+    this.said.classList.toggle("warn", /Nothing was/.test(text));
   }
 
   /** What wasn't pasted begins as a typed row does, and that is told; a list with names has them in each row. */

@@ -1,10 +1,12 @@
 // The grid of a market: what each buyer gains with each seller, or two lists of limit prices that say it.
+import { notNames } from "../cases/bare-names.js";
 import { gainTexts, marketOf } from "../cases/matrices.js";
 import { partOf, pricesOf } from "../cases/prices.js";
 import { withEscapes } from "../game/names.js";
 import { plural } from "../game/words.js";
 import { cellInput, moveByKeys, pasteCells, removal } from "./cells.js";
-import { button, cellOf, el, refill } from "./dom.js";
+import { askIn, button, cellOf, el, refill, unask } from "./dom.js";
+import { askNames } from "./names-asked.js";
 import { gainsPart, priceLists } from "./price-lists.js";
 
 export function marketGrid(kind, typed, settings) {
@@ -14,6 +16,14 @@ export function marketGrid(kind, typed, settings) {
 const NO_ROOM = "From this cell on there aren’t as many cells. Paste it into the first one, or with the names of all.";
 const ONE_SIDE = "Here are limit prices of one side alone. Paste those of the other beside them or below.";
 const AS_PRICES = "A pair gains the buyer’s most less the seller’s least, or nothing if that is negative.";
+
+const AS_MARKET = "Give the sellers’ names above, and each buyer’s name before its row of gains.";
+const NAMED = { things: "traders", numbers: "numbers" };
+
+/** The names of rows of one list, if they have no prices. */
+const namesIn = ({ rows = [] }) => {
+  return rows.length > 0 && rows.every(({ name, price }) => name && !price) ? rows.map(({ name }) => name) : undefined;
+};
 
 class MarketGrid {
   constructor(kind, typed, { mark, onChange, readCells, remember }) {
@@ -81,23 +91,58 @@ class MarketGrid {
 
   // ---- What is pasted
 
-  /** Takes limit prices or gains; `said` is whose the first of two lists are. */
-  pasted(cell, rows, said) {
-    const { limits } = this.typed, prices = pricesOf(rows, said);
-    if (prices?.asked) return this.askWhose(prices.asked, (side) => this.pasted(cell, rows, side));
+  /** Takes limit prices or gains; `said` has what the user said: whose the first of two lists are (`side`), and whether
+   * names are of the traders here (`isSame`). */
+  pasted(cell, rows, said = {}) {
+    const { limits } = this.typed, prices = pricesOf(rows, said.side);
+    const use = (more) => this.pasted(cell, rows, { ...said, ...more });
+    unask(this.element);
+    if (prices?.asked) return this.askWhose(prices.asked, (side) => use({ side }));
     if (prices) return this.takePrices(prices);
     const found = marketOf(rows), isGains = !limits || (found.buyers && found.sellers && found.values);
-    if (!isGains) return this.takePart(partOf(cell, rows));
+    const part = isGains ? null : partOf(cell, rows), names = part ? namesIn(part) : found.names;
+    const odd = names && notNames(names, AS_MARKET);
+    if (odd) return this.take(odd);
+    if (names && said.isSame === undefined && this.isOver(cell, names)) {
+      return askNames(this.element, this.said, NAMED, (isSame) => use({ isSame }));
+    }
+    if (names && said.isSame === false) return this.takeNames(cell, names);
+    if (part) return this.takePart(part);
     const fault = found.fault ?? this.faultOf(cell, found), kept = !fault && this.keptText(cell, found);
-    return this.take(fault, [...found.notes ?? [], kept], () => {
+    const told = names && `Taken as the names of ${plural(names.length, "trader")}.`;
+    return this.take(fault, [...found.notes ?? [], told, kept], () => {
       delete this.typed.limits;
       this.fill(cell, found);
     });
   }
 
+  /** Whether names go over others, of which some have numbers. */
+  isOver(cell, names) {
+    const { typed } = this, { limits, values } = typed, [what, at = "0"] = cell.split(".");
+    const side = what === "sellers" || cell.startsWith("limits.sellers") ? "sellers" : "buyers";
+    const first = Number(what === "limits" ? cell.split(".")[2] : at);
+    const isNumber = (limits ? limits[side] : values.flat()).some((text) => text.trim());
+    const before = typed[side].slice(first, first + names.length);
+    return !this.isExample(cell) && isNumber && before.some((name) => name.trim());
+  }
+
+  /** Names of other traders than those of a side, without any numbers. */
+  takeNames(cell, names) {
+    const { typed, kind: { most } } = this, side = /^(limits\.)?sellers/.test(cell) ? "sellers" : "buyers";
+    const fault = names.length > most && `A side has at most ${most} traders.`;
+    this.take(fault, [`Taken as the names of ${plural(names.length, side.slice(0, -1), side)}.`], () => {
+      typed[side] = [...names];
+      if (typed.limits) typed.limits[side] = names.map(() => "");
+      else typed.values = [];
+      this.resize(typed.buyers.length, typed.sellers.length);
+    });
+  }
+
   /** Takes something, or says why not. */
-  take(fault, notes, doIt) {
+  take(fault, notes = [], doIt = undefined) {
+    unask(this.element);
     refill(this.said, fault ? `${fault} Nothing was taken.` : withEscapes(notes.filter(Boolean).join(" ")));
+    this.said.classList.toggle("warn", Boolean(fault));
     if (fault) return;
     this.remember("Paste");
     this.change(doIt);
@@ -105,9 +150,9 @@ class MarketGrid {
 
   askWhose(list, use) {
     const way = (text, side) => button(text, () => use(side), { class: "quiet" });
-    refill(this.said, `Nothing was taken yet. Whose limit prices are those of ${list}? `,
+    askIn(this.element, this.said, [`Nothing was taken yet. Whose limit prices are those of ${list}? `,
       way("Buyers: the most they’d pay", "buyers"), " ", way("Sellers: the least they’d take", "sellers"), " ",
-      way("They are no limit prices", "none"));
+      way("They are no limit prices", "none")]);
   }
 
   /** Limit prices of both sides are the case; those of one take the place of its list. */

@@ -1,11 +1,14 @@
 // The grid of a network: what a link between each two places costs.
+import { notNames } from "../cases/bare-names.js";
 import { blockOf, isText } from "../cases/block.js";
 import { TIMES } from "../cases/link-costs.js";
 import { cellsOfNetwork, networkOf, takenText, withoutPlace, withSource } from "../cases/links.js";
 import { sourceName } from "../cases/matrices.js";
 import { withEscapes } from "../game/names.js";
+import { plural } from "../game/words.js";
 import { cellInput, moveByKeys, pasteCells, removal } from "./cells.js";
 import { askIn, button, cellOf, el, refill, unask } from "./dom.js";
+import { askNames } from "./names-asked.js";
 import { noLinkHelp } from "./no-link.js";
 
 const WAIT = 150; // milliseconds between the last key and filling anew
@@ -128,16 +131,20 @@ class NetworkGrid {
     return undefined;
   }
 
-  /** A whole network takes the place of all cells; a block of numbers goes where it was pasted. */
-  pasted(cell, rows, cost) {
+  /** A whole network takes the place of all cells; a block of numbers, or names, goes where it was pasted. `said` has
+   * what the user said: what a link costs (`cost`), and whether names are of the places here (`isSame`). */
+  pasted(cell, rows, said = {}) {
     const { typed } = this, isFirst = ["source", "names.0", "links.0-1"].includes(cell);
-    const found = networkOf(rows, { mark: this.mark(), source: typed.source, cost });
-    if (found?.product) return this.productQuestion(found.product, (own) => this.pasted(cell, rows, own));
+    const found = networkOf(rows, { mark: this.mark(), source: typed.source, cost: said.cost });
+    const use = (more) => this.pasted(cell, rows, { ...said, ...more });
+    if (found?.product) return this.productQuestion(found.product, (cost) => use({ cost }));
     const isWhole = found && (isFirst || found.fault || found.shape.includes("list") || found.shape.includes("names"));
-    const cells = isWhole ? {} : pastedCells(this.kind, typed, cell, blockOf(rows).rows);
+    const cells = isWhole ? {} : pastedCells(this.kind, typed, cell, blockOf(rows).rows, said);
     const fault = isWhole ? found.fault : cells.fault;
+    if (cells.asks) return askNames(this.element, this.said, NAMED, (isSame) => use({ isSame }));
     unask(this.element);
     refill(this.said, fault && `${fault} Nothing was taken.`);
+    this.said.classList.toggle("warn", Boolean(fault));
     if (fault) return undefined;
     this.remember("Paste");
     if (isWhole) {
@@ -145,8 +152,11 @@ class NetworkGrid {
       cells.source ||= found.points[0] === "" && found.points.some(Boolean) ? typed.source ?? "" : cells.source;
       this.change(() => Object.assign(typed, cells, { filled: {}, isSourceOpen }));
       refill(this.said, takenText(found, sourceName(typed)), isSourceOpen && this.sourceQuestion());
-      this.said.classList.toggle("warn", found.left.some((text) => !text.endsWith(", the unit")));
-    } else this.change(() => Object.assign(typed, cells));
+    } else {
+      const { told, ...own } = cells;
+      this.change(() => Object.assign(typed, own));
+      refill(this.said, told);
+    }
     this.help.openIfEmpty();
     if (Object.values(this.typed.filled ?? {}).includes("way")) this.help.again();
     return undefined;
@@ -200,18 +210,39 @@ class NetworkGrid {
 const NO_ROOM = "These don’t fit into the cells from this one on. Paste names into the first name, a triangle of "
   + "numbers into the first link, or all with their names.";
 
+const NAMED = { things: "places", numbers: "costs" };
+const AS_LINKS = "Give each link a line: from, to and cost.";
+
 /** The cells with names, or numbers of links, put in from one on; of the worked example nothing stays. {fault} where
- * they don't fit. */
-function pastedCells({ most, example }, typed, cell, block) {
-  const told = ({ names, links }) => JSON.stringify([names, links]), isNew = told(typed) === told(example());
-  const [what, place = "0"] = cell.split("."), isNames = block.flat().some(isText), old = isNew ? {} : typed;
+ * they don't fit; {asks} for names over others whose links have numbers, until it is said whether they are the same. */
+function pastedCells(kind, typed, cell, block, said) {
   const kept = block.filter((row) => row.some(Boolean)), own = kept.length > 1 ? kept : kept.flat().map((one) => [one]);
+  const told = ({ names, links }) => JSON.stringify([names, links]);
+  const isNew = told(typed) === told(kind.example());
+  const what = { isNew, own, old: isNew ? {} : typed, most: kind.most };
+  return block.flat().some(isText) ? pastedNames(what, cell, said) : pastedLinks(what, cell, block);
+}
+
+function pastedNames({ isNew, own, old, most }, cell, { isSame }) {
+  const [where, place = "0"] = cell.split("."), at = isNew || isSame === false ? 0 : Number(place);
+  const isOdd = where !== "names" || own.some(([, other]) => other);
+  const fault = notNames(own.map(([name]) => name), AS_LINKS) ?? (isOdd || at + own.length > most ? NO_ROOM : null);
+  if (fault) return { fault };
+  const before = old.names?.slice(at, at + own.length) ?? [], isOver = before.some((name) => name.trim());
+  if (isSame === undefined && isOver && Object.values(old.links).some((text) => text.trim())) return { asks: true };
+  const names = isSame === false ? [] : [...(old.names ?? [])], links = isSame === false ? {} : { ...old.links };
+  own.forEach(([name], k) => (names[at + k] = name));
+  const told = `Taken as the names of ${plural(own.length, "place")}.`;
+  const filled = isSame === false ? {} : { ...old.filled };
+  return { names, links, filled, told, ...((isNew || isSame === false) && { source: "", isSourceOpen: false }) };
+}
+
+function pastedLinks({ isNew, own, old, most }, cell, block) {
+  const [what, place = "0"] = cell.split("."), { length } = own, isFirst = place === "0-1";
+  if (what !== "links" || !length || (isNew && !isFirst)) return { fault: NO_ROOM };
   const names = [...(old.names ?? [])], links = { ...old.links }, filled = { ...old.filled };
-  const isOdd = isNames ? what !== "names" || own.some(([, other]) => other) : what !== "links";
-  if (isOdd || !kept.length || (isNew && what === "links" && place !== "0-1")) return { fault: NO_ROOM };
-  if (isNames) own.forEach(([name], k) => (names[(isNew ? 0 : Number(place)) + k] = name));
-  while ((isNew || (!isNames && place === "0-1")) && names.length < kept.length) names.push("");
-  const [i0, j0] = place.split("-").map(Number), cells = isNames ? [] : block.flatMap((row, r) => {
+  while ((isNew || isFirst) && names.length < block.filter((row) => row.some(Boolean)).length) names.push("");
+  const [i0, j0] = place.split("-").map(Number), cells = block.flatMap((row, r) => {
     return row.map((text, c) => [i0 + c, j0 + r, text]).filter(([, , text]) => text);
   });
   if (names.length > most || cells.some(([i, j]) => i >= j || j > names.length)) return { fault: NO_ROOM };

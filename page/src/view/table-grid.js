@@ -1,4 +1,5 @@
 // The grid of a table: the players, and a cell for each group, by size. Of many groups a page is shown at a time.
+import { isBareName } from "../cases/bare-names.js";
 import { blockOf, isNumbers } from "../cases/block.js";
 import { groupLabel, packed, unpacked, withoutPlayer, withPlayer } from "../cases/tables.js";
 import { masksBySize, membersOf } from "../game/groups.js";
@@ -8,9 +9,11 @@ import { cellInput, moveByKeys, pasteCells, removal, removeByKey, showTips } fro
 import { askIn, button, cellOf, copy, el, refill, unask } from "./dom.js";
 import { numbersIn } from "../cases/vectors.js";
 import { plural } from "../game/words.js";
-import { placeOf, wholeAsked } from "./lists-asked.js";
+import { namedGroups, placeOf, wholeAsked } from "./lists-asked.js";
+import { askNames } from "./names-asked.js";
 import { pasteBox } from "./paste-box.js";
 
+const NAMED = { things: "players", numbers: "numbers" };
 const MOST_WHOLE = 6; // players whose groups are all shown
 const PAGE = 42; // groups of more players that are shown at a time
 const ASKED = "First say how the numbers are read: it is asked below.";
@@ -52,21 +55,27 @@ class TableGrid {
     this.tellFilled();
   }
 
-  /** Names take the place of those from a cell on, and of all of the worked example; any other text is a list. */
-  pasteNames(cell, pasted, text) {
+  /** Names take the place of those from a cell on, and of all of the worked example; any other text is a list. If they
+   * go over others with numbers it is asked whether they are the same players (`isSame`). */
+  pasteNames(cell, pasted, text, isSame) {
     const { rows, loose } = blockOf(pasted), cells = rows.length > 1 ? rows : rows[0].map((one) => [one]);
-    const isName = ([name, other]) => !other && /^[^+=:|]*\p{L}[^+=:|]*$/u.test(name);
-    const own = cells.filter((row) => row.some(Boolean));
+    const isName = ([name, other]) => !other && /^[^+=:|]*\p{L}[^+=:|]*$/u.test(name) && isBareName(name);
+    const own = cells.filter((row) => row.some(Boolean)), { most } = this.kind, { typed } = this;
     if (loose || !own.every(isName)) return this.takeList(text);
-    const isNew = this.isExample() || ![...this.typed.names, ...this.typed.numbers].some(Boolean), { most } = this.kind;
-    const first = isNew ? 0 : Number(cell.split(".")[1]);
-    let next = isNew ? { names: [], numbers: [""], filled: undefined } : this.typed;
+    const isEmpty = ![...typed.names, ...typed.numbers].some(Boolean);
+    const isNew = this.isExample() || isEmpty || isSame === false;
+    const first = isNew ? 0 : Number(cell.split(".")[1]), before = typed.names.slice(first, first + own.length);
+    if (isSame === undefined && !isNew && before.some(Boolean) && Array.from(typed.numbers).some(Boolean)) {
+      return askNames(this.element, this.message, NAMED, (isIt) => this.pasteNames(cell, pasted, text, isIt));
+    }
+    let next = isNew ? { names: [], numbers: [""], filled: undefined } : typed;
     if (first + own.length > most) return this.say(`A table has at most ${most} players. Nothing was taken.`);
     while (next.names.length < first + own.length) next = { ...next, ...withPlayer(next) };
     const names = this.ownNames().length ? [...next.names] : next.names.map(() => "");
     this.remember("Paste");
     own.forEach(([name], k) => (names[first + k] = name));
-    return this.change({ ...next, names });
+    this.change({ ...next, names });
+    return this.say(`Taken as the names of ${plural(own.length, "player")}.`);
   }
 
   placeOf(cell) {
@@ -386,11 +395,4 @@ class TableGrid {
     unask(this.element);
     refill(this.message, parts);
   }
-}
-
-/** Groups that cost more than a larger one, each with it; of very many the first ones. */
-function namedGroups(above) {
-  const named = above.filter(Boolean), rest = above.length - named.length;
-  return named.length > 0 && el("details", { class: "named" }, el("summary", {}, "Which, and the larger groups"),
-    el("ul", {}, named.map((text) => el("li", {}, text)), rest > 0 && el("li", {}, `and ${rest} more`)));
 }
