@@ -12,7 +12,7 @@ const DASHES = /The dashes between names and numbers were left out/;
 const ANSWER = '\ufeff,nucleolus,"nucleolus, exact"\r\nSales,4.25,17/4\r\nOps,4,4\r\ntogether,8.25,33/4\r\n';
 const OF_ANSWER = /This is a table of an answer: it has the shares/;
 
-const MINUTES = "Minutes, item 6 - Access road to the two quarries\n\nSection A (main road, 3.2 km): EUR 480,000 - used "
+const MINUTES = "Minutes, item 6 - Access road to the two quarries\n\nSection A (main road, 3 km): EUR 480,000 - used "
   + "by Hartmann Quarry, Steinberg Quarry\nSection B (fork): EUR 150,000 - used by Hartmann Quarry";
 const LINKS = "Works\tA\t12\nWorks\tB\t9\nA\tB\t4", LINKED = "Works|A|B|0-1|12|0-2|9|1-2|4";
 const TRADES = "\thut\tflat\nAnn\t5\t9\nBo\t8\t9", SAME = "Yes, to the same by other names", NAMES = "Ann\t3\nBo\t4";
@@ -177,7 +177,7 @@ const TEXTS = [
   ["network", [LINKS, MINUTES], LINKED, /is no name/],
   ["network", [LINKS, "North\nSouth"], LINKED, /Nothing was taken yet\. These are names alone\. Do the costs here/],
   ["network", [LINKS, "North\nSouth"], "Works|North|South|0-1|12|0-2|9|1-2|4", /the names of 2/, SAME],
-  ["network", [LINKS, "North\nSouth"], "North|South", /names of 2 places/, "No, these are other places: empty the costs"],
+  ["network", [LINKS, "North\nSouth"], "North|South", /names of 2/, "No, these are other places: empty the costs"],
   ["market", MINUTES, null, /is no name, .* row of gains\. Nothing was taken/],
   ["market", [TRADES, "Cy\nDi"], "hut|flat|Ann|Bo|5|9|8|9", /These are names alone\. Do the numbers here/],
   ["market", [TRADES, "Cy\nDi"], "hut|flat|Cy|Di|5|9|8|9", /names of 2 traders/, SAME],
@@ -249,6 +249,26 @@ for (const [text, wanted, told = /^/, labels = ["Sales", "Ops", "Legal"]] of PRO
   if ((fault ?? texts.join()) === wanted && told.test(said)) continue;
   faults += 1;
   console.log(`${JSON.stringify(text)}, proposed: ${fault ?? texts}, ${said}, and not ${wanted}`);
+}
+
+/** Texts about which something is asked, and what is asked again when the case was left and is shown again. */
+const LEFT = [
+  ["network", "\tA\tB\tC\nA\t-\t4\t5\nB\t4\t-\t6\nC\t5\t6\t-", /Which point is the source\?/],
+  ["network", PIPES_OF("total"), /looks like a price for each/], ["network", [LINKS, "North\nSouth"], /names alone/],
+  ["runway", "Airline\tAircraft\tTurns\tNeed\nAer\tATR\t1,240\t3,150\nBee\tB7\t310\t4,800", /Which column is/],
+  ["costs", "Group\t2024\t2025\nA\t8\t9\nB\t7\t8\nA+B\t12\t13", /Which column is the cost\?/],
+  ["market", "A\t4\nB\t5\n\nX\t1\nY\t2", /Whose limit prices are those/],
+];
+for (const [id, text, asked] of LEFT) {
+  const desk = new Desk(id, ".");
+  for (const one of [text].flat()) await desk.paste(CELLS[id] ?? "rows.0.name", one);
+  const before = desk.read().said;
+  desk.open(desk.typed);
+  await settled();
+  const { said } = desk.read();
+  if (asked.test(before) && asked.test(said)) continue;
+  faults += 1;
+  console.log(`${id}: ${JSON.stringify(text)}, left and shown again: ${said}, and not ${asked}, as ${before}`);
 }
 
 /** Texts that are opened as a document, and what is said of them. */

@@ -76,7 +76,9 @@ function moreTools(kind, typed, others, onReset) {
 
 /** What the cells hold before anybody has typed, and what to do with them; gone with the first change. */
 function sampleLine(kind, typed, { onReset }) {
-  const is = (other) => JSON.stringify(typed) === JSON.stringify(other);
+  const isFilled = (row) => Object.values(row).some(Boolean); // a list has an empty row below
+  const own = ({ rows, ...others }) => JSON.stringify([others, rows?.filter(isFilled)]);
+  const is = (other) => own(typed) === own(other);
   const empty = () => onReset(cleared(kind, typed), "Clear all");
   return el("div", { class: "sample screen" }, is(kind.example()) && [
     el("b", {}, "Worked example."), " Type over it, paste your own table into any cell, or ",

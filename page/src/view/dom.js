@@ -106,11 +106,14 @@ export function columnHead({ title, name }, ...more) {
   return [title, name && el("small", { class: "field-name" }, name), below && el("small", {}, below)];
 }
 
+const asked = new WeakMap(); // by what is typed of a case, how it is asked again of what was pasted there
+
 /** Asks something in the place `said` of a grid, before anything is taken: until then nothing else is said of its
- * cells. The question goes if somebody types into them. */
+ * cells. The question goes if somebody types into them. If the case is left it stays open, by `grid.again`. */
 export function askIn(grid, said, parts) {
   refill(said, parts);
   grid.classList.toggle("asks", true);
+  asked.set(grid.typed, grid.again);
   const end = () => {
     if (!grid.classList.contains("asks")) return;
     refill(said);
@@ -122,4 +125,13 @@ export function askIn(grid, said, parts) {
 /** The question of a grid is answered, or is no more. */
 export function unask(grid) {
   grid.classList.toggle("asks", false);
+  asked.delete(grid.typed);
+}
+
+/** Asks the question anew that stood open when the case `typed` was left; `mine` is its grid now. Whether one did. */
+export function askAgain(mine, typed) {
+  const again = asked.get(typed);
+  mine.element.typed = typed;
+  again?.(mine);
+  return Boolean(again);
 }

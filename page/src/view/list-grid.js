@@ -6,7 +6,7 @@ import { sheetOf } from "../cases/sheets.js";
 import { readNumber } from "../exact/decimals.js";
 import { withEscapes } from "../game/names.js";
 import { cellInput, moveByKeys, pasteCells, removal } from "./cells.js";
-import { askIn, button, el, refill, unask } from "./dom.js";
+import { askAgain, askIn, button, el, refill, unask } from "./dom.js";
 import { askNames } from "./names-asked.js";
 
 const NAMED = { things: "names", numbers: "numbers" };
@@ -32,6 +32,7 @@ class ListGrid {
     pasteCells(table, (cell, rows) => this.fill(cell, rows), readCells, (rows) => partedInLine(rows).isParted);
     this.showSingles();
     this.show();
+    askAgain(this, typed);
   }
 
   /** The columns that are shown. */
@@ -139,6 +140,7 @@ class ListGrid {
     const most = this.kind.most * 4, count = sheet.rows?.length ?? 0;
     if (count > most) return this.say(`These are ${count} rows, and at most ${most} fit. Nothing was taken.`);
     const use = (more) => this.fill(cell, pasted, more);
+    this.element.again = (grid) => grid.fill(cell, pasted, said);
     if (sheet.asked) return this.askWhich(sheet.asked, said, use);
     const old = single && this.typed[single.key], isOther = sheet.number && old !== sheet.number;
     const isOpen = !isOther || said.amount || this.isOpen(single.key), kept = this.keptOf(sheet);

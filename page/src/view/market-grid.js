@@ -5,7 +5,7 @@ import { partOf, pricesOf } from "../cases/prices.js";
 import { withEscapes } from "../game/names.js";
 import { plural } from "../game/words.js";
 import { cellInput, moveByKeys, pasteCells, removal } from "./cells.js";
-import { askIn, button, cellOf, el, refill, unask } from "./dom.js";
+import { askAgain, askIn, button, cellOf, el, refill, unask } from "./dom.js";
 import { askNames } from "./names-asked.js";
 import { gainsPart, priceLists } from "./price-lists.js";
 
@@ -44,6 +44,7 @@ class MarketGrid {
     });
     pasteCells(this.holder, (cell, rows) => this.pasted(cell, rows), readCells);
     this.show();
+    askAgain(this, typed);
   }
 
   show() {
@@ -97,6 +98,7 @@ class MarketGrid {
     const { limits } = this.typed, prices = pricesOf(rows, said.side);
     const use = (more) => this.pasted(cell, rows, { ...said, ...more });
     unask(this.element);
+    this.element.again = (grid) => grid.pasted(cell, rows, said);
     if (prices?.asked) return this.askWhose(prices.asked, (side) => use({ side }));
     if (prices) return this.takePrices(prices);
     const found = marketOf(rows), isGains = !limits || (found.buyers && found.sellers && found.values);

@@ -7,7 +7,7 @@ import { sourceName } from "../cases/matrices.js";
 import { withEscapes } from "../game/names.js";
 import { plural } from "../game/words.js";
 import { cellInput, moveByKeys, pasteCells, removal } from "./cells.js";
-import { askIn, button, cellOf, el, refill, unask } from "./dom.js";
+import { askAgain, askIn, button, cellOf, el, refill, unask } from "./dom.js";
 import { askNames } from "./names-asked.js";
 import { noLinkHelp } from "./no-link.js";
 
@@ -40,6 +40,8 @@ class NetworkGrid {
     });
     pasteCells(this.holder, (cell, rows) => this.pasted(cell, rows), readCells);
     this.show();
+    if (typed.isSourceOpen) refill(this.said, this.sourceQuestion());
+    askAgain(this, typed);
   }
 
   change(doIt, removed) {
@@ -137,6 +139,7 @@ class NetworkGrid {
     const { typed } = this, isFirst = ["source", "names.0", "links.0-1"].includes(cell);
     const found = networkOf(rows, { mark: this.mark(), source: typed.source, cost: said.cost });
     const use = (more) => this.pasted(cell, rows, { ...said, ...more });
+    this.element.again = (grid) => grid.pasted(cell, rows, said);
     if (found?.product) return this.productQuestion(found.product, (cost) => use({ cost }));
     const isWhole = found && (isFirst || found.fault || found.shape.includes("list") || found.shape.includes("names"));
     const cells = isWhole ? {} : pastedCells(this.kind, typed, cell, blockOf(rows).rows, said);

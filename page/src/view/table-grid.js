@@ -6,7 +6,7 @@ import { masksBySize, membersOf } from "../game/groups.js";
 import { countText } from "../exact/decimals.js";
 import { withEscapes } from "../game/names.js";
 import { cellInput, moveByKeys, pasteCells, removal, removeByKey, showTips } from "./cells.js";
-import { askIn, button, cellOf, copy, el, refill, unask } from "./dom.js";
+import { askAgain, askIn, button, cellOf, copy, el, refill, unask } from "./dom.js";
 import { numbersIn } from "../cases/vectors.js";
 import { plural } from "../game/words.js";
 import { namedGroups, placeOf, wholeAsked } from "./lists-asked.js";
@@ -52,7 +52,7 @@ class TableGrid {
     pasteCells(list, (cell, rows, text) => this.paste(cell, rows, text), readCells);
     pasteCells(players, (cell, rows, text) => this.pasteNames(cell, rows, text), readCells);
     this.show();
-    this.tellFilled();
+    if (!askAgain(this, typed)) this.tellFilled();
   }
 
   /** Names take the place of those from a cell on, and of all of the worked example; any other text is a list. If they
@@ -66,6 +66,7 @@ class TableGrid {
     const isNew = this.isExample() || isEmpty || isSame === false;
     const first = isNew ? 0 : Number(cell.split(".")[1]), before = typed.names.slice(first, first + own.length);
     if (isSame === undefined && !isNew && before.some(Boolean) && Array.from(typed.numbers).some(Boolean)) {
+      this.element.again = (grid) => grid.pasteNames(cell, pasted, text);
       return askNames(this.element, this.message, NAMED, (isIt) => this.pasteNames(cell, pasted, text, isIt));
     }
     let next = isNew ? { names: [], numbers: [""], filled: undefined } : typed;
@@ -346,6 +347,7 @@ class TableGrid {
     this.say("Reading the list …");
     const what = { text, names: this.ownNames(), order, said: { ...said, isCost: this.kind.isCost } };
     const found = await this.readList(what), { state, told, isOdd } = found;
+    this.element.again = (grid) => grid.takeList(text, order, null, said);
     const use = (more) => () => this.takeList(text, order, close, { ...said, ...more });
     const answer = (title, more) => [button(title, use(more), { class: "quiet" }), " "];
     const ways = found.columns?.map(({ c, title }) => answer(`“${title}”`, { column: c })), word = this.kind.what;
