@@ -129,7 +129,7 @@ export const desk = [
   ["a whole number that shows the mark needs no button", "runway", async (page, expect) => {
     await page.paste('[data-cell="rows.0.name"]', "Airline\tLandings\tCost\nAer\t1,212\t65,899\nBee\t2\t90,000");
     await noted(page, /“1,212” shows that the point comes before decimals/);
-    expect("no button", /No, the comma/.test(await page.text("#case .faults")), false);
+    expect("no button", /No: /.test(await page.text("#case .faults")), false);
   }],
 
   ["the core of four players can be turned", "gains", async (page, expect) => {

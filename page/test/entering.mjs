@@ -40,10 +40,10 @@ const marks = [
     await settle(page);
     expect("told", await notes(page), /“3.922” is read as 3.922, with decimals[\s\S]*So are the 3 numbers/);
     const before = await made(page);
-    await page.click("No, the comma");
+    await page.click("No: 3.922 is the whole number 3922");
     await settle(page);
     expect("by the other", await notes(page), /“3.922” is read as the whole number 3922/);
-    await page.click("No, the point");
+    await page.click("No: 3.922 is 3,922, with decimals");
     await settle(page);
     expect("and back", await made(page), before);
   }],

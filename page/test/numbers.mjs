@@ -236,7 +236,7 @@ const sheets = [
     ["1 Ann\n2 Bo", "2 rows: name"], ["A320\nB737", "2 rows: name"],
     ["Net assets\t5\nAnn\t8\nBo\t9", "5"], ["To distribute\t5\nAnn\t8\nBo\t9", "5"],
     ["Estate\t5\nAnn\t8\nAssets\t9", "Leave one of the rows “Estate” and “Assets”."],
-    [`Ann\n${"as agreed ".repeat(9)}\nBo`, LOOSE],
+    [`Ann\n${"as agreed ".repeat(9)}\nBo`, /^“as agreed .*” is no name, and no row of names and numbers\. Give each/],
   ].map(([text, wanted]) => [estate, text, { isHead: undefined }, wanted]),
   [runway, "Flat\tFloor\tCost\nAnn\t1\t18\nBo\t2\t26", {}, "count: 1"],
   [votes, "Canton;Weight;Remarks\n471;12;by phone\n112;8;\n308;9;late", {}, "name: 0 2"],

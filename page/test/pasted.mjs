@@ -16,6 +16,9 @@ const MINUTES = "Minutes, item 6 - Access road to the two quarries\n\nSection A 
   + "by Hartmann Quarry, Steinberg Quarry\nSection B (fork): EUR 150,000 - used by Hartmann Quarry";
 const LINKS = "Works\tA\t12\nWorks\tB\t9\nA\tB\t4", LINKED = "Works|A|B|0-1|12|0-2|9|1-2|4";
 const TRADES = "\thut\tflat\nAnn\t5\t9\nBo\t8\t9", SAME = "Yes, to the same by other names", NAMES = "Ann\t3\nBo\t4";
+const STATUTES = "§ 9 Votes in the assembly\n(1) Each section has:\nFootball ..... 21 votes\nTennis ..... 9 votes\n"
+  + "(2) Resolutions need two thirds of all votes.";
+const LIGHTS = "Team\tEvenings\tLights needed until\tCost\nJuniors\t3\t19:00\t1200\nSeniors\t2\t20:00\t1800";
 const PIPES = "Ketel\tA\t40\t31\t999\nKetel\tB\t55\t31\t888\nA\tB\t10\t31\t77";
 const PIPES_OF = (cost) => `van\tnaar\tmeter\tprijs per m\t${cost}\n${PIPES}`;
 
@@ -171,6 +174,16 @@ const TEXTS = [
     /: “total”\. A link costs “meter” times “prijs per m”\./, "Yes, multiply by “meter”"],
   ["network", PIPES_OF("total"), /\|0-1\|31\|/, /: “meter”, “total”\. A/, "No, it costs “prijs per m”"],
   ["network", PIPES_OF("total"), /\|0-1\|999\|/, /A link costs “total”/, "No, it costs “total”"],
+  // statutes of a PDF, times, titles with a year, and what there is
+  ["votes", STATUTES, "Football=21|Tennis=9", /Left out, .*“§ 9 Votes in the assembly”, “\(1\) .*“\(2\) R.*“votes”/],
+  ["votes", "Football 21 votes\nTennis 9 votes\nEach has 1 vote", "Football=21|Tennis=9", /“Each has 1 vote”/],
+  ["runway", LIGHTS, null, /Which column is “Landings”\? “Evenings” None/],
+  ["runway", LIGHTS, "Juniors=1200=3|Seniors=1800=2", /“Lights needed until” was left out/, "“Evenings”"],
+  ["runway", "Team\tNeeded until\nJuniors\t19:00\nSeniors\t20:00", "Juniors==1|Seniors==1", /“Needed until” was/],
+  ["costs", "Boat + berth, year 2026\nA: 8\nB: 7\nA+B: 12", "A|B|8|7|12", /Left out, .*“Boat \+ berth, year 2026”/],
+  ["estate", "Claims against the bakery 2026\nAnn 120\nBo 80", "Ann=120|Bo=80", /“Claims against the bakery 2026”/],
+  ["estate", "Tax office 2024\nAnn 120\nBo 80", null, /can part “Tax office 2024”/],
+  ["estate", "Ann: 120\nBo: 80\nVorhanden: 65,00 EUR", "Ann=120|Bo=80", /“Vorhanden”, 65,00 EUR, was taken as the/],
   // names alone are taken as such only where no number of others stands beside them, and sentences are no names
   ["network", MINUTES, null, /“Minutes, item 6 - Access road .* quarries” is no name, .* cost\. Nothing was taken/],
   ["network", "North\nSouth", "North|South", /Taken as the names of 2 places\./],

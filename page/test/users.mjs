@@ -80,7 +80,7 @@ async function sumsOfLinks(page, expect) {
     await page.paste('[data-cell="names.0"]', rowsOf([...LINKS, sum]));
     const said = await told(page, "#case .note", /Taken as/);
     expect(`${sum}`, said, /4 points, 4 links of 6 that could be, source: Well\. Left out: “.*52”, a sum\./);
-    expect("in the colour of warnings", await page.run("document.querySelector('#case .note').matches('.warn')"), true);
+    expect("no warning", await page.run("document.querySelector('#case .note').matches('.warn')"), false);
     expect("three places", await page.run("document.querySelectorAll('[data-cell^=\"names.\"]').length"), 3);
   }
   await page.paste('[data-cell="names.0"]', rowsOf([...LINKS.slice(0, 2), ["Ash", "", 7], ...LINKS.slice(2)]));

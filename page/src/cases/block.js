@@ -156,7 +156,7 @@ function partedLines(rows, { canBeNegative, words: hasWords }) {
   const isOneName = areAlike(longest);
   const even = evenOf(texts), parts = even ?? (isOneName ? ways.map((some) => some.at(-1)) : longest);
   const isTitled = parts[0] && /\s20[12]\d$/.test(texts[0]);
-  if (isTitled && texts[1]) return { rows, loose: texts[0] };
+  if (isTitled && !isTitle(texts, parts)) return { rows, loose: texts[0] };
   if (isTitled) parts[0] = undefined;
   const found = parts.filter(Boolean), isCount = found.every(([, number], k) => Number(number) === k + 1);
   if (found.length < 2 || isCount || areAlike(parts)) return whole;
@@ -177,10 +177,20 @@ function partedLines(rows, { canBeNegative, words: hasWords }) {
   };
   const isMail = (some, isBelow) => some.some((text) => !text || (MAIL.test(text) && !isPerson(text, isBelow)));
   const isFrame = (r) => (r < first ? isMail(texts.slice(r, first), false) : isMail(texts.slice(last + 1, r + 1)));
-  const other = (text, r) => (isHead(text, r) ? headOf(text) : isFrame(r) ? [text] : [text.replace(/:$/, ""), ""]);
+  const isOut = (r) => isFrame(r) || (r === 0 && isTitled);
+  const other = (text, r) => (isHead(text, r) ? headOf(text) : isOut(r) ? [text] : [text.replace(/:$/, ""), ""]);
   const all = texts.map((text, r) => (parts[r] ? own(parts[r]) : other(text, r)));
   const remarks = even ? [] : texts.flatMap((text, r) => (parts[r] && REMARK.exec(text)?.[1]) || []);
   return { rows: all, isCounted, isDashed, isTurned, remarks };
+}
+
+/** Whether a first line that ends with a year is a title: an empty line is below, or it has no colon as all others, or
+ * many words, as none of them. */
+function isTitle([text, next, ...more], [, ...parts]) {
+  const below = [next, ...more].filter((_, k) => parts[k]), wordsIn = (one) => one.split(/\s+/).length;
+  const isOne = wordsIn(text) > 3 && !/[:=]/.test(text), isSaid = (one) => /[:=]\s*\S*\d/.test(one);
+  const isShort = (one) => wordsIn(one) < 4 && wordsIn(one) < wordsIn(text) - 1;
+  return !next || (isOne && below.length > 1 && (below.every(isSaid) || below.every(isShort)));
 }
 
 /** Whether all names are the same. */

@@ -8,6 +8,11 @@ const NUMBERING = /(^|\s)(no|nr|num|number|nummer|id|ref|lp|pos)\.?$|[#№]/iu; 
 /** The choice of a column that wasn’t pasted. */
 export const NONE = -1;
 
+const TIME = /^(?:\d{1,2}[:h]\d\d(?::\d\d)?(?:\s?[ap]\.?m\.?|\s?Uhr)?|\d{1,2}\s?(?:[ap]\.?m\.?|Uhr))$/iu;
+const DATE = /^(?:\d{1,2}[./-]\d{1,2}[./-](?:\d\d)?\d\d|\d{4}-\d\d-\d\d)$/;
+/** Whether a text is a time or a date, and no amount. */
+export const isTime = (text) => TIME.test(text) || DATE.test(text);
+
 /** How many cells a row has, without empty ones behind. */
 const lastOf = (row) => row.reduce((last, text, c) => (text ? c + 1 : last), 0);
 
@@ -25,6 +30,7 @@ function pastedColumns(rows, headings, mark) {
       isFull: rows.slice(headings ? 1 : 0, -1).every((row) => row[c]), // but for a sum
       isNumbers: texts.length > 0 && (!known.length || values.length * 2 > known.length),
       isCount: NUMBERING.test(head ?? ""), // what numbers the rows
+      isTimes: known.length > 0 && known.every(isTime),
     };
   });
 }
@@ -57,7 +63,8 @@ export function columnsFor(columns, headings, more = {}) {
 
 class Fit {
   constructor(columns, all, { headings, choice, out, units }) {
-    Object.assign(this, { columns, all, headings, choice, out, units });
+    const times = all.filter((one) => one.isTimes).map(({ c }) => c);
+    Object.assign(this, { columns, all, headings, choice, out: [...out, ...times], units });
     this.targets = all.map(({ c }) => columns.find(({ key }) => choice[key] === c));
     const hasWords = all.some((one) => one.isWords && one.isFull && !one.isNumbers); // then no numbers are names
     const isOf = (one, own) => isHeadOf(one.head, own) && (own.number || !one.isNumbers || !hasWords);

@@ -4,7 +4,7 @@ import { lcm } from "../exact/rational.js";
 import { cellNumber, countText, moneyIn, shortText, thousandsIn } from "../exact/decimals.js";
 import { isMark, MARKS, onlyMark, otherMark } from "../exact/marks.js";
 import { LIMITS } from "../game/classes.js";
-import { UNKNOWN } from "./columns.js";
+import { isTime, UNKNOWN } from "./columns.js";
 import { remarksOf, withEscapes } from "../game/names.js";
 
 const MOST_SCALE = BigInt(LIMITS.denominator);
@@ -20,6 +20,7 @@ const LARGE = /\d\s*(?:k|t|m|mn|mio|mia|tsd|bn|million(?:en|s)?|thousand|tausend
 /** What to write in the place of some texts. */
 function hintOf(text) {
   if (/^[-–—] ?\p{Sc}?$|^(nil|zero|none|null|keine?)$/iu.test(text)) return " Write 0, or remove it.";
+  if (isTime(text)) return " It is a time or a date. Write the number, or paste the column that has it.";
   if (UNKNOWN.test(text)) return " Write the number, or clear the cell.";
   if (/^[\d.,]+ ?%$/.test(text)) return " Write the amount, or a product such as 1/4 * 1000.";
   if (LARGE.test(text)) return " Write it out, as 1 200 000, or leave the word away in all cells.";

@@ -6,6 +6,7 @@ import { withEscapes } from "../game/names.js";
 import { columnsFor, isKnownHead, knownHeads, widthFault } from "./columns.js";
 import { leftText, unframed } from "./frames.js";
 import { partedInLine } from "./in-line.js";
+import { ledRows } from "./leaders.js";
 import { headingsOf, pastedText } from "./pasting.js";
 import { answerFault } from "./saved-tables.js";
 import { singleOf, withSingle } from "./single.js";
@@ -26,8 +27,9 @@ const PAGE = new RegExp(`^\\P{L}*(${PAGES}) ?\\d+(( ?/| \\p{L}+) ?\\d+)?\\P{L}*$
 export function sheetOf(pasted, columns, { mark, single, amount, usual, isFirst = true, isHead, choice, out = [] }) {
   const { rows: given, isParted } = isFirst ? partedInLine(pasted) : { rows: pasted };
   const { rows: paged, pages } = isFirst ? withoutPages(given) : { rows: pasted, pages: [] };
+  const { rows: led, left: around } = isFirst ? ledRows(paged) : { rows: paged, left: [] };
   const whole = { rows: pasted, notes: [] };
-  const { rows: parted, notes: counted, loose } = isFirst ? blockOf(paged, { words: true }) : whole;
+  const { rows: parted, notes: counted, loose } = isFirst ? blockOf(led, { words: true }) : whole;
   const odd = loose ?? (isFirst ? noName(parted) : undefined), saved = answerFault(pasted);
   const lineText = (text) => (/\d/.test(text) ? looseText(text) : notNames([text], AS_ROWS));
   if (odd !== undefined || saved) return { fault: saved ?? lineText(odd) };
@@ -49,16 +51,17 @@ export function sheetOf(pasted, columns, { mark, single, amount, usual, isFirst 
   const lost = widthFault(rows, headings, found, columns);
   if (lost) return { fault: lost };
   const own = [...units].filter(([c]) => targets[c]).map(([, unit]) => unit);
-  const isPercent = own.includes("%") || /%/.test(title ?? "")
-    || targets.some((column, c) => column?.number && /%/.test(headings?.[c] ?? ""));
+  const isOf = (column, c) => column?.number && column.key !== "second" // of the votes that a quota is a part of
+    && (units.get(c) === "%" || /%/.test(headings?.[c] ?? ""));
+  const isPercent = /%/.test(title ?? "") || targets.some(isOf);
   const notes = [
-    leftText([...left, ...pages]), isParted && IN_LINE, ...counted,
+    leftText([...around, ...left, ...pages]), isParted && IN_LINE, ...counted,
     title && `The first line, “${withEscapes(title)}”, was taken as a heading.`,
     pastedText(rows, headings, targets, usual),
     unitsText([...new Set(own)]), above && `“${word}”, ${number}, was ${
       (amount ?? number) === number ? `taken as ${single.title.toLowerCase()}` : "left out"}.`,
   ].filter(Boolean);
-  const below = headings ? rows.slice(1) : rows, line = number ? undefined : single?.lineOf?.(left);
+  const below = headings ? rows.slice(1) : rows, line = number ? undefined : single?.lineOf?.([...around, ...left]);
   const beside = besides(below, headings, targets, mark);
   return { rows: below, targets, headings, notes, number, isGuess, isPercent, line, ...beside };
 }

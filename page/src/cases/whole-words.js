@@ -5,18 +5,20 @@ import { isEmpty } from "./sum-row.js";
 const FOR = "available|on hand|in hand|at (?:the )?bank|left|now|(?:for|to) (?:distribution|division"
   + "|(?:unsecured )?creditors|dividends?)|to (?:be )?(?:distributed?|divided?|shared?)|in (?:the )?(?:estate|bank)";
 const OF_MONEY = "estate|assets|funds|cash|proceeds|amount|sum|money|monies|balance";
-const IN_GERMAN = "(?:insolvenz|teilungs|konkurs)?masse|nachlass|verfügbar(?:e[rsn]?)?(?: (?:masse|mittel|betrag|summe"
-  + "|vermögen|nachlass))?|zu verteilen(?:de[rs]?)?(?: (?:masse|betrag|summe))?|zur verteilung(?: verfügbar)?";
+const IN_GERMAN = "(?:insolvenz|teilungs|konkurs)?masse|nachlass|(?:noch )?(?:verfügbar|vorhanden)(?:e[rsn]?)?(?: (?:"
+  + "masse|mittel|betrag|summe|vermögen|nachlass))?|zu verteilen(?:de[rs]?)?(?: (?:masse|betrag|summe))?"
+  + "|zur verteilung(?: verfügbar)?";
 const IN_OTHERS = "actif(?: net)?(?: (?:disponible|à répartir|réalisé))?|disponible|à répartir"
-  + "|masse (?:active|à répartir)|boedel|activo|attivo";
+  + "|masse (?:active|à répartir)|boedel|activo|attivo|beschikbaar|disponib(?:le|ile)";
 
 /** What names the estate for certain. */
 export const ESTATE = new RegExp("^(?:the |die |der |das |le |la |l['’]|net |total |gross |remaining |available )*(?:"
   + `(?:${OF_MONEY})(?: (?:${FOR}))+|estate|assets|available(?: (?:${FOR}|funds|assets|cash|estate))*|${IN_GERMAN}`
   + `|${IN_OTHERS}|to (?:be )?(?:distributed?|divided?))(?: value| net(?:to)?)?(?: \\(.*\\))?[:.]?$`, "iu");
 
-const PERHAPS = new RegExp("(?<!\\p{L})(?:available|distribut\\p{L}*|verfügbar\\p{L}*|verteil\\p{L}*|disponible"
-  + "|répartir|nachlass|\\p{L}*masse|estate|actif|cash|funds|proceeds|\\p{L}*erlös|vermögen|boedel)(?!\\p{L})", "iu");
+const PERHAPS = new RegExp("(?<!\\p{L})(?:available|(?:distribut|verfügbar|vorhanden|verteil)\\p{L}*|disponible"
+  + "|beschikbaar|répartir|nachlass|\\p{L}*masse|estate|actif|cash|funds|proceeds|\\p{L}*erlös|vermögen|boedel)"
+  + "(?!\\p{L})", "iu");
 const AMOUNT = /\p{Sc}?\s?\d(?:[\d.,'’\u00a0\u202f]*\d)?(?:\s?\p{Sc})?/gu;
 
 /** Asks of the first and the last row, if its name may be that of the estate, unless somebody said that it is a claim

@@ -33,7 +33,8 @@ function sumQuestion({ r, name, isLast, off }, typed, { onReset, onChange }) {
   const told = off ? `It says ${own}, the others add to ${all}. ` : "";
   const asked = `${row}${which} Is it ${sum} of ${others}? ${told}It would count as one more.${rest}`;
   return el("p", { class: "note asked" }, asked,
-    button("Yes, remove it", without, { class: "quiet" }), name && button("No, it counts", keep, { class: "quiet" }));
+    button("Yes, remove it", without, { class: "quiet" }), " ",
+    name && button("No, it counts", keep, { class: "quiet" }));
 }
 
 /** Asks whether a row is what there is to divide, and no claim. */
@@ -71,7 +72,8 @@ function swapQuestion({ count, cost, name }, typed, { onReset, onChange }) {
   };
   const shown = (text) => `“${withEscapes(text.trim())}”`;
   return el("p", { class: "note asked" }, `Are ${shown(count)} the landings of ${name}, and does one need ${shown(cost)}? `,
-    button("No, swap the columns", swapped, { class: "quiet" }), button("Yes, so it is", keep, { class: "quiet" }));
+    button("No, swap the columns", swapped, { class: "quiet" }), " ",
+    button("Yes, so it is", keep, { class: "quiet" }));
 }
 
 /** Per head is another rule, so nobody gets other shares without a word. */

@@ -44,10 +44,10 @@ function waysOut({ doubts, mark, proof, isChosen }, setEntry) {
   const way = (title, by) => button(title, () => setEntry(by), { class: "quiet" });
   if (isChosen) return [way("Read them by one mark again", mark)];
   const [odd] = doubts, how = odd.how === "decimals" ? "whole" : "decimals";
-  const { value } = cellNumber(odd.typed, BY[how]);
+  const { value } = cellNumber(odd.typed, BY[how]), other = otherMark(mark), by = cellNumber(odd.typed, other);
   const others = odd.count > 1 ? ", and all like it" : "";
   return [
-    !proof && way(`No, the ${nameOfMark(otherMark(mark))}`, otherMark(mark)),
+    !proof && by.value && way(`No: ${odd.typed.trim()} is ${toldAs(by.value, how, mark)}`, other),
     (proof || doubts.length > 1) && way(`Read ${quoted(odd.typed)} as ${toldAs(value, how, mark)}${others}`, BY[how]),
   ];
 }

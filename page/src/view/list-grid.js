@@ -197,13 +197,27 @@ class ListGrid {
       if (c) use({ ...said, choice: { ...said.choice, votes, second: c } });
     };
     const way = (text, use) => [" ", button(text, use, { class: "quiet" })];
-    const parts = [
-      line?.amount && isOpen && [` Is ${line.amount} what there is to divide?`, way(`Yes, ${line.amount}`, give)],
-      line && second && ` ${quoted(line.text)} names a quota: type it above.`,
-      isTwo && spare.map(({ head, c }) => way(`Use ${quoted(head)} as second votes`, turn(head, c))),
-      isTwo && line && !spare.length && way("Two quotas at once", turn()),
-    ];
-    this.said.append(...parts.flat(Infinity).filter(Boolean));
+    this.offered = [
+      [() => single && !typed[single.key].trim(),
+        line?.amount && isOpen && [` Is ${line.amount} what there is to divide?`, way(`Yes, ${line.amount}`, give)]],
+      [() => !this.hasQuotas(), line && second && ` ${quoted(line.text)} names a quota: type it above.`],
+      [() => typed.secondQuota === undefined, isTwo && [
+        ...spare.map(({ head, c }) => way(`Use ${quoted(head)} as second votes`, turn(head, c))),
+        line && !spare.length && way("Two quotas at once", turn())]],
+    ].map(([isStill, part]) => ({ isStill, element: el("span", {}, part) }));
+    this.said.append(...this.offered.map(({ element }) => element));
+    this.showOffers();
+  }
+
+  /** Whether each quota above the list is filled. */
+  hasQuotas() {
+    const { single, second } = this.kind, { typed } = this;
+    return single && typed[single.key].trim() && (typed.secondQuota === undefined || typed[second.single.key].trim());
+  }
+
+  /** What was offered goes when it is done. */
+  showOffers() {
+    for (const { isStill, element } of this.offered ?? []) if (!isStill()) refill(element);
   }
 
   /** Whether pasted rows are "all" those that are here, by their names, "some" of them, or "none". */
@@ -342,6 +356,7 @@ class ListGrid {
     if (this.typed.secondQuota === undefined) this.typed.secondQuota = "";
     else delete this.typed.secondQuota;
     this.showSingles();
+    this.showOffers();
     this.show();
     this.onChange();
   }
@@ -360,6 +375,7 @@ class ListGrid {
       cell: key, value: this.typed[key], isNumber: true, label: title,
       onInput: (text) => {
         this.typed[key] = text;
+        this.showOffers();
         this.onChange();
       },
     }), el("span", { class: "hint" }, help));
