@@ -46,6 +46,7 @@ export class Harness {
     const page = await this.opened(this.url + (id ? `#${id}` : ""), look, name);
     if (!page) return;
     try {
+      await page.until("document.querySelector('#verify .drop')"); // its code is unpacked after it is loaded
       await page.run(UNFOLD); // what is folded has no text for those who look
       if (id && !["document", "verify"].includes(id)) await page.until(READY);
       await play(page, this.expect(name));

@@ -92,6 +92,9 @@ const narrow = CASES.filter((id) => id !== "votes").map((id) => [`phone width: n
       return one.scrollWidth > one.clientWidth + 1;
     }).map((one) => one.innerText.slice(0, 40) + " " + (one.scrollWidth - one.clientWidth))`;
     expect("too wide", await page.run(`${wide}.join("; ")`), "");
+    const small = `[...document.querySelectorAll("#answer :is(th, td)")].filter((one) => one.checkVisibility()
+      && parseFloat(getComputedStyle(one).fontSize) < 12).map((one) => one.textContent).join("; ")`;
+    expect("letters below 12 pixels", await page.run(small), "");
   }, { wide: 390, high: 844 }]);
 
 const papers = CASES.map((id) => [`one page on paper: ${id}`, id, async (page, expect) => {
@@ -115,6 +118,8 @@ async function longPaper(page, expect) {
   const pages = (await page.pdf()).toString("latin1").match(/\/Type \/Page\b/g) ?? [];
   expect("pages", pages.length, 1);
   expect("two tables", await page.run("document.querySelectorAll('#sheet table').length"), 2);
+  const heads = "[...new Set([...document.querySelectorAll('#sheet thead')].map((head) => head.textContent))].length";
+  expect("heads that differ", await page.run(heads), 1);
 }
 
 /** Eight of whom much is told, since no division satisfies all groups: other columns stand beside all the same. */
@@ -187,6 +192,9 @@ async function everything(page, expect) {
   expect("the sheet", await shown("#sheet"), false);
   expect("the reasons", await shown("#why"), true);
   expect("the buttons", await shown("#answer-settings"), false);
+  await page.run("document.querySelector('.groups input').focus()");
+  const ring = await page.run("getComputedStyle(document.activeElement).outlineStyle");
+  expect("a ring around a cell", ring, "none");
   expect("the lines that the legend names", await shown("#why .triangle line.pair"), true);
 }
 

@@ -25,7 +25,7 @@ export function pasteBox(onList) {
       "are those with a line of their own. Or only the numbers, one a line, without the group of nobody. ",
       MANY),
     area,
-    el("p", {}, el("label", {}, "Numbers without groups are in the order ", order)),
+    el("p", { class: "order" }, el("label", {}, "Numbers without groups are in the order ", order)),
     el("p", {}, button("Use this list", () => use(area.value), { class: "main" })));
   return box;
 }

@@ -9,7 +9,7 @@ const TAKE = "Take coop.html from the project’s repository (the sender has to 
 const TYPE_IN = " Or simply type the numbers into that page: the answer has to be the same.";
 
 /** By which page the sheet was made. */
-export const footText = () => document.querySelector("footer p").textContent;
+export const footText = () => [...document.querySelector("footer p").cloneNode(true).childNodes];
 
 export function checkOf({ result: { rule, answer, line, game, points }, kind, doubt, coarse, withProposal }) {
   if (doubt) return el("section", {}, el("p", { class: "hint" }, footText()));

@@ -28,6 +28,7 @@ import { labelOfCell } from "./cell-names.js";
 import { pinnedOf, pinnedText } from "./pinned.js";
 import { CALCULATED } from "./questions.js";
 import { contextOf, ownSum, sameText } from "./shares-table.js";
+import { signing } from "./signing.js";
 import { airlineLines } from "./table-lines.js";
 import { changeText, todayOf, todayTitle } from "./today.js";
 import { unitOf } from "./unit.js";
@@ -47,7 +48,6 @@ const MOST_CUT = 4; // levels without their reason that are named
 const MOST_DOCUMENT = 420; // characters of the game's document that are printed
 const MOST_SAVING = 8; // rows of whom each saving is named
 const MOST_ALONE = 900; // the same if there is no picture
-const MOST_SIGNING = 12; // parties that have a line each
 
 const AREA = "The dark area, if there is one, contains the divisions by which no group could do better by itself.";
 const OF_FILE = " This is the SHA-256 of the file. The box below contains the same numbers, as this page writes them.";
@@ -69,7 +69,8 @@ function fillSheet(sheet, session, typed) {
   const isBeyond = result?.beyond && !result.game;
   if (!isBeyond && (!result || result.refusal || !result.points.length)) return refill(sheet);
   const { rows } = reading, format = session.format(), today = todayOf(session, rows);
-  const { heading, withProposal } = typed, unit = unitOf(typed), { coarse } = session.typed, pinned = pinnedOf(session, rows);
+  const { heading, withProposal } = typed, unit = unitOf(typed), { coarse } = session.typed;
+  const pinned = pinnedOf(session, rows);
   const labelOf = (cell) => labelOfCell(cell, session);
   const points = isBeyond ? [] : plainPoints(result.points, result.game);
   const view = { ...session, heading, unit, withProposal, rows, format, today, coarse, pinned, labelOfCell: labelOf,
@@ -237,12 +238,12 @@ function saidOf(game, { verdict, comparison }, { by, apart }) {
 /** One table; if there are many rows two, side by side, with the sum below the second. */
 function halves(count, heads, line, sum) {
   const isLong = count > MOST_ROWS, middle = isLong ? Math.ceil(count / 2) : count;
-  const head = () => el("thead", {}, el("tr", {}, heads.map((title, k) => {
+  const head = el("thead", {}, el("tr", {}, heads.map((title, k) => {
     return el("th", { scope: "col", class: k ? "number" : "" }, title);
   })));
   const tables = [[0, middle], [middle, count]].filter(([from, to]) => from < to).map(([from, to]) => {
     const lines = Array.from({ length: to - from }, (_, k) => line(from + k));
-    return el("table", { class: isLong ? "shares dense" : "shares" }, head(), el("tbody", {}, lines),
+    return el("table", { class: isLong ? "shares dense" : "shares" }, head.cloneNode(true), el("tbody", {}, lines),
       el("tfoot", {}, to === count && sum));
   });
   return el("div", { class: "halves" }, tables);
@@ -380,17 +381,6 @@ function agreedOf(view) {
       : el("p", { class: "hint" }, `The file, ${countText(new TextEncoder().encode(text).length + 1)} bytes as the `
         + "page writes it, isn’t printed. Keep it with this sheet."),
     !doubt && signing(rows));
-}
-
-/** A line to sign for each party, of airlines one for all their rows; one for all if there are many. */
-function signing(rows) {
-  const who = [...new Set(rows.map(({ label, sum = label }) => sum))];
-  if (who.length > MOST_SIGNING) {
-    return el("p", { class: "sign" }, "Agreed on by", el("span"), "on", el("span", { class: "short" }));
-  }
-  return el("div", { class: "signs" }, el("p", {}, "Agreed on by"), who.map((name) => {
-    return el("p", { class: "sign" }, el("b", {}, name), el("span"), "on", el("span", { class: "short" }));
-  }));
 }
 
 /** The rules whose shares are on the page. */

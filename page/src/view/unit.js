@@ -3,7 +3,8 @@
 const SIGN = "(?:[kKTM]|Mio\\.? ?|Tsd\\.? ?|thousand |million )?(?:\\p{Sc}|EUR|USD|GBP|CHF|SEK|NOK|DKK|PLN|CZK|HUF|JPY|"
   + "CAD|AUD|NZD|INR|CNY|BRL|MXN|ZAR|TRY|kr)";
 const IN_HEAD = new RegExp(`[(\\[]\\s*(?:in )?(${SIGN})\\s*[)\\]]|\\bin (${SIGN})\\s*$`, "u");
-const BESIDE = new RegExp(`^[-−(]?\\d[\\d.,'’\\s\\u202f]*(${SIGN})\\)?$|^(\\p{Sc}|[A-Z]{3})\\s?[-−]?\\d[\\d.,'’\\s\\u202f]*$`, "u");
+const AMOUNT = "\\d[\\d.,'’\\s\\u202f]*";
+const BESIDE = new RegExp(`^[-−(]?${AMOUNT}(${SIGN})\\)?$|^(\\p{Sc}|[A-Z]{3})\\s?[-−]?${AMOUNT}$`, "u");
 
 /** The one unit that the cells of a pasted text show; "" if they show none, or several. */
 export function unitIn(text) {
