@@ -105,7 +105,7 @@ const papers = CASES.map((id) => [`one page on paper: ${id}`, id, async (page, e
   const pages = (await page.pdf()).toString("latin1").match(/\/Type \/Page\b/g) ?? [];
   expect("pages", pages.length, 1);
   expect("who, and the rest", sheet, id === "market" ? /Ann – flat8.00/ : /together/);
-  expect("parts", sheet, /What is agreed on[\s\S]*SHA-256 is [0-9a-f]{64}[\s\S]*How to check it/);
+  expect("parts", sheet, /What is agreed on[\s\S]*SHA-256 is [0-9a-f]{64}[\s\S]*How to check it[\s\S]*inside: coop/);
   expect("a picture", await page.run("document.querySelectorAll('#sheet svg').length"), 1);
 }]);
 

@@ -21,5 +21,5 @@ export function checkOf({ result: { rule, answer, line, game, points }, kind, do
       + "game."
     : "Choose “Open a saved case”, and give it the agreed file. It works out the answer anew.";
   return el("section", {}, el("h2", {}, "How to check it"), el("p", {}, `${TAKE}${COMPARE} ${steps}${TYPE_IN}`),
-    el("p", { class: "hint" }, `${provedText(hasLine && rule, withProposal && points.length > 1)} ${footText()}`));
+    el("p", { class: "hint" }, `${provedText(hasLine && rule, withProposal && points.length > 1)} `, footText()));
 }
