@@ -42,7 +42,8 @@ class Built(unittest.TestCase):
             names.append(os.path.join(self.folder, part, backend.build_wheel(os.path.join(self.folder, part))))
         self.assertEqual([os.path.basename(name) for name in names], [f"coop-{VERSION}-py3-none-any.whl"] * 2)
         self.assertEqual(bytes_of(names[0]), bytes_of(names[1]))
-        self.assertLess(os.path.getsize(names[0]), 750_000)  # packed, but for the styles and the code that page and worker share
+        # Packed, but for the styles and the code that page and worker share.
+        self.assertLess(os.path.getsize(names[0]), 750_000)
         with zipfile.ZipFile(names[0]) as archive:
             found = {name: archive.read(name) for name in archive.namelist()}
         record = found[f"{info}/RECORD"].decode().splitlines()
