@@ -40,7 +40,7 @@ const marks = [
     await settle(page);
     expect("told", await notes(page), /“3.922” is read as 3.922, with decimals[\s\S]*So are the 3 numbers/);
     const before = await made(page);
-    await page.click("No: 3.922 is the whole number 3922");
+    await page.click("No: 3.922 is 3922, whole");
     await settle(page);
     expect("by the other", await notes(page), /“3.922” is read as the whole number 3922/);
     await page.click("No: 3.922 is 3,922, with decimals");

@@ -48,7 +48,7 @@ const numbers = [
     await told(page, "#answer-body", /These are 5000 landings/);
     expect("and told", await noted(page, /“5.000” is read as the whole number 5000/), /the comma comes before/);
     await page.type("rows.0.count", "1.234");
-    await page.click("No, the point");
+    await page.click("No: 5.000 is 5");
     await told(page, "#answer-body", /These are 1234 landings/);
   }],
 

@@ -91,7 +91,8 @@ const TEXTS = [
   ["costs", "A 8\nB 7\nC 6\nD 5\nE 4", /^A\|B\|C\|D\|E\|8\|7/, /5 players, 5 groups/, "Yes, take it"],
   ["gains", "Einkauf\tA\tB\tErsparnis\n1\tx\t\t0\n2\t\tx\t0\n3\tx\tx\t9", "A|B|0|0|9", /“Einkauf”, before .* out/],
   ["costs", "Offers\n;A;B;Cost\nV 1;1;0;8,5\nV 2;0;1;7\nV 3;1;1;9", "A|B|8,5|7|9", /“V 1 …”, before/],
-  ["costs", "A alone 5, B alone 4\nA and B 7; A 3\nall 9", null, /Line 1: .*here are more\. Give each/],
+  ["costs", "A alone 5, B alone 4\nA and B 7; A 3\nall 9", null, /Line 1: .*are more: “A alone 5, B alone 4”\. Give/],
+  ["costs", "Part A: 480 (Kim, Lee)\nPart B: 150 (Kim)\nPart C: 90 (Lee)", null, /“\(Kim, Lee\)” .* who uses that/],
   ["costs", "Dredging the harbour, in kEUR\nA 8\nB 7\nA+B 9", "A|B|8|7|9", /“Dredging the harbour, in kEUR”/],
   // amounts that are words
   ["estate", "Flat A: £380\nFlat B: £465\nShop: nil", "Flat A=£380|Flat B=£465|Shop=0", /Taken as 0: “nil”/],
@@ -177,6 +178,8 @@ const TEXTS = [
   // statutes of a PDF, times, titles with a year, and what there is
   ["votes", STATUTES, "Football=21|Tennis=9", /Left out, .*“§ 9 Votes in the assembly”, “\(1\) .*“\(2\) R.*“votes”/],
   ["votes", "Football 21 votes\nTennis 9 votes\nEach has 1 vote", "Football=21|Tennis=9", /“Each has 1 vote”/],
+  ["votes", "Partei A hat 12 Sitze\nPartei B hat 9 Sitze\nMehrheit: 13 Sitze", "Partei A=12|Partei B=9",
+    /“Mehrheit”, 13, was taken as votes needed/],
   ["runway", LIGHTS, null, /Which column is “Landings”\? “Evenings” None/],
   ["runway", LIGHTS, "Juniors=1200=3|Seniors=1800=2", /“Lights needed until” was left out/, "“Evenings”"],
   ["runway", "Team\tNeeded until\nJuniors\t19:00\nSeniors\t20:00", "Juniors==1|Seniors==1", /“Needed until” was/],
@@ -262,6 +265,22 @@ for (const [text, wanted, told = /^/, labels = ["Sales", "Ops", "Legal"]] of PRO
   if ((fault ?? texts.join()) === wanted && told.test(said)) continue;
   faults += 1;
   console.log(`${JSON.stringify(text)}, proposed: ${fault ?? texts}, ${said}, and not ${wanted}`);
+}
+
+/** Two quotas that a text names: what is offered goes when they are typed, and heads beside per cent are none. */
+{
+  const desk = new Desk("votes", "."), given = "Who\tVotes\tShare %\nAnn\t1\t40\nBo\t1\t35\nCy\t1\t25\n\n"
+    + "Decisions need 2/3 of the shares and at least 2 members.";
+  await desk.paste("rows.0.name", given);
+  await settled(desk.read().buttons.find((one) => one.textContent === "Both, with two quotas")?.on.click({}));
+  const before = desk.read().said, { typed } = desk;
+  for (const [cell, value] of [["quota", "2"], ["secondQuota", "2/3"]]) {
+    const input = desk.grid.all().findLast((one) => one.attributes["data-cell"] === cell);
+    input.on.input({ target: { value } });
+  }
+  const isAll = /type it above/.test(before) && !/type it above|Two quotas/.test(desk.read().said) && !typed.isPercent;
+  if (!isAll) console.log(`two quotas: ${before}, then ${desk.read().said}, per cent: ${typed.isPercent}`);
+  faults += isAll ? 0 : 1;
 }
 
 /** Texts about which something is asked, and what is asked again when the case was left and is shown again. */

@@ -49,7 +49,7 @@ export function blockOf(pasted, { canBeNegative = false, words = false } = {}) {
     (plain !== rows || isCounted || isListed) && ROW_NUMBERS,
     zeros.length > 0 && `Taken as 0: ${zeros.map((text) => `“${text}”`).join(", ")}.`,
     behind && `Left out behind numbers: ${behind}.`].filter(Boolean);
-  return { rows: plain, lines: kept.map(({ line }) => line), notes, loose };
+  return { rows: plain, lines: kept.map(({ line }) => line), notes, loose, remarks };
 }
 
 /** Rows with 0 for each word that says so in a column of numbers: {rows, zeros}, the words. */

@@ -11,6 +11,8 @@ const NAME = /^(?:\p{Lu}|(?:de|den|van|von|du|la|le|di)\s)/u; // begins so
 const WHOEVER = /^(?:each|every|all|any|no|jede[rs]?|alle|kein\p{L}*|chaque|tous|toutes|elke?|cada|ogni)\s/iu;
 const PARAGRAPH = /^(?:§|art(?:icle|ikel)?\.?\s\d|[([]?(?:\d+|[a-z])[.)\]]\s|\(\d+\))/iu;
 
+const SAYS = /[:=]\s*[^\s:=]*\d\S*(?:\s\S+){0,3}$/u; // a line of a name, a colon and a number
+
 const isOther = (text) => WHOEVER.test(text) || !NAME.test(text);
 
 /** Rows of one cell each with a colon before the number of each such line, if two or more are: {rows, left}, where
@@ -19,7 +21,7 @@ export function ledRows(rows) {
   const texts = rows.map((row) => row.find(Boolean) ?? ""), isOne = rows.every((row) => row.filter(Boolean).length < 2);
   const found = texts.map((text) => LED.exec(text) ?? (isOther(text) ? null : COUNTED.exec(text)));
   if (!isOne || found.filter(Boolean).length < 2) return { rows, left: [] };
-  const isSentence = (text) => !isBareName(text) && !/[:=]\s*\S+$/.test(text);
+  const isSentence = (text) => !isBareName(text) && !SAYS.test(text);
   const isText = (text) => [PARAGRAPH, WHOEVER].some((one) => one.test(text)) || isSentence(text);
   const isOut = (text, k) => text && !found[k] && isText(text);
   const own = (text, k) => [found[k] ? `${found[k][1].replace(VERB, "")}: ${found[k][2].trim()}` : text];

@@ -140,6 +140,8 @@ export function tableOf(text, names = [], order = "size", mark = ".", said = {})
   const cells = cellsOf(text), block = blockOf(cells, { canBeNegative: true, words: true });
   const { rows, left } = unframed(block.rows), saved = answerFault(cells);
   if (block.loose || saved) return { fault: saved ?? looseText(block.loose) };
+  const used = usersOf(block.remarks);
+  if (used) return { fault: used };
   const kept = rows.filter((row) => row.some(Boolean));
   const marked = joinedMembers(kept), joined = groupsFirst(marked.rows);
   const isList = joined !== kept || isGroups(kept);
@@ -154,6 +156,14 @@ export function tableOf(text, names = [], order = "size", mark = ".", said = {})
   const isVector = plain.state || plain.isAll || plain.many, more = { mark, cells, ...said };
   const read = isVector ? { ...plain, fault: plain.fault ?? plain.many } : listOf(bare, lines, more);
   return read.state ? { ...read, remark: told + read.remark } : read;
+}
+
+/** Why a list of parts isn't taken, each with who uses it in brackets behind its cost: such names recur. */
+function usersOf(remarks) {
+  const lists = remarks.map((text) => text.replace(/^\W*(?:used by|for)?\s*|\W+$/giu, "").split(/\s*[,;+&/]\s*/));
+  const all = lists.flat(), isOf = lists.length > 1 && lists.some(({ length }) => length > 1);
+  return isOf && new Set(all).size < all.length && `“${withEscapes(remarks[0])}” behind a number looks like who uses `
+    + "that part. Here a line is a group: give each group what the parts cost that one of it uses, added up.";
 }
 
 /** A table of numbers alone in a text, below a heading or without: {state}; or {fault}, with `isAll` where nothing else
@@ -275,7 +285,10 @@ function listOf(given, allLines, { mark, isWhole, column, cells, ...said }) {
     return { fault: `${lineOf(k)}“${texts[k]}” is no number, and no group has one beside it.` };
   }
   const several = rows.findIndex((row) => SEVERAL_IN.test(row.filter(Boolean).join("; ")));
-  if (several >= 0) return { fault: `${lineOf(several)}A line has one group and its number; here are more. ${FORM}` };
+  if (several >= 0) {
+    const text = withEscapes(rows[several].filter(Boolean).join(" ")).slice(0, 60);
+    return { fault: `${lineOf(several)}A line has one group and its number; here are more: “${text}”. ${FORM}` };
+  }
   const long = rows.findIndex(([group]) => group.length > MOST_LETTERS);
   if (long >= 0) return { fault: `${lineOf(long)}A group of ${rows[long][0].length} letters is none.` };
   const open = new Set(), read = rows.map(([group, number = ""], r) => {

@@ -35,6 +35,11 @@ function readAs({ typed, value: text, how, count }, mark, kinds) {
   return `${quoted(typed)}${like} is read as ${toldAs(value, how, mark)}`;
 }
 
+function shownAs(value, how, mark) {
+  const behind = how === "whole" ? ", whole" : value.isWhole() ? "" : ", with decimals";
+  return `${quotedText(value, mark)}${behind}`;
+}
+
 function toldAs(value, how, mark) {
   return how === "whole" ? `the whole number ${value}` : `${quotedText(value, mark)}, with decimals`;
 }
@@ -47,7 +52,7 @@ function waysOut({ doubts, mark, proof, isChosen }, setEntry) {
   const { value } = cellNumber(odd.typed, BY[how]), other = otherMark(mark), by = cellNumber(odd.typed, other);
   const others = odd.count > 1 ? ", and all like it" : "";
   return [
-    !proof && by.value && way(`No: ${odd.typed.trim()} is ${toldAs(by.value, how, mark)}`, other),
+    !proof && by.value && way(`No: ${odd.typed.trim()} is ${shownAs(by.value, how, mark)}`, other),
     (proof || doubts.length > 1) && way(`Read ${quoted(odd.typed)} as ${toldAs(value, how, mark)}${others}`, BY[how]),
   ];
 }
