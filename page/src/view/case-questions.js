@@ -71,14 +71,16 @@ function swapQuestion({ count, cost, name }, typed, { onReset, onChange }) {
     onChange(0);
   };
   const shown = (text) => `“${withEscapes(text.trim())}”`;
-  return el("p", { class: "note asked" }, `Are ${shown(count)} the landings of ${name}, and does one need ${shown(cost)}? `,
+  return el("p", { class: "note asked" },
+    `Are ${shown(count)} the landings of ${name}, and does one need ${shown(cost)}? `,
     button("No, swap the columns", swapped, { class: "quiet" }), " ",
     button("Yes, so it is", keep, { class: "quiet" }));
 }
 
 /** Per head is another rule, so nobody gets other shares without a word. */
 function perHeadQuestion(players, { setMeasure }) {
-  return el("p", { class: "note asked" }, "A group’s loss was to count per head. That is worked out for up to 8 players, ",
+  return el("p", { class: "note asked" },
+    "A group’s loss was to count per head. That is worked out for up to 8 players, ",
     `and here are ${countText(players)}. By the group as a whole the shares are others. `,
     button("Count it as a whole", () => setMeasure("plain"), { class: "quiet" }));
 }
@@ -88,7 +90,8 @@ function eitherQuestion({ typed, ways: [[less, one], [more, other]] }, { setEntr
   const way = (count, mark) => button(`${count} ${count === "1" ? "landing" : "landings"}`, () => setEntry(mark), {
     class: "quiet",
   });
-  return el("p", { class: "note asked" }, `“${withEscapes(typed.trim())}” can be read as ${less} or as ${more}, and no `,
+  return el("p", { class: "note asked" },
+    `“${withEscapes(typed.trim())}” can be read as ${less} or as ${more}, and no `,
     "other number here shows which. Which is it? ", way(less, one), way(more, other));
 }
 
