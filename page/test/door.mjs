@@ -150,6 +150,10 @@ const questions = [
     const asked = /“Cost per km” looks like a price for each\. Does a link cost “Cost per km” times “Length km”\?/;
     await told(page, "#case .note", asked);
     expect("nothing is taken", await page.run(`document.querySelector('[data-cell="names.0"]').value`), "Harbour");
+    await page.run("location.hash = '#estate'");
+    await page.until(`document.querySelector('[data-cell="estate"]')`);
+    await page.run("location.hash = '#network'");
+    await told(page, "#case .note", asked); // as long as nobody has answered
     await page.click("Yes, multiply by “Length km”");
     await told(page, "#answer .lead", /together 90\.00/);
     await pasted(page, [rows[0], ["Works", "Alby", "1.200", "85,00"], ["Works", "Brook", "900", "85,00"],
