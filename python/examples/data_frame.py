@@ -1,4 +1,4 @@
-"""A data frame of games, one a row, and the data frame of their nucleoli."""
+"""A data frame of games, one a row."""
 import pandas
 
 import coop
