@@ -182,6 +182,8 @@ const TEXTS = [
     /“Mehrheit”, 13, was taken as votes needed/],
   ["runway", LIGHTS, null, /Which column is “Landings”\? “Evenings” None/],
   ["runway", LIGHTS, "Juniors=1200=3|Seniors=1800=2", /“Lights needed until” was left out/, "“Evenings”"],
+  ["runway", "Team\tUntil\tCost\nA\t9 pm\t100\nB\t10 pm\t200", "A=100=1|B=200=1", /“Until” was left out/],
+  ["estate", "Rossi, Mario\nWeiss, Eva\nDoe, Jane", "Rossi, Mario|Weiss, Eva|Doe, Jane", /3 empty/],
   ["runway", "Team\tNeeded until\nJuniors\t19:00\nSeniors\t20:00", "Juniors==1|Seniors==1", /“Needed until” was/],
   ["costs", "Boat + berth, year 2026\nA: 8\nB: 7\nA+B: 12", "A|B|8|7|12", /Left out, .*“Boat \+ berth, year 2026”/],
   ["estate", "Claims against the bakery 2026\nAnn 120\nBo 80", "Ann=120|Bo=80", /“Claims against the bakery 2026”/],
@@ -205,6 +207,7 @@ const TEXTS = [
   ["estate rows.1.name", ["Ann\t30\nBo\t40", "Cy\nDi"], "Ann=30|Bo=40", /These are names alone/],
   ["estate rows.1.name", ["Ann\t30\nBo\t40", "Cy\nDi"], "Ann=30|Cy|Di", /2 empty/,
     "No, these are other names: empty the numbers"],
+  ["votes", "Ministry for Economic Affairs and Climate Action North East\nCooper & Sons Ltd.", /^Ministry .*\|Cooper/],
   ["votes", [NAMES, "Cy\nDi"], "Cy|Di", /rows before are gone/],
   // a list in the place of another, and the number above it
   ["estate", ["Estate\t500\nAnn\t300\nBo\t400", "Cy\t90\nDi\t80"], "Cy=90|Di=80", /gone.*The estate is still 500\./],

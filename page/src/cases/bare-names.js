@@ -1,15 +1,16 @@
 // Names that were pasted alone, without numbers: each is short, and no sentence, and has no amount in it.
 import { withEscapes } from "../game/names.js";
 
-const MOST_LETTERS = 64, MOST_WORDS = 7, FEW_WORDS = 4; // of a name, and of one that may end with a point
+const MOST_LETTERS = 64, MOST_WORDS = 7, FEW_WORDS = 4; // in small letters, and of a name with a point behind
 const MOST_SHOWN = 60;
 const AMOUNT = new RegExp("\\p{Sc}|(?<!\\p{L})[A-Z]{3}\\s?\\d|\\d\\s?(?:[A-Z]{3}|%)(?!\\p{L})|\\d[.,'’]\\d{2,3}(?!\\d)"
   + "|[:=]\\s*\\S{0,4}\\s?\\d", "u");
 
 /** Whether a text may be a name. */
 export function isBareName(text) {
-  const { length } = text.trim().split(/\s+/);
-  const isSentence = length > MOST_WORDS || (length > FEW_WORDS && /[.!?]$/.test(text)) || /[,;!?=]$/.test(text);
+  const words = text.trim().split(/\s+/), { length } = words, isLower = (word) => /^\p{Ll}/u.test(word);
+  const isLong = length > MOST_WORDS && words.filter(isLower).length * 2 > length; // "Ministry of .." has few such
+  const isSentence = isLong || (length > FEW_WORDS && /[.!?]$/.test(text)) || /[,;!?=]$/.test(text);
   return text.length <= MOST_LETTERS && !isSentence && !AMOUNT.test(text);
 }
 

@@ -52,6 +52,7 @@ function hasCommaColumns(lines) {
   const isNamed = [lines[0], lines.at(-1)].some((line) => /^[^\d,]*\p{L}(,[^\s,][^,]*)+$/u.test(line));
   const sizes = lines.map((line) => /^[1-9]\d*,(\d+)$/.exec(line)?.[1].length ?? 0), most = Math.max(...sizes);
   const isPairs = lines.length > 1 && most > 3 && sizes.every((size) => size > 0) && sizes.some((size) => size < most);
+  if (lines.length > 1 && lines.every((line) => line.trim() && !/\d/.test(line))) return false; // Rossi, Mario
   if (isCount || isNamed || isPairs) return lines.every((line) => line.includes(","));
   return lines.every((line) => line.includes(",") && !isOf(line)) && !lines.every(isWithin);
 }

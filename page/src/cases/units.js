@@ -1,5 +1,6 @@
 // Units behind pasted numbers, as in "12 km": one that a column has throughout is left out, and told.
 import { readNumber } from "../exact/decimals.js";
+import { isTime } from "./columns.js";
 
 const MOST_LETTERS = 80; // of a number with its unit
 const WORD = "\\p{L}[\\p{L}.²³]{0,11}";
@@ -14,7 +15,7 @@ const OF_MANY = /^(k|[kKM]?\p{Sc}|tsd|tausend|thousand|mio|mill?ion(s|en)?|mln|m
  * number as it stands. A sign of money before "per year" is of the number. `isSure` says that the number is an amount,
  * and no part of a name: it is in thousands, or for each of something. */
 export function parted(text) {
-  if (text.length > MOST_LETTERS || !readNumber(text).fault) return null;
+  if (text.length > MOST_LETTERS || !readNumber(text).fault || isTime(text)) return null;
   const [, before, per] = BEHIND.exec(text) ?? [], isMoney = before && !readNumber(before).fault;
   const [, number, unit] = isMoney ? [text, before, per] : WITH_UNIT.exec(text) ?? [];
   const isSure = Boolean(isMoney) || OF_MANY.test(unit ?? "");
