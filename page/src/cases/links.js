@@ -116,8 +116,8 @@ function readOf(given, { mark, cost }) {
   return found && { ...found, left: [...found.left ?? [], ...out], told, units, judge };
 }
 
-const NO_SHAPE = "This is no list of from, to and cost, and no square or triangle with names. Give each link a line: the "
-  + "two places, and its cost, with tabs between.";
+const NO_SHAPE = "This is no list of from, to and cost, and no square or triangle with names. Give each link a line: "
+  + "the two places, and its cost, with tabs between.";
 const PAIR = /^(?:[Ff]rom (?=.* to ))?(.{1,99}?)(?: (?:to|[-–—/]) |\s?(?:[–—→]|->)\s?|(?<=\S)-(?=\S))(.{1,99})$/u;
 
 /** Rows as "Alby-Brook" and 12, in a cell or two, as rows of two ends and a number, if all are such below a heading and

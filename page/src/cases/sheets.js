@@ -17,6 +17,7 @@ const MOST_HEADS = 3; // words of two headings in a line
 const PROSE = /\d[^\t]*\s\p{L}{2,}\s[^\t]*\s\d+ ?\S*, /u;
 const IN_LINE = "The line of names and numbers was parted between them.";
 const SENTENCE = "This is one sentence. Give each a line: the name, a tab and the number.";
+const lineText = (text) => (/\d/.test(text) ? looseText(text) : notNames([text], AS_ROWS)); // that is no row
 const AS_ROWS = "Give each row a name, a tab and a number, and leave other lines out.";
 const PAGE = new RegExp(`^\\P{L}*(${PAGES}) ?\\d+(( ?/| \\p{L}+) ?\\d+)?\\P{L}*$`, "iu");
 
@@ -31,7 +32,6 @@ export function sheetOf(pasted, columns, { mark, single, amount, usual, isFirst 
   const whole = { rows: pasted, notes: [] };
   const { rows: parted, notes: counted, loose } = isFirst ? blockOf(led, { words: true }) : whole;
   const odd = loose ?? (isFirst ? noName(parted) : undefined), saved = answerFault(pasted);
-  const lineText = (text) => (/\d/.test(text) ? looseText(text) : notNames([text], AS_ROWS));
   if (odd !== undefined || saved) return { fault: saved ?? lineText(odd) };
   if (given.length === 1 && PROSE.test(pasted[0].join(", "))) return { fault: SENTENCE };
   const { rows: lines, left } = unframed(single ? withSingle(parted, single) : parted);
