@@ -1,5 +1,6 @@
 // Names and numbers in one line, as a sentence has them: "Vance 41, Ruiz 26.5 and Ott 7.5".
 
+const MOST_LETTERS = 2000; // of a text with such a line
 const NUMBER = "\\p{Sc}?\\s?\\d(?:[\\d.,'’]*\\d)?(?:\\s?(?:\\p{Sc}|%|[A-Z]{3}))?";
 const END = "(?=\\s*(?:[,;.]|\\s(?:and|und|et|e|y|en)\\s|$))";
 const ITEM = new RegExp(`\\s*([^\\d,;:]*\\p{L}[^\\d,;:]*?)\\s*[ :=]\\s*(${NUMBER})${END}\\s*(?:[,;.]\\s*)*`
@@ -23,7 +24,9 @@ function itemsOf(line) {
 /** Rows with a row for each name of a line of names and numbers, if one line is such and none is another row: {rows,
  * isParted}. */
 export function partedInLine(rows) {
-  const lines = rows.map((row) => row.join(",").trim()), items = lines.map(itemsOf), own = items.filter(Boolean);
+  const lines = rows.map((row) => row.join(",").trim().replace(/\s+/g, " "));
+  if (lines.reduce((sum, { length }) => sum + length, 0) > MOST_LETTERS) return { rows, isParted: false };
+  const items = lines.map(itemsOf), own = items.filter(Boolean);
   const isOther = (line, k) => !items[k] && SHORT.test(line);
   if (own.length !== 1 || lines.some(isOther)) return { rows, isParted: false };
   const whole = (line) => [line.replace(/,(?=\S)(?!\d)/g, ", ")];
@@ -34,7 +37,7 @@ export function partedInLine(rows) {
  * and no other number is; the same text if not. */
 export function linesByName(text, names) {
   const line = text.trim().replace(/\s+/g, " "), number = new RegExp(NUMBER, "gu");
-  if (/[\r\n\t]/.test(text.trim()) || names.length < 2) return text;
+  if (/[\r\n\t]/.test(text.trim()) || names.length < 2 || line.length > MOST_LETTERS) return text;
   const found = names.map((name) => {
     const plain = name.replace(/[.*+?^${}()|[\]\\]/g, "\\$&");
     const all = [...line.matchAll(new RegExp(`(?<![\\p{L}\\d])${plain}(?![\\p{L}\\d])`, "giu"))];
