@@ -25,6 +25,7 @@ const PIPES_OF = (cost) => `van\tnaar\tmeter\tprijs per m\t${cost}\n${PIPES}`;
 /** A case (and a cell for the last text), a text or several, what is in the cells (null if they are as before), and
  * what is said or asked. */
 const TEXTS = [
+  ["runway", `Ann 5\n${" ".repeat(2000)}x\nBo 7`, null, /nobody can part “x” for sure\..* Nothing was taken\./],
   // numbers with a unit and a time
   ["estate", "Ann\t12,000.00 EUR/year\nBo\t8,000.00 EUR/year", "Ann=12,000.00 EUR|Bo=8,000.00 EUR",
     /“\/year” behind the/],

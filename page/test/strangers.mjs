@@ -52,7 +52,8 @@ const proposals = [
       ["Sales\t4\nOps\t4\nMarketing\t4", "4.3,4.0,3.7", /“Marketing”\. Rows without an amount: Legal\. Nothing/],
       ["Sales\t8.00\t4.20\nOps\t7.50\t4.10", "4.3,4.0,3.7", /Two numbers stand beside Sales/],
       ["Sales: 4 %\nOps: 4 %\nLegal: 4 %", "4.3,4.0,3.7", /“4 %” beside Sales is no amount\. Write one amount/],
-      ["Bid :\nLegal : 1 340 k€\nSales : 640 k€\nOps : 60 k€", "640,60,1 340", /“k€” behind the numbers is taken as their unit/],
+      ["Bid :\nLegal : 1 340 k€\nSales : 640 k€\nOps : 60 k€", "640,60,1 340",
+        /“k€” behind the numbers is taken as their unit/],
       ["Sales : 1 340 k€\nOppo : 6 k€", "640,60,1 340", /No row is called “Oppo”/],
       ["Sales 5\nOps 4\nLegal 3\nTotal 12", "5,4,3", /Left out: “Total 12”/], ["4\n4\n4", "4,4,4", null],
     ]) {

@@ -17,7 +17,8 @@ const MOST_HEADS = 3; // words of two headings in a line
 const PROSE = /\d[^\t]*\s\p{L}{2,}\s[^\t]*\s\d+ ?\S*, /u;
 const IN_LINE = "The line of names and numbers was parted between them.";
 const SENTENCE = "This is one sentence. Give each a line: the name, a tab and the number.";
-const lineText = (text) => (/\d/.test(text) ? looseText(text) : notNames([text], AS_ROWS)); // that is no row
+/** Why a line is no row. */
+const lineText = (text) => (/\d/.test(text) ? undefined : notNames([text], AS_ROWS)) ?? looseText(text);
 const AS_ROWS = "Give each row a name, a tab and a number, and leave other lines out.";
 const PAGE = new RegExp(`^\\P{L}*(${PAGES}) ?\\d+(( ?/| \\p{L}+) ?\\d+)?\\P{L}*$`, "iu");
 
