@@ -25,6 +25,11 @@ const PIPES_OF = (cost) => `van\tnaar\tmeter\tprijs per m\t${cost}\n${PIPES}`;
 /** A case (and a cell for the last text), a text or several, what is in the cells (null if they are as before), and
  * what is said or asked. */
 const TEXTS = [
+  ["costs", "Who\tTons\tPrice per ton\tAlone\nA\t4\t3\t12\nB\t6\t4\t24\nC\t3\t4\t12\nTotal\t13\t3\t39", null,
+    /Which column is the cost\?/],
+  ["costs", "School alone 48\nRectory alone 30\nTown hall alone 40\nSchool and rectory together 70\n"
+    + "School and town hall together 80\nRectory and town hall together 60\nAll three together 100",
+  "School|Rectory|Town hall|48|30|70|40|80|60|100", /“School and rectory together”, .* are groups\./],
   ["runway", `Ann 5\n${" ".repeat(2000)}x\nBo 7`, null, /nobody can part “x” for sure\..* Nothing was taken\./],
   // numbers with a unit and a time
   ["estate", "Ann\t12,000.00 EUR/year\nBo\t8,000.00 EUR/year", "Ann=12,000.00 EUR|Bo=8,000.00 EUR",
@@ -305,6 +310,20 @@ for (const [id, text, asked] of LEFT) {
   if (asked.test(before) && asked.test(said)) continue;
   faults += 1;
   console.log(`${id}: ${JSON.stringify(text)}, left and shown again: ${said}, and not ${asked}, as ${before}`);
+}
+
+/** Tables that take the place of one whose decimal mark was said: what can be read in two ways is asked about anew. */
+const ANEW = [["estate", "Ann\t48,000\nBo\t21,000"], ["costs", "A\t48,000\nB\t21,000\nA+B\t60,000"],
+  ["network", "From\tTo\tCost\nWell\tA\t48,000\nWell\tB\t21,000\nA\tB\t12,000"],
+  ["market", "\tHut\tFlat\nAnn\t48,000\t21,000\nBo\t12,000\t33,000"]];
+for (const [id, text] of ANEW) {
+  const desk = new Desk(id, ",");
+  desk.typed.isMarked = true;
+  await desk.paste(CELLS[id] ?? "rows.0.name", text);
+  const { asked } = desk.read();
+  if (/can be read as 48000 or as 48/.test(asked)) continue;
+  faults += 1;
+  console.log(`${id}: ${JSON.stringify(text)} over a table whose mark was said: ${asked || "nothing is asked"}`);
 }
 
 /** Texts that are opened as a document, and what is said of them. */

@@ -76,11 +76,14 @@ function withoutAlone(read, used) {
   return [...new Set(kept.map(({ word }) => word))];
 }
 
-/** The lines of groups without +, each with its `parts`: all have a line; or no part is in one such line only. */
+/** The lines of groups without +, each with its `parts`: all have a line; or no part is in one such line only. A part
+ * may have small letters where its line has great ones. */
 function andGroups(read, used) {
-  const lines = new Set(read.filter(isLone).map(({ members: [one] }) => one));
+  const lone = read.filter(isLone).map(({ members: [one] }) => one), lines = new Set(lone);
+  const likeOf = (part) => lone.find((one) => one.toLowerCase() === part.toLowerCase());
+  const ownOf = (part) => (lines.has(part) ? part : likeOf(part) ?? part);
   const all = read.filter((line) => isLone(line) && !used.has(line.members[0])).map((line) => {
-    return Object.assign(line, { parts: partsOf(line.members[0]) });
+    return Object.assign(line, { parts: partsOf(line.members[0]).map(ownOf) });
   }).filter(({ parts }) => parts.length > 1);
   const known = all.filter(({ parts }) => parts.every((part) => lines.has(part)));
   if (known.length) return known;

@@ -227,6 +227,9 @@ function drops(values) {
 const WORTH = new RegExp("cost|gain|worth|value|saving|amount|price|profit|kosten|gewinn|wert|betrag|preis|ersparnis"
   + "|co[uû]t|valeur|montant|\\bv ?\\(s\\)|\\b(eur|usd|gbp|chf)\\b|\\p{Sc}", "iu");
 
+const PER = /\b(?:per|je|pro|par|por)\b|\/ ?\p{L}/iu; // of a price for each of something
+const isWorth = (heading = "") => WORTH.test(heading) && !PER.test(heading);
+
 /** Rows of a group and its number, of such as may have headings and further columns: {rows, lines, told}. Of several
  * columns of numbers the one `column` is taken; {columns} with their titles if nobody said which; {fault} where no
  * headings say what the others are. `lines` are the numbers of the lines of the text. */
@@ -239,7 +242,7 @@ function pairsOf(all, allLines, { mark, column, cells }) {
   const shown = withEscapes(rows[long].join("; ")).slice(0, 60), line = `Line ${lines[long]}: `;
   const wide = all.reduce((most, { length }) => Math.max(most, length), 0);
   const others = Array.from({ length: wide - 1 }, (_, k) => k + 1);
-  const numeric = others.filter((c) => rows.some((row) => isNumber(row[c]))), meant = (c) => WORTH.test(headings?.[c]);
+  const numeric = others.filter((c) => rows.some((row) => isNumber(row[c]))), meant = (c) => isWorth(headings?.[c]);
   const several = numeric.filter(meant).length === 1 ? numeric.filter(meant) : numeric, at = column ?? several[0];
   const isNamed = rows.every(([group]) => !isNumber(group)), isPlain = others.every((c) => numeric.includes(c));
   if (several.length > 1 && column === undefined && isNamed && (headings || isPlain)) {

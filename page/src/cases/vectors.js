@@ -1,6 +1,7 @@
 // A list of numbers alone, as other programs print it: a line each, a row of a spreadsheet, c(1, 2), R's [1] 1 2, or
 // MATLAB's v = [1 2];
 import { mostOf } from "../game/classes.js";
+import { isSumWord } from "../game/names.js";
 import { MANY } from "../game/words.js";
 import { readNumber } from "../exact/decimals.js";
 import { SPOILT } from "./pasting.js";
@@ -55,10 +56,11 @@ function manyText(rows) {
   return `These are ${count} rows of ${wide} numbers, so ${count} games. Paste one row. ${MANY}`;
 }
 
-/** The same of rows below a heading, which may name the groups, and behind a first column of what they are called. */
+/** The same of rows below a heading, which may name the groups, and behind a first column of what they are called: none
+ * is called a total. */
 export function manyBelow(rows) {
   const isWord = (cell) => /\p{L}/u.test(cell) && !SPOILT.test(cell), [heads, ...below] = rows;
-  if (!below.length || !heads.slice(1).every(isWord)) return null;
+  if (!below.length || !heads.slice(1).every(isWord) || below.some(([name]) => isSumWord(name))) return null;
   const isNumeric = (some) => some.every((row) => row.every((cell) => isNumber(cell)));
   const plain = [below, below.map((row) => row.slice(1))].filter(isNumeric);
   return plain.map(manyText).find(Boolean) ?? null;

@@ -306,7 +306,7 @@ class MarketGrid {
   /** A block, with names before and above it or without. */
   fill(cell, found) {
     const { isAnew, top, left, sides, bottom, right } = this.placeOf(cell, found), { typed } = this;
-    if (isAnew) Object.assign(typed, { buyers: [], sellers: [], values: [] });
+    if (isAnew) Object.assign(typed, { buyers: [], sellers: [], values: [], isMarked: undefined });
     const least = isAnew ? 1 : 0;
     this.resize(Math.max(typed.buyers.length, bottom, least), Math.max(typed.sellers.length, right, least));
     sides.buyers?.forEach((name, k) => (typed.buyers[top + k] = name));

@@ -17,6 +17,7 @@ const NAMED = { things: "players", numbers: "numbers" };
 const MOST_WHOLE = 6; // players whose groups are all shown
 const PAGE = 42; // groups of more players that are shown at a time
 const ASKED = "First say how the numbers are read: it is asked below.";
+const UNSAID = { opened: undefined, isUnnamed: false, filled: undefined, coarse: undefined, isMarked: undefined };
 const WAIT = 150; // milliseconds between the last key and filling anew
 const REFILL = 60000; // the question waits for what is filled anew
 const SEVERAL = "A cell takes one number, and these lines have several, so nothing was pasted. Give a column of "
@@ -365,13 +366,12 @@ class TableGrid {
     if (!state) return this.say(found.fault, " Nothing was taken.");
     close?.();
     this.remember(said.what ?? (close ? "Use this list" : "Paste"));
-    this.change({ ...unpacked(state), opened: undefined, isUnnamed: false, filled: undefined, coarse: undefined });
+    this.change({ ...unpacked(state), ...UNSAID });
     const { names, numbers } = this.typed, lacking = this.order.filter((mask) => !numbers[mask]).length;
-    const read = this.order.length - lacking;
     const rest = lacking ? `; ${plural(lacking, "group has", "groups have")} no number` : "";
     return this.say(`Read${told ? { size: " by size", mask: " by masks" }[told.order] : ""}: `
-      + `${plural(names.length, "player")}, ${plural(read, "group")}${rest}.${found.remark ?? ""}`
-      + (told ? placeOf(told, names) : ""),
+      + `${plural(names.length, "player")}, ${plural(this.order.length - lacking, "group")}${rest}.`
+      + `${found.remark ?? ""}${told ? placeOf(told, names) : ""}`,
     isOdd && this.otherOrder(text, told.order));
   }
 
