@@ -117,7 +117,7 @@ export const assumed = [
     const sheet = await page.run("document.getElementById('sheet').textContent");
     expect("on paper, of its rule", sheet, /Filled by the other way, no share of what stands here changes\./);
     const { text } = await saved(page, "Save the table (CSV)");
-    expect("in the file", text, /Exact numbers have ÷ in fractions: .*\s+"?Of the 15 numbers 5 weren’t given/);
+    expect("in the file", text, /Fractions have ÷ so that .*\s+"?Of the 15 numbers 5 weren’t given/);
     expect("and what was given", sheet, /Given were: Aston 112,0; Bray 80,2;.*Bray \+ Colne \+ Dale 251,5\./);
     const line = /The line “adds to the cost of all others” of Aston and Bray stands on a number that the page filled/;
     expect("in the picture", await page.text("figure.bars figcaption"), line);

@@ -115,6 +115,7 @@ async function faultOf(firefox, url, id, folder) {
 /** The start, a case and the way back to the start. */
 async function faultOfWays(firefox, url) {
   await firefox.send("WebDriver:Navigate", { url });
+  for (let k = 0; k < 100 && (await firefox.run("!!document.getElementById('page-code')")); k++) await pause(100);
   await firefox.run("document.querySelectorAll('.card')[1].click()");
   const there = await firefox.run("location.hash");
   await firefox.run("document.querySelector('nav [data-home]').click()");

@@ -25,6 +25,8 @@ const PIPES_OF = (cost) => `van\tnaar\tmeter\tprijs per m\t${cost}\n${PIPES}`;
 /** A case (and a cell for the last text), a text or several, what is in the cells (null if they are as before), and
  * what is said or asked. */
 const TEXTS = [
+  ["costs", "Village\tAlone\nOberndorf\t480\nNiederau\t390\nSt. Veit\t350\nSum\t1220\nAll three\t690",
+    "Oberndorf|Niederau|St. Veit|480|390||350|||690", /“Sum” was left out, as a sum of other lines\. “All three” is a/],
   ["costs", "Who\tTons\tPrice per ton\tAlone\nA\t4\t3\t12\nB\t6\t4\t24\nC\t3\t4\t12\nTotal\t13\t3\t39", null,
     /Which column is the cost\?/],
   ["costs", "School alone 48\nRectory alone 30\nTown hall alone 40\nSchool and rectory together 70\n"

@@ -98,7 +98,8 @@ const coarser = [
     expect("on paper", await sheetOf(page), near);
     const holds = /Save the document \(rounded numbers\)[^]*holds only the rounded numbers.*another name nobody/;
     expect("at the button", await page.text(".made"), holds);
-    const lines = /\r\n\r\nShares beside the exact ones are rounded to decimals,2\r\nThe numbers .* to decimals,4\r\n$/;
+    const lines = new RegExp("\r\n\r\nShares beside the exact ones are rounded to decimals,2\r\n"
+      + "The numbers .* to decimals,4\r\n\r\nFractions have ÷");
     expect("in the table's file", await savedTable(page), lines);
   }],
 ];

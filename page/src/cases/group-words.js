@@ -50,11 +50,12 @@ export function inOtherWords(all, isWhole) {
   if (odd) return { fault: `${odd.line}Here is a number without a group. Write its members before it.` };
   const each = alone.find(({ members: [one] }) => EACH.test(one));
   const read = all.filter((line) => !nobody.includes(line) && line !== each);
-  const words = withoutAlone(read, used);
+  const words = withoutAlone(read, used), spare = sumBeside(read);
+  if (spare) read.splice(read.indexOf(spare), 1);
   for (const line of andGroups(read, used)) Object.assign(line, { members: line.parts, words: line.members[0] });
-  const { asked, count, isSum, fault, sum } = wholeOf(read, isWhole);
+  const { asked, count, isSum, fault, sum = spare } = wholeOf(read, isWhole);
   if (asked || fault) return { asked, count, isSum, fault };
-  if (sum) read.splice(read.indexOf(sum), 1);
+  if (sum !== spare) read.splice(read.indexOf(sum), 1);
   const { read: full, told: ofEach = "", fault: clash } = each ? withEach(read, each) : { read };
   if (clash) return { fault: clash };
   const groups = read.map((line) => line.words).filter(Boolean), be = groups.length > 1 ? "are groups" : "is a group";
@@ -120,6 +121,14 @@ function isSumOf(number, lines) {
     const [own, ...values] = [number, ...lines.map((line) => line.number)].map((text) => readNumber(text, mark).value);
     return Boolean(own) && values.every(Boolean) && own.equals(Rational.sum(values));
   });
+}
+
+/** A line that is named as a sum, and is that of the lines of one player each, beside one of all together. */
+function sumBeside(read) {
+  const lone = read.filter(isLone), isNamed = ({ members: [one] }) => ALL.test(one) || isSumWord(one);
+  const named = lone.filter(isNamed), others = lone.filter((line) => !isNamed(line));
+  const isSum = (line) => isSumWord(line.members[0]) && isSumOf(line.number, others);
+  return named.length > 1 ? named.find(isSum) : undefined;
 }
 
 /** Puts all players into the place of a line for all together: one that says so; or, if somebody said so (`isWhole`),

@@ -40,7 +40,7 @@ const DRAWN = {
 };
 const LINKS = { "what-if": "What if", evidence: "Evidence", paper: "On paper", files: "Files" };
 
-const OF_FRACTIONS = "Exact numbers have ÷ in fractions: a spreadsheet would take 1/3 for a date.";
+const OF_FRACTIONS = "Fractions have ÷ so that no spreadsheet takes them for dates.";
 
 const at = (id) => document.getElementById(id);
 
