@@ -3,6 +3,9 @@
 import { pastedDivision } from "../src/view/proposal.js";
 import { openText } from "../src/work/case-files.js";
 import { Desk, settled } from "./grids.mjs";
+import { GROUPS } from "./texts/groups.mjs";
+import { LINKS_AND_TRADES } from "./texts/links.mjs";
+import { DIVIDED, LISTS } from "./texts/lists.mjs";
 
 const CELLS = { costs: "numbers.1", gains: "numbers.1", network: "names.0", market: "buyers.0" };
 const [only = ""] = process.argv.slice(2);
@@ -263,7 +266,8 @@ async function outcome(of, text, answer) {
 }
 
 let faults = 0;
-for (const [id, text, cells, told, answer] of TEXTS.filter(([, text]) => String(text).includes(only))) {
+const ALL = [...TEXTS, ...GROUPS, ...LISTS, ...LINKS_AND_TRADES];
+for (const [id, text, cells, told, answer] of ALL.filter(([, text]) => String(text).includes(only))) {
   const found = await outcome(id, text, answer);
   const isOf = cells instanceof RegExp ? cells.test(found.cells) : cells === found.cells;
   if (only) console.log(id, JSON.stringify(text), found);
@@ -271,7 +275,7 @@ for (const [id, text, cells, told, answer] of TEXTS.filter(([, text]) => String(
   faults += 1;
   console.log(`${id}: ${JSON.stringify(text)} is\n  ${found.cells}: ${found.told}\n  and not ${cells}: ${told}`);
 }
-for (const [text, wanted, told = /^/, labels = ["Sales", "Ops", "Legal"]] of PROPOSED) {
+for (const [text, wanted, told = /^/, labels = ["Sales", "Ops", "Legal"]] of [...PROPOSED, ...DIVIDED]) {
   const { texts, fault, said = "" } = pastedDivision(text, labels, { first: 0, before: ["", "", ""] });
   if ((fault ?? texts.join()) === wanted && told.test(said)) continue;
   faults += 1;
@@ -341,5 +345,5 @@ for (const [text, wanted] of OPENED) {
   faults += 1;
   console.log(`${JSON.stringify(text)}, opened: ${refusal?.sentence}, and not ${wanted}`);
 }
-console.log(`${TEXTS.length} texts that people paste, ${faults} faults`);
+console.log(`${ALL.length} texts that people paste, ${faults} faults`);
 process.exit(faults ? 1 : 0);
