@@ -6,7 +6,7 @@ const CASES = {
   runway: {
     typed: { "rows.0.name": "Aer", "rows.0.cost": "2", "rows.1.name": "Bee", "rows.1.cost": "4.5",
       "rows.1.count": "2" },
-    at: "rows.0.name", block: "Aer\t2\t1\nBee\t4.5\t2", answer: /Aer pays 1.00 and Bee pays 3.50 for 2 landings/,
+    at: "rows.0.name", block: "Aer\t2\t1\nBee\t4.5\t2", answer: /Aer pays 1.00 and Bee pays 3.50 for 2 uses/,
   },
   estate: {
     typed: { estate: "200", "rows.0.name": "A", "rows.0.claim": "100", "rows.1.name": "B", "rows.1.claim": "200",

@@ -14,7 +14,7 @@ export const casesTyped = [
     await page.paste('[data-cell="rows.0.name"]', sheet);
     await settle(page);
     expect("settled by the others", await page.text("#case .faults"), /is read as the whole number[^“]*“.*shows that/);
-    const lead = /Nord pays .* for 4 landings, Süd pays .* and Ost pays .*together 2\.000,00/;
+    const lead = /Nord pays .* for 4 uses, Süd pays .* and Ost pays .*together 2\.000,00/;
     expect("lead", await page.text(".lead"), lead);
     expect("words", await page.text(".words"), WORDS);
   }],
@@ -37,10 +37,10 @@ export const casesTyped = [
     expect("rows", await page.run("document.querySelector('[data-cell=\"rows.2.name\"]').value"), "Aer");
     await showExact(page);
     expect("the exact sum, rounded", await page.text(".subtotal"), /Aer, together\s+45\.83\s*275\/6/);
-    expect("lead", await page.text(".lead"), "Aer pays 45.83 for 6 landings and Bee pays 14.17: together 60.00.");
+    expect("lead", await page.text(".lead"), "Aer pays 45.83 for 6 uses and Bee pays 14.17: together 60.00.");
     for (const [r, text] of ["30", "30", "0", "0"].entries()) await page.type(`proposal.${r}`, text);
     await settle(page);
-    const verdict = /all landings that need at most 40.00 could leave, by 20.00/;
+    const verdict = /all uses that need at most 40.00 could leave, by 20.00/;
     expect("a group by what it needs", await page.text(".shares tfoot"), verdict);
   }],
 
@@ -51,12 +51,12 @@ export const casesTyped = [
     });
     await settle(page);
     await page.until("document.querySelector('.comparison')");
-    expect("table", await page.text(".shares tbody"), /Aer needing 10\s+2 landings[\s\S]*Aer needing 30\s+2 landings/);
-    expect("reasons", await page.text("#why"), /Aer needing 10 \(2 landings\) pay/);
-    expect("a verdict", await page.text(".shares tfoot"), /Aer needing 10 \(2 landings\) could leave, by 6.00/);
+    expect("table", await page.text(".shares tbody"), /Aer needing 10\s+2 uses[\s\S]*Aer needing 30\s+2 uses/);
+    expect("reasons", await page.text("#why"), /Aer needing 10 \(2 uses\) pay/);
+    expect("a verdict", await page.text(".shares tfoot"), /Aer needing 10 \(2 uses\) could leave, by 6.00/);
     await page.run("dispatchEvent(new Event('beforeprint'))");
     const [reasons] = (await page.run("document.getElementById('sheet').textContent")).split("What is agreed");
-    expect("paper", reasons, /Why: the nucleolus[\s\S]*Aer needing 10 \(2 landings\) pay/);
+    expect("paper", reasons, /Why: the nucleolus[\s\S]*Aer needing 10 \(2 uses\) pay/);
     const all = await page.run("['answer', 'why'].map((id) => document.getElementById(id).textContent).join()");
     expect("made-up names", /Aer \d/.exec(all + reasons), null);
   }],
@@ -83,13 +83,13 @@ export const casesTyped = [
   ["64 landings, and more", "runway", async (page, expect) => {
     await typeAll(page, { "rows.0.count": "59", "rows.1.count": "4" });
     await settle(page);
-    expect("lead", await page.text(".lead"), /Aer pays .* for 59 landings/);
+    expect("lead", await page.text(".lead"), /Aer pays .* for 59 uses/);
     expect("no Shapley shares above 32", await page.text(".shares thead"), /^(?![\s\S]*By what each adds)/);
     const missing = /shares per head up to 8; an overrun, .* up to 12.$/;
     expect("and it is told", await page.text(".missing"), missing);
     expect("words", await page.text(".words"), WORDS);
     await page.type("rows.1.count", "9");
-    await told(page, "#answer-body", /These are 69 landings, and the program takes 64[\s\S]*do NOT come from the/);
+    await told(page, "#answer-body", /These are 69 uses, and the program takes 64[\s\S]*do NOT come from the/);
     await page.click("Why the formula is right");
     expect("by theorems", await page.text(".beyond .notice"), /payments_are_the_nucleolus[\s\S]*shapley_is_by_step/);
     expect("no evidence", await page.run("document.getElementById('evidence').hidden"), true);

@@ -27,7 +27,7 @@ const pastes = [
     await page.until(`document.querySelector('[data-cell="rows.0.cost"]') && ${READY}`);
     await pasted(page, [["North", 30], ["South", 50]]);
     await told(page, "#answer .lead", /North pays 15\.00 and South pays 35\.00: together 50\.00/);
-    expect("told", await page.text("#case .pasted"), /No “Landings” were pasted: 1 was put into each/);
+    expect("told", await page.text("#case .pasted"), /No “Uses” were pasted: 1 was put into each/);
   }],
   ["door: a table of groups in a name, and a market in any corner", "costs", async (page, expect) => {
     await page.paste('[data-cell="names.0"]', "A\t10\nB\t8\nA+B\t12");
@@ -81,7 +81,7 @@ const pastes = [
   }],
   ["door: costs that stand where landings belong are asked about", "runway", async (page, expect) => {
     await pasted(page, [["North", 12, 1200000], ["South", 30, 900000]]);
-    await noted(page, /Are “1200000” the landings of North, and does one need “12”\?/);
+    await noted(page, /Are “1200000” the uses of North, and does one need “12”\?/);
     expect("no answer before", await page.run("document.getElementById('answer').hidden"), true);
     await page.click("No, swap the columns");
     await settle(page);
@@ -95,9 +95,9 @@ const pastes = [
   }],
   ["door: with types the columns keep their order", "runway", async (page, expect) => {
     const heads = "[...document.querySelectorAll('#case thead th')].map((one) => one.textContent).join()";
-    expect("before", await page.run(heads), "Airline,A landing needs alone,Landings");
+    expect("before", await page.run(heads), "User,Needs alone,Uses");
     await page.click("Add a column “Type”");
-    expect("after", await page.run(heads), "Airline,Type,A landing needs alone,Landings");
+    expect("after", await page.run(heads), "User,Type,Needs alone,Uses");
   }],
   ["door: links in lines, with a unit", "network", async (page, expect) => {
     await page.paste('[data-cell="names.0"]', "Works-Alby: 12 km\nWorks-Brook: 15 km\nAlby-Brook: 4,5 km");
@@ -221,7 +221,7 @@ const messy = [
     const rows = [["Type", "Landings", "Needed (m)", "Cost (€)"], ["Do 228", "1,204", "900", "€ 1,150,000"],
       ["E190", "845", "1,700", "€ 2,450,000"], ["Total", "2,049", "", "€ 3,600,000"]];
     await pasted(page, rows);
-    await told(page, "#case .pasted", /Nothing was taken yet\. Which column is “A landing needs alone”\?/);
+    await told(page, "#case .pasted", /Nothing was taken yet\. Which column is “Needs alone”\?/);
     expect("nothing yet", await cells(page), /^Aer/);
     await page.click("“Cost (€)”");
     await noted(page, /The last row, “Total”\. Is it the sum of the others\?/);
@@ -378,11 +378,11 @@ const opened = [
     expect("an edited one is read as typed", JSON.parse(await made()).game.names[0], "b");
     await page.run("location.hash = '#document'");
     await page.fill("#document textarea", '{"game":{"class":"airport","costs":[2,4]}}');
-    await told(page, "#answer .lead", /Airline 1 pays 1\.00 and Airline 2 pays 3\.00/);
+    await told(page, "#answer .lead", /User 1 pays 1\.00 and User 2 pays 3\.00/);
     expect("none where there are none", JSON.parse(await made()).game.names, undefined);
     await page.type("rows.0.name", "x");
     await settle(page);
-    expect("all where one is typed", JSON.parse(await made()).game.names.join(), "x,Airline 2");
+    expect("all where one is typed", JSON.parse(await made()).game.names.join(), "x,User 2");
   }],
 ];
 

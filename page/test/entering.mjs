@@ -193,7 +193,7 @@ const lists = [
   }],
 
   ...[
-    ["runway", "rows.0.cost", "2\n4\n6", ".lead", /Airline 1 pays/, "2\n4", /Airline 1 pays/],
+    ["runway", "rows.0.cost", "2\n4\n6", ".lead", /User 1 pays/, "2\n4", /User 1 pays/],
     ["estate", "rows.0.claim", "1000\n2000\n3500", ".lead", /Claimant 1 gets/, "1000\n2000", /Claimant 1 gets/],
     ["network", "links.0-1", "1\n2\t3\n4\t5\t6\n7\t8\t9\t10", ".lead", /Place 1 pays/, "1\n2\t3", /Place 1 pays/],
     ["market", "values.0.0", "1\t9\n9\t1\n3\t3", ".trades", /Buyer 1 – Seller 2/, "1\t9\n9\t1", /Buyer 1 – Seller 2/],
@@ -228,8 +228,8 @@ const lists = [
     await page.paste('[data-cell="rows.0.name"]', sheet);
     await settle(page);
     expect("by its headings", `${await value(page, "rows.0.cost")} ${await value(page, "rows.0.count")}`, "20.50 3");
-    const told = "The first row was taken as headings: “Airline” is “Airline”, “Type” is “Type”, “Landings” is "
-      + "“Landings”, “Cost” is “A landing needs alone”.";
+    const told = "The first row was taken as headings: “Airline” is “User”, “Type” is “Type”, “Landings” is "
+      + "“Uses”, “Cost” is “Needs alone”.";
     expect("told", await page.text("#case .pasted"), told);
   }],
 

@@ -67,7 +67,7 @@ const answers = [
     expect("gone by a paste", await page.text("#case .sample"), "");
     await told(page, "#answer .lead", /North pays/);
     const answer = await page.text("#answer-body");
-    expect("nothing of landings where each has one", /landing|runway/i.test(answer), false);
+    expect("nothing of uses where each has one", /landing|uses|runway/i.test(answer), false);
     await pasted(page, [["Airline", "Cost (k€)"], ["North", 30], ["South", 50]]);
     await settle(page);
     const sheet = await sheetOf(page);

@@ -154,12 +154,12 @@ async function types(page, expect) {
   await page.click("Clear all");
   const sheet = "Type\tLandings\tCost\nVanguard\t900\t60\nComet\t3539\t104.849\nBoeing\t373\t131.5";
   await page.paste('[data-cell="rows.0.name"]', sheet);
-  const found = await told(page, "#answer-body", /Above 64 landings/);
+  const found = await told(page, "#answer-body", /Above 64 uses/);
   expect("types are names", found, /Vanguard[\s\S]*Comet[\s\S]*Boeing/);
-  expect("no airlines that nobody has", /Airline 1/.test(found), false);
-  expect("why many pay alike", found, /All up to Comet pay alike: 104\.85 \/ \(4439 \+ 1\) = 0\.02 a landing\./);
+  expect("no airlines that nobody has", /User 1/.test(found), false);
+  expect("why many pay alike", found, /All up to Comet pay alike: 104\.85 \/ \(4439 \+ 1\) = 0\.02 a use\./);
   expect("what fees bring in", found,
-    /“Fairest to [\w ]+”: at fees with 2 decimals, all landings pay .* (less|more) than the cost of/);
+    /“Fairest to [\w ]+”: at fees with 2 decimals, all uses pay .* (less|more) than the cost of/);
 }
 
 export const figures = [

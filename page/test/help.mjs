@@ -132,7 +132,7 @@ function tryRunway() {
   })).filter(({ name, cost }, r, all) => !r || all[r - 1].name !== name || (name && all[r - 1].cost !== cost));
   const [game, again] = [gameOf(rows), gameOf(runway.fromGame(gameOf(rows)).rows)];
   expect(`the document of ${rowsText(rows)}`, writeJson(again.tree), writeJson(game.tree));
-  const named = rows.map((row, r) => ({ ...row, name: row.name || `Airline ${r + 1}` }));
+  const named = rows.map((row, r) => ({ ...row, name: row.name || `User ${r + 1}` }));
   const isOne = new Set(named.map(({ name }) => name)).size === 1 && named.length > 1;
   if (!isOne) expect("opened again", rowsText(runway.fromGame(game).rows), rowsText(named));
 }
@@ -145,7 +145,7 @@ function tryNames(names, costs, wanted) {
 tryNames(["Aer 1", "Aer 2", "Aer 3", "Aer 4", "Bee"], [20, 20, 40, 60, 60], "Aer 20x2; Aer 40x1; Aer 60x1; Bee 60x1");
 tryNames(["Aer 1", "Bee", "Aer 2"], [20, 30, 60], "Aer 20x1; Bee 30x1; Aer 60x1");
 tryNames(["Boeing 737", "Boeing 747", "Bee"], [20, 20, 60], "Boeing 737 20x1; Boeing 747 20x1; Bee 60x1");
-tryNames(["Airline 1", "Airline 2", "Bee"], [20, 20, 60], "Airline 1 20x1; Airline 2 20x1; Bee 60x1");
+tryNames(["User 1", "User 2", "Bee"], [20, 20, 60], "User 1 20x1; User 2 20x1; Bee 60x1");
 tryNames(["Flight 1", "Flight 2"], [20, 60], "Flight 1 20x1; Flight 2 60x1");
 tryNames(["Aer 1", "Aer 2"], [20, 20], "Aer 20x2");
 

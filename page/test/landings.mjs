@@ -36,7 +36,7 @@ const MANY = AIRLINES.map((name, k) => ["DH8;1;20,50", "A320;1;40", `B744;${k + 
 const numbers = [
   ["landings with a point, as Germans write them", "runway", async (page, expect) => {
     await pasted(page, `${HEADS}Aer;DH8;5.000;2.400.000,00\nBee;A320;3;4.100.000,50`);
-    await told(page, "#answer-body", /These are 5003 landings/);
+    await told(page, "#answer-body", /These are 5003 uses/);
     expect("told", await page.text("#case .faults"), /“5.000” is read as the whole number 5000/);
     await page.click("Clear all");
     for (const [key, text] of Object.entries({ name: "Aer", cost: "20", count: "5.000" })) {
@@ -44,12 +44,12 @@ const numbers = [
     }
     await noted(page, /“5.000” can be read as 5 or as 5000, and no other number here shows which/);
     expect("no answer before", await isHidden(page), true);
-    await page.click("5000 landings");
-    await told(page, "#answer-body", /These are 5000 landings/);
+    await page.click("5000 uses");
+    await told(page, "#answer-body", /These are 5000 uses/);
     expect("and told", await noted(page, /“5.000” is read as the whole number 5000/), /the comma comes before/);
     await page.type("rows.0.count", "1.234");
     await page.click("No: 5.000 is 5");
-    await told(page, "#answer-body", /These are 1234 landings/);
+    await told(page, "#answer-body", /These are 1234 uses/);
   }],
 
   ["a number of landings that is whole by both marks is asked about", "runway", async (page, expect) => {
@@ -59,14 +59,14 @@ const numbers = [
     }
     await noted(page, /“3.000” can be read as 3 or as 3000/);
     expect("no answer before", await isHidden(page), true);
-    await page.click("3 landings");
+    await page.click("3 uses");
     await settle(page);
-    expect("as few", await page.text(".lead"), /Airline 1 pays 20.00 for 3 landings|Aer pays 20.00 for 3 landings/);
+    expect("as few", await page.text(".lead"), /User 1 pays 20.00 for 3 uses|Aer pays 20.00 for 3 uses/);
     await page.type("rows.0.cost", "20,50");
-    await told(page, "#answer-body", /These are 3000 landings/);
+    await told(page, "#answer-body", /These are 3000 uses/);
     await page.click("Clear all");
     for (const [key, text] of Object.entries({ cost: "2,5", count: "3.000" })) await page.type(`rows.0.${key}`, text);
-    await told(page, "#answer-body", /These are 3000 landings/);
+    await told(page, "#answer-body", /These are 3000 uses/);
     expect("told alone", await noted(page, /“3.000” is read as the whole number 3000/), /“2,5” shows that the comma/);
     await page.type("rows.0.cost", "2");
     await noted(page, /“3.000” can be read as 3 or as 3000/);
@@ -85,7 +85,7 @@ const numbers = [
     await pasted(page, "Aer\t20\nBee\t40");
     await settle(page);
     expect("1 is put", `${await value(page, "rows.0.count")} ${await value(page, "rows.1.count")}`, "1 1");
-    const put = "No “Landings” were pasted: 1 was put into each of its open cells.";
+    const put = "No “Uses” were pasted: 1 was put into each of its open cells.";
     expect("and told", await page.text("#case .pasted"), put);
   }],
 
@@ -128,11 +128,11 @@ const types = [
   ["a sheet without headings, its types, and the bill", "runway", async (page, expect) => {
     await pasted(page, FEW);
     await settle(page);
-    const taken = /^Taken, in this order, as: “Airline”, “Type”, “Landings”, “A landing needs alone”.$/;
+    const taken = /^Taken, in this order, as: “User”, “Type”, “Uses”, “Needs alone”.$/;
     expect("told", await page.text("#case .pasted"), taken);
     expect("names", await made(page), /"Albatros, DH8 1","Albatros, DH8 2"[\s\S]*"Condor, B744 2"/);
     expect("rows", await page.text(".shares tbody"), /^Albatros, DH8[\s\S]*Albatros, A320[\s\S]*Albatros, together/);
-    const each = /one landing of each type pays[\s\S]*DH8\s+20.50[\s\S]*A320\s+40.00[\s\S]*B744/;
+    const each = /one use of each type pays[\s\S]*DH8\s+20.50[\s\S]*A320\s+40.00[\s\S]*B744/;
     expect("types", await page.text(".lines"), each);
     const bill = /What each airline pays.*Albatros528,03Bergfalke14,10Condor227,87together860,00/;
     expect("the bill on paper", await sheetOf(page), bill);
@@ -172,14 +172,14 @@ const types = [
     const drawn = "[...document.querySelectorAll('.bars svg text')].map((one) => one.textContent)";
     const texts = (await page.run(drawn)).join("\n");
     expect("bars", texts, /DH8, needs 20,50\neach of 5\n→\nA320, needs 40\neach of 5\n→\nB744, needs 60\neach of 15/);
-    expect("in the picture itself", texts, /A bar is what one landing pays/);
+    expect("in the picture itself", texts, /A bar is what one use pays/);
   }],
 ];
 
 const beyond = [
   ["above 64 landings the page calculates, and says so", "runway", async (page, expect) => {
     await pasted(page, `${HEADS}${FEW.replace("DH8;3", "DH8;300")}`);
-    await told(page, "#answer-body", /These are 305 landings[\s\S]*do NOT come from the proved program/);
+    await told(page, "#answer-body", /These are 305 uses[\s\S]*do NOT come from the proved program/);
     const rows = await page.text(".beyond tbody");
     const first = /Albatros, DH8\s+300\s+20.50\s+20.36\s+300 × 0.07 \(41\/604\)\s+20.16\s+300 × 0.07 \(41\/610\)/;
     expect("a row", rows, first);
@@ -200,7 +200,7 @@ const beyond = [
 
   ["above 64 landings: what each pays today, and the list to keep", "runway", async (page, expect) => {
     await pasted(page, `${HEADS}${FEW.replace("DH8;3", "DH8;300")}`);
-    await told(page, "#answer-body", /These are 305 landings/);
+    await told(page, "#answer-body", /These are 305 uses/);
     await page.click("Compare with what each pays today");
     for (const [r, text] of ["20", "0.1", "0.1", "40"].entries()) await page.type(`today.${r}`, text);
     const rows = await page.text(".beyond tbody");
@@ -209,25 +209,25 @@ const beyond = [
     expect("together", await page.text(".beyond tfoot"), /305\s+60.20\s+60.00\s+−0.20 \(−0.3\s%\)/);
     expect("on paper", await sheetOf(page), /Pays today.*Albatros, DH830020.5020.0020.36\+0.36 \(\+1.8\s%\)/);
     await page.run("dispatchEvent(new Event('afterprint'))");
-    expect("why no case", await page.text(".made"), /This case can’t be saved: .* which takes 64 landings/);
+    expect("why no case", await page.text(".made"), /This case can’t be saved: .* which takes 64 uses/);
     const list = await saved(page, "Save the list (CSV)", "files");
-    expect("a list", list, /^Airline;Type;Landings;A landing needs alone\r\nAlbatros;DH8;300;20,5\r\n/);
+    expect("a list", list, /^User;Type;Uses;Needs alone\r\nAlbatros;DH8;300;20,5\r\n/);
     const calculated = await page.text(".beyond .lines");
     await pasted(page, list);
-    await told(page, "#answer-body", /These are 305 landings/);
+    await told(page, "#answer-body", /These are 305 uses/);
     expect("the same again", await page.text(".beyond .lines"), calculated);
   }],
 
   ["above 64 landings: an answer is kept to compare", "runway", async (page, expect) => {
     await pasted(page, `${HEADS}${FEW.replace("DH8;3", "DH8;300")}`);
-    await told(page, "#answer-body", /These are 305 landings/);
+    await told(page, "#answer-body", /These are 305 uses/);
     await page.click("Keep this answer to compare");
     await told(page, ".beyond .pinned", /The shares are those of the kept answer/);
     await page.type("rows.3.cost", "80");
     const note = await told(page, ".beyond .pinned", /^Against the kept answer, by “Fairest [^.]*Condor[^.]* \+/);
     expect("which cell", note, /Changed since: [^.]*60 → 80\./);
     expect("in its place", await page.run(`document.querySelector('[data-cell="rows.3.cost"]').title`), "Kept: 60");
-    expect("a column", await page.text(".beyond thead"), /A landing needs\s+Kept\s+Fairest to those who gain least/);
+    expect("a column", await page.text(".beyond thead"), /Each use needs\s+Kept\s+Fairest to those who gain least/);
     expect("together", await page.text(".beyond tfoot"), /305\s+60,00\s+80,00/);
     expect("on paper", await sheetOf(page), /Kept.*Condor.*Against the kept answer, by “Fairest/);
     await page.run("dispatchEvent(new Event('afterprint'))");
@@ -241,7 +241,7 @@ const beyond = [
   ["Shapley shares above 32 landings", "runway", async (page, expect) => {
     await page.type("rows.0.count", "30");
     await settle(page);
-    const shown = /These are 33 landings[\s\S]*Aer\s+30\s+20.50\s+18.64/;
+    const shown = /These are 33 uses[\s\S]*Aer\s+30\s+20.50\s+18.64/;
     expect("beside the program's", await page.text(".beyond"), shown);
     expect("no nucleolus of the page's", /payments_are/.test(await page.text(".beyond")), false);
     expect("evidence", await page.text("#evidence .words"), /says yes[\s\S]*says yes/);
@@ -265,7 +265,7 @@ const beyond = [
     const file = await saved(page, "Save the table (CSV)", "files");
     expect("semicolons", file, /^;Fairest[^]*\r\n"Albatros, DH8";\d+,\d\d;/);
     expect("airlines", file,
-      /\r\n\r\nAirline;Landings;Fairest to [\w ]+;By what each adds;In proportion to costs alone;The agencies’ rule/);
+      /\r\n\r\nUser;Uses;Fairest to [\w ]+;By what each adds;In proportion to costs alone;The agencies’ rule/);
     expect("what each pays", file, /\r\nAlbatros;5;28,03;22,56;30,1\d;30,1\d\r\n/);
   }],
 ];

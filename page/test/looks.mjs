@@ -146,7 +146,7 @@ async function whatDoesNotFit(page, expect) {
   await page.run("window.print = () => { window.isPrinted = true; }");
   await page.click("Clear all");
   await page.paste('[data-cell="rows.0.name"]', rows.join("\n"));
-  await told(page, "#answer-body", /These are 130 landings/);
+  await told(page, "#answer-body", /These are 130 uses/);
   await page.click("On paper");
   await page.click("Print one page");
   await told(page, ".paper-part .note", /^That takes \d sheets, in small letters and without a picture too/);

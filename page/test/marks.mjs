@@ -88,7 +88,7 @@ german.open({});
 expect("where the system has the comma", [german.shown, german.ofCells(), german.beside()], [",", ",", ","]);
 
 const [landings] = beyondTexts({ isAll: true, all: 12345, points: [] });
-expect("a count has no comma", landings.startsWith(`These are 12${BLANK}345 landings, `), true);
+expect("a count has no comma", landings.startsWith(`These are 12${BLANK}345 uses, `), true);
 
 expect("one mark", onlyMark([undefined, ",", ",", null]), ",");
 expect("both marks", onlyMark([".", ","]), null);

@@ -129,45 +129,45 @@ for (const [text, wanted, isWhole] of LISTS) {
 
 // rows that are pasted into a runway: the columns of the first row by their keys where it is one of headings, and else
 // nothing; and what is told of them
-const AS_HEADINGS = "The first row was taken as headings: “Airline” is “Airline”, ";
+const AS_HEADINGS = "The first row was taken as headings: “Airline” is “User”, ";
 const PASTED = [
-  ["Airline\tCost\tLandings\nAer\t20.50\t3", "name cost count", /“Cost” is “A landing needs alone”, “Landings” is/],
-  ["Airline,Landings,Cost\nAer,3,20.50", "name count cost", `${AS_HEADINGS}“Landings” is “Landings”, `
-    + "“Cost” is “A landing needs alone”."],
+  ["Airline\tCost\tLandings\nAer\t20.50\t3", "name cost count", /“Cost” is “Needs alone”, “Landings” is/],
+  ["Airline,Landings,Cost\nAer,3,20.50", "name count cost", `${AS_HEADINGS}“Landings” is “Uses”, `
+    + "“Cost” is “Needs alone”."],
   ["Airline\tA landing needs alone\tLandings\nAer\t20\t3", "name cost count", /^The first/],
   ["Airline\tCost per landing\tNumber of landings\nAer\t20\t3", "name cost count", /^The first/],
   ["Airline\tType\tLandings\t€\nAer\tA320\t3\t20.50", "name type count cost", /“Type” is “Type”, “Landings”/],
   ["Airline\tLand\tLandings\t€\nAer\t12\t3\t20.50", "name - count cost", /“Land” was left out/],
   ["Airline\tAlso\tType\tLandings\t€\nAer\tx\tA320\t3\t20.50", "name - type count cost", /“Also” was left out/],
   ["Fluggesellschaft;Typ;Landungen;Kosten der Piste\nAer;DH8;5;2.400.000,00", "name type count cost", /“Typ” is/],
-  ["Kosten der Piste;Landungen;Typ;Airline\n20;5;DH8;Aer", "cost count type name", /“Landungen” is “Landings”/],
-  ["Compagnie;Type d’avion;Atterrissages;Coût\nAer;DH8;5;20", "name type count cost", /“Coût” is “A landing needs/],
+  ["Kosten der Piste;Landungen;Typ;Airline\n20;5;DH8;Aer", "cost count type name", /“Landungen” is “Uses”/],
+  ["Compagnie;Type d’avion;Atterrissages;Coût\nAer;DH8;5;20", "name type count cost", /“Coût” is “Needs alone/],
   ["A;B;C;D\nAer;DH8;5;20", "", "name: 0 1"],
-  ["A;B;C\nAer;5;20,50", "name count cost", /“B” is “Landings”/],
-  ["Aer;DH8;5;2400\nBee;738;12;2600", "", "Taken, in this order, as: “Airline”, “Type”, “A landing needs alone”, "
-    + "“Landings”."],
-  ["Aer;DH8;20.5;3\nBee;738;30;4", "", /“Type”, “A landing needs alone”, “Landings”.$/],
-  ["Aer;3;20.5\nBee;4;30", "", /“Airline”, “Landings”, “A landing needs alone”.$/],
-  ["Aer;DH8;20\nBee;738;30", "", /“Airline”, “Type”, “A landing needs alone”.$/],
-  ["Who\tEUR\tHow often\nAer\t20\t3", "", "count: 2"],
+  ["A;B;C\nAer;5;20,50", "name count cost", /“B” is “Uses”/],
+  ["Aer;DH8;5;2400\nBee;738;12;2600", "", "Taken, in this order, as: “User”, “Type”, “Needs alone”, "
+    + "“Uses”."],
+  ["Aer;DH8;20.5;3\nBee;738;30;4", "", /“Type”, “Needs alone”, “Uses”.$/],
+  ["Aer;3;20.5\nBee;4;30", "", /“User”, “Uses”, “Needs alone”.$/],
+  ["Aer;DH8;20\nBee;738;30", "", /“User”, “Type”, “Needs alone”.$/],
+  ["Who\tEUR\tHow often\nAer\t20\t3", "name cost count", /“How often” is “Uses”/],
   ...["", "20.5 EUR", "20,5,0", "12O", "n/a", "NaN", "#REF!", "#N/A", "-", "x"].flatMap((cost) => [
     [`Aer\t${cost}\t3\nBee\t40\t2\nCargo\t60\t1`, "", ""],
     ...(cost === "x" ? [] : [[`Aer\t${cost}\nBee\t40\nCargo\t60`, "", ""]]),
   ]),
-  ["Aer\tx\nBee\t40", "name cost", "The first row was taken as headings: “Aer” is “Airline”, “x” is “A landing needs "
+  ["Aer\tx\nBee\t40", "name cost", "The first row was taken as headings: “Aer” is “User”, “x” is “Needs "
     + "alone”."],
-  ["Aer\t20\t3\tA320\nBee\t40\t2\t", "", /“Airline”, “A landing needs alone”, “Landings”, “Type”.$/],
+  ["Aer\t20\t3\tA320\nBee\t40\t2\t", "", /“User”, “Needs alone”, “Uses”, “Type”.$/],
   ["Aer\tx\t20\t3\tA320\nBee\tx\t40\t2\t", "", /^These rows have 5 cells, .* all with their headings/],
   ["Craft type\tLandings\tNeeded (m)\tCost (€)\nDo\t1,204\t900\t€ 1,150\nE190\t845\t1,700\t€ 2,450", "", "cost: 2 3"],
   ["Landings 2025\t\t\n\t\t\nType\tLandings\tCost\nE190\t845\t20.50\n\t\t\nSource: log\t\t", "type count cost",
     /^Left out, as no number stands beside: “Landings 2025”, “Source: log”\. The first row was taken/],
   ["As agreed\n\nAer 20.50\nBee 40\n\nYours, Eve", "", /^Left out, .* “As agreed”, “Yours, Eve”\.$/],
   ["Aer\nBee 40\nCargo 60", "", ""], ["Flight\tCost\tMore\n471\t20\t5", "", "name: 0 2"],
-  ["Naam\tKosten\nJan\t€ 1.250,-\nDe Boer\t€ 2.400,-\nTotaal\t€ 3.650,-", "name cost", /“Kosten” is “A landing/],
+  ["Naam\tKosten\nJan\t€ 1.250,-\nDe Boer\t€ 2.400,-\nTotaal\t€ 3.650,-", "name cost", /“Kosten” is “Needs alone/],
   ["Interno\tCondomino\tCosto\tNote\n1\tRossi, Mario\t€ 4.500,00\tpiano 1", "", "name: 1 3"],
   ["Airline\tLead\t%\tLandings\t+/–\nAer\tx\t20\t3\t9", "", "cost: 2 4"],
   ["Airline\tCost\tWeight\tLandings\tSlots\nAer\t20\t7\t3\t9", "name cost - count -", /“Weight” was left out. “Slots”/],
-  ["Aer\t20\t3\t\nBee\t40\t2\t", "", ""], ["Aer\nBee", "", ""], ["Aer\tx\nBee\ty", "", /“Airline”, “Type”.$/],
+  ["Aer\t20\t3\t\nBee\t40\t2\t", "", ""], ["Aer\nBee", "", ""], ["Aer\tx\nBee\ty", "", /“User”, “Type”.$/],
 ];
 const placesOf = ({ asked }) => asked && (asked.heads ? `heads: ${asked.heads}`
   : `${asked.column.key}: ${asked.at.map(({ c }) => c).join(" ")}`);
@@ -238,7 +238,7 @@ const sheets = [
     ["Estate\t5\nAnn\t8\nAssets\t9", "Leave one of the rows “Estate” and “Assets”."],
     [`Ann\n${"as agreed ".repeat(9)}\nBo`, /^“as agreed .*” is no name, and no row of names and numbers\. Give each/],
   ].map(([text, wanted]) => [estate, text, { isHead: undefined }, wanted]),
-  [runway, "Flat\tFloor\tCost\nAnn\t1\t18\nBo\t2\t26", {}, "count: 1"],
+  [runway, "Flat\tFloor\tCost\nAnn\t1\t18\nBo\t2\t26", {}, "2 rows: name - cost"],
   [votes, "Canton;Weight;Remarks\n471;12;by phone\n112;8;\n308;9;late", {}, "name: 0 2"],
   [estate, "All,9999\n1,1204\n2,185", {}, "name: 0 1"],
   [estate, "Code,Owed\n471,1204\n112,185", {}, "2 rows: name claim"],

@@ -191,7 +191,7 @@ const TEXTS = [
   ["votes", "Football 21 votes\nTennis 9 votes\nEach has 1 vote", "Football=21|Tennis=9", /“Each has 1 vote”/],
   ["votes", "Partei A hat 12 Sitze\nPartei B hat 9 Sitze\nMehrheit: 13 Sitze", "Partei A=12|Partei B=9",
     /“Mehrheit”, 13, was taken as votes needed/],
-  ["runway", LIGHTS, null, /Which column is “Landings”\? “Evenings” None/],
+  ["runway", LIGHTS, null, /Which column is “Uses”\? “Evenings” None/],
   ["runway", LIGHTS, "Juniors=1200=3|Seniors=1800=2", /“Lights needed until” was left out/, "“Evenings”"],
   ["runway", "Team\tUntil\tCost\nA\t9 pm\t100\nB\t10 pm\t200", "A=100=1|B=200=1", /“Until” was left out/],
   ["estate", "Rossi, Mario\nWeiss, Eva\nDoe, Jane", "Rossi, Mario|Weiss, Eva|Doe, Jane", /3 empty/],
@@ -335,7 +335,7 @@ for (const [id, text] of ANEW) {
 /** Texts that are opened as a document, and what is said of them. */
 const OPENED = [
   [ANSWER, /table of an answer: .* “Save the case” makes a file that opens here/],
-  ["Airline,Landings,A landing needs alone\nAer,3,20\nBee,2,40\n", /no saved case\. Choose “A runway”, and paste/],
+  ["User,Uses,Needs alone\nAer,3,20\nBee,2,40\n", /no saved case\. Choose “A runway”, and paste/],
   ["Anna;120\nBen;80", /This is a table, and no saved case\. Choose the case that it is of/],
   ['"Anna";"120"\n"Ben";"80"', /This is a table/], ["{,}", /It is no JSON text/], ["Dear all", /It is no JSON text/],
 ];

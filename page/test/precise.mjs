@@ -233,7 +233,7 @@ const kept = [
   ["excesses of a runway are those of its rows", "runway", async (page, expect) => {
     await page.click("Group by group: what each could gain by leaving");
     await told(page, ".excesses", /8 of \d+ places/);
-    expect("by rows", await page.text(".excesses tbody"), /all but Aer \(1 of 3 landings\)/);
+    expect("by rows", await page.text(".excesses tbody"), /all but Aer \(1 of 3 uses\)/);
   }],
 ];
 

@@ -122,7 +122,8 @@ class Fit {
 
   /** Below headings that don't say which is which it is asked, unless one alone has decimals, and so is no count. */
   amounts() {
-    const own = this.free(({ number }) => number), [column, other] = own, all = this.open(({ isNumbers }) => isNumbers);
+    const own = this.free(({ number }) => number), [column, other] = own, isNot = ({ not }, head) => not?.test(head);
+    const all = this.open(({ isNumbers, head }) => isNumbers && !own.every((one) => isNot(one, head)));
     const real = all.filter(({ isCount }) => !isCount), numbers = real.length ? real : all;
     const isPair = Boolean(other?.short) && numbers.length === 2, whole = numbers.filter(({ isWhole }) => isWhole);
     const isClear = isPair && whole.length === 1, least = column?.fallback ? 0 : 1;

@@ -2,6 +2,8 @@
 import { shortText } from "../exact/decimals.js";
 import { shownName } from "../game/names.js";
 
+const UNNAMED = ["User", "Airline"]; // with a number, of rows without a name; older files have the second
+
 /** What the landings of a row are named by: the airline, and the type where one is given. */
 export function baseOf({ airline, type }) {
   return type ? `${airline}, ${type}` : airline;
@@ -65,7 +67,7 @@ export function airlinesOf({ names, amounts }) {
   const bases = names.map((name) => /^(.*\S) \d+$/.exec(name)?.[1]), made = new Set(bases);
   for (const base of made) {
     const own = names.filter((_, i) => bases[i] === base), isSeveral = own.length > 1 || / \d+$/.test(base);
-    const isOther = !isSeveral || base === "Airline" || names.includes(base);
+    const isOther = !isSeveral || UNNAMED.includes(base) || names.includes(base);
     if (isOther || own.some((name, k) => name !== `${base} ${k + 1}`)) made.delete(base);
   }
   const isOne = made.size === 1 && made.has(bases[0]) && bases.every((base) => base === bases[0]);

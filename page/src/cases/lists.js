@@ -21,27 +21,34 @@ const CLAIM = new RegExp("claim(?!ant)|admitted|allowed\\b|(?:filed|lodged)(?! ?
   + MONEY, "iu");
 const MOST_LANDINGS = mostOf("airport"), MOST_CLAIMS = mostOf("bankruptcy"), MOST_NAME = LIMITS["bytes of a name"];
 
+const HOW_FAR = new RegExp("floor|stor(e?y|ies)|\\blevels?\\b(?! of)|etage|étage|stock|geschoss|\\bk?m\\b|met(re|er)|"
+  + "length|depth|distance|until", "iu"); // no count of uses
+
 export const runway = {
   id: "runway",
   classes: ["airport"],
   title: "A runway",
   teaser: "Each user needs a part of it. It costs what the most demanding user needs.",
-  unit: "landing",
+  unit: "use",
   grid: "list",
   mapNumbers: numbersMapped,
   columns: [
     {
-      key: "name", title: "Airline", wide: true, placeholder: "Airline",
-      heads: heads("airline|carrier|company|name|owner|tenant|gesellschaft|eigentümer|compagnie|transporteur|propriét"),
+      key: "name", title: "User", wide: true, placeholder: "User",
+      heads: heads("airline|carrier|company|name|owner|tenant|users?\\b|nutzer|gesellschaft|eigentümer|compagnie|"
+        + "transporteur|propriét|usager|utilisat"),
     },
     { key: "type", title: "Type", optional: true, heads: heads("typ|aircraft|flugzeug|muster|avion|appareil") },
-    { key: "cost", title: "A landing needs alone", number: true, heads: COST },
+    { key: "cost", title: "Needs alone", number: true, heads: COST },
     {
-      key: "count", title: "Landings", number: true, short: true, fallback: "1",
-      heads: heads("landings|flights|movements|number|count|landungen|flüge|anzahl|atterri|vols|mouvements|nombre"),
+      key: "count", title: "Uses", number: true, short: true, fallback: "1",
+      heads: heads("landings|flights|movements|trips|\\b(uses|times)\\b|number|count|how (many|often)|landungen|flüge|"
+        + "fahrten|nutzungen|anzahl|häufig|wie oft|atterri|vols|passages|mouvements|utilisations|nombre|combien"),
+      not: HOW_FAR,
     },
   ],
-  help: "One row for each airline and type, with the cost of a runway for such a landing only.",
+  help: "One row for each user: what one use needs alone, and the number of uses. A landing is a use of a runway; of a "
+    + "lift each flat may be one, and needs the lift up to its floor.",
   most: 500,
   example: () => ({
     rows: [
@@ -65,7 +72,7 @@ export const runway = {
     if (all > MOST_LANDINGS) return { reading, rows: labelsOf(kept), tree: null, landings: kept };
     const { rows, names, costs } = landingsOf(kept, reading.opened);
     if (names.some((name) => bytesOf(name) > MOST_NAME)) {
-      reading.fault("rows.0.name", `A name has at most ${MOST_NAME} letters, with the number of its landing.`);
+      reading.fault("rows.0.name", `A name has at most ${MOST_NAME} letters, with the number of its use.`);
     }
     reading.close();
     const named = reading.named(names, state.rows.flatMap(({ name, type }) => [name, type]));
@@ -113,9 +120,9 @@ function readLandings(state, reading) {
     const text = (key) => reading.nameOf(row[key]);
     if (!text("name") && state.isNamed) reading.open(`rows.${r}.name`);
     const cost = reading.number(`rows.${r}.cost`, row.cost, "The cost");
-    const count = reading.whole(`rows.${r}.count`, row.count, "The number of landings", 1, 999999999);
+    const count = reading.whole(`rows.${r}.count`, row.count, "The number of uses", 1, 999999999);
     const byType = !hasNames && text("type"); // without airlines each type is one
-    const airline = byType || text("name") || `Airline ${r + 1}`, own = { airline, type: byType ? "" : text("type") };
+    const airline = byType || text("name") || `User ${r + 1}`, own = { airline, type: byType ? "" : text("type") };
     if (cost && count) kept.push({ ...own, cost, count });
   });
   return kept;

@@ -2,7 +2,6 @@
 import { cellsOf } from "./pasting.js";
 
 const OF_AN_ANSWER = "This is a table of an answer: it has the shares, and not what they were worked out from.";
-const CASE_TITLES = ["Airline", "Landings"]; // of the list of a runway, which is a case
 
 /** Whether rows are a table of shares as the page saves it: beside each column its exact numbers, and a sum below. */
 function isAnswer(rows) {
@@ -20,7 +19,8 @@ export function tableFault(text, runway) {
   if (/^\s*[{["]/.test(plain) && !/^"[^"]*"[,;\t]/.test(plain)) return undefined;
   const rows = cellsOf(plain).filter((row) => row.some(Boolean));
   if (isAnswer(rows)) return `${OF_AN_ANSWER} “Save the case” makes a file that opens here.`;
-  const isRunway = CASE_TITLES.every((title) => rows[0]?.includes(title));
+  const isOf = ({ title, heads }) => rows[0]?.some((text) => text === title || heads.test(text));
+  const isRunway = runway.columns.every((column) => column.optional || isOf(column));
   const where = isRunway ? `“${runway.title}”` : "the case that it is of";
   if (rows.filter(({ length }) => length > 1).length < 2) return undefined;
   return `This is a table, and no saved case. Choose ${where}, and paste the table into the first cell.`;

@@ -29,7 +29,7 @@ export function barsPicture(game, rows, points, { show, column, wide, hasAdded =
     title: game.costs ? "What each pays" : "What each gets",
     low, high: high > low ? high : low + 1, wide, text: tickText,
     legend: [
-      ...(isSeveral ? [{ kind: "text", title: "A bar is what one landing pays" }] : []),
+      ...(isSeveral ? [{ kind: "text", title: "A bar is what one use pays" }] : []),
       ...points.map(({ key, title }) => ({ key, title })),
       { kind: "alone", title: own + (isFar ? " (an arrow: far more)" : "") },
       ...(hasAdded ? [{ kind: "adds", title: `adds to the ${game.costs ? "cost" : "worth"} of all others` }] : []),

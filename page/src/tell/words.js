@@ -16,7 +16,7 @@ export function nameByRows(game, rows) {
 function partOf({ label, players }, count) {
   const all = players.length;
   if (all === 1) return label;
-  return count === all ? `${label} (${all} landings)` : `${label} (${count} of ${all} landings)`;
+  return count === all ? `${label} (${all} uses)` : `${label} (${count} of ${all} uses)`;
 }
 
 /** Names the players and the groups of a game. */

@@ -252,7 +252,7 @@ export function lead({ game }, { shares, key }, { rows, format }) {
   if (who.length > MOST_LED) return extremes({ who, totals, texts, verb });
   const parts = who.map((name, k) => {
     const landings = owns[k].reduce((count, { players }) => count + players.length, 0);
-    return `${name} ${verb} ${texts[k]}${landings > 1 ? ` for ${landings} landings` : ""}`;
+    return `${name} ${verb} ${texts[k]}${landings > 1 ? ` for ${landings} uses` : ""}`;
   });
   return el("p", { class: "lead" }, `${listed(parts)}: together ${texts.at(-1)}.`,
     (key === "prenucleolus" || game.perHead) && ` (By the ${ruleName(key, game.perHead)}.)`);

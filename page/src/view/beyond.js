@@ -21,15 +21,15 @@ const THEOREMS = {
   shapley: "for the Shapley shares the theorem shapley_is_by_step (equal parts of each step of the costs; Littlechild "
     + "and Owen 1973)",
 };
-const SCALED = "Don’t scale the landings down to have fewer: by the nucleolus airlines may pay other shares then. (By "
-  + "the Shapley shares each airline pays the same, where all are scaled alike.)";
+const SCALED = "Don’t scale the uses down to have fewer: by the nucleolus users may pay other shares then. (By "
+  + "the Shapley shares each user pays the same, where all are scaled alike.)";
 
 /** What has to be said of these numbers: that they aren't the program's, and why they are those of the rule. */
 export function beyondTexts({ isAll, all, points }) {
-  const limit = isAll ? `These are ${countText(all)} landings, and the program takes 64.`
-    : `These are ${all} landings, and the program works out Shapley shares up to 32.`;
+  const limit = isAll ? `These are ${countText(all)} uses, and the program takes 64.`
+    : `These are ${all} uses, and the program works out Shapley shares up to 32.`;
   const proved = points.map(({ key }) => THEOREMS[key]).join(", and ");
-  return [`${limit} ${OURS}`, `That the formula gives the rule, for any number of landings, says ${proved}. What isn’t `
+  return [`${limit} ${OURS}`, `That the formula gives the rule, for any number of uses, says ${proved}. What isn’t `
     + "proved is the page’s own calculation; where the program answers too, tests compare the two."];
 }
 
@@ -55,7 +55,7 @@ export function beyondParts(beyond, { format, today, pinned, labelOfCell, said }
     shareLines(rows, named, plain, isAll ? besideLines(rows, named, { today, pinned, game: COSTS }, plain) : []),
     airlineLines(rows, named, plain), typeLines(rows, named, plain), roundingLines(points, plain)];
   return el("div", { class: "beyond" }, isAll && leadOf(beyond, format),
-    el("h3", {}, isAll ? "Above 64 landings" : "Shapley shares above 32 landings"),
+    el("h3", {}, isAll ? "Above 64 uses" : "Shapley shares above 32 uses"),
     beyondNotice(beyond),
     isAll && pinnedNote(pinned, named[0], rows, { format, labelOfCell }),
     said && el("p", { class: "note own-said", role: "status" }, said),
@@ -94,7 +94,7 @@ function alikeTexts({ rows, points }, { show }) {
     const cost = paid.isZero() ? show(left) : `(${show(rows[last].cost)} − ${show(paid)})`;
     if (own.length > 1) {
       told.push(`All up to ${rows[last].label} pay alike: ${cost} / ${isLast ? count : `(${count} + 1)`} = `
-        + `${show(point.each[first])} a landing.`);
+        + `${show(point.each[first])} a use.`);
     }
     paid = paid.plus(point.each[first].times(Rational.of(count)));
     order.splice(0, own.length);
@@ -107,7 +107,7 @@ function feesTexts(rows, points, { places, show, by }) {
   return points.flatMap(({ each, totals, ...point }) => {
     const fees = each.map((share, r) => roundedTo(share, places).times(Rational.of(rows[r].count)));
     const [sum, whole] = [fees, totals].map((values) => Rational.sum(values)), rest = whole.minus(sum);
-    return rest.isZero() ? [] : [`${quoted(point)}: at fees with ${places} decimals, all landings pay ${show(sum)}, `
+    return rest.isZero() ? [] : [`${quoted(point)}: at fees with ${places} decimals, all uses pay ${show(sum)}, `
       + `which is ${by(rest.abs())} ${rest.isNegative() ? "more" : "less"} than the cost of ${show(whole)}.`];
   });
 }
@@ -124,7 +124,7 @@ function table({ isAll, rows, points }, { format, today, pinned, own }, kind = "
     rows, columns, format, values: today.texts ? today.values : [], own: hasToday && own, isKept,
   };
   return el("table", { class: kind },
-    el("thead", {}, el("tr", {}, head("Who pays", ""), head("Landings"), head("A landing needs", "number context"),
+    el("thead", {}, el("tr", {}, head("Who pays", ""), head("Uses"), head("Each use needs", "number context"),
       hasToday && head(todayTitle(COSTS), "number today"), isKept && head("Kept", "number kept"),
       columns.map((point) => el("th", { scope: "col", class: "number", "data-point": point.key },
         columnHead(point, "calculated by the page"))))),

@@ -72,7 +72,7 @@ function swapQuestion({ count, cost, name }, typed, { onReset, onChange }) {
   };
   const shown = (text) => `“${withEscapes(text.trim())}”`;
   return el("p", { class: "note asked" },
-    `Are ${shown(count)} the landings of ${name}, and does one need ${shown(cost)}? `,
+    `Are ${shown(count)} the uses of ${name}, and does one need ${shown(cost)}? `,
     button("No, swap the columns", swapped, { class: "quiet" }), " ",
     button("Yes, so it is", keep, { class: "quiet" }));
 }
@@ -87,7 +87,7 @@ function perHeadQuestion(players, { setMeasure }) {
 
 /** Asks how many landings a number says: until that is settled there is no answer. */
 function eitherQuestion({ typed, ways: [[less, one], [more, other]] }, { setEntry }) {
-  const way = (count, mark) => button(`${count} ${count === "1" ? "landing" : "landings"}`, () => setEntry(mark), {
+  const way = (count, mark) => button(`${count} ${count === "1" ? "use" : "uses"}`, () => setEntry(mark), {
     class: "quiet",
   });
   return el("p", { class: "note asked" },

@@ -66,7 +66,7 @@ export const MOVED = "Rounded so that they add up: all are rounded down, and eac
 export function movedText(rows) {
   const sums = rows.map(({ sum }) => sum).filter((sum) => sum !== undefined);
   const isSeveral = new Set(sums).size < sums.length;
-  return isSeveral ? `${MOVED} What each airline pays for all its rows is rounded first, and then the rows, so that `
+  return isSeveral ? `${MOVED} What each user pays for all its rows is rounded first, and then the rows, so that `
     + "they add to that." : MOVED;
 }
 

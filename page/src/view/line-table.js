@@ -34,7 +34,7 @@ function sentenceOf(answer, game, format) {
 
 /** What each brings, and its sum where one may add it up. */
 function contextOf(game, { show, column }) {
-  const titles = { bankruptcy: "Claim", airport: "A landing needs", voting: "Votes" };
+  const titles = { bankruptcy: "Claim", airport: "Each use needs", voting: "Votes" };
   if (game.kind === "voting") {
     return { title: titles.voting, texts: game.amounts.map(String), sum: String(Rational.sum(game.amounts)) };
   }

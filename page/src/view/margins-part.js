@@ -12,7 +12,7 @@ import { tabbed } from "./table-lines.js";
 
 const MOST_NAMED = 8; // numbers in a sentence
 const HUNDRED = Rational.of(100);
-const ELSEWHERE = "Which numbers matter is worked out here for up to 16 players. For more landings or claims the "
+const ELSEWHERE = "Which numbers matter is worked out here for up to 16 players. For more uses or claims the "
   + "project’s Python package finds it (coop.sensitivity.ranges).";
 
 /** What a worker found, null before: {decide, closest, order, free, all}, and of a number by its place, as the worker

@@ -20,7 +20,7 @@ export function takes(question, game) {
 export function missingText({ kind, n }) {
   const limits = [["shares per head", MOST_PER_HEAD], ["an overrun, and who has the stronger hold,", MOST_HELD]];
   const parts = limits.filter(([, most]) => n > most).map(([what, most]) => `${what} up to ${most}`);
-  return kind === "airport" && parts.length > 0 && `Worked out for fewer landings only: ${parts.join("; ")}.`;
+  return kind === "airport" && parts.length > 0 && `Worked out for fewer uses only: ${parts.join("; ")}.`;
 }
 
 /** Whether a game may be asked about with excess per head, too. */

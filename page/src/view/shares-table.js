@@ -116,7 +116,7 @@ function kindOf(k) {
 function shareRow({ row, r }, view) {
   const { game, context, columns, format, proposal, today, pinned, against } = view, count = row.players.length;
   const kept = (key) => view.kept.get(key)?.values[r];
-  return named(view, "", [row.label, count > 1 && el("small", {}, plural(count, "landing"))], [
+  return named(view, "", [row.label, count > 1 && el("small", {}, plural(count, "use"))], [
     context && el("td", { class: "number context" }, context.texts[r]),
     today.texts && el("td", { class: "number today" }, ownInput(row, r, today, "today", todayTitle(game))),
     pinned?.pin && el("td", { class: "number kept" }, kept(columns[0].key) ? format.show(kept(columns[0].key)) : "–"),
@@ -249,7 +249,7 @@ export function contextOf(game, rows, { show, column }) {
     const texts = column(rows.map(({ players: [i] }) => game.amounts[i]));
     return { title: "Claim", texts, sum: texts.at(-1) };
   }
-  if (game.kind === "airport") return of(game.amounts, isSeveral(rows) ? "Each landing needs" : "Needs alone");
+  if (game.kind === "airport") return of(game.amounts, isSeveral(rows) ? "Each use needs" : "Needs alone");
   return of(game.own, game.costs ? "Costs alone" : "Worth alone");
 }
 
@@ -273,7 +273,7 @@ function needingAtMost({ kind, amounts, n, landings }, group, show) {
   if (kind !== "airport" || group.length < FEW) return null;
   const most = Rational.max(group.map((i) => amounts[i]));
   const isAll = amounts.every((amount, i) => most.less(amount) || group.includes(i));
-  return isAll && group.length < n ? `all ${landings ? "landings " : ""}that need at most ${show(most)}` : null;
+  return isAll && group.length < n ? `all ${landings ? "uses " : ""}that need at most ${show(most)}` : null;
 }
 
 function holdText(rows, hold, { by }) {

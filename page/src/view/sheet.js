@@ -121,7 +121,7 @@ function answerOf(view) {
   const heads = [game.ballots ? "Who votes" : who, context?.title, columnHead(point), hasExact ? "exactly" : undefined,
     ...others.flatMap((other) => (other.exact ? [columnHead(other), "exactly"] : [columnHead(other)]))];
   const line = (r) => el("tr", {},
-    el("th", { scope: "row" }, rows[r].label, rows[r].players.length > 1 && ` (${rows[r].players.length} landings)`),
+    el("th", { scope: "row" }, rows[r].label, rows[r].players.length > 1 && ` (${rows[r].players.length} uses)`),
     context && el("td", { class: "number" }, context.texts[r]),
     el("td", { class: "number strong" }, texts[r]),
     hasExact && el("td", { class: "number" }, format.isExact(totals[r]) ? "" : fractionText(totals[r])),
@@ -166,7 +166,7 @@ function airlinesOf({ result: { points }, rows, format, withProposal, proposal, 
   const columns = [shown, ...others].map(({ title, shares }) => ({ title, totals: totalsOf(rows, shares) }));
   const own = withProposal && proposal?.totals ? [{ title: "Your proposal", totals: proposal.totals }] : [];
   const lines = withTodays(airlineLines(rows, [...columns, ...own], format), { rows, format, today, shown });
-  return lines.length ? linesTable("What each airline pays", lines, "shares dense") : null;
+  return lines.length ? linesTable("What each user pays", lines, "shares dense") : null;
 }
 
 /** Adds what each airline pays today, and the change, if the user typed it for all its rows. */

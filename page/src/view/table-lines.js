@@ -59,7 +59,7 @@ export function airlineLines(rows, points, format) {
     ...steps.map((some) => format.text(withSum(own.map((r) => some[r])).at(-1)))];
   const all = rows.map((_, r) => r), ofAirline = (airline) => all.filter((r) => rows[r].sum === airline);
   return [
-    ["Airline", "Landings", ...points.map(({ title }) => title)],
+    ["User", "Uses", ...points.map(({ title }) => title)],
     ...airlines.map((airline) => lineOf(airline, ofAirline(airline))), lineOf("together", all),
   ];
 }

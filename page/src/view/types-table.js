@@ -21,12 +21,12 @@ export function typeLines(rows, points, { show }) {
   const types = typesOf(rows).map(({ label, r }) => {
     return [label, show(rows[r].cost), ...points.map(({ each }) => show(each[r]))];
   });
-  return types.length ? [["One landing of", "needs", ...points.map(({ title }) => title)], ...types] : [];
+  return types.length ? [["One use of", "needs", ...points.map(({ title }) => title)], ...types] : [];
 }
 
 /** Nothing where no row has a type. */
 export function typesTable(rows, points, format) {
-  return linesTable("What one landing of each type pays", typeLines(rows, points, format));
+  return linesTable("What one use of each type pays", typeLines(rows, points, format));
 }
 
 /** Lines of cells as a table with a title, the first of them as its head; nothing where there are none. */
