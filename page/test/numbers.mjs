@@ -106,21 +106,22 @@ const LISTS = [
   ["A\tB\tC\n0\t0\t0\n1\t0\t8\n0\t1\t7\n1\t1\t9", "8 7 9"], ["A\tB\tC\nx\t\t8\n\tx\t7\nx\tx\t9", "8 7 9"],
   ["A\tB\tC\nx\t\t8\n\tx\t7\nAll\t\t9", /Line 3: .* without/], ["A\t8\nB\t7\nAB\t10", /^Is “AB” a group/],
   ["{A}\t8\nv({B})\t7\n{A, B}\t10", "8 7 10"],
-  ["∅\t0\nA\t8\nB\t7\nA+B\t10", "8 7 10"], ["A\t8\nB\t7\nA+B\t10\nTotal\t25", /Line 4: “Total” is none/],
+  ["∅\t0\nA\t8\nB\t7\nA+B\t10", "8 7 10"], ["A\t8\nB\t7\nA+B\t10\nTotal\t25", "Total 2"],
   ["A\t8\nB\t7\nC\t1\nA+B\t2\nA+C\t3\nB+C\t4\nWszyscy\t9", "Wszyscy 3"], ["A\t8\nB\t7\nToutes\t9", "8 7 9"],
   ["1\tA\t8\n2\tB\t7\n3\tA+B\t10", "8 7 10"], ["8\tA\n7\tB\n9\tA+B", "8 7 9"],
   ["Costs 2026\n\n8\n\n6\n8\n10\n6\n12", /6 numbers alone|is no number/],
   ["[".repeat(100000) + "1", "1"], ["[(3.50), [4], -1]", "3.50 4 -1"],
   // a sum of the lines of one player each isn't what all pay together, until somebody says so
   ["A\t8\nB\t7\nSumme\t15", "Summe 2 sum"], ["A\t1.200\nB\t1.300,50\nTotal:\t2.500,50", "Total: 2 sum"],
-  ["A\t8\nB\t7\nSumme\t15", "8 7 15", true], ["A\t8\nB\t7\nSumme\t15", "8 7 ", "sum"],
+  ["A\t8\nB\t7\nSumme\t15", "8 7 15", { Summe: "all" }],
+  ["A\t8\nB\t7\nSumme\t15", "8 7 ", { Summe: "out" }],
   ["A\t8\nB\t7\nC\t5\nA+B\t9\nTotal\t20", "Total 3 sum"], ["A\t8\nB\t?\nTotal\t8", "8  8"],
   ["A\t8\nB\t7\nTotal\t12", "8 7 12"], ["A\t8\nB\t7\nAll\t15", "8 7 15"],
 ];
-for (const [text, wanted, isWhole] of LISTS) {
-  const { state, fault, asked, count, isSum, columns } = tableOf(text, [], "size", ".", { isWhole });
+for (const [text, wanted, roles] of LISTS) {
+  const { state, fault, asked, players, isSum, columns } = tableOf(text, [], "size", ".", { roles });
   const which = columns?.map(({ title }) => title).join("?");
-  const found = fault ?? which ?? (asked ? `${asked} ${count}${isSum ? " sum" : ""}`
+  const found = fault ?? which ?? (asked ? `${asked} ${players.length}${isSum ? " sum" : ""}`
     : state.numbers.slice(1).join(" "));
   if (wanted instanceof RegExp ? wanted.test(found) : wanted === found) continue;
   faults += 1;

@@ -132,10 +132,9 @@ export function withoutPlayer(state, player) {
 }
 
 /** A table from a pasted text: lines of a group, with + between its members, and its number; or numbers alone, in the
- * order of the masks or by size: {state}, or {fault} in words; or {asked, count}, a line that may be the group of all,
- * or with `isSum` only a sum: then it is read again with what was said of it (`isWhole`). A {fault} may have a `way`
- * on, a title and what then is said (`isZeroAlone`, `isSparse`). `told` says how it was read, `remark` what was left
- * out. */
+ * order of the masks or by size: {state}, or {fault} in words; or {asked, players}, a line that may be the group of
+ * all: then it is read again with what was said of it (`roles`). A {fault} may have a `way` on, a title and what then is
+ * said (`isZeroAlone`, `isSparse`). `told` says how it was read, `remark` what was left out. */
 export function tableOf(text, names = [], order = "size", mark = ".", said = {}) {
   const cells = cellsOf(text), block = blockOf(cells, { canBeNegative: true, words: true });
   const { rows, left } = unframed(block.rows), saved = answerFault(cells);
@@ -278,7 +277,7 @@ function groupsFirst(rows) {
 }
 
 /** A table of rows of a group and its number; `allLines` are the numbers of their lines. */
-function listOf(given, allLines, { mark, isWhole, column, cells, ...said }) {
+function listOf(given, allLines, { mark, roles, column, cells, ...said }) {
   const { rows, lines, told, fault, columns } = pairsOf(given, allLines, { mark, column, cells });
   const lineOf = (k) => `Line ${lines[k]}: `;
   if (fault || columns) return { fault, columns };
@@ -299,7 +298,7 @@ function listOf(given, allLines, { mark, isWhole, column, cells, ...said }) {
     return { members: membersIn(group), number: UNKNOWN.test(number) ? "" : number, line: lineOf(r) };
   });
   const unknown = open.size ? ` A cell with ${listed([...open].map((text) => `“${text}”`))} is empty.` : "";
-  const found = inOtherWords(read, isWhole), table = found.read ? placedList(found.read, said) : found;
+  const found = inOtherWords(read, roles), table = found.read ? placedList(found.read, said) : found;
   return table.state ? { ...table, remark: told + found.told + unknown } : table;
 }
 

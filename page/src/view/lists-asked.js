@@ -1,17 +1,25 @@
 // What is asked and said of a list of groups that was read.
 import { groupLabel } from "../cases/tables.js";
 import { withEscapes } from "../game/names.js";
+import { listed } from "../game/words.js";
 import { el } from "./dom.js";
 
-/** What is asked of a line that may be all together, and the two answers. */
-export function wholeAsked({ asked, count, isSum }, { isCost }) {
-  const line = `Is “${withEscapes(asked)}”`;
-  if (!isSum) return [`${line} all ${count} others together?`,
-    ["Yes, all together", { isWhole: true }], ["No, a player", { isWhole: false }]];
-  const what = `what all ${isCost ? "pay" : "gain"} together`;
-  return [`${line} ${what}, or only the sum of the ${count} lines of one player each?`,
-    [isCost ? "What all pay together" : "What all gain together", { isWhole: true }],
-    ["Only the sum: leave it out", { isWhole: "sum" }]];
+const MOST_NAMED = 8; // players
+
+/** What is asked of a line that may be all together, and the answers; `roles` are those that were given before. */
+export function wholeAsked({ asked, players, isSum, hasAll }, { isCost }, roles = {}) {
+  const line = `“${withEscapes(asked)}”`, count = players.length, names = players.map((name) => `“${withEscapes(name)}”`);
+  const answer = (title, role) => [title, { roles: { ...roles, [asked]: role } }];
+  const what = `What all ${isCost ? "pay" : "gain"} together`, all = count > 2 ? `all ${count} together` : "both together";
+  if (isSum) {
+    return [`Is ${line} ${what.toLowerCase()}, or only the sum of the ${count} lines of one player each?`,
+      answer(what, "all"), answer("Only the sum: leave it out", "out")];
+  }
+  const rest = count - MOST_NAMED, some = rest > 1 ? [...names.slice(0, MOST_NAMED), `${rest} others`] : names;
+  const others = [answer("One more player", "player"), answer("Leave it out", "out")];
+  if (hasAll) return [`${listed(some)} have a line of all together. Is ${line} somebody else?`, ...others];
+  return [`Is ${line} ${all} (${listed(some)}), or somebody of its own?`,
+    answer(all[0].toUpperCase() + all.slice(1), "all"), ...others];
 }
 
 /** Which group a number was read as, where the orders differ. */

@@ -357,7 +357,7 @@ class TableGrid {
       return askIn(this.element, this.message, [asked, ways]);
     }
     if (found.asked) {
-      const [asked, ...both] = wholeAsked(found, this.kind);
+      const [asked, ...both] = wholeAsked(found, this.kind, said.roles);
       return askIn(this.element, this.message, [`Nothing was taken yet. ${asked} `, both.map((one) => answer(...one))]);
     }
     if (!state && found.way) {
