@@ -161,7 +161,7 @@ function partedLines(rows, { canBeNegative, words: hasWords }) {
   const found = parts.filter(Boolean), isCount = found.every(([, number], k) => Number(number) === k + 1);
   if (found.length < 2 || isCount || areAlike(parts)) return whole;
   const [first, last] = [found[0], found.at(-1)].map((one) => parts.indexOf(one)), wide = found[0].length;
-  const broken = texts.slice(first, last).find((text, k) => text && !parts[first + k]);
+  const broken = texts.slice(first, last).find((text, k) => text && !parts[first + k]) ?? texts[severalIn(parts)];
   const loose = broken ?? (even || isOneName ? undefined : texts.find((text, r) => !isSure(ways[r], text)));
   if (loose !== undefined) return { rows, loose };
   const isHead = (text, r) => r === first - 1 && /\S\s+\S/.test(text) && !/\d|:$/.test(text) && !isPerson(text);
@@ -191,6 +191,12 @@ function isTitle([text, next, ...more], [, ...parts]) {
   const isOne = wordsIn(text) > 3 && !/[:=]/.test(text), isSaid = (one) => /[:=]\s*\S*\d/.test(one);
   const isShort = (one) => wordsIn(one) < 4 && wordsIn(one) < wordsIn(text) - 1;
   return !next || (isOne && below.length > 1 && (below.every(isSaid) || below.every(isShort)));
+}
+
+/** The first line of which the name has an amount and a comma, as "Ann 120, Bo", if not all have such; -1 if none. */
+function severalIn(parts) {
+  const has = (row) => /\d,\s+\p{L}/u.test(row[0]), found = parts.filter(Boolean);
+  return found.every(has) ? -1 : parts.findIndex((row) => row && has(row));
 }
 
 /** Whether all names are the same. */

@@ -1,13 +1,16 @@
 // Names and numbers in one line, as a sentence has them: "Vance 41, Ruiz 26.5 and Ott 7.5".
+import { isSumWord } from "../game/names.js";
 
 const MOST_LETTERS = 2000; // of a text with such a line
 const NUMBER = "\\p{Sc}?\\s?\\d(?:[\\d.,'’]*\\d)?(?:\\s?(?:\\p{Sc}|%|[A-Z]{3}))?";
-const END = "(?=\\s*(?:[,;.]|\\s(?:and|und|et|e|y|en)\\s|$))";
+const END = "(?=\\s*(?:;|[,.](?!\\d)|\\s(?:and|und|et|e|y|en)\\s|$))"; // and not within 8,300
 const ITEM = new RegExp(`\\s*([^\\d,;:]*\\p{L}[^\\d,;:]*?)\\s*[ :=]\\s*(${NUMBER})${END}\\s*(?:[,;.]\\s*)*`
   + "(?:(?:and|und|et|e|y|en)\\s+)?", "uy");
-const BEHIND = new RegExp(`^\\s*(?:[:=–-]|gets|pays|bekommt|zahlt)?\\s*(${NUMBER})${END}`, "u");
+const BEHIND = new RegExp(`^\\s*(?:[:=]|[–-](?=\\s)|gets|pays|bekommt|zahlt)?\\s*(${NUMBER})(?![.,'’]?\\d)`, "u");
+const ENDS = new RegExp(`^(?:${END}|\\s\\()`, "u"), HAS_WORDS = /^\s\p{L}+\s\p{L}/u; // behind a number
 const VERB = /\s(?:owes|has|holds|claims|gets|pays|wants|schuldet|hat|hält|fordert|bekommt|zahlt|doit)$/u;
 const SHORT = /^\D{1,60}\s\p{Sc}?\d[\d.,]*$/u; // a line of a name and its number
+const SAID = /^([^:]{1,200}):\s+(?=\p{L})(.*)$/u; // what is said before such a list
 
 /** The names and numbers of a line of nothing else, each name once; null for another. */
 function itemsOf(line) {
@@ -21,29 +24,60 @@ function itemsOf(line) {
   return found.length > 1 && new Set(found.map(([name]) => name)).size === found.length ? found : null;
 }
 
+/** The same of what stands behind a colon: {items, said}, `said` being the words before it. */
+function saidItemsOf(line) {
+  const items = itemsOf(line), [, said, rest] = (!items && SAID.exec(line)) || [];
+  return items ? { items } : { items: rest ? itemsOf(rest) : null, said };
+}
+
 /** Rows with a row for each name of a line of names and numbers, if one line is such and none is another row: {rows,
- * isParted}. */
+ * isParted}. Of two such lines with the same names each row has both numbers. Words before a list are a line above. */
 export function partedInLine(rows) {
   const lines = rows.map((row) => row.join(",").trim().replace(/\s+/g, " "));
   if (lines.reduce((sum, { length }) => sum + length, 0) > MOST_LETTERS) return { rows, isParted: false };
-  const items = lines.map(itemsOf), own = items.filter(Boolean);
-  const isOther = (line, k) => !items[k] && SHORT.test(line);
-  if (own.length !== 1 || lines.some(isOther)) return { rows, isParted: false };
+  const found = lines.map(saidItemsOf), [one, two, other] = found.filter(({ items }) => items);
+  const numberOf = (name) => two.items.find(([own]) => own === name)?.[1];
+  const isPair = two && !other && two.items.length === one.items.length && one.items.every(([own]) => numberOf(own));
+  const isOther = (line, k) => !found[k].items && SHORT.test(line);
+  if (!one || (two && !isPair) || lines.some(isOther)) return { rows, isParted: false };
   const whole = (line) => [line.replace(/,(?=\S)(?!\d)/g, ", ")];
-  return { rows: lines.flatMap((line, k) => items[k] ?? [whole(line)]), isParted: true };
+  const own = one.items.map((item) => (isPair ? [...item, numberOf(item[0])] : item));
+  const rowsOf = ({ items, said }, k) => [
+    ...(items && !said ? [] : [whole(said ?? lines[k])]), ...(found[k] === one ? own : []),
+  ];
+  return { rows: found.flatMap(rowsOf), isParted: true };
 }
 
-/** A text in one line as lines of a name and its number, if each of the `names` is in it once, with one number beside,
- * and no other number is; the same text if not. */
-export function linesByName(text, names) {
-  const line = text.trim().replace(/\s+/g, " "), number = new RegExp(NUMBER, "gu");
-  if (/[\r\n\t]/.test(text.trim()) || names.length < 2 || line.length > MOST_LETTERS) return text;
+const BETWEEN = /^(?:[\s,;.:/+&–-]|(?:and|und|et|e|y|en)(?=\s|$))+|[\s,;:–-]+$/gu;
+const AMOUNT = /(?:^|\s)\p{Sc}?\d[\d.,'’]*$/u; // behind a name
+
+/** The place of each name in a line with the number beside it: {name, number, from, to}; null where one has none. */
+function placesOf(line, names) {
   const found = names.map((name) => {
     const plain = name.replace(/[.*+?^${}()|[\]\\]/g, "\\$&");
     const all = [...line.matchAll(new RegExp(`(?<![\\p{L}\\d])${plain}(?![\\p{L}\\d])`, "giu"))];
-    const rest = all.length === 1 && line.slice(all[0].index + name.length);
-    return rest && BEHIND.exec(rest)?.[1].trim();
+    const from = all.length === 1 ? all[0].index : line.length, end = from + name.length;
+    const [said, number] = BEHIND.exec(line.slice(end)) ?? [];
+    return said && { name, number: number.trim(), from, to: end + said.length };
   });
-  const isAll = found.every(Boolean) && line.match(number)?.length === names.length;
-  return isAll ? names.map((name, k) => `${name}\t${found[k]}`).join("\n") : text;
+  return found.every(Boolean) ? found : null;
+}
+
+/** A text in one line as lines of a name and its number, if each of the `names` is in it once, with one number beside:
+ * {text, left}, `left` being the words around them, which name no other row. Null for another text. */
+export function linesByName(text, names) {
+  const line = text.trim().replace(/\s+/g, " ");
+  if (/[\r\n\t]/.test(text.trim()) || names.length < 2 || line.length > MOST_LETTERS) return null;
+  const found = placesOf(line, names), inOrder = found && [...found].sort((one, other) => one.from - other.from);
+  if (!found) return null;
+  const behind = line.slice(inOrder.at(-1).to), last = inOrder.length - 1;
+  const [before, ...between] = inOrder.map(({ from }, k) => line.slice(inOrder[k - 1]?.to ?? 0, from));
+  const isEnd = ({ to }, k) => ENDS.test(line.slice(to))
+    || (k === last ? HAS_WORDS.test(behind) : /^\s*[/+&]?\s*$/.test(between[k]));
+  const bare = (words) => words.replace(BETWEEN, "");
+  const isRow = (words) => AMOUNT.test(bare(words)) && !isSumWord(bare(words).replace(AMOUNT, ""));
+  const isOdd = isRow(behind) || (!/:\s*$/.test(before) && isRow(before)) || between.some((words) => /\d/.test(words));
+  if (isOdd || !inOrder.every(isEnd)) return null;
+  const lines = found.map(({ name, number }) => `${name}\t${number}`);
+  return { text: lines.join("\n"), left: [before, ...between, behind].map(bare).filter(Boolean) };
 }

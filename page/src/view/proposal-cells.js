@@ -3,9 +3,7 @@ import { Rational, ZERO } from "../exact/rational.js";
 import { decimal, fullText, placesOf, readNumber, typedText } from "../exact/decimals.js";
 import { button, el } from "./dom.js";
 import { stepsOfRows, totalsOf } from "./format.js";
-import { pastedDivision } from "./proposal.js";
-
-const IN_LINE = /[,;]\s+(?=\p{L})|(?<=\d)\s+(?:and|und|et|y|e)\s+(?=\p{L})/gu; // between amounts in a line of a mail
+import { isOfRows, pastedDivision } from "./proposal.js";
 
 /** The column that has changed, and what was said of it, come into the window, also out of a table that scrolls. */
 function bringIntoView(cell) {
@@ -29,9 +27,8 @@ export function ownInput({ label }, r, own, key, title) {
         document.querySelector(`[data-cell="${key}.${r + (event.shiftKey ? -1 : 1)}"]`)?.focus();
       },
       paste: (event) => {
-        const given = event.clipboardData?.getData("text/plain").trim() ?? "";
-        const pasted = given.includes("\n") ? given : given.replace(IN_LINE, "\n");
-        if (!pasted.includes("\n")) return;
+        const pasted = event.clipboardData?.getData("text/plain").trim() ?? "";
+        if (!isOfRows(pasted, own.labels)) return;
         event.preventDefault();
         const { texts, said, fault } = pastedDivision(pasted, own.labels, { first: r, before: own.texts });
         own.setAll(texts ?? own.texts, fault ?? said, "Paste your amounts");

@@ -9,6 +9,7 @@ import { isSumWord, withEscapes } from "../game/names.js";
 import { listed, plural } from "../game/words.js";
 import { meantRows, meantText } from "./meant-rows.js";
 
+const IN_LINE = /[,;]\s+(?=\p{L})|(?<=\d)\s+(?:and|und|et|y|e)\s+(?=\p{L})/gu; // between amounts in a line of a mail
 const LINE = /^(?<name>.*?\p{L}.*?)(?:\s*[:=;,]\s*|\s+(?:[-–—]\s+)?)(?<number>[-−(]?\p{Sc}?\s?\d.*)$/u;
 const BESIDE = /^\s*[:=;,]?\s*(?:[-–—](?=\s))?\s*|\s*\(.*\p{L}.*\)$/gu; // of a number behind a name
 const NUMBER = /^[-−(]?\p{Sc}?\s?\d[\d.,'’\s/]*(?:\p{Sc}|[A-Z]{3})?\)?$/u;
@@ -20,13 +21,26 @@ export function pastedDivision(text, labels, { first, before }) {
   const isOdd = labels.some((label) => /["|]/.test(label)), plain = isOdd ? (line) => line
     : (line) => line.replace(/^ *"([^"]*)"/, "$1").replace(/ *\| */g, " ");
   const bare = (line) => plain(line).trim().replace(/\s+/g, " ");
-  const given = linesByName(text, labels).split(/\r\n?|\n/).map(bare).filter((line) => /[^-: ]/.test(line));
+  const named = linesByName(text, labels), own = named?.text ?? (isLine(text) ? text.replace(IN_LINE, "\n") : text);
+  const given = own.split(/\r\n?|\n/).map(bare).filter((line) => /[^-: ]/.test(line));
   const lines = withoutSigns(given.map((line) => [line])).rows.flat(), alone = withoutUnit(lines);
   const isAlone = alone.fault === undefined && alone.numbers.every((line) => NUMBER.test(line));
   const found = isAlone ? numbersBelow(alone, labels.length - first) : namedAmounts(lines, labels);
   if (found.fault) return { fault: `${found.fault} Nothing was taken.` };
-  const { amounts, at = (r) => r - first, said } = found;
-  return { texts: before.map((own, r) => amounts[at(r)] ?? own), said };
+  const { amounts, at = (r) => r - first } = found, said = [found.said, outText(named?.left ?? [])];
+  return { texts: before.map((own, r) => amounts[at(r)] ?? own), said: said.filter(Boolean).join(" ") };
+}
+
+const isLine = (text) => !/[\r\n]/.test(text.trim());
+
+/** Whether a pasted text is of several rows, and not of one cell. */
+export const isOfRows = (text, labels) => !isLine(text) || text.trim().replace(IN_LINE, "\n").includes("\n")
+  || linesByName(text, labels) !== null;
+
+/** What is told of lines and words that were left out. */
+function outText(texts) {
+  const quoted = texts.slice(0, 3).map((text) => `“${shownLine(text)}”`);
+  return texts.length > 0 && `Left out: ${quoted.join(", ")}${texts.length > 3 ? " …" : ""}.`;
 }
 
 /** Numbers alone for so many rows: one more that is the sum of the others is none. */
@@ -54,9 +68,8 @@ function namedAmounts(lines, labels) {
   if (odd >= 0) return { fault: `${oddText(label, numbers[odd])}. Write one amount beside each name, such as 12.50.` };
   if (!places.size) return { fault: "Give a number a line, or a name and a number in each." };
   const rest = out.filter((line) => names.every((one) => one.line !== line));
-  const quoted = rest.slice(0, 3).map((line) => `“${shownLine(line)}”`);
   const exact = called.slice(0, called.length - meant.length);
-  const left = rest.length > 0 && `Left out: ${quoted.join(", ")}${rest.length > 3 ? " …" : ""}.`;
+  const left = outText(rest);
   const taken = exact.length > 0 && `Taken by name: ${listed(exact.map((i) => withEscapes(labels[i])))}.`;
   const more = meantText(names.map(({ name }) => name), meant, labels);
   return { amounts: numbers, at: (r) => called.indexOf(r), said: [taken, more, told, left].filter(Boolean).join(" ") };
@@ -86,7 +99,7 @@ function namedLines(lines, labels) {
       out.push(line);
       if (name && !isSumWord(name)) strangers.push({ name, number, line });
     } else if (places.has(place)) twice ??= place;
-    else places.set(place, line.slice(labels[place].length).replace(BESIDE, "").trim());
+    else places.set(place, line.slice(labels[place].length).replace(BESIDE, "").replace(/[.;,]$/, "").trim());
   }
   return { places, strangers, out, twice };
 }
