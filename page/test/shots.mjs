@@ -33,16 +33,15 @@ async function shoot(browser, id, look) {
   const tab = await browser.page(id ? `${url}#${id}` : url, LOOKS[look]);
   const isCase = !["", "document", "verify"].includes(id);
   if (isCase) await tab.until(READY);
+  if (!id) await tab.until("document.querySelector('.demo .seal:not(.busy)')");
   await tab.shot(join(folder, `${name}-${look}.png`));
   if (isCase && look === "wide") {
     writeFileSync(join(folder, `${name}.pdf`), await tab.pdf());
     await tab.run("document.body.dataset.print = 'all'");
     writeFileSync(join(folder, `${name}-all.pdf`), await tab.pdf());
   }
-  if (look !== "dark") {
-    await unfold(tab);
-    await tab.shot(join(folder, `${name}-${look}-unfolded.png`));
-  }
+  await unfold(tab);
+  await tab.shot(join(folder, `${name}-${look}-unfolded.png`));
   for (const fault of tab.faults()) console.log(name, look, fault);
   await tab.close();
 }

@@ -72,10 +72,11 @@ function roomOf(row, isNarrow) {
 
 function labelOf({ label, note, ...row }, y, left, isNarrow, wide) {
   const high = heightOf(row), room = isNarrow ? wide - 20 : left - 14;
-  const [anchor, x] = isNarrow ? ["start", 8] : ["end", left - 12];
+  const [anchor, x] = isNarrow ? ["start", 12] : ["end", left - 12];
   const beside = note && isNarrow ? ` (${note})` : "";
   const middle = isNarrow ? y - 7 : y + high / 2 + (note ? -3 : 5);
-  const first = el("text", { x, y: middle, "text-anchor": anchor }, fitted(label + beside, room));
+  const first = el("text", { class: isNarrow && "apart", x, y: middle, "text-anchor": anchor },
+    fitted(label + beside, room));
   if (!note || isNarrow) return [first];
   return [first, el("text", { class: "soft", x, y: middle + 15, "text-anchor": anchor }, fitted(note, room, 13))];
 }
@@ -89,7 +90,8 @@ function bodyOf({ bars = [], spans = [], marks = [], ...row }, x, y) {
   ]);
   bars.forEach(({ key, value }, k) => {
     const [from, to] = [x(Math.min(value, 0)), x(Math.max(value, 0))];
-    parts.push(el("rect", { class: "own", "data-point": key, x: from, width: Math.max(1, to - from), ...box(k) }));
+    const own = { class: "own", "data-point": key, x: from, width: Math.max(1, to - from), ...box(k) };
+    if (value) parts.push(el("rect", own));
   });
   for (const { kind, value } of marks) {
     if (value === null) parts.push(el("text", { x: x(row.end), y: y + high / 2 + 5, "text-anchor": "end" }, "→"));
