@@ -301,6 +301,7 @@ for (const [text, wanted, told = /^/, labels = ["Sales", "Ops", "Legal"]] of [..
 /** Texts about which something is asked, and what is asked again when the case was left and is shown again. */
 const LEFT = [
   ["network", "\tA\tB\tC\nA\t-\t4\t5\nB\t4\t-\t6\nC\t5\t6\t-", /Which point is the source\?/],
+  ["network", "Works\tA\t40\t50\nWorks\tB\t30\t33", /Which column is the cost\?/],
   ["network", PIPES_OF("total"), /looks like a price for each/], ["network", [LINKS, "North\nSouth"], /names alone/],
   ["runway", "Airline\tAircraft\tTurns\tNeed\nAer\tATR\t1,240\t3,150\nBee\tB7\t310\t4,800", /Which column is/],
   ["costs", "Group\t2024\t2025\nA\t8\t9\nB\t7\t8\nA+B\t12\t13", /Which column is the cost\?/],

@@ -82,7 +82,7 @@ const summed = readOf([...headed(P, full(P, "")).map((row, i) => [...row, i ? 99
 expect("a row and a column of sums", `${summed.points.length} ${summed.left}`, "4 “Sum”, a sum,“Total”, a sum");
 expect("one end only", readOf([withHeads[0], ["Alby", "", 7], ...listed]).fault, /“Alby; 7” a link has one end only/);
 const lengths = listed.map(([one, other, price], k) => [one, other, price * (k + 2), price]);
-expect("two columns of numbers", readOf(lengths).fault, /Two columns are numbers/);
+expect("two columns of numbers", readOf(lengths).asked.map(({ c }) => c).join(), "2,3");
 expect("row numbers", Object.values(readOf(listed.map((row, k) => [...row, k + 1])).links).join(), "10,12,14,55,6,7");
 expect("a source that nothing names", readOf(headed(["A", "B"], [["", 3], [3, ""]])).isSure, false);
 

@@ -1,11 +1,11 @@
 // What a link of a pasted list costs, where one of its columns is a price for each of another, as "price per m" beside
 // "length": the product of the two, or what stands in a column of its own.
-import { readNumber } from "../exact/decimals.js";
+import { moneyIn, readNumber } from "../exact/decimals.js";
 import { withEscapes } from "../game/names.js";
 
 /** That a link costs the price times the size. */
 export const TIMES = 0;
-const EACH = /\b(per|pro|je|par|each|unit|stück|stuk|unitaire)\b|einzel|eenheid|\p{L}\s*\/\s*\p{L}/iu;
+const EACH = /\b(per|pro|je|par|each|unit|stück|stuk|unitaire)\b|einzel|eenheid|[\p{L}\p{Sc}]\s*\/\s*\p{L}/iu;
 const PRICE = /\b(price|rate|preis|prix|prijs|tarif|tarief)\b/iu;
 const SIZE = /length|distance|metres?\b|meters?\b|\bk?m\b|länge|lengte|afstand|entfernung|longueur|quantity|menge/iu;
 const WHOLE = /cost|kosten|co[uû]t/iu;
@@ -27,6 +27,24 @@ export function costsIn([heads = [], ...below], mark) {
   const [costs, totals, prices] = [WHOLE, TOTAL, PRICE].map((is) => plain.filter((head) => is.test(head)));
   const whole = costs.find((head) => totals.includes(head)) ?? costs[0];
   return { price, size, whole, total: totals[0] ?? prices[0] };
+}
+
+/** Whether two columns that may both be the cost may be its factors, and not two years or two offers. */
+export function areFactors([one, other, more]) {
+  const bare = ({ head = "" }) => head.replace(/[\d\s]/g, ""), isMoney = (column) => column.texts.some(moneyIn);
+  return !more && !(one.head && bare(one) === bare(other)) && !(isMoney(one) && isMoney(other));
+}
+
+/** How a column is named: by its heading, or by its first texts. */
+export function columnLabel({ head, texts, unit }) {
+  const some = texts.slice(0, 2).map((text) => (unit ? `${text} ${unit}` : text)).join(", ");
+  return `“${head || some}${head || texts.length < 3 ? "" : " …"}”`;
+}
+
+/** The text of a link's cost: of a column, or of two that are multiplied. A link that isn't there has none. */
+export function costText(row, columns, isNone) {
+  const texts = columns.map((c) => row[c]);
+  return texts.find(isNone) ?? texts.join("*");
 }
 
 /** The rows with one column of the cost: {rows, left, told}, where `left` are the headings that went. `cost` is its

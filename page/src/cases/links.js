@@ -18,30 +18,20 @@
 // there is none, the page asks.
 import { cellNumber } from "../exact/decimals.js";
 import { mostOf } from "../game/classes.js";
-import { isSumWord, withEscapes } from "../game/names.js";
+import { withEscapes } from "../game/names.js";
 import { plural } from "../game/words.js";
 import { blockOf, isText, withoutSums } from "./block.js";
 import { unframed } from "./frames.js";
 import { byCost, costsIn } from "./link-costs.js";
+import { clean, isNameless, isNone, listOf, numbersApart, titleOf, withEnds } from "./link-list.js";
 import { isSpoilt, SPOILT } from "./pasting.js";
 import { answerFault } from "./saved-tables.js";
 import { withoutUnits } from "./units.js";
 
 const MOST_POINTS = mostOf("tree") + 1; // with the source
-const NONE = /^([-–—.x×∞]|n\/?a|#n\/?a|#?nv|none|null|inf|infinity|kein(e|er)?|aucun(e)?)?$/i; // no such link
 const SOURCE = new RegExp("\\b(source|reservoir|plant|water ?works?|works|supply|supplier|hub|root|depot|origin|"
   + "(sub|power|pump(ing)?) ?station|station|well|spring|tank|tower|server|exchange|head ?end|quelle|[a-zäöü]*werk|"
   + "zentrale|speicher|pumpwerk|réservoir|centrale|usine|château d’eau|château d'eau)\\b", "iu");
-const HEADS = [
-  /^(from|von|van|desde|de|start|begin|source|node ?1|point ?1|end ?1|place ?1|a|i|tail)(?!\p{L})/iu,
-  /^(to|nach|naar|hasta|bis|à|vers|target|node ?2|point ?2|end ?2|place ?2|b|j|head)(?!\p{L})/iu,
-  /cost|price|amount|kosten|preis|betrag|co[uû]t|prix|montant|\p{Sc}/iu,
-];
-const LIKE_COST = /weight|length|distance|value|gewicht|länge|longueur|valeur/iu; // where no heading names a cost
-
-const isNone = (text = "") => NONE.test(text.trim());
-const isNameless = (text = "") => /^[-–—.]?$/.test(text.trim());
-const clean = (text) => text.normalize("NFC").trim();
 
 /** Tells numbers, names and missing links apart, by a decimal mark. */
 function judgeOf(mark) {
@@ -62,10 +52,12 @@ function padded(rows) {
 
 /** What a pasted block says of a whole network: {points, source, links, said}, `links` by "i-j" of the points; {fault}
  * if it contradicts itself; {product} if one of its columns is a price for each of another, and nobody said what the
- * `cost` is; null if it is numbers alone, or names alone, for the cells where it was pasted. */
-export function networkOf(pasted, { mark = ".", source = "", cost } = {}) {
-  const block = blockOf(pasted), rows = withEnds(block.rows), { rows: framed, left: texts } = unframed(rows);
-  const ways = [rows, framed].map((some) => readOf(some, { mark, cost })), [whole] = ways;
+ * `cost` is; {asked} if several `columns` may be it, and nobody said which; null if it is numbers alone, or names
+ * alone, for the cells where it was pasted. */
+export function networkOf(pasted, { mark = ".", source = "", cost, columns } = {}) {
+  const block = blockOf(pasted.map(numbersApart)), rows = withEnds(block.rows);
+  const { rows: framed, left: texts } = unframed(rows);
+  const ways = [rows, framed].map((some) => readOf(some, { mark, cost, columns })), [whole] = ways;
   const found = ways.find((one) => one && !one.fault) ?? whole, saved = answerFault(pasted);
   if (saved) return { fault: saved };
   if (!found || block.loose) {
@@ -74,7 +66,7 @@ export function networkOf(pasted, { mark = ".", source = "", cost } = {}) {
     const words = odd ? `“${withEscapes(odd)}” is no number. Write the number alone.` : NO_SHAPE;
     return isMixed || block.loose ? { fault: words } : null;
   }
-  if (found.fault || found.product) return found;
+  if (found.fault || found.product || found.asked) return found;
   const { points, shape, left = [] } = found, twice = points.find((name, i) => name && points.indexOf(name) < i);
   if (twice) return { fault: `“${withEscapes(twice)}” is there twice.` };
   if (points.length > MOST_POINTS) {
@@ -88,12 +80,6 @@ export function networkOf(pasted, { mark = ".", source = "", cost } = {}) {
   return { points, links, shape, left: out, told: [...block.notes, ...found.told], ...sourceOf(points, found, source) };
 }
 
-/** The line above links whose ends share a cell, if it is no word for them: told as it was. */
-function titleOf(pasted, { rows, lines }) {
-  const k = rows.findIndex((row) => row.some(Boolean)), text = (pasted[lines[k] - 1] ?? []).filter(Boolean).join("; ");
-  return PAIR.test(rows[k][0]) || HEADS.some((head) => head.test(text)) ? [] : [`“${text}”, a heading`];
-}
-
 /** A cell with a number and something beside it, as "ca. 12", in a column of numbers. */
 function oddCost(rows, { isNumber }) {
   const columns = rows.reduce((most, row) => (row.length > most.length ? row : most), []).map((_, c) => {
@@ -103,36 +89,23 @@ function oddCost(rows, { isNumber }) {
   return found.flat().find((text) => isSpoilt(text) && !isNumber(text));
 }
 
-/** A block as the first shape that fits, or {fault} or {product}; null for others, and where no number is. */
-function readOf(given, { mark, cost }) {
+/** A block as the first shape that fits, or {fault}, {product} or {asked}; null for others, and where no number is. */
+function readOf(given, { mark, cost, columns }) {
   const hasNames = given.flat().some(isText), kept = given.filter((row) => !hasNames || row.some(Boolean));
-  const { rows: bare, units = [], fault } = withoutUnits(padded(kept), 1), judge = judgeOf(mark);
+  const { rows: bare, units = [], found: unitAt, fault } = withoutUnits(padded(kept), 1), judge = judgeOf(mark);
   if (fault) return { fault };
   const product = costsIn(bare, mark), meant = product && (product.whole ?? cost);
   if (product && meant === undefined) return { product };
   const { rows, left: out = [], told = [] } = product ? byCost(bare, product, meant) : { rows: bare };
   if (rows.length < 2 || !rows.flat().some(judge.isNumber)) return null;
-  const found = listOf(rows, judge) ?? labelledOf(rows, judge) ?? namedOf(rows, judge) ?? squareOf(rows, judge);
-  return found && { ...found, left: [...found.left ?? [], ...out], told, units, judge };
+  const found = listOf(rows, { judge, said: columns, unitAt }) ?? labelledOf(rows, judge) ?? namedOf(rows, judge)
+    ?? squareOf(rows, judge);
+  const all = (key, ...more) => [...found[key] ?? [], ...more];
+  return found && { ...found, left: all("left", ...out), told: all("told", ...told), units, judge };
 }
 
 const NO_SHAPE = "This is no list of from, to and cost, and no square or triangle with names. Give each link a line: "
   + "the two places, and its cost, with tabs between.";
-const PAIR = /^(?:[Ff]rom (?=.* to ))?(.{1,99}?)(?: (?:to|[-–—/]) |\s?(?:[–—→]|->)\s?|(?<=\S)-(?=\S))(.{1,99})$/u;
-
-/** Rows as "Alby-Brook" and 12, in a cell or two, as rows of two ends and a number, if all are such below a heading and
- * some place has several links: "Anne-Marie" and "Jean-Luc" are places. */
-export function withEnds(given) {
-  const rows = given.filter((row) => row.some(Boolean)).map((row) => {
-    return row.length > 1 ? row : row[0].split(/\s*:\s*(?=\d)/);
-  });
-  const ends = rows.map(([one]) => PAIR.exec(one)?.slice(1).map(clean)), below = ends.slice(ends[0] ? 0 : 1);
-  const all = below.flat(), isWord = (text) => isText(text) && /^\p{L}/u.test(text);
-  const isPlain = rows.slice(1).every(([, ...others]) => !others.some(isWord));
-  if (!isPlain || below.length < 2 || !below.every(Boolean) || new Set(all).size === all.length) return given;
-  return rows.map(([, ...others], k) => [...(ends[k] ?? ["From", "To"]), ...others]);
-}
-
 /** The source: the point that has its name already, or a name that says so, or else the first. */
 function sourceOf(points, { isFirst }, named) {
   const lower = (text) => clean(text).toLowerCase();
@@ -167,51 +140,6 @@ function joined({ entries, points }, judge) {
 }
 
 // ---- Shapes
-
-/** A list: a link a row, with its two ends and its cost, with headings or without. */
-function listOf(rows, judge) {
-  const isHeading = isHeadOfLinks(rows, judge), wide = rows[0].length;
-  const given = rows.slice(isHeading ? 1 : 0).filter((row) => row.some(Boolean)), below = withoutSum(given, judge);
-  if (wide < 3 || !below.length) return null;
-  const columns = rows[0].map((_, c) => c), all = (c, is) => below.every((row) => is(row[c]));
-  const headOf = (head) => (isHeading ? columns.find((c) => head.test(rows[0][c])) : undefined);
-  const headed = HEADS.map(headOf);
-  headed[2] ??= headOf(LIKE_COST);
-  const isHeaded = headed.every((c) => c !== undefined) && new Set(headed).size === 3;
-  const names = columns.filter((c) => all(c, judge.isName));
-  const costs = columns.filter((c) => !names.includes(c) && all(c, (text) => judge.isNumber(text) || isNone(text))
-    && below.some((row) => judge.isNumber(row[c])));
-  const isPlain = names.length === 2 && costs.length > 0 && (wide === 3 || costs.length <= 2);
-  if (!isHeaded && (!isPlain || below.every((row) => /[–—→]|->| to /.test(row[names[0]])))) return null;
-  const own = costs.filter((c) => !below.every((row, k) => Number(row[c]) === k + 1)); // and no row numbers
-  const priced = own.includes(headed[2]) ? [headed[2]] : own;
-  if (!isHeaded && priced.length > 1) return { fault: "Two columns are numbers. Give the cost’s a heading: Cost." };
-  const [from, to, cost] = isHeaded ? headed : [...names, priced[0] ?? costs[0]];
-  const loose = below.find((row) => isNameless(row[from]) || isNameless(row[to]));
-  if (loose) return { fault: `In “${withEscapes(loose.filter(Boolean).join("; "))}” a link has one end only.` };
-  const points = [...new Set(below.flatMap((row) => [row[from], row[to]]))], place = (name) => points.indexOf(name);
-  const entries = below.map((row) => [place(row[from]), place(row[to]), row[cost]]).map(([i, j, text]) => {
-    return i < j ? [i, j, text] : [j, i, text];
-  });
-  const rest = wide > 3 && isHeading ? columns.filter((c) => ![from, to, cost].includes(c)) : [];
-  const left = rest.map((c) => `“${rows[0][c]}”`);
-  const lost = below.length < given.length ? [`“${given.at(-1).filter(Boolean).join("; ")}”, a sum`] : [];
-  return { points, entries, shape: "a list of from, to, cost", left: [...left, ...lost] };
-}
-
-/** Whether the first row of a list has headings: no number, and a word above each column of numbers. A first link whose
- * cost is missing, or is "ca. 12", has none. */
-function isHeadOfLinks([first, ...below], { isNumber }) {
-  const isCost = (c) => below.filter((row) => isNumber(row[c])).length * 2 > below.length;
-  const isWord = (text) => !isNone(text) && !isSpoilt(text);
-  return below.length > 0 && !first.some(isNumber) && first.every((text, c) => !isCost(c) || isWord(text));
-}
-
-/** The rows of a list without the last one, if it is named as a sum, or has a number and lacks an end. */
-function withoutSum(rows, { isNumber }) {
-  const last = rows.at(-1) ?? [], isShort = last.filter(Boolean).length < 3 && last.some(isNumber);
-  return rows.length > 1 && (isShort || isSumWord(last.find(Boolean) ?? "")) ? rows.slice(0, -1) : rows;
-}
 
 /** Names above and names before each row: what they share says how the block is to be read. */
 function labelledOf(given, { isNumber, isName, isZero }) {

@@ -7,7 +7,7 @@ import { blockOf, isText, isValue, withoutSums } from "./block.js";
 import { UNKNOWN } from "./columns.js";
 import { filledLinks } from "./filled-cells.js";
 import { leftText, unframed } from "./frames.js";
-import { withEnds } from "./links.js";
+import { withEnds } from "./link-list.js";
 import { rowsOf } from "./lists.js";
 import { detoursOf } from "./detours.js";
 import { Reading } from "./reading.js";

@@ -1,7 +1,7 @@
 // The grid of a network: what a link between each two places costs.
 import { notNames } from "../cases/bare-names.js";
 import { blockOf, isText } from "../cases/block.js";
-import { TIMES } from "../cases/link-costs.js";
+import { areFactors, columnLabel, TIMES } from "../cases/link-costs.js";
 import { cellsOfNetwork, networkOf, takenText, withoutPlace, withSource } from "../cases/links.js";
 import { sourceName } from "../cases/matrices.js";
 import { withEscapes } from "../game/names.js";
@@ -134,13 +134,16 @@ class NetworkGrid {
   }
 
   /** A whole network takes the place of all cells; a block of numbers, or names, goes where it was pasted. `said` has
-   * what the user said: what a link costs (`cost`), and whether names are of the places here (`isSame`). */
+   * what the user said: what a link costs (`cost`, or the `columns` of it), and whether names are of the places here
+   * (`isSame`). */
   pasted(cell, rows, said = {}) {
     const { typed } = this, isFirst = ["source", "names.0", "links.0-1"].includes(cell);
-    const found = networkOf(rows, { mark: this.mark(), source: typed.source, cost: said.cost });
+    const { cost, columns } = said;
+    const found = networkOf(rows, { mark: this.mark(), source: typed.source, cost, columns });
     const use = (more) => this.pasted(cell, rows, { ...said, ...more });
     this.element.again = (grid) => grid.pasted(cell, rows, said);
     if (found?.product) return this.productQuestion(found.product, (cost) => use({ cost }));
+    if (found?.asked) return this.columnQuestion(found.asked, (columns) => use({ columns }));
     const isWhole = found && (isFirst || found.fault || found.shape.includes("list") || found.shape.includes("names"));
     const cells = isWhole ? {} : pastedCells(this.kind, typed, cell, blockOf(rows).rows, said);
     const fault = isWhole ? found.fault : cells.fault;
@@ -172,6 +175,14 @@ class NetworkGrid {
     const asked = `${one} looks like a price for each. Does a link cost ${one} times ${other}? `;
     askIn(this.element, this.said, [asked, way(`Yes, multiply by ${other}`, TIMES),
       way(`No, it costs ${one}`, price), total !== undefined && way(`No, it costs ${third}`, total)]);
+  }
+
+  /** Asked before anything is taken: several columns may be the cost, or two of them its factors. */
+  columnQuestion(columns, take) {
+    const label = (own) => withEscapes(own.map(columnLabel).join(" times "));
+    const way = (own) => [button(label(own), () => take(own.map(({ c }) => c)), { class: "quiet" }), " "];
+    askIn(this.element, this.said, ["Nothing was taken yet. Which column is the cost? ",
+      columns.map((column) => way([column])), areFactors(columns) && way(columns)]);
   }
 
   /** Asked before there is an answer: nothing that was pasted says which point is the source. */

@@ -1,0 +1,105 @@
+// Links that were pasted as a list: a link a row, with its two ends and its cost, in a column each, or as "A - B: 12".
+import { isSumWord, withEscapes } from "../game/names.js";
+import { isText } from "./block.js";
+import { columnLabel, costText } from "./link-costs.js";
+import { isSpoilt } from "./pasting.js";
+
+const NONE = /^([-–—.x×∞]|n\/?a|#n\/?a|#?nv|none|null|inf|infinity|kein(e|er)?|aucun(e)?)?$/i; // no such link
+const HEADS = [
+  /^(from|von|van|desde|de|start|begin|source|node ?1|point ?1|end ?1|place ?1|a|i|tail)(?!\p{L})/iu,
+  /^(to|nach|naar|hasta|bis|à|vers|target|node ?2|point ?2|end ?2|place ?2|b|j|head)(?!\p{L})/iu,
+  /cost|price|amount|kosten|preis|betrag|co[uû]t|prix|montant|\p{Sc}/iu,
+];
+const LIKE_COST = [/\b(euros?|eur|usd|gbp|chf)\b/iu, // where no heading names a cost
+  /weight|length|distance|value|gewicht|länge|longueur|valeur/iu];
+const YEAR = /^(19|20)\d\d$/;
+
+export const isNone = (text = "") => NONE.test(text.trim());
+export const isNameless = (text = "") => /^[-–—.]?$/.test(text.trim());
+export const clean = (text) => text.normalize("NFC").trim();
+const PAIR = /^(?:[Ff]rom (?=.* to ))?(.{1,99}?)(?: (?:to|[-–—/]) |\s?(?:[–—→]|->)\s?|(?<=\S)-(?=\S))(.{1,99})$/u;
+
+/** A row as "Alby - Brook: 40 m, 1,240 EUR", in a cell or two, with a cell for each number. */
+export function numbersApart(row) {
+  const [, ends = "", behind = ""] = /^([^:]{1,200}):\s*(?=[\d\p{Sc}])(.{1,200})$/u.exec(row[0]) ?? [];
+  const numbers = [...behind.split(/[,;]\s+(?=[\d\p{Sc}])/u), ...row.slice(1)];
+  return PAIR.test(ends) && numbers.length > 1 ? [ends, ...numbers] : row;
+}
+
+/** Rows as "Alby-Brook" and 12, in a cell or two, as rows of two ends and a number, if all are such below a heading and
+ * some place has several links: "Anne-Marie" and "Jean-Luc" are places. */
+export function withEnds(given) {
+  const rows = given.filter((row) => row.some(Boolean)).map((row) => {
+    return row.length > 1 ? row : row[0].split(/\s*:\s*(?=\d)/);
+  });
+  const ends = rows.map(([one]) => PAIR.exec(one)?.slice(1).map(clean)), below = ends.slice(ends[0] ? 0 : 1);
+  const all = below.flat(), isWord = (text) => isText(text) && /^\p{L}/u.test(text);
+  const isPlain = rows.slice(1).every(([, ...others]) => !others.some(isWord));
+  if (!isPlain || below.length < 2 || !below.every(Boolean) || new Set(all).size === all.length) return given;
+  return rows.map(([, ...others], k) => [...(ends[k] ?? ["From", "To"]), ...others]);
+}
+
+/** The line above links whose ends share a cell, if it is no word for them: told as it was. */
+export function titleOf(pasted, { rows, lines }) {
+  const k = rows.findIndex((row) => row.some(Boolean)), text = (pasted[lines[k] - 1] ?? []).filter(Boolean).join("; ");
+  return PAIR.test(rows[k][0]) || HEADS.some((head) => head.test(text)) ? [] : [`“${text}”, a heading`];
+}
+
+/** A list, with headings or without: {points, entries, shape, left, told}, or {fault}; or {asked}, the columns of which
+ * each may be the cost, until it is `said`. Null for other rows. */
+export function listOf(rows, { judge, said, unitAt }) {
+  const isHeading = isHeadOfLinks(rows, judge), heads = isHeading ? rows[0] : [], wide = rows[0].length;
+  const given = rows.slice(isHeading ? 1 : 0).filter((row) => row.some(Boolean)), below = withoutSum(given, judge);
+  const found = wide > 2 && below.length > 0 && columnsOf(below, heads, judge);
+  if (!found) return null;
+  const { from, to, priced } = found;
+  const partOf = (c) => ({ c, head: heads[c], texts: below.map((row) => row[c]), unit: unitAt.get(c) });
+  if (!said && priced.length > 1) return { asked: priced.map(partOf) };
+  const cost = said ?? priced, label = (c) => columnLabel(partOf(c));
+  const loose = below.find((row) => isNameless(row[from]) || isNameless(row[to]));
+  if (loose) return { fault: `In “${withEscapes(loose.filter(Boolean).join("; "))}” a link has one end only.` };
+  const points = [...new Set(below.flatMap((row) => [row[from], row[to]]))], place = (name) => points.indexOf(name);
+  const entries = below.map((row) => {
+    const [i, j] = [place(row[from]), place(row[to])].sort((a, b) => a - b);
+    return [i, j, costText(row, cost, isNone)];
+  });
+  const rest = wide > 3 ? rows[0].map((_, c) => c).filter((c) => ![from, to, ...cost].includes(c)) : [];
+  const lost = below.length < given.length ? [`“${given.at(-1).filter(Boolean).join("; ")}”, a sum`] : [];
+  const told = said ? [`A link costs ${cost.map(label).join(" times ")}.`] : [];
+  return { points, entries, shape: "a list of from, to, cost", left: [...rest.map(label), ...lost], told };
+}
+
+/** The columns of a list: {from, to, priced}, where each of `priced` may be the cost; null if it is none. */
+function columnsOf(below, heads, judge) {
+  const columns = below[0].map((_, c) => c), all = (c, is) => below.every((row) => is(row[c]));
+  const headOf = (head) => columns.find((c) => head.test(heads[c] ?? "")), headed = HEADS.map(headOf);
+  headed[2] ??= LIKE_COST.map(headOf).find((c) => c !== undefined);
+  const isHeaded = headed.every((c) => c !== undefined) && new Set(headed).size === 3;
+  const names = columns.filter((c) => all(c, judge.isName));
+  const costs = columns.filter((c) => !names.includes(c) && all(c, (text) => judge.isNumber(text) || isNone(text))
+    && below.some((row) => judge.isNumber(row[c])));
+  const isFew = columns.length === 3 || costs.length < 3 || heads.length > 0;
+  const isPlain = names.length === 2 && costs.length > 0 && isFew;
+  if (!isHeaded && (!isPlain || below.every((row) => /[–—→]|->| to /.test(row[names[0]])))) return null;
+  const [from, to] = isHeaded ? headed : names, isCount = (c) => below.every((row, k) => Number(row[c]) === k + 1);
+  const own = costs.filter((c) => c !== from && c !== to && !isCount(c)); // and no row numbers
+  const by = (head) => own.filter((c) => head.test(heads[c] ?? "")), some = [by(HEADS[2]), by(LIKE_COST[0]), own];
+  return { from, to, priced: some.find((list) => list.length) ?? [isHeaded ? headed[2] : costs[0]] };
+}
+
+/** Whether the first row of a list has headings: no number, and a word above each column of numbers; below "From" and
+ * "To" it may be a year, or "x". A first link whose cost is missing, or is "ca. 12", has none. */
+function isHeadOfLinks([first, ...below], { isNumber }) {
+  const isCost = (c) => below.filter((row) => isNumber(row[c])).length * 2 > below.length;
+  const isEnds = [0, 1].every((c) => first[c]?.length > 1 && HEADS[c].test(first[c]));
+  const isYear = (text) => isEnds && YEAR.test(text), isWord = (text) => isYear(text) || !isSpoilt(text);
+  return below.length > 0 && first.every((text, c) => {
+    return (isYear(text) || !isNumber(text)) && (!isCost(c) || (isWord(text) && (isEnds || !isNone(text))));
+  });
+}
+
+/** The rows of a list without the last one, if it is named as a sum, or has a number and lacks an end. */
+function withoutSum(rows, { isNumber }) {
+  const last = rows.at(-1) ?? [], isShort = last.filter(Boolean).length < 3 && last.some(isNumber);
+  return rows.length > 1 && (isShort || isSumWord(last.find(Boolean) ?? "")) ? rows.slice(0, -1) : rows;
+}
