@@ -61,6 +61,11 @@ function tryNetwork(n) {
     const group = membersOf(mask).map((i) => i + 1);
     expect(`${group} of ${told}`, Number(typed.numbers[mask]), leastCost(edges, group));
   }
+  const { typed: others } = costsOfNetwork({ ...what, nobody: [0] }); // nobody is at the first place
+  for (let mask = 1; others && mask < 2 ** (n - 1); mask++) {
+    const group = membersOf(mask).map((i) => i + 2);
+    expect(`${group} of ${told} without a place`, Number(others.numbers[mask]), leastCost(edges, group));
+  }
   for (const [key, text] of Object.entries(fillLinks(what).links)) {
     const [i, j] = key.split("-").map(Number), least = leastCost(edges, [j], i);
     if (!links[key]) expect(`the way ${key} of ${told}`, text === "" ? Infinity : Number(text), least);

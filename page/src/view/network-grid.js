@@ -1,11 +1,12 @@
 // The grid of a network: what a link between each two places costs.
 import { notNames } from "../cases/bare-names.js";
 import { blockOf, isText } from "../cases/block.js";
+import { junctionsOf } from "../cases/junctions.js";
 import { areFactors, columnLabel, TIMES } from "../cases/link-costs.js";
 import { cellsOfNetwork, networkOf, takenText, withoutPlace, withSource } from "../cases/links.js";
 import { sourceName } from "../cases/matrices.js";
 import { withEscapes } from "../game/names.js";
-import { plural } from "../game/words.js";
+import { listed, plural } from "../game/words.js";
 import { cellInput, moveByKeys, pasteCells, removal } from "./cells.js";
 import { askAgain, askIn, button, cellOf, el, refill, unask } from "./dom.js";
 import { askNames } from "./names-asked.js";
@@ -28,8 +29,9 @@ class NetworkGrid {
     this.holder = el("div", { class: "scroll" });
     this.tools = el("p", { class: "tools" });
     const setLinks = (links, filled) => this.change(() => Object.assign(typed, { links, filled }));
+    this.nobody = el("p", { class: "note", role: "status" });
     this.help = noLinkHelp(typed, { mark, help, remember, setLinks, asTable });
-    this.element = el("div", {}, this.said, this.holder, this.tools, this.help);
+    this.element = el("div", {}, this.said, this.holder, this.tools, this.nobody, this.help);
     this.element.choices = () => this.help.choices();
     moveByKeys(this.holder, (cell, step) => {
       const [what, place] = cell.split(".");
@@ -75,7 +77,22 @@ class NetworkGrid {
       ? button("Add a place", () => this.add(), { class: "quiet" })
       : el("span", { class: "hint" }, "16 places is the most."),
     this.sourceChoice(names));
+    refill(this.nobody, this.nobodyThere());
     this.help.show();
+  }
+
+  /** Asked of places whose names look like a junction: they would pay, and a table of costs can do without them. */
+  nobodyThere() {
+    const { names, payers = [] } = this.typed, at = junctionsOf(names).filter((k) => !payers.includes(names[k]));
+    const all = listed(at.map((k) => `“${withEscapes(names[k])}”`)), [it, pays] = at.length > 1 ? ["them", "they pay"]
+      : ["it", "it pays"];
+    const asked = at.length > 1 ? `Are ${all} only junctions` : `Is ${all} only a junction`, keep = () => {
+      this.remember("A junction pays");
+      this.change(() => (this.typed.payers = [...payers, ...at.map((k) => names[k])]));
+    };
+    return at.length > 0 && [`Each place pays. ${asked}, where nobody is? `,
+      button(`Yes: make a table of costs without ${it}`, () => this.help.makeTable(at), { class: "quiet" }), " ",
+      button(`No, ${pays}`, keep, { class: "quiet" })];
   }
 
   /** Which point is the source: the others pay. */

@@ -6,16 +6,17 @@ const EACH = "It counts for each such link: a group that lacks two of them pays 
 const REWARD = "A place that spares others such a link is rewarded for it: the more, the larger the number is.";
 
 /** Ways to fill what stands empty. `setLinks(links, filled)` takes the links, and which were filled, how; `asTable` a
- * table of costs with its notes. `element.again()` fills anew the ways that were filled before, and `element.show()` is
- * called as links change: without an empty one nothing is shown. */
+ * table of costs with its notes. `element.again()` fills anew the ways that were filled before, `element.show()` is
+ * called as links change: without an empty one nothing is shown, and `element.makeTable(nobody)` makes a table of costs
+ * without the places `nobody`, from 0. */
 export function noLinkHelp(typed, { mark, help, remember, setLinks, asTable }) {
   const said = el("div", { "aria-live": "polite" });
   const tell = (notes, told = []) => refill(said, notes.map((note) => el("p", { class: "note" }, note)),
     told.length > 0 && el("details", { class: "named" }, el("summary", {}, "Which links"),
       el("p", {}, told.join("; "))));
-  const ask = (task, use) => async (only = null) => {
+  const ask = (task, use) => async (more = {}) => {
     const { names, links, source } = typed, before = JSON.stringify(links);
-    const found = await help(task, { names: [...names], links: given(typed, task), source, mark: mark(), only });
+    const found = await help(task, { names: [...names], links: given(typed, task), source, mark: mark(), ...more });
     if (JSON.stringify(typed.links) !== before) return; // somebody types on
     if (found.fault) tell([found.fault]);
     else use(found);
@@ -29,18 +30,19 @@ export function noLinkHelp(typed, { mark, help, remember, setLinks, asTable }) {
     remember("Fill in the cheapest ways");
     return fill();
   };
-  const again = () => fill(Object.keys(typed.filled ?? {}).filter((key) => typed.filled[key] === "way"));
+  const again = () => fill({ only: Object.keys(typed.filled ?? {}).filter((key) => typed.filled[key] === "way") });
   const fillWith = (number) => {
     remember("Fill it in");
     setLinks(...withNumber(typed, number));
     tell([REWARD, EACH]);
   };
-  const asked = ask("costsOfNetwork", ({ typed: table, notes }) => asTable(table, notes)), makeTable = () => asked();
+  const asked = ask("costsOfNetwork", ({ typed: table, notes }) => asTable(table, notes));
+  const makeTable = (nobody) => asked({ nobody });
   const element = waysPart({ fillWays, makeTable, fillWith, said }), part = element.firstChild;
   const show = () => { part.hidden = !hasEmpty(typed) && !Object.keys(typed.filled ?? {}).length; };
   show();
   return Object.assign(element, {
-    again, show, choices: () => choicesOf({ part, fillWays, makeTable }),
+    again, show, makeTable, choices: () => choicesOf({ part, fillWays, makeTable }),
     openIfEmpty: () => { part.open ||= hasEmpty(typed); },
   });
 }
@@ -58,7 +60,7 @@ function choicesOf({ part, fillWays, makeTable }) {
   };
   return el("div", {}, el("p", {}, "Can’t some links be built? Say what a group that needs one would do:"),
     el("p", { class: "tools" }, button("Build through the places of others", fillWays),
-      button("The same, as a table of costs", makeTable), button("Pay a price to do without", price)));
+      button("The same, as a table of costs", () => makeTable()), button("Pay a price to do without", price)));
 }
 
 function waysPart({ fillWays, makeTable, fillWith, said }) {
@@ -72,7 +74,7 @@ function waysPart({ fillWays, makeTable, fillWith, said }) {
       el("li", {}, el("b", {}, "It may build through the places of others. "),
         button("Fill in the cheapest ways", fillWays),
         " That is right for one place. If detours of a group share a stretch, ",
-        button("make a table of costs of it", makeTable),
+        button("make a table of costs of it", () => makeTable()),
         ": each group then costs the cheapest network that joins it."),
       el("li", {}, el("b", {}, "It can’t build at all. "), "Give what it costs to do without: ", amount, " ",
         button("Fill it in", () => fillWith(amount.value))))), said);

@@ -3,7 +3,7 @@ import { lcm, Rational } from "../exact/rational.js";
 import { cellNumber, shortText, typedText } from "../exact/decimals.js";
 import { sourceName } from "../cases/matrices.js";
 import { withEscapes } from "../game/names.js";
-import { plural } from "../game/words.js";
+import { listed, plural } from "../game/words.js";
 
 /** The costs that were typed, by "i-j", those of empty cells being null; or a fault in words. */
 function linksOf({ names, links, mark }) {
@@ -66,9 +66,9 @@ function notesOf(told, lacking) {
   return notes.length ? notes : ["No link is empty."];
 }
 
-/** The table of costs of a network: a group costs the cheapest network that joins it, with or without places of others.
- * {typed, notes}, or {fault}. */
-export function costsOfNetwork({ names, links, mark }) {
+/** The table of costs of a network: a group costs the cheapest network that joins it, with or without places of others,
+ * and those of `nobody`, from 0, who are no players of it. {typed, notes}, or {fault}. */
+export function costsOfNetwork({ names, links, mark, nobody = [] }) {
   const { n, cost, fault } = linksOf({ names, links, mark });
   if (fault) return { fault };
   const { scale, costs } = scaled(n, cost), least = new Float64Array(2 ** n);
@@ -79,12 +79,17 @@ export function costsOfNetwork({ names, links, mark }) {
       if (!(mask & bit) && least[mask | bit] < least[mask]) least[mask] = least[mask | bit];
     }
   }
-  if (least[2 ** n - 1] === Infinity) return { fault: "No network joins all: some place has no way to the source." };
-  const numbers = Array.from(least, (value, mask) => {
+  const players = names.map((_, i) => i).filter((i) => !nobody.includes(i)), count = 2 ** players.length;
+  const own = Array.from({ length: count }, (_, mask) => {
+    return least[players.reduce((sum, i, k) => sum + (mask & (1 << k) ? 2 ** i : 0), 0)];
+  });
+  if (own.at(-1) === Infinity) return { fault: "No network joins all: some place has no way to the source." };
+  const numbers = own.map((value, mask) => {
     return mask ? typedText(new Rational(BigInt(value), scale), mark) : "";
   });
   const notes = ["Made of a network: each group costs the cheapest network that joins it, over others’ places too."];
-  return { typed: { names: [...names], numbers }, notes };
+  if (nobody.length) notes.push(`Nobody is at ${listed(nobody.map((i) => `“${withEscapes(names[i])}”`))}.`);
+  return { typed: { names: players.map((i) => names[i]), numbers }, notes };
 }
 
 /** Whole numbers over a scale; Infinity for a link that doesn't exist. */

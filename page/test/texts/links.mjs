@@ -1,5 +1,13 @@
 // Texts of a network's links and of a market, as rows of pasted.mjs.
 export const LINKS_AND_TRADES = [
+  // places at which nobody is
+  ["network", "Works\tFork\t12\nFork\tMill\t4\nFork\tFarm\t5", /^Works\|Fork\|Mill\|Farm/,
+    /Each place pays\. Is “Fork” only a junction, where nobody is\? Yes: make a table of costs without it No, it pays/],
+  ["network", "Works\tFork\t12\nFork\tMill\t4\nFork\tFarm\t5", /^Works\|Fork/, /^((?!junction).)*$/, "No, it pays"],
+  ["network", "Werk\tKontrollschacht 2\t12\nKontrollschacht 2\tVerteiler\t4\nVerteiler\tHof\t3", /^Werk/,
+    /Are “Kontrollschacht 2” and “Verteiler” only junctions/],
+  ["network", "Works\tNode 1\t12\nNode 1\tNode 2\t4", /^Works/, /^((?!junction).)*$/],
+  ["network", "Works\tForkley\t12\nForkley\tMill\t4", /^Works/, /^((?!junction).)*$/],
   // several columns of numbers, of which one is the cost, or two are its factors
   ["network", "From\tTo\tCost 2024\tCost 2025\nWorks\tA\t40\t50\nWorks\tB\t30\t33\nA\tB\t10\t12", null,
     /Which column is the cost\? “Cost 2024” “Cost 2025” +\|/],
