@@ -1,5 +1,5 @@
-// The line of all players together, by whatever name: "All", "Total", "les trois", "Joint order". Where its words aren't
-// certain it is asked about.
+// The line of all players together, by whatever name: "All", "Total", "les trois", "Joint order". Where its words
+// aren't certain it is asked about.
 import { readNumber } from "../exact/decimals.js";
 import { Rational } from "../exact/rational.js";
 import { isSumWord } from "../game/names.js";
@@ -15,9 +15,9 @@ const WORDS = new RegExp("^(?:(?:(?:all|alle|tous|toutes|tutt[ie]|tod[oa]s|allem
   + "|both(?: of them)?|beide|alle beide|allebei|ambos|entramb[ie])"
   + `(?: (?:${WITH}))?|everybody|everyone|[Σ∑]|${WITH}|grand coalition|(?:the )?whole group)$`, "iu");
 const PERHAPS = new RegExp(`^(?:(?:the|die|les?|i|los|las|de) )?(?:${COUNT})(?: of them)?(?: (?:${WITH}))?$`, "iu");
-const SHARED = new RegExp(`(?<!\\p{L})(?:${WITH}|joint|shared|common|combined|collective|everybody|everyone|both|alle[nr]?`
-  + "|(?:gemeinsam|gesamt|sammel|gezamenlijk)\\p{L}*|tous|toutes|en commun|groupée?s?|tutti|tutte|in comune|todos|todas"
-  + "|conjunt[oa]|iedereen)(?!\\p{L})|^(?:one|a single) ", "iu");
+const SHARED = new RegExp(`(?<!\\p{L})(?:${WITH}|joint|shared|common|combined|collective|everybody|everyone|both`
+  + "|alle[nr]?|(?:gemeinsam|gesamt|sammel|gezamenlijk)\\p{L}*|tous|toutes|en commun|groupée?s?|tutti"
+  + "|tutte|in comune|todos|todas|conjunt[oa]|iedereen)(?!\\p{L})|^(?:one|a single) ", "iu");
 const OF_ALL = /(?<!\p{L})(?:[Aa]ll|ALL)(?![\p{L}'’-]| \p{Lu})/u; // and no "All Saints"
 
 export const isLone = ({ members }) => members.length === 1;
@@ -27,7 +27,7 @@ const textOf = ({ members: [one] }) => one;
 export const isAllWord = (text) => WORDS.test(text);
 
 /** How many a text says that there are; undefined if it doesn't. */
-function countIn(text) {
+export function countIn(text) {
   const [, word] = COUNTED.exec(text) ?? [];
   const place = COUNTS.findIndex((one) => new RegExp(`^(${one})$`, "iu").test(word));
   return word === undefined ? undefined : place < 0 ? Number(word) : place + 2;

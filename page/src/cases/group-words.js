@@ -5,7 +5,7 @@ import { withEscapes } from "../game/names.js";
 import { isLone, sumBeside, wholeOf, WITH } from "./all-together.js";
 
 const MOST_TOLD = 4; // groups in other words that are named
-const NOBODY = /^(∅|none|nobody|no ?one|empty( set)?|niemand|personne|[-–—]|0|)$/i;
+export const NOBODY = /^(∅|none|nobody|no ?one|empty( set)?|niemand|personne|[-–—]|0|)$/i;
 const AND = /\s*(?:[&,/;|]|\b(?:and|und|et|y|e|en|och|with|mit|avec)\b)\s*/u;
 const TOGETHER = new RegExp(`[\\s,]+(?:${WITH})$`, "iu");
 const LONE = "alone|only|(?:all )?by (?:itself|themselves|himself|herself)|on (?:its|his|her|their) own|alleine?|"

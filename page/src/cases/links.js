@@ -27,6 +27,7 @@ import { clean, isNameless, isNone, listOf, numbersApart, titleOf, withEnds } fr
 import { isSpoilt, SPOILT } from "./pasting.js";
 import { answerFault } from "./saved-tables.js";
 import { withoutUnits } from "./units.js";
+import { partsElsewhere } from "./used-parts.js";
 
 const MOST_POINTS = mostOf("tree") + 1; // with the source
 const SOURCE = new RegExp("\\b(source|reservoir|plant|water ?works?|works|supply|supplier|hub|root|depot|origin|"
@@ -58,7 +59,7 @@ export function networkOf(pasted, { mark = ".", source = "", cost, columns } = {
   const block = blockOf(pasted.map(numbersApart)), rows = withEnds(block.rows);
   const { rows: framed, left: texts } = unframed(rows);
   const ways = [rows, framed].map((some) => readOf(some, { mark, cost, columns })), [whole] = ways;
-  const found = ways.find((one) => one && !one.fault) ?? whole, saved = answerFault(pasted);
+  const found = ways.find((one) => one && !one.fault) ?? whole, saved = answerFault(pasted) ?? partsElsewhere(pasted);
   if (saved) return { fault: saved };
   if (!found || block.loose) {
     const isMixed = rows.flat().some(isText) && rows.flat().some((text) => /\d/.test(text) && !isText(text));

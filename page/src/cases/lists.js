@@ -8,6 +8,7 @@ import { Reading } from "./reading.js";
 import { bytesOf } from "../game/words.js";
 import { askOfSum, isEmpty } from "./sum-row.js";
 import { askOfTwice } from "./twice.js";
+import { partsElsewhere } from "./used-parts.js";
 import { askOfWhole, ESTATE, wholeIn } from "./whole-words.js";
 
 // words in the headings of columns, in English, German and French
@@ -26,6 +27,7 @@ const HOW_FAR = new RegExp("floor|stor(e?y|ies)|\\blevels?\\b(?! of)|etage|étag
 
 export const runway = {
   id: "runway",
+  refusal: partsElsewhere,
   classes: ["airport"],
   title: "A runway",
   teaser: "Each user needs a part of it. It costs what the most demanding user needs.",

@@ -1,10 +1,11 @@
 // A table whose columns say by marks who is in a group: 1 and 0, x or yes, below the names of the players.
 import { withEscapes } from "../game/names.js";
 
-const IN = /^(1|x|✓|✔|☑|y|yes|ja|j|oui|sí|si)$/i, OUT = /^(0|no?|nein|non|nee|☐|✗|[-–—.]?)$/i;
+export const IN = /^(1|x|✓|✔|☑|y|yes|ja|j|oui|sí|si)$/i;
+const OUT = /^(0|no?|nein|non|nee|☐|✗|[-–—.]?)$/i;
 const MOST_BEFORE = 2; // columns before those of marks, as a number and a label of each row
 
-const isMark = (text = "") => IN.test(text) || OUT.test(text);
+export const isMark = (text = "") => IN.test(text) || OUT.test(text);
 
 /** Rows of a group and its number, from rows below names that say who is in the group: {rows, told}; the same rows if
  * they are others. Columns before the names that number or call the rows are left out. */

@@ -6,27 +6,26 @@ import { withEscapes } from "../game/names.js";
 import { listed } from "../game/words.js";
 import { blockOf, looseText } from "./block.js";
 import { filledGroups } from "./filled-cells.js";
+import { FORM, headingText, pairsOf } from "./group-columns.js";
 import { inOtherWords, membersIn } from "./group-words.js";
 import { joinedMembers } from "./member-marks.js";
 import { rowsOf } from "./lists.js";
 import { oddsOf } from "./odds.js";
 import { UNKNOWN } from "./columns.js";
 import { leftText, unframed } from "./frames.js";
-import { cellsOf, headingsOf } from "./pasting.js";
+import { cellsOf } from "./pasting.js";
 import { Reading } from "./reading.js";
 import { answerFault } from "./saved-tables.js";
 import { unitsText, withoutUnits } from "./units.js";
+import { groupsOfParts, partsElsewhere, tableOfParts, usedParts } from "./used-parts.js";
 import { headingOf, manyBelow, numbersIn, vectorOf } from "./vectors.js";
 
-const FORM = "Give each group a line: its members with + between them, then its number. Marks in columns need the "
-  + "names above them.";
 const SEVERAL_IN = /\d[,;] .*\p{L}.* \S*\d\S*$/u; // several groups in a line
 const MOST_BY_NAME = 6; // above, the document lists numbers alone: it would be too long by names
 const MOST_PLAYERS = mostOf("table");
 const MOST_TOLD = 4; // names without a line
 const MOST_SPARSE = 4; // players of whose groups most may be empty
 const MOST_LETTERS = 4000; // of a group with all its names
-const MOST_SHOWN = 120; // letters of a line that is quoted
 
 /** A table as it goes to a worker and back: one text is copied faster than 65,536. */
 export function packed({ names, numbers, opened, isUnnamed }) {
@@ -133,14 +132,14 @@ export function withoutPlayer(state, player) {
 
 /** A table from a pasted text: lines of a group, with + between its members, and its number; or numbers alone, in the
  * order of the masks or by size: {state}, or {fault} in words; or {asked, players}, a line that may be the group of
- * all: then it is read again with what was said of it (`roles`). A {fault} may have a `way` on, a title and what then is
- * said (`isZeroAlone`, `isSparse`). `told` says how it was read, `remark` what was left out. */
+ * all: then it is read again with what was said of it (`roles`). A {fault} may have a `way` on, a title and what then
+ * is said (`isZeroAlone`, `isSparse`). `told` says how it was read, `remark` what was left out. */
 export function tableOf(text, names = [], order = "size", mark = ".", said = {}) {
   const cells = cellsOf(text), block = blockOf(cells, { canBeNegative: true, words: true });
   const { rows, left } = unframed(block.rows), saved = answerFault(cells);
+  const ofParts = saved ? undefined : partsRead(cells, mark, said);
+  if (ofParts) return ofParts;
   if (block.loose || saved) return { fault: saved ?? looseText(block.loose) };
-  const used = usersOf(block.remarks);
-  if (used) return { fault: used };
   const kept = rows.filter((row) => row.some(Boolean));
   const marked = joinedMembers(kept), joined = groupsFirst(marked.rows);
   const isList = joined !== kept || isGroups(kept);
@@ -157,12 +156,18 @@ export function tableOf(text, names = [], order = "size", mark = ".", said = {})
   return read.state ? { ...read, remark: told + read.remark } : read;
 }
 
-/** Why a list of parts isn't taken, each with who uses it in brackets behind its cost: such names recur. */
-function usersOf(remarks) {
-  const lists = remarks.map((text) => text.replace(/^\W*(?:used by|for)?\s*|\W+$/giu, "").split(/\s*[,;+&/]\s*/));
-  const all = lists.flat(), isOf = lists.length > 1 && lists.some(({ length }) => length > 1);
-  return isOf && new Set(all).size < all.length && `“${withEscapes(remarks[0])}” behind a number looks like who uses `
-    + "that part. Here a line is a group: give each group what the parts cost that one of it uses, added up.";
+/** What comes of parts with who uses each: {users} are asked about, until somebody said what they are (`isParts`, or
+ * `isGroups`); nothing of another text. */
+function partsRead(cells, mark, { isCost, isParts, isGroups, column, by }) {
+  const elsewhere = isCost ? undefined : partsElsewhere(cells);
+  if (!isCost) return elsewhere && { fault: elsewhere };
+  const found = isParts === false ? null : usedParts(cells, { mark, column });
+  if (!found) return undefined;
+  if (isParts === undefined) return { users: found.names, isGroups: found.isGroups };
+  if (found.fault || found.columns) return found;
+  if (!isGroups) return tableOfParts(found, { mark, by });
+  const read = listOf(groupsOfParts(found), found.parts.map((_, k) => k + 1), { mark, cells, isCost });
+  return read.state ? { ...read, remark: found.remark + read.remark } : read;
 }
 
 /** A table of numbers alone in a text, below a heading or without: {state}; or {fault}, with `isAll` where nothing else
@@ -208,12 +213,6 @@ function ofNumbers(rows, named, order, mark) {
   return { state, told, isOdd, remark };
 }
 
-function headingText(line) {
-  const text = line.trim(), isLong = text.length > MOST_SHOWN;
-  const shown = `${withEscapes(text.slice(0, MOST_SHOWN))}${isLong ? " …" : ""}`;
-  return ` The first line, “${shown}”, was taken as a heading.`;
-}
-
 /** How many groups have a lesser number than the same group without a member. */
 function drops(values) {
   let count = 0;
@@ -221,51 +220,6 @@ function drops(values) {
     for (let bit = 1; bit < values.length; bit *= 2) if (mask & bit && values[mask] < values[mask & ~bit]) count += 1;
   }
   return count;
-}
-
-const WORTH = new RegExp("cost|gain|worth|value|saving|amount|price|profit|kosten|gewinn|wert|betrag|preis|ersparnis"
-  + "|co[uû]t|valeur|montant|\\bv ?\\(s\\)|\\b(eur|usd|gbp|chf)\\b|\\p{Sc}", "iu");
-
-const PER = /\b(?:per|je|pro|par|por)\b|\/ ?\p{L}/iu; // of a price for each of something
-const isWorth = (heading = "") => WORTH.test(heading) && !PER.test(heading);
-
-/** Rows of a group and its number, of such as may have headings and further columns: {rows, lines, told}. Of several
- * columns of numbers the one `column` is taken; {columns} with their titles if nobody said which; {fault} where no
- * headings say what the others are. `lines` are the numbers of the lines of the text. */
-function pairsOf(all, allLines, { mark, column, cells }) {
-  const headings = headingsOf(all, 1, mark) ?? yearsOf(all), skip = headings ? 1 : 0, rows = all.slice(skip);
-  const lines = allLines.slice(skip), long = rows.findIndex((row) => row.slice(2).some(Boolean));
-  const told = headings ? headingText((cells[allLines[0] - 1] ?? headings).filter(Boolean).join("; ")) : "";
-  if (long < 0) return { rows, lines, told };
-  const isNumber = (text) => Boolean(text) && !readNumber(text, mark).fault;
-  const shown = withEscapes(rows[long].join("; ")).slice(0, 60), line = `Line ${lines[long]}: `;
-  const wide = all.reduce((most, { length }) => Math.max(most, length), 0);
-  const others = Array.from({ length: wide - 1 }, (_, k) => k + 1);
-  const numeric = others.filter((c) => rows.some((row) => isNumber(row[c]))), meant = (c) => isWorth(headings?.[c]);
-  const several = numeric.filter(meant).length === 1 ? numeric.filter(meant) : numeric, at = column ?? several[0];
-  const isNamed = rows.every(([group]) => !isNumber(group)), isPlain = others.every((c) => numeric.includes(c));
-  if (several.length > 1 && column === undefined && isNamed && (headings || isPlain)) {
-    const textOf = (c) => headings?.[c] || `${rows.slice(0, 2).map((row) => row[c]).join(", ")} …`;
-    return { columns: several.map((c) => ({ c, title: withEscapes(textOf(c)) })) };
-  }
-  if (at === undefined || (several.length > 1 && column === undefined)) {
-    return { fault: `${line}A line has a group and one number, and here one has more: “${shown}”. ${FORM}` };
-  }
-  if (!headings && column === undefined) {
-    return { fault: `${line}A line has a group and its number, and here is more: “${shown}”. Leave that out, or give `
-      + "each column a heading." };
-  }
-  const out = others.filter((c) => c !== at).map((c) => withEscapes(headings?.[c] ?? rows[0][c] ?? ""));
-  const left = out.map((text) => ` “${text}”${headings ? "" : " …"} was left out.`).join("");
-  return { rows: rows.map((row) => [row[0], row[at] ?? ""]), lines, told: told + left };
-}
-
-/** The first row, if it is a word and years above numbers. */
-function yearsOf([[word = "", ...years], ...below]) {
-  const isYear = (text) => /^(19|20)\d\d$/.test(text), isGroup = /^(gr[uo]u?pp?[aeos]*|coalition|koalition|s|who)$/i;
-  const isOf = years.length > 0 && years.every(isYear) && (years.length > 1 || isGroup.test(word));
-  return isOf && /^\p{L}+$/u.test(word) && below.every(([, ...some]) => some.length === years.length)
-    ? [word, ...years] : null;
 }
 
 /** Rows whose groups stand behind a column of numbers, with the groups first; others as they are. */

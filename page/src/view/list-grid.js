@@ -135,7 +135,8 @@ class ListGrid {
       mark: this.mark(), usual: columns.slice(first), isFirst: !first, ...said,
       single: single?.heads && single,
     });
-    const fault = sheet.fault ?? (first ? this.wordsFault(pasted, columns[first]) : undefined);
+    const other = this.kind.refusal?.(pasted) ?? sheet.fault;
+    const fault = other ?? (first ? this.wordsFault(pasted, columns[first]) : undefined);
     if (fault) return this.say(`${fault} Nothing was taken.`);
     const most = this.kind.most * 4, count = sheet.rows?.length ?? 0;
     if (count > most) return this.say(`These are ${count} rows, and at most ${most} fit. Nothing was taken.`);

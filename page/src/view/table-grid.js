@@ -9,7 +9,7 @@ import { cellInput, moveByKeys, pasteCells, removal, removeByKey, showTips } fro
 import { askAgain, askIn, button, cellOf, copy, el, refill, unask } from "./dom.js";
 import { numbersIn } from "../cases/vectors.js";
 import { plural } from "../game/words.js";
-import { namedGroups, placeOf, wholeAsked } from "./lists-asked.js";
+import { listAsked, namedGroups, placeOf } from "./lists-asked.js";
 import { askNames } from "./names-asked.js";
 import { pasteBox } from "./paste-box.js";
 
@@ -350,18 +350,10 @@ class TableGrid {
     const found = await this.readList(what), { state, told, isOdd } = found;
     this.element.again = (grid) => grid.takeList(text, order, null, said);
     const use = (more) => () => this.takeList(text, order, close, { ...said, ...more });
-    const answer = (title, more) => [button(title, use(more), { class: "quiet" }), " "];
-    const ways = found.columns?.map(({ c, title }) => answer(`“${title}”`, { column: c })), word = this.kind.what;
-    if (ways) {
-      const asked = `Nothing was taken yet. Which column is ${word.toLowerCase()}? `;
-      return askIn(this.element, this.message, [asked, ways]);
-    }
-    if (found.asked) {
-      const [asked, ...both] = wholeAsked(found, this.kind, said.roles);
-      return askIn(this.element, this.message, [`Nothing was taken yet. ${asked} `, both.map((one) => answer(...one))]);
-    }
-    if (!state && found.way) {
-      return askIn(this.element, this.message, [`Nothing was taken yet. ${found.fault} `, answer(...found.way)]);
+    const asks = listAsked(found, this.kind, said);
+    if (asks) {
+      const [asked, ...answers] = asks, way = ([title, more]) => [button(title, use(more), { class: "quiet" }), " "];
+      return askIn(this.element, this.message, [`Nothing was taken yet. ${asked} `, answers.map(way)]);
     }
     if (!state) return this.say(found.fault, " Nothing was taken.");
     close?.();

@@ -1,6 +1,11 @@
 // Texts of groups with their costs or gains, as rows of pasted.mjs.
 const ALONE = "Oberdorf\t480\nNiederau\t390\nSt. Veit\t350", ALL = "Oberdorf|Niederau|St. Veit|480|390||350|||690";
 const PAIRS = "Oberdorf + Niederau\t600\nOberdorf + St. Veit\t590";
+const ROADS = "Section\tCost\tUsed by\nMain road\t480\tAnn, Kim, Lee\nFork\t150\tAnn and Kim\nSpur\t90\tKim";
+const ROAD_GROUPS = "Ann|Kim|Lee|630|720|720|480|630|720|720", YES = "Yes, make the table of groups";
+const MARKED = "Section\tA\tB\tC\tCost\nRoad\tx\tx\tx\t480\nTo A\tx\t\t\t50\nTo B\t\tx\t\t40\nTo C\t\t\tx\t90";
+const OWN = "No, each line is a group with its own cost";
+const PARTS = "Part A: 480 (Kim, Lee)\nPart B: 150 (Kim)\nPart C: 90 (Lee)";
 
 export const GROUPS = [
   // a line of all under a name of its own
@@ -16,11 +21,35 @@ export const GROUPS = [
   ["gains", "A: 8\nB: 7\nJoint tender (all): 20", "A|B|8|7|20", /“Joint tender \(all\)” is a group/, "Both together"],
   ["costs", `${ALONE}\n${PAIRS}\nLinie 7\t690`, null, /Is “Linie 7” all 3 together/],
   ["costs", "All Saints\t480\nSt. Mary\t390\nSt. Peter\t350", "All Saints|St. Mary|St. Peter|480|390||350|||"],
-  ["costs", "A 8\nB 7\nC 6\nA+B 9\nA+B+C 12\nJoint order 12", null, /have a line of all together\. Is “Joint order” som/],
+  ["costs", "A 8\nB 7\nC 6\nA+B 9\nA+B+C 12\nJoint order 12", null, /have a line of all together\. Is “Joint ord/],
   ["costs", Array.from("ABCDEFGHIJKL", (name) => `${name} 8`).join("\n") + "\nGemeinsam bestellt 40", null,
     /all 12 together \(“A”, .*“H” and 4 others\), or/],
   // a group whose members have other letters than their lines
-  ["costs", "School 48\nRectory 30\nTown hall 40\nSchool + rectory 70\nAll 100", /^School\|Rectory\|Town hall\|48\|30\|70/,
+  ["costs", "School 48\nRectory 30\nMill 40\nSchool + rectory 70\nAll 100", /^School\|Rectory\|Mill\|48\|30\|70/,
     /“rectory” is “Rectory”\./],
   ["costs", "Kim 4\nKIM 3\nLee 5\nkim + Lee 8", null, /no line for “kim” alone/],
+  // parts with their cost and who uses each
+  ["costs", ROADS, null, /part with its cost and who uses it: “Ann”, “Kim” and “Lee”\. Shall each group cost/],
+  ["costs", ROADS, ROAD_GROUPS, /Made of 3 parts: each group costs the parts that somebody/, YES],
+  ["costs", ROADS, "Main road|Fork|Spur|480|150||90|||", /“Used by” was left out/, "No"],
+  ["costs", PARTS, "Kim|Lee|630|570|720", /Made of 3 parts/, YES], ["costs", PARTS, "Kim|Lee|150|90|480", /^/, OWN],
+  ["costs", PARTS, /^Part A\|Part B\|Part C\|480\|/, /Left out behind numbers: “\(Kim, Lee\)”/, "No"],
+  ["costs", "Road\t16,100.00\tall\nFork\t2,150.50\tAnn; Bo\nSpur\t90.00\tBo & Cy\nTotal\t18,340.50\t",
+    "Ann|Bo|Cy|18,250.50|18,340.50|18,340.50|16,190.00|18,340.50|18,340.50|18,340.50", /“Total” was left out/, YES],
+  ["costs", "Road\t480\tAnn, Bo\nFork\t150\tAnn\nTotal\t700\t", null, /“Total” says 700, .* add to 630\. M/, YES],
+  ["costs", "Road\t48,000\tAnn, Bo\nFork\t150\tAnn", null, /“48,000” can be read as 48000 or as 48\. W/, YES],
+  ["costs", "Part\tCost\tUsed by\nRoad\t480\tAnn, Bo\nFork\t\tAnn", null, /“Fork” has no cost\. Write it/, YES],
+  ["costs", "Part\tCost\tUsed by\nRoad\t480\tAnn, Bo\nPond\t90\tnobody", null, /Nobody uses “Pond”\. Write/, YES],
+  ["costs", "Part\tCost\tUsed by\nRoad\t480\tAnn, Bo\nPond\t90\tall but Ann", null, /“all but Ann” doesn’t say/, YES],
+  ["costs", "Part\tCost\tUsed by\nRoad\t480\tAll Saints, Zion\nPond\t90\tAll Saints",
+    "All Saints|Zion|570|480|570", /Made of 2 parts/, YES],
+  ["costs", "Road\t480\tAnn\tBo\tCy\nFork\t150\tAnn\tCy", "Ann|Bo|Cy|630|480|630|630|630|630|630", /Made of 2/, YES],
+  ["costs", MARKED, "A|B|C|530|520|570|570|620|610|660", /Made of 4 parts/, YES],
+  ["costs", MARKED, "A|B|C|50|40||90|||480", /“Section”, before the columns of marks, was left out/, "No"],
+  ["costs", "Lift: 12.500,00 EUR (EG, 1. OG)\nKeller: 3.000,00 EUR (EG)",
+    "EG|1. OG|15.500,00 EUR|12.500,00 EUR|15.500,00 EUR", /Made of 2/, YES],
+  ["runway", ROADS, null, /“Costs of each group” makes a table of groups of such lines: paste them there\. Nothing/],
+  ["network", ROADS, null, /“Costs of each group” makes/], ["gains", ROADS, null, /“Costs of each group” makes/],
+  ["network", "Works\tMill & Sons\t12\nWorks\tFarm\t9\nMill & Sons\tFarm\t4", /^Works\|Mill & Sons\|Farm\|/],
+  ["costs", "Who\tCost\tRemark\nA\t8\tby phone\nB\t7\tby mail\nA+B\t12\tby phone", "A|B|8|7|12", /“Remark” was/],
 ];

@@ -1,0 +1,59 @@
+// Which column of a list of groups has their numbers, where it has several.
+import { readNumber } from "../exact/decimals.js";
+import { withEscapes } from "../game/names.js";
+import { headingsOf } from "./pasting.js";
+
+const MOST_SHOWN = 120; // letters of a line that is quoted
+export const FORM = "Give each group a line: its members with + between them, then its number. Marks in columns need "
+  + "the names above them.";
+const WORTH = new RegExp("cost|gain|worth|value|saving|amount|price|profit|kosten|gewinn|wert|betrag|preis|ersparnis"
+  + "|co[uû]t|valeur|montant|\\bv ?\\(s\\)|\\b(eur|usd|gbp|chf)\\b|\\p{Sc}", "iu");
+
+const PER = /\b(?:per|je|pro|par|por)\b|\/ ?\p{L}/iu; // of a price for each of something
+const isWorth = (heading = "") => WORTH.test(heading) && !PER.test(heading);
+
+/** Rows of a group and its number, of such as may have headings and further columns: {rows, lines, told}. Of several
+ * columns of numbers the one `column` is taken; {columns} with their titles if nobody said which; {fault} where no
+ * headings say what the others are. `lines` are the numbers of the lines of the text. */
+export function pairsOf(all, allLines, { mark, column, cells }) {
+  const headings = headingsOf(all, 1, mark) ?? yearsOf(all), skip = headings ? 1 : 0, rows = all.slice(skip);
+  const lines = allLines.slice(skip), long = rows.findIndex((row) => row.slice(2).some(Boolean));
+  const told = headings ? headingText((cells[allLines[0] - 1] ?? headings).filter(Boolean).join("; ")) : "";
+  if (long < 0) return { rows, lines, told };
+  const isNumber = (text) => Boolean(text) && !readNumber(text, mark).fault;
+  const shown = withEscapes(rows[long].join("; ")).slice(0, 60), line = `Line ${lines[long]}: `;
+  const wide = all.reduce((most, { length }) => Math.max(most, length), 0);
+  const others = Array.from({ length: wide - 1 }, (_, k) => k + 1);
+  const numeric = others.filter((c) => rows.some((row) => isNumber(row[c]))), meant = (c) => isWorth(headings?.[c]);
+  const several = numeric.filter(meant).length === 1 ? numeric.filter(meant) : numeric, at = column ?? several[0];
+  const isNamed = rows.every(([group]) => !isNumber(group)), isPlain = others.every((c) => numeric.includes(c));
+  if (several.length > 1 && column === undefined && isNamed && (headings || isPlain)) {
+    const textOf = (c) => headings?.[c] || `${rows.slice(0, 2).map((row) => row[c]).join(", ")} …`;
+    return { columns: several.map((c) => ({ c, title: withEscapes(textOf(c)) })) };
+  }
+  if (at === undefined || (several.length > 1 && column === undefined)) {
+    return { fault: `${line}A line has a group and one number, and here one has more: “${shown}”. ${FORM}` };
+  }
+  if (!headings && column === undefined) {
+    return { fault: `${line}A line has a group and its number, and here is more: “${shown}”. Leave that out, or give `
+      + "each column a heading." };
+  }
+  const out = others.filter((c) => c !== at).map((c) => withEscapes(headings?.[c] ?? rows[0][c] ?? ""));
+  const left = out.map((text) => ` “${text}”${headings ? "" : " …"} was left out.`).join("");
+  return { rows: rows.map((row) => [row[0], row[at] ?? ""]), lines, told: told + left };
+}
+
+/** The first row, if it is a word and years above numbers. */
+function yearsOf([[word = "", ...years], ...below]) {
+  const isYear = (text) => /^(19|20)\d\d$/.test(text), isGroup = /^(gr[uo]u?pp?[aeos]*|coalition|koalition|s|who)$/i;
+  const isOf = years.length > 0 && years.every(isYear) && (years.length > 1 || isGroup.test(word));
+  return isOf && /^\p{L}+$/u.test(word) && below.every(([, ...some]) => some.length === years.length)
+    ? [word, ...years] : null;
+}
+
+/** What is told of a first line that was taken as a heading. */
+export function headingText(line) {
+  const text = line.trim(), isLong = text.length > MOST_SHOWN;
+  const shown = `${withEscapes(text.slice(0, MOST_SHOWN))}${isLong ? " …" : ""}`;
+  return ` The first line, “${shown}”, was taken as a heading.`;
+}

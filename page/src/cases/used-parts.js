@@ -1,0 +1,202 @@
+// Parts of one work, pasted each with its cost and who uses it: in brackets behind, in a column, or by marks below
+// names. A group by itself pays the parts that somebody of it uses.
+import { readTogether } from "../exact/decimals.js";
+import { lcm, Rational } from "../exact/rational.js";
+import { writtenAs } from "../exact/styles.js";
+import { isSumWord, withEscapes } from "../game/names.js";
+import { listed, plural } from "../game/words.js";
+import { countIn, isAllWord } from "./all-together.js";
+import { blockOf, isText } from "./block.js";
+import { leftText, unframed } from "./frames.js";
+import { pairsOf } from "./group-columns.js";
+import { NOBODY } from "./group-words.js";
+import { IN, isMark } from "./member-marks.js";
+import { headingsOf } from "./pasting.js";
+import { parted, unitsText, withoutUnits } from "./units.js";
+
+const MOST_LETTERS = 600; // of a line
+const MOST_USERS = 16, MOST_PARTS = 500;
+const BY = "(?:used|needed|shared|served) by|serves|users?:?|for|genutzt von|nutz(?:t|en|er):?|für|utilisée? par|pour";
+const TAIL = new RegExp(`^(.{0,300}?\\d[^()]{0,40}?)\\s*(?:[,;–—-]\\s*)?(?:\\((?:(?:${BY})\\s+)?([^()]{1,300})\\)`
+  + `|(?:${BY})\\s+([^()]{1,300}?))[.;,]?$`, "iu");
+const SURE = new RegExp(`^(?:${BY})$`, "iu");
+const USERS = new RegExp(`^(?:${BY}|who|wer|qui|wem|(?:used|needed|shared|served)|(?:who|that|wer|qui) \\p{L}+(?: it)?|`
+  + "beneficiar\\p{L}*|partners?|members?|part(?:y|ies)|participants?|benutzer|nutznießer|usagers?|utilisateurs?"
+  + "|bénéficiaires?|mitglieder|beteiligte)$", "iu");
+const LIST = /\s*(?:[,/&+]|(?<!\p{L})(?:and|und|et|y|e|en|sowie)(?!\p{L}))\s*/u;
+const EXCEPT = /(?<!\p{L})(?:except|but|without|not|außer|ohne|sauf|nicht)(?!\p{L})/iu;
+const ALL = /^(?:(?:[Aa]ll|ALL|[Tt]ous|[Tt]outes)(?: (?:the |les )?\p{Ll}+)?|[Aa]lle(?: \p{L}+)?)$/u; // no "All Saints"
+
+const ELSEWHERE = "Each line looks like a part with its cost and who uses it. “Costs of each group” makes a table of "
+  + "groups of such lines: paste them there.";
+
+const quoted = (name) => `“${withEscapes(name)}”`;
+const isAll = (text) => isAllWord(text) || ALL.test(text);
+
+/** The users in a cell; those between semicolons may have commas. */
+function usersIn(text) {
+  const names = text.split(text.includes(";") ? /\s*;\s*/ : LIST).map((one) => one.trim());
+  return names.filter((name) => !NOBODY.test(name));
+}
+
+/** Whether lists are of users: some names several or all, and some name is in two of them or somebody `said` so. */
+function areUsers(lists, said = false) {
+  const all = lists.flat().filter((one) => !isAll(one)), hasAll = lists.some((list) => list.some(isAll));
+  const hasSeveral = hasAll || lists.some(({ length }) => length > 1);
+  return hasSeveral && (said || (lists.length > 1 && (hasAll || new Set(all).size < all.length)));
+}
+
+/** The parts in pasted cells: {parts, names}, each with its name, cost, users and line; `sums` are lines of a sum. The
+ * `remark` has what was left out, and `isSure` says that words or brackets show that they are users. Or {fault}, or the
+ * {columns} of which one is the cost. Null for another text. */
+export function usedParts(pasted, { mark = ".", column } = {}) {
+  if (pasted.length > MOST_PARTS) return null;
+  const found = behindCosts(pasted) ?? inColumn(pasted, mark) ?? byMarks(pasted);
+  if (!found) return null;
+  const { rows: bare, units = [], fault: several } = withoutUnits(found.rows, 1);
+  const pairs = pairsOf(bare, found.lines, { mark, column, cells: pasted }), { rows = [], lines } = pairs;
+  const all = rows.map(([name, cost], k) => {
+    return { name, cost, users: found.users.at(k - rows.length), line: `Line ${lines[k]}: ` };
+  });
+  const parts = all.filter(({ name }) => !isSumWord(name)), sums = all.filter((part) => !parts.includes(part));
+  const below = found.rows.slice(-found.users.length), lists = found.users.filter((list, k) => {
+    return list.length > 0 && !isSumWord(below[k][0]);
+  });
+  const named = new Set(lists.flat().filter((one) => !isAll(one) && !EXCEPT.test(one))), names = [...named];
+  const told = [leftText(found.left), ...found.notes, unitsText(units)].filter(Boolean).map((words) => ` ${words}`);
+  const isOwn = (name) => lists.some(([one, other]) => one === name && !other), kinds = lists.map((list) => {
+    return [...list].sort().join("\n");
+  });
+  const isGroups = names.every(isOwn) && new Set(kinds).size === lists.length;
+  const fault = several ?? pairs.fault ?? faultOf(parts, names);
+  const remark = told.join("") + (pairs.told ?? "");
+  return { parts, sums, names, remark, fault, columns: pairs.columns, isSure: found.isSure, isGroups };
+}
+
+/** Why parts can't be taken. */
+function faultOf(parts, names) {
+  const find = (is) => parts.find(is), isOdd = (one) => EXCEPT.test(one) || (isAll(one) && countIn(one) !== undefined
+    && countIn(one) !== names.length);
+  const nobody = find(({ users }) => !users?.length), free = find(({ cost }) => !/\d/.test(cost));
+  const odd = find(({ users = [] }) => users.some(isOdd));
+  if (nobody) return `${nobody.line}Nobody uses ${quoted(nobody.name)}. Write who does, or leave that line out.`;
+  if (free) return `${free.line}${quoted(free.name)} has no cost. Write it, or leave that line out.`;
+  if (odd) return `${odd.line}${quoted(odd.users.join(", "))} doesn’t say who uses it. Write their names.`;
+  return names.length > MOST_USERS
+    ? `These are ${names.length} users, and a table has at most ${MOST_USERS} players.` : undefined;
+}
+
+/** Lines of a part, its cost, and who uses it in brackets or behind "used by". */
+function behindCosts(pasted) {
+  const whole = pasted.map((row, k) => ({ row, line: k + 1, tail: tailOf(row) }));
+  const first = whole.findIndex(({ tail }) => tail), lists = whole.map(({ tail }) => tail?.users).filter(Boolean);
+  if (!areUsers(lists)) return null;
+  const isOf = ({ row, tail }, k) => tail || (k > first && row.some((text) => /\d/.test(text)));
+  const kept = whole.filter(isOf), out = whole.filter((one) => !kept.includes(one));
+  const left = out.map(({ row }) => row.join(" ").trim());
+  const { rows, lines, notes, loose } = blockOf(kept.map(({ row, tail }) => tail?.cells ?? row), { words: true });
+  if (loose) return null;
+  return {
+    rows, notes, left: left.filter(Boolean), users: lines.map((line) => kept[line - 1].tail?.users ?? []),
+    lines: lines.map((line) => kept[line - 1].line), isSure: true,
+  };
+}
+
+/** The users behind a number, with the cells before them. */
+function tailOf(row) {
+  const last = row.findLastIndex(Boolean), text = row[last] ?? "";
+  const [, before, inside, behind] = (text.length <= MOST_LETTERS && TAIL.exec(text)) || [];
+  return before === undefined ? null : { cells: [...row.slice(0, last), before], users: usersIn(inside ?? behind) };
+}
+
+/** A table with a column of users, beside one of names and one of numbers; users may have a cell each. Without a
+ * heading that says so, no part has the name of another, or of users. */
+function inColumn(pasted, mark) {
+  const { rows, left, lines, notes, loose } = tableIn(pasted), headings = headingsOf(rows, 1, mark);
+  const below = headings ? rows.slice(1) : rows, parts = below.filter(([name]) => !isSumWord(name ?? ""));
+  const columns = Array.from({ length: Math.max(0, ...rows.map(({ length }) => length)) }, (_, c) => c);
+  const isWords = (c) => parts.every(({ [c]: text = "" }) => isText(text) && !parted(text));
+  const isCalled = (c) => USERS.test(headings?.[c] ?? "");
+  const listsAt = (c) => below.map((row) => cellsAt(row, c, headings).flatMap(usersIn));
+  const isSaid = (c) => SURE.test(headings?.[c] ?? "");
+  const isOf = (c) => (c > 0 || isSaid(c)) && areUsers(listsAt(c).filter(({ length }) => length), isSaid(c));
+  const named = columns.find((c) => isCalled(c) && isOf(c)), at = named ?? columns.find((c) => isWords(c) && isOf(c));
+  const own = columns.find((c) => c !== at && isWords(c)), label = own ?? (isSaid(at) ? at : undefined);
+  const called = parts.map((row) => row[label]);
+  const isApart = new Set(called).size === called.length && !parts.some((row) => called.includes(row[at]));
+  if (loose || at === undefined || label === undefined || (named === undefined && !isApart)) return null;
+  const isOut = (row, c) => c === label || c === at || (c > at && cellsAt(row, at, headings).length > 1);
+  const bare = (row) => [row[label] ?? "", ...row.filter((_, c) => !isOut(row, c))];
+  const isSure = named !== undefined || parts.some((row) => /[,;]/.test(row[at]));
+  return { rows: rows.map(bare), lines, users: listsAt(at), notes, left, isSure };
+}
+
+/** The rows of a table that was pasted, without what frames it, and the numbers of their lines. */
+function tableIn(pasted) {
+  const block = blockOf(pasted, { words: true }), { rows: framed, left } = unframed(block.rows);
+  const rows = framed.filter((row) => row.some(Boolean)), places = new Map(block.rows.map((row, k) => [row, k]));
+  return { ...block, rows, left, lines: rows.map((row) => block.lines[places.get(row)]) };
+}
+
+/** The cell of a column, with all of words behind it that have no heading. */
+function cellsAt(row, c, headings) {
+  const more = row.slice(c + 1), isMore = more.every((text, k) => !headings?.[c + 1 + k] && (!text || isText(text)));
+  return [row[c] ?? "", ...(isMore ? more : [])].filter(Boolean);
+}
+
+/** A table with a column for each user, with marks, beside one of names and one of numbers; null where each group has a
+ * row, or nothing calls the rows. */
+function byMarks(pasted) {
+  const { rows, left, lines, notes, loose } = tableIn(pasted), [heads = [], ...below] = rows;
+  const columns = heads.map((_, c) => c), parts = below.filter(([name]) => !isSumWord(name ?? ""));
+  const isOf = (c) => c > 0 && isText(heads[c]) && parts.every((row) => isMark(row[c]))
+    && parts.some((row) => IN.test(row[c]));
+  const marks = columns.filter(isOf), bare = (row) => row.filter((_, c) => !marks.includes(c));
+  const users = below.map((row) => marks.filter((c) => IN.test(row[c] ?? "")).map((c) => heads[c]));
+  const isWhole = new Set(users.map(String)).size === below.length && below.length === 2 ** marks.length - 1;
+  const isFit = marks.length > 1 && columns.length > marks.length + 1 && parts.every(([name]) => isText(name));
+  if (loose || isWhole || !isFit || !areUsers(users.filter(({ length }) => length))) return null;
+  return { rows: rows.map(bare), lines, users, notes, left, isSure: false };
+}
+
+/** What is said of parts that are pasted where they have no place; undefined for another text. */
+export const partsElsewhere = (pasted) => (usedParts(pasted)?.isSure ? ELSEWHERE : undefined);
+
+/** The table of groups of such parts: {state, remark}, or {fault}; or {doubt}, a number that can be read in two ways,
+ * until somebody says by which mark (`by`). */
+export function tableOfParts({ parts, sums, names, remark }, { mark: usual, by }) {
+  const mark = by ?? usual, texts = parts.map(({ cost }) => cost), { isSettled, read } = readTogether(texts, mark);
+  const odd = read.findIndex(({ fault }) => fault), doubt = isSettled || by ? -1 : read.findIndex((one) => one.doubt);
+  if (odd >= 0) return { fault: `${parts[odd].line}${quoted(texts[odd])} is no number. Write the number alone.` };
+  if (doubt >= 0) return { doubt: texts[doubt] };
+  const costs = read.map(({ value }) => value), n = names.length;
+  const whole = Rational.sum(costs), sumOf = ({ cost }) => readTogether([...texts, cost], mark).read.at(-1).value;
+  const other = sums.find((sum) => !sumOf(sum)?.equals(whole));
+  if (other) {
+    const [name, said] = [other.name, other.cost || "nothing"].map(withEscapes);
+    const [own] = writtenAs([whole], texts, mark);
+    return { fault: `${other.line}“${name}” says ${said}, and the parts add to ${own}. Mend it, or leave it out.` };
+  }
+  const masks = parts.map(({ users }) => users.reduce((mask, one) => {
+    return isAll(one) ? 2 ** n - 1 : mask | (1 << names.indexOf(one));
+  }, 0));
+  const scale = costs.reduce((all, { den }) => lcm(all, den), 1n);
+  const steps = costs.map(({ num, den }) => num * (scale / den));
+  const values = Array.from({ length: 2 ** n - 1 }, (_, k) => {
+    return new Rational(masks.reduce((sum, mask, part) => (mask & (k + 1) ? sum + steps[part] : sum), 0n), scale);
+  });
+  const out = sums.map(({ name }) => ` ${quoted(name)} was left out, as a sum of other lines.`).join("");
+  return {
+    state: { names, numbers: ["", ...writtenAs(values, texts, mark)] },
+    remark: `${remark}${out} Made of ${plural(parts.length, "part")}: each group costs the parts that somebody of it `
+      + "uses.",
+  };
+}
+
+/** The lines as groups, each with its own cost. */
+export function groupsOfParts({ parts, names }) {
+  return parts.map(({ users, cost }) => [(users.some(isAll) ? names : users).join("+"), cost]);
+}
+
+/** The names of users in a sentence. */
+export const usersText = (names) => listed(names.map(quoted));
