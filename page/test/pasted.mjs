@@ -294,7 +294,9 @@ for (const [text, wanted, told = /^/, labels = ["Sales", "Ops", "Legal"]] of [..
     const input = desk.grid.all().findLast((one) => one.attributes["data-cell"] === cell);
     input.on.input({ target: { value } });
   }
-  const isAll = /type it above/.test(before) && !/type it above|Two quotas/.test(desk.read().said) && !typed.isPercent;
+  const { said } = desk.read(), isGone = !/type them above|Two quotas/.test(said);
+  const isOffered = /type them above\. Votes needed: 2\. Needed of the second: 2\/3/.test(before);
+  const isAll = isOffered && isGone && !typed.isPercent;
   if (!isAll) console.log(`two quotas: ${before}, then ${desk.read().said}, per cent: ${typed.isPercent}`);
   faults += isAll ? 0 : 1;
 }

@@ -10,7 +10,7 @@ const BEHIND = new RegExp(`^\\s*(?:[:=]|[–-](?=\\s)|gets|pays|bekommt|zahlt)?\
 const ENDS = new RegExp(`^(?:${END}|\\s\\()`, "u"), HAS_WORDS = /^\s\p{L}+\s\p{L}/u; // behind a number
 const VERB = /\s(?:owes|has|holds|claims|gets|pays|wants|schuldet|hat|hält|fordert|bekommt|zahlt|doit)$/u;
 const SHORT = /^\D{1,60}\s\p{Sc}?\d[\d.,]*$/u; // a line of a name and its number
-const SAID = /^([^:]{1,200}):\s+(?=\p{L})(.*)$/u; // what is said before such a list
+const SAID = [/^([^:]{1,200}):\s+(?=\p{L})(.*)$/u, /^(.{1,300}):\s+(?=\p{L})([^:]*)$/u]; // before such a list
 
 /** The names and numbers of a line of nothing else, each name once; null for another. */
 function itemsOf(line) {
@@ -26,8 +26,9 @@ function itemsOf(line) {
 
 /** The same of what stands behind a colon: {items, said}, `said` being the words before it. */
 function saidItemsOf(line) {
-  const items = itemsOf(line), [, said, rest] = (!items && SAID.exec(line)) || [];
-  return items ? { items } : { items: rest ? itemsOf(rest) : null, said };
+  const items = itemsOf(line), ways = items ? [] : SAID.map((one) => one.exec(line) ?? []);
+  const found = ways.map(([, said, rest]) => ({ items: rest ? itemsOf(rest) : null, said }));
+  return found.find((one) => one.items) ?? { items };
 }
 
 /** Rows with a row for each name of a line of names and numbers, if one line is such and none is another row: {rows,

@@ -5,11 +5,13 @@ import { lcm, Rational, ZERO } from "../exact/rational.js";
 const MORE = /^(more than|over|above|mehr als|über|plus de|meer dan|>(?!=))\s*/;
 const LEAST = /^(at least|mindestens|au moins|minstens|>=|≥)\s*/;
 const NAME = "(?:the |die )?(?:(?:simple|absolute|qualified|two-thirds|2/3|einfache|erforderliche|nötige)[ -])?(?:"
-  + "quota|quorum|threshold|majority|mehrheit|majorité|benötigt|erforderlich|(?:votes |seats )?(?:needed|required))"
+  + "quota|quorum|threshold|majority|mehrheit|majorité|benötigt|erforderlich"
+  + "|(?:(?:votes|seats|shares|members|inhabitants) )?(?:needed|required))"
   + "(?: needed| required| absolue)?(?: (?:for|to) [^:]*)?(?: \\(.*\\))?";
 const NAMED = new RegExp(`^${NAME}\\s*[:=]\\s*`, "iu");
-const WHOM = "votes|seats|shares|capital|members|shareholders|inhabitants|habitants|einwohner|communes|stimmen|sitze"
-  + "|anteile|aktien|mitglieder|voix|sièges|stemmen|zetels";
+/** Whose a quota may be. */
+export const WHOM = "votes|seats|shares|capital|members|shareholders|inhabitants|habitants|einwohner|communes"
+  + "|stimmen|sitze|anteile|aktien|mitglieder|voix|sièges|stemmen|zetels";
 const BEHIND = new RegExp("\\s*(?:of (?:all|the)|(?:of (?:all |the )*|aller |der |des |van (?:de |alle )?)?"
   + `(?:${WHOM})(?: present| cast)?)$`, "iu");
 const MAJORITY = /^((the|a|die|la) )?((simple|absolute|einfache) )?(majority|mehrheit|majorité( simple| absolue)?)$/;
@@ -19,6 +21,8 @@ const COUNTS = {
   one: 1, two: 2, three: 3, four: 4, five: 5, six: 6, seven: 7, eight: 8, ein: 1, zwei: 2, drei: 3, un: 1, deux: 2,
   trois: 3, a: 1,
 };
+/** The words for how many parts. */
+export const COUNT_WORDS = Object.keys(COUNTS).join("|");
 const PARTS = [/^(half|hälfte|moitié|helft)$/, /^(thirds?|drittel|tiers)$/, /^(quarters?|viertel|quarts?)$/,
   /^(fifths?|fünftel)$/];
 const PER_CENT = /^(.*?)\s*(?:%|per ?cent|prozent|pour cent)$/;
@@ -27,14 +31,6 @@ const FRACTIONS = [3, 6, 7].flatMap((den) => Array.from({ length: den - 1 }, (_,
 
 /** What names the quota above a list of votes. */
 export const QUOTA = new RegExp(`^${NAME}[:.]?$`, "iu");
-
-const IN_A_LINE = /majorit|quota|quorum|mehrheit|consent|threshold|at least|mindestens|au moins|zustimm|required/iu;
-
-/** The first of some texts that names a quota, and has a number. */
-export function quotaLine(texts) {
-  const text = texts.find((one) => IN_A_LINE.test(one) && /\d/.test(one));
-  return text && { text };
-}
 
 /** A quota without its name, and without whose votes it is a part of. */
 export const bareQuota = (typed = "") => typed.trim().replace(/\s+/g, " ").replace(NAMED, "").replace(BEHIND, "");

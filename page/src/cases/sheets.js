@@ -2,6 +2,7 @@
 import { readNumber } from "../exact/decimals.js";
 import { isBareName, notNames } from "./bare-names.js";
 import { blockOf, looseText, PAGES } from "./block.js";
+import { withoutClauses } from "./clauses.js";
 import { withEscapes } from "../game/names.js";
 import { columnsFor, isKnownHead, knownHeads, widthFault } from "./columns.js";
 import { leftText, unframed } from "./frames.js";
@@ -9,7 +10,7 @@ import { partedInLine } from "./in-line.js";
 import { ledRows } from "./leaders.js";
 import { headingsOf, pastedText } from "./pasting.js";
 import { answerFault } from "./saved-tables.js";
-import { singleOf, withSingle } from "./single.js";
+import { quotasOf, singleOf, singlesOf, withSingle } from "./single.js";
 import { unitsText, withoutUnits } from "./units.js";
 
 const MOST_NAME = 80; // letters
@@ -22,25 +23,37 @@ const lineText = (text) => (/\d/.test(text) ? undefined : notNames([text], AS_RO
 const AS_ROWS = "Give each row a name, a tab and a number, and leave other lines out.";
 const PAGE = new RegExp(`^\\P{L}*(${PAGES}) ?\\d+(( ?/| \\p{L}+) ?\\d+)?\\P{L}*$`, "iu");
 
-/** Pasted rows for the `columns` from a cell on, of which `usual` go without saying: {rows, targets, headings, notes},
- * the rows below the headings, the column that each cell is for, and what has to be told. Or {fault}, in words; or
- * {asked}, if the user has to choose columns, or to say whether the first row has their `heads`: then it is asked
- * again with what was chosen (`choice`, `out`, `isHead`). A row with the number above the list (`single`) is none. */
-export function sheetOf(pasted, columns, { mark, single, amount, usual, isFirst = true, isHead, choice, out = [] }) {
-  const { rows: given, isParted } = isFirst ? partedInLine(pasted) : { rows: pasted };
+/** Pasted rows without what stands around their table: {given, rows, out, notes}, or {fault}, in words; or {asked}, if
+ * there is nothing but clauses that name quotas. */
+function tableIn(pasted, { single, isFirst }) {
+  const whole = { rows: pasted, notes: [] }, saved = answerFault(pasted);
+  const { rows: given, isParted } = isFirst ? partedInLine(pasted) : whole;
   const { rows: paged, pages } = isFirst ? withoutPages(given) : { rows: pasted, pages: [] };
-  const { rows: led, left: around } = isFirst ? ledRows(paged) : { rows: paged, left: [] };
-  const whole = { rows: pasted, notes: [] };
+  const { rows: plain, clauses } = single?.second && isFirst ? withoutClauses(paged) : { rows: paged, clauses: [] };
+  if (clauses.length && !plain.some((row) => row.some(Boolean))) return { asked: { clause: single.lineOf(clauses) } };
+  const { rows: led, left: around } = isFirst ? ledRows(plain) : { rows: plain, left: [] };
   const { rows: parted, notes: counted, loose } = isFirst ? blockOf(led, { words: true }) : whole;
-  const odd = loose ?? (isFirst ? noName(parted) : undefined), saved = answerFault(pasted);
+  const odd = loose ?? (isFirst ? noName(parted) : undefined);
   if (odd !== undefined || saved) return { fault: saved ?? lineText(odd) };
   if (given.length === 1 && PROSE.test(pasted[0].join(", "))) return { fault: SENTENCE };
-  const { rows: lines, left } = unframed(single ? withSingle(parted, single) : parted);
-  const { rows: all, found: units, fault } = withoutUnits(lines.filter((row) => row.some(Boolean)), 1);
-  const { above, word, number, fault: several } = !fault && single ? singleOf(all, single) : {};
-  if (fault || several) return { fault: fault ?? several };
+  const { rows, left } = unframed(single ? withSingle(parted, single) : parted), out = [...around, ...left, ...clauses];
+  return { given, rows, out, notes: [leftText([...out, ...pages]), isParted && IN_LINE, ...counted] };
+}
+
+/** Pasted rows for the `columns` from a cell on, of which `usual` go without saying: {rows, targets, headings, notes},
+ * the rows below the headings, the column that each cell is for, and what has to be told. Or {fault}, in words; or
+ * {asked}, if the user has to choose columns, or to say whether the first row has their `heads`, or there are two
+ * quotas: then it is asked again with what was chosen (`said`). A row with the number above the list (`single`) is
+ * none. */
+export function sheetOf(pasted, columns, { mark, single, usual, isFirst = true, ...said }) {
+  const { isHead, choice, out = [] } = said, table = tableIn(pasted, { single, isFirst });
+  if (table.fault || table.asked) return table;
+  const { rows: all, found: units, fault } = withoutUnits(table.rows.filter((row) => row.some(Boolean)), 1);
+  if (fault) return { fault };
+  const named = single ? singlesOf(all, single) : [], isTwo = columns.some(({ key }) => key === "second");
   const usually = columns.filter(({ optional }) => !optional), from = usually.findIndex((column) => column.number);
-  const body = all.filter((row) => row !== above), title = isFirst ? titleOf(given, body, columns) : null;
+  const body = all.filter((row) => named.every((one) => one.row !== row));
+  const title = isFirst ? titleOf(table.given, body, columns) : null;
   const rows = title ? body.slice(1) : body, headings = isHead === false || title ? null
     : headingsOf(rows, Math.max(0, from), mark) ?? knownHeads(rows, columns);
   const isLine = pasted.every((row) => row.filter(Boolean).length < 2); // and no row of cells
@@ -49,22 +62,41 @@ export function sheetOf(pasted, columns, { mark, single, amount, usual, isFirst 
   if (headings && isAcross(rows, columns)) return { fault: "Here names stand side by side. Give each a row." };
   const found = columnsFor(columns, headings, { rows, mark, choice, out, units }), { targets, asked, isGuess } = found;
   if (asked) return { asked };
-  const lost = widthFault(rows, headings, found, columns);
+  const below = headings ? rows.slice(1) : rows, beside = besides(below, headings, targets, mark);
+  const lost = widthFault(rows, headings, found, columns), isOther = lost && single?.second && !isTwo && !said.isOne;
+  if (isOther && fitsSecond(rows, columns, { mark, single, units })) return { asked: { pair: [] } };
   if (lost) return { fault: lost };
-  const own = [...units].filter(([c]) => targets[c]).map(([, unit]) => unit);
+  const singles = single?.second ? quotasOf(named, { targets, ...beside, isTwo, isOne: said.isOne }) : singleOf(named);
+  if (singles.fault || singles.asked) return singles;
+  const notes = [...table.notes, title && `The first line, “${withEscapes(title)}”, was taken as a heading.`,
+    pastedText(rows, headings, targets, usual), unitsText(unitsOf(units, targets)),
+    ...singlesText(singles, single, said)];
+  const line = singles.number ? undefined : single?.lineOf?.(table.out);
+  return { rows: below, targets, headings, notes: notes.filter(Boolean), isGuess, line, ...beside,
+    number: singles.number?.text, other: singles.other?.text, isPercent: isOfHundred(title, headings, targets, units) };
+}
+
+/** Whether rows are as wide as a list with second votes. */
+const fitsSecond = (rows, columns, { mark, single, units }) => {
+  const all = [...columns, single.second.column], found = columnsFor(all, null, { rows, mark, units });
+  return !found.asked && !widthFault(rows, null, found, all);
+};
+
+const unitsOf = (units, targets) => [...new Set([...units].filter(([c]) => targets[c]).map(([, unit]) => unit))];
+
+/** Whether votes are in per cent. */
+function isOfHundred(title, headings, targets, units) {
   const isOf = (column, c) => column?.number && column.key !== "second" // of the votes that a quota is a part of
     && (units.get(c) === "%" || /%/.test(headings?.[c] ?? ""));
-  const isPercent = /%/.test(title ?? "") || targets.some(isOf);
-  const notes = [
-    leftText([...around, ...left, ...pages]), isParted && IN_LINE, ...counted,
-    title && `The first line, “${withEscapes(title)}”, was taken as a heading.`,
-    pastedText(rows, headings, targets, usual),
-    unitsText([...new Set(own)]), above && `“${word}”, ${number}, was ${
-      (amount ?? number) === number ? `taken as ${single.title.toLowerCase()}` : "left out"}.`,
-  ].filter(Boolean);
-  const below = headings ? rows.slice(1) : rows, line = number ? undefined : single?.lineOf?.([...around, ...left]);
-  const beside = besides(below, headings, targets, mark);
-  return { rows: below, targets, headings, notes, number, isGuess, isPercent, line, ...beside };
+  return /%/.test(title ?? "") || targets.some(isOf);
+}
+
+/** What is told of numbers above the list that came with it. */
+function singlesText({ number, other, left }, single, { amount }) {
+  const become = (title) => (title ? `taken as ${title.toLowerCase()}` : "left out");
+  const told = (one, title) => one && `“${one.word}”, ${one.text}, was ${become(title)}.`;
+  const isTaken = (amount ?? number?.text) === number?.text;
+  return [told(number, isTaken && single?.title), told(other, single?.second?.single.title), told(left)];
 }
 
 /** What is in columns that were left out: `spare` are those of numbers, and `beside` is the mark that they show. */

@@ -4,8 +4,9 @@ import { countText, shortText, typedText } from "../exact/decimals.js";
 import { LIMITS, mostOf } from "../game/classes.js";
 import { membersOf } from "../game/groups.js";
 import { withEscapes } from "../game/names.js";
+import { quotaLine } from "./clauses.js";
 import { numbersMapped, readList } from "./lists.js";
-import { bareQuota, isQuota, leastOf, QUOTA, quotaLine, roundedPart } from "./quota.js";
+import { bareQuota, isQuota, leastOf, QUOTA, roundedPart } from "./quota.js";
 import { askOfSum } from "./sum-row.js";
 import { askOfTwice } from "./twice.js";
 

@@ -1,5 +1,6 @@
 // The grid of a list: a runway, an estate, a vote. A row is added while the last one is filled.
 import { NONE, UNKNOWN } from "../cases/columns.js";
+import { isClause } from "../cases/clauses.js";
 import { partedInLine } from "../cases/in-line.js";
 import { SPOILT } from "../cases/pasting.js";
 import { sheetOf } from "../cases/sheets.js";
@@ -7,6 +8,7 @@ import { readNumber } from "../exact/decimals.js";
 import { withEscapes } from "../game/names.js";
 import { cellInput, moveByKeys, pasteCells, removal } from "./cells.js";
 import { askAgain, askIn, button, el, refill, unask } from "./dom.js";
+import { askClause, askPair, offersOf } from "./list-offers.js";
 import { askNames } from "./names-asked.js";
 
 const NAMED = { things: "names", numbers: "numbers" };
@@ -29,7 +31,8 @@ class ListGrid {
       const [, r, key] = cell.split(".");
       return `rows.${Number(r) + step}.${key}`;
     });
-    pasteCells(table, (cell, rows) => this.fill(cell, rows), readCells, (rows) => partedInLine(rows).isParted);
+    const isSeveral = (rows) => partedInLine(rows).isParted || (kind.isVote && rows.some(isClause));
+    pasteCells(table, (cell, rows) => this.fill(cell, rows), readCells, isSeveral);
     this.showSingles();
     this.show();
     askAgain(this, typed);
@@ -133,7 +136,7 @@ class ListGrid {
     const { single } = this.kind, own = first ? columns.slice(first) : this.allColumns();
     const sheet = sheetOf(pasted, own, {
       mark: this.mark(), usual: columns.slice(first), isFirst: !first, ...said,
-      single: single?.heads && single,
+      single: single?.heads && { ...single, second: this.kind.second },
     });
     const other = this.kind.refusal?.(pasted) ?? sheet.fault;
     const fault = other ?? (first ? this.wordsFault(pasted, columns[first]) : undefined);
@@ -154,7 +157,8 @@ class ListGrid {
     if (!isOpen) sheet.notes.push(`${single.title} was ${old} before.`);
     if (said.isSame === false) this.emptied(Number(r), count);
     this.take({ ...sheet, number: said.amount ?? sheet.number, kept }, Number(r));
-    return this.offer(sheet, said, use);
+    this.offers = offersOf(this, sheet, said, use);
+    return this.showOffers();
   }
 
   /** Why words alone don’t go into a column of numbers. */
@@ -179,46 +183,21 @@ class ListGrid {
     for (let k = r; k < Math.min(r + count, rows.length); k++) rows[k] = this.blank();
   }
 
-  /** Offers what else a pasted text may say: the estate, a quota, or second votes. */
-  offer({ line, spare = [], targets }, said, use) {
-    const { kind: { single, second }, typed } = this, quoted = (text) => `“${withEscapes(text)}”`;
-    const isOpen = single && !typed[single.key].trim(), told = this.said.textContent;
-    const isTwo = second && typed.secondQuota === undefined;
-    const give = () => {
-      this.remember(single.title);
-      typed[single.key] = line.amount;
-      this.say(`${told} ${line.amount} was taken as ${single.title.toLowerCase()}.`);
-      this.showSingles();
-      this.onChange();
-    };
-    const turn = (head, c) => () => {
-      this.remember("Two quotas");
-      this.turnDouble();
-      const votes = targets.findIndex((own) => own?.key === "votes");
-      if (c) use({ ...said, choice: { ...said.choice, votes, second: c } });
-    };
-    const way = (text, use) => [" ", button(text, use, { class: "quiet" })];
-    this.offered = [
-      [() => single && !typed[single.key].trim(),
-        line?.amount && isOpen && [` Is ${line.amount} what there is to divide?`, way(`Yes, ${line.amount}`, give)]],
-      [() => !this.hasQuotas(), line && second && ` ${quoted(line.text)} names a quota: type it above.`],
-      [() => typed.secondQuota === undefined, isTwo && [
-        ...spare.map(({ head, c }) => way(`Use ${quoted(head)} as second votes`, turn(head, c))),
-        line && !spare.length && way("Two quotas at once", turn())]],
-    ].map(([isStill, part]) => ({ isStill, element: el("span", {}, part) }));
-    this.said.append(...this.offered.map(({ element }) => element));
-    this.showOffers();
-  }
-
-  /** Whether each quota above the list is filled. */
-  hasQuotas() {
-    const { single, second } = this.kind, { typed } = this;
-    return single && typed[single.key].trim() && (typed.secondQuota === undefined || typed[second.single.key].trim());
-  }
-
   /** What was offered goes when it is done. */
   showOffers() {
-    for (const { isStill, element } of this.offered ?? []) if (!isStill()) refill(element);
+    for (const { isStill, element } of this.offers ?? []) if (!isStill()) refill(element);
+  }
+
+  /** The quotas above the list, one or two. */
+  setQuotas([quota, other]) {
+    const { typed } = this;
+    this.remember("The quotas");
+    typed.quota = quota;
+    if (other) typed.secondQuota = other;
+    this.showSingles();
+    this.showOffers();
+    this.show();
+    this.onChange();
   }
 
   /** Whether pasted rows are "all" those that are here, by their names, "some" of them, or "none". */
@@ -246,8 +225,10 @@ class ListGrid {
   }
 
   /** Asks which of several pasted columns is meant; `use` takes the list by what is said then. */
-  askWhich({ heads, column: { key, title } = {}, at = [], isOnly, canNone }, said, use) {
+  askWhich({ heads, pair, clause, column: { key, title } = {}, at = [], isOnly, canNone }, said, use) {
     if (heads) return this.askHead(heads, (isHead) => use({ ...said, isHead }));
+    if (clause) return askClause(this, clause);
+    if (pair) return askPair(this, pair, said, use);
     const { choice, out } = said;
     const others = (own) => (isOnly ? at.map(({ c }) => c).filter((c) => c !== own) : []);
     const say = (c) => ({ ...said, choice: { ...choice, [key]: c }, out: [...out, ...others(c)] });
@@ -274,7 +255,7 @@ class ListGrid {
   }
 
   /** A list with names that begins in the first row is the case; and nothing of the worked example stays beside it. */
-  take({ rows, targets, headings, notes, number, isGuess, isPercent, kept, beside }, at) {
+  take({ rows, targets, headings, notes, number, other, isGuess, isPercent, kept, beside }, at) {
     const { kind, typed } = this, isExample = this.isExample();
     const hasNames = targets.some((target) => target?.key === kind.columns[0].key), r = isExample && hasNames ? 0 : at;
     const isFree = (row) => targets.every((own) => !row[own?.key]?.trim()), isBlank = (row) => this.isBlank(row);
@@ -286,6 +267,7 @@ class ListGrid {
     if (isWhole) this.leave(isExample);
     Object.assign(typed, { isUnordered: isGuess, notTwice: false, beside, ...(kind.isVote && { isPercent }) });
     if (number) typed[kind.single.key] = number;
+    if (other) typed[kind.second.single.key] = other;
     const filled = rows.map((row, k) => {
       const target = (typed.rows[r + k] ??= this.blank());
       row.forEach((text, c) => targets[c] && (target[targets[c].key] = text));

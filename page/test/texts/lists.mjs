@@ -1,4 +1,8 @@
 // Texts of a runway, an estate and votes, as rows of pasted.mjs; DIVIDED are those pasted into a proposal.
+const COUNCIL = "Who\tVotes\tMembers\nAnn\t7\t2\nBo\t4\t1\nCy\t2\t2", NEEDED = `${COUNCIL}\nNeeded\t8\t3`;
+const CLAUSE = "Carried if at least 8 of the 13 council seats and at least 55 % of the inhabitants agree";
+const SEATS = "1. at least 8 of the 13 council seats: List A 5, List B 4\n"
+  + "2. at least 55 % of the inhabitants: List A 5,200, List B 3,100";
 export const LISTS = [
   // users of what is no runway: a lift, a road, a channel, lights
   ["runway", "Flat\tFloor\tCost up to that floor\nA\t1\t100\nB\t2\t200\nC\t3\t350", "A=100=1|B=200=1|C=350=1",
@@ -12,6 +16,28 @@ export const LISTS = [
   ["estate", "The club owes: Ann 120, Bo 80 and Cy 40", "Ann=120|Bo=80|Cy=40",
     /no number stands beside: “The club owes”.*parted between them/],
   ["estate", "Mayor: Ann 120, Bo 80\nCy 40", null, /nobody can part “Mayor: Ann 120, Bo 80”/],
+  // two quotas, and clauses that name some
+  ["votes", NEEDED, null, /^Nothing was taken yet\. “Needed” has two numbers, 8 and 3\. Are there two quotas/],
+  ["votes", NEEDED, "Ann=7|Bo=4|Cy=2",
+    /“Members” is “Second votes”\. .*8, was taken as votes needed\. .*3, was taken as needed/, "Yes, two quotas"],
+  ["votes", NEEDED, "Ann=7|Bo=4|Cy=2", /8, was taken as votes needed\. “Needed”, 3, was left out/, "No, one"],
+  ["votes", `${COUNCIL}\nNeeded 8 3`, null, /“Needed” has two numbers, 8 and 3/],
+  ["votes", `${COUNCIL}\nNeeded\t\t3`, "Ann=7|Bo=4|Cy=2", /“Needed”, 3, was left out\. Use “Members” as second/],
+  ["votes", `${COUNCIL}\nVotes needed\t8\t\nMembers needed\t\t3`, "Ann=7|Bo=4|Cy=2",
+    /“Votes needed”, 8, was taken as votes needed\. “Members needed”, 3, was taken as needed of the/, "Yes, two quotas"],
+  ["votes", `${COUNCIL}\nQuorum: 8 votes and 3 members`, "Ann=7|Bo=4|Cy=2",
+    /type them above\. Votes needed: 8\. Needed of the second: 3/, "Use “Members” as second votes"],
+  ["votes", "Ann\t7\t2\nBo\t4\t1", null, /These rows have two numbers each\. Are there two quotas/],
+  ["votes", "Ann\t7\t2\nBo\t4\t1", null, /These rows have 3 cells/, "No, one"],
+  ["votes", CLAUSE, null,
+    /names two quotas, and nobody who votes\. Type the .*needed: 8 of 13\. Needed of the second: 55 %/],
+  ["votes", "A motion needs a majority of the votes.", null, /names a quota, .* Votes needed: more than 1\/2/],
+  ["votes", `Ann,7\nBo,4\nCarried if at least 8, and 3 members agree`, "Ann=7|Bo=4",
+    /Left out, as it is no row: “Carried if at least 8, and 3 members agree”/],
+  ["votes", "1. at least 8 of the 13 council seats: List A 5, List B 4", "List A=5|List B=4", /Votes needed: 8 of 13/],
+  ["votes", SEATS, null, /These rows have two numbers each/],
+  ["votes", SEATS, "List A=5|List B=4", /Votes needed: 8 of 13\. Needed of the second: 55 %/, "Yes, two quotas"],
+  ["votes", "Holders with at least 5 % each\t40\nBo\t60", "Holders with at least 5 % each=40|Bo=60"],
 ];
 const MAYOR = "Ops 8,300, Sales 9,000 and Legal 7,250", OF_MAYOR = "9,000,8,300,7,250";
 export const DIVIDED = [

@@ -1,0 +1,54 @@
+// A clause of statutes that names a quota or two: "carried if at least 8 of the 13 seats and 55 % of the votes agree".
+import { readNumber } from "../exact/decimals.js";
+import { COUNT_WORDS, isQuota, WHOM } from "./quota.js";
+
+const MOST_LETTERS = 600;
+const NAMES = new RegExp("majorit|quota|quorum|mehrheit|consent|threshold|at least|mindestens|au moins|zustimm"
+  + "|requires?|required|\\bneed(?:s|ed)?\\b|bedarf|bedürfen|braucht|brauchen|requiert|exige", "iu");
+const NUMBER = "\\d(?:[\\d.,'’\u202f]*\\d)?";
+const MORE = "more than|over|mehr als|über|plus de|meer dan", LEAST = "at least|mindestens|au moins|minstens";
+const PARTS = "half|thirds?|quarters?|fifths?|hälfte|drittel|viertel|moitié|tiers|quarts?|helft";
+/** What says how much, in a clause: a part, so many of all, a number of votes or behind "at least", a majority. */
+const QUOTA = new RegExp("(?<![\\p{L}\\d.,])"
+  + `(?:(${MORE}) (?:the |der |die |la )?|(?:(${LEAST}) )?(?:the |a |der |die )?)(?:`
+  + `(?<part>${NUMBER}(?: \\d/\\d)? ?(?:%|per ?cent|prozent|pour cent)|\\d+ ?/ ?\\d+`
+  + `|(?:${COUNT_WORDS})[ -](?:${PARTS})(?!\\p{L})|zweidrittel|dreiviertel|half|hälfte|moitié|helft)`
+  + `|(?<some>\\d+) (?:out of|of|von|der|sur|van|des) (?:the |den |les |de )?(?<many>\\d+)`
+  + `|(?<count>${NUMBER})(?<whom> (?:\\p{L}+ )?(?:${WHOM})(?!\\p{L}))?`
+  + `|(?<most>(?:simple |absolute |einfache[nr]? |absolute[nr]? )?(?:majority|mehrheit|majorité)) (?:of|der|des)(?= ))`,
+"giu");
+
+const OF = new RegExp(`^(?: of)?(?: (?:all|the|der|des|aller))* ((?:\\p{L}+ ){0,2}(?:${WHOM}))(?!\\p{L})`, "iu");
+const ONE_MORE = /^[^,;.\d]{0,40}(?:\+ ?1|plus (?:one|1|eins|un))(?!\p{L})/iu;
+
+/** The quotas that a text says, in their order: {text, whom}, the `whom` being whose they are where it says so. */
+export function quotasIn(text) {
+  return [...text.slice(0, MOST_LETTERS).matchAll(QUOTA)].map(({ 1: more, 2: least, index, 0: own, groups }) => {
+    const { part, some, many, count, whom, most } = groups, rest = text.slice(index + own.length);
+    const [, of = ""] = OF.exec(rest) ?? [], isBare = count && !more && !least && !whom;
+    if (isBare || (most && !of)) return null; // a number of something else, or "a majority of two thirds"
+    const bare = part ?? (some ? `${some} of ${many}` : count) ?? "more than 1/2";
+    return { text: more || ONE_MORE.test(rest) ? `more than ${bare}` : bare, whom: (whom ?? of).trim() };
+  }).filter((one) => one && isQuota(one.text));
+}
+
+/** Whether a row of cells is such a clause, and no voter: a sentence that names a quota, and no number ends it. */
+export function isClause(row) {
+  const cells = row.filter(Boolean), text = cells.join(", ");
+  const isRow = cells.length > 1 && !readNumber(cells.at(-1)).fault;
+  if (isRow || text.length > MOST_LETTERS || !NAMES.test(text)) return false;
+  const small = text.split(/\s+/).filter((word) => /^\p{Ll}/u.test(word)).length;
+  return small > 3 && quotasIn(text).length > 0;
+}
+
+/** Of some texts those that name a quota, in one, and the quotas: {text, quotas}. */
+export function quotaLine(texts) {
+  const own = texts.filter((one) => NAMES.test(one) && (/\d/.test(one) || quotasIn(one).length > 0));
+  return own.length ? { text: own.join("; "), quotas: own.flatMap(quotasIn) } : undefined;
+}
+
+/** Rows without the clauses among them, and these. */
+export function withoutClauses(rows) {
+  const own = rows.filter(isClause), clauses = own.map((row) => row.filter(Boolean).join(", "));
+  return { rows: rows.filter((row) => !own.includes(row)), clauses };
+}

@@ -1,0 +1,85 @@
+// What a text pasted into a list may say beside its rows: the estate, one quota or two, or second votes.
+import { withEscapes } from "../game/names.js";
+import { askIn, button, el } from "./dom.js";
+
+const MOST_SHOWN = 100; // letters of a clause
+
+const quoted = (text) => `“${withEscapes(text.slice(0, MOST_SHOWN))}${text.length > MOST_SHOWN ? " …" : ""}”`;
+const way = (text, use) => [" ", button(text, use, { class: "quiet" })];
+
+/** Adds what is offered to what was said of a list: each part with whether it `isStill` open. */
+export function offersOf(grid, sheet, said, use) {
+  const { kind: { single, second }, typed } = grid, { line, spare = [], targets } = sheet;
+  const isOpen = () => single && !typed[single.key].trim(), isOne = () => typed.secondQuota === undefined;
+  const told = grid.said.textContent, give = () => {
+    grid.remember(single.title);
+    typed[single.key] = line.amount;
+    grid.say(`${told} ${line.amount} was taken as ${single.title.toLowerCase()}.`);
+    grid.showSingles();
+    grid.onChange();
+  };
+  const turn = (head, c) => () => {
+    grid.remember("Two quotas");
+    grid.turnDouble();
+    const votes = targets.findIndex((own) => own?.key === "votes");
+    if (c) use({ ...said, choice: { ...said.choice, votes, second: c } });
+  };
+  const isFilled = () => !isOpen() && (isOne() || typed[second.single.key].trim());
+  const parts = [
+    [isOpen, line?.amount && isOpen() && [` Is ${line.amount} what there is to divide?`,
+      way(`Yes, ${line.amount}`, give)]],
+    [() => !isFilled(), line && second && [` ${quoted(line.text)} names ${quotaWord(line)}: type `,
+      `${isSingle(line) ? "it" : "them"} above.`, takeQuotas(grid, line, sheet)]],
+    [isOne, second && isOne() && [
+      ...spare.map(({ head, c }) => way(`Use ${quoted(head)} as second votes`, turn(head, c))),
+      line && !spare.length && way("Two quotas at once", turn())]],
+  ].map(([isStill, part]) => ({ isStill, element: el("span", {}, part) }));
+  grid.said.append(...parts.map(({ element }) => element));
+  return parts;
+}
+
+const isSingle = ({ quotas }) => quotas.length !== 2;
+const quotaWord = (line) => (isSingle(line) ? "a quota" : "two quotas");
+
+/** A button that takes the quotas of a clause, where they are plain: one where one is open, and two where it is clear
+ * by the headings, or there are none, which is which. */
+function takeQuotas(grid, { quotas }, { spare = [], targets = [], headings } = {}) {
+  const { kind: { single, second }, typed } = grid, set = (...texts) => () => grid.setQuotas(texts);
+  const [one, other] = quotas, isTwo = typed.secondQuota !== undefined, headOf = (key) => {
+    return headings?.[targets.findIndex((own) => own?.key === key)]?.toLowerCase() ?? "";
+  };
+  const isOf = ({ whom }, key) => whom !== "" && headOf(key).includes(whom.toLowerCase().split(" ").at(-1).slice(0, 4));
+  const fits = (votes, second) => Number(isOf(votes, "votes")) + Number(isOf(second, "second"));
+  if (quotas.length === 1) {
+    return !isTwo && !spare.length && way(`${single.title}: ${one.text}`, set(one.text));
+  }
+  const more = quotas.length === 2 ? fits(one, other) - fits(other, one) : 0, isHeaded = headOf("second") !== "";
+  if (quotas.length !== 2 || (isHeaded && !more) || (spare.length && !isTwo)) return null;
+  const [first, next] = (more < 0 ? [other, one] : [one, other]).map(({ text }) => text);
+  return way(`${single.title}: ${first}. ${second.single.title}: ${next}`, set(first, next));
+}
+
+/** What was pasted are clauses alone, of which no line is a voter. */
+export function askClause(grid, line) {
+  const { typed, kind: { second } } = grid, isOne = typed.secondQuota === undefined;
+  const where = isSingle(line) ? "Type it above the table." : isOne
+    ? "Type the first above the table, and the second after “Two quotas at once”." : "Type them above the table.";
+  grid.say("");
+  askIn(grid.element, grid.said, [`${quoted(line.text)} names ${quotaWord(line)}, and nobody who votes. ${where} `
+    + "Nothing was taken.", second && takeQuotas(grid, line)]);
+}
+
+/** Asks whether two numbers beside “Needed”, or in each row, are of two quotas. */
+export function askPair(grid, pair, said, use) {
+  const two = () => {
+    grid.remember("Two quotas");
+    grid.turnDouble();
+    use(said);
+  };
+  const [one, other] = pair, what = one ? `“${withEscapes(one.word)}” has two numbers, ${one.text} and ${other.text}.`
+    : "These rows have two numbers each.";
+  grid.say("");
+  askIn(grid.element, grid.said, [`Nothing was taken yet. ${what} Are there two quotas at once? `,
+    button("Yes, two quotas", two, { class: "quiet" }), " ",
+    button("No, one", () => use({ ...said, isOne: true }), { class: "quiet" })]);
+}
