@@ -21,24 +21,31 @@ const QUOTA = new RegExp("(?<![\\p{L}\\d.,])"
 const OF = new RegExp(`^(?: of)?(?: (?:all|the|der|des|aller))* ((?:\\p{L}+ ){0,2}(?:${WHOM}))(?!\\p{L})`, "iu");
 const ONE_MORE = /^[^,;.\d]{0,40}(?:\+ ?1|plus (?:one|1|eins|un))(?!\p{L})/iu;
 
-/** The quotas that a text says, in their order: {text, whom}, the `whom` being whose they are where it says so. */
-export function quotasIn(text) {
-  return [...text.slice(0, MOST_LETTERS).matchAll(QUOTA)].map(({ 1: more, 2: least, index, 0: own, groups }) => {
+/** What a text says of how much, in its order: {text, whom}, the `whom` being whose it is where it says so; null for a
+ * number of something else. */
+function saidIn(text) {
+  return [...text.slice(0, MOST_LETTERS).matchAll(QUOTA)].flatMap(({ 1: more, 2: least, index, 0: own, groups }) => {
     const { part, some, many, count, whom, most } = groups, rest = text.slice(index + own.length);
-    const [, of = ""] = OF.exec(rest) ?? [], isBare = count && !more && !least && !whom;
-    if (isBare || (most && !of)) return null; // a number of something else, or "a majority of two thirds"
-    const bare = part ?? (some ? `${some} of ${many}` : count) ?? "more than 1/2";
-    return { text: more || ONE_MORE.test(rest) ? `more than ${bare}` : bare, whom: (whom ?? of).trim() };
-  }).filter((one) => one && isQuota(one.text));
+    const [, of = ""] = OF.exec(rest) ?? [], bare = part ?? (some ? `${some} of ${many}` : count) ?? "more than 1/2";
+    if (most && !of) return []; // "a majority of two thirds"
+    if (count && !more && !least && !whom) return [null];
+    return [{ text: more || ONE_MORE.test(rest) ? `more than ${bare}` : bare, whom: (whom ?? of).trim() }];
+  });
 }
 
-/** Whether a row of cells is such a clause, and no voter: a sentence that names a quota, and no number ends it. */
+/** The quotas that a text says. */
+export const quotasIn = (text) => saidIn(text).filter((one) => one && isQuota(one.text));
+
+const NUMBERING = /^\P{L}*(?:art\p{L}*\.? ?\d+[.)]?)?|\d{1,2}\.? \p{L}+ (?:19|20)\d\d|(?:19|20)\d\d/giu; // or a date
+
+/** Whether a row of cells is such a clause, and no voter: a sentence that names a quota or two, and no other number. */
 export function isClause(row) {
   const cells = row.filter(Boolean), text = cells.join(", ");
   const isRow = cells.length > 1 && !readNumber(cells.at(-1)).fault;
   if (isRow || text.length > MOST_LETTERS || !NAMES.test(text)) return false;
   const small = text.split(/\s+/).filter((word) => /^\p{Ll}/u.test(word)).length;
-  return small > 3 && quotasIn(text).length > 0;
+  const said = saidIn(text.replace(NUMBERING, ""));
+  return small > 3 && said.length > 0 && said.length < 3 && said.every((one) => one && isQuota(one.text));
 }
 
 /** Of some texts those that name a quota, in one, and the quotas: {text, quotas}. */

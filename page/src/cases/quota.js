@@ -36,7 +36,7 @@ export const QUOTA = new RegExp(`^${NAME}[:.]?$`, "iu");
 export const bareQuota = (typed = "") => typed.trim().replace(/\s+/g, " ").replace(NAMED, "").replace(BEHIND, "");
 
 /** Whether a text says a quota. */
-export const isQuota = (text) => !readNumber(text).fault || partIn(text, ".", []) !== null
+export const isQuota = (text) => !readNumber(bareQuota(text)).fault || partIn(text, ".", []) !== null
   || SOME_OF.test(bareQuota(text).toLowerCase().replace(LEAST, ""));
 
 /** What part of all votes a text says: {part, isMore}; null for another text, such as a number of votes. */

@@ -33,7 +33,7 @@ function tableIn(pasted, { single, isFirst }) {
   if (clauses.length && !plain.some((row) => row.some(Boolean))) return { asked: { clause: single.lineOf(clauses) } };
   const { rows: led, left: around } = isFirst ? ledRows(plain) : { rows: plain, left: [] };
   const { rows: parted, notes: counted, loose } = isFirst ? blockOf(led, { words: true }) : whole;
-  const odd = loose ?? (isFirst ? noName(parted) : undefined);
+  const odd = loose ?? (isFirst ? noName(parted, clauses.length > 0) : undefined);
   if (odd !== undefined || saved) return { fault: saved ?? lineText(odd) };
   if (given.length === 1 && PROSE.test(pasted[0].join(", "))) return { fault: SENTENCE };
   const { rows, left } = unframed(single ? withSingle(parted, single) : parted), out = [...around, ...left, ...clauses];
@@ -78,6 +78,7 @@ export function sheetOf(pasted, columns, { mark, single, usual, isFirst = true, 
 
 /** Whether rows are as wide as a list with second votes. */
 const fitsSecond = (rows, columns, { mark, single, units }) => {
+  if (!rows.every(([name]) => /\p{L}/u.test(name))) return false;
   const all = [...columns, single.second.column], found = columnsFor(all, null, { rows, mark, units });
   return !found.asked && !widthFault(rows, null, found, all);
 };
@@ -149,8 +150,8 @@ function isAcross([[, ...names], [first = "", ...numbers], ...others], columns) 
 const AMOUNT = /(?:^|\s)[(\p{Sc}]?\d[\d.,'’]*[%)\p{Sc}]*$|^\p{Sc}?\d[\d.,'’]*[%\p{Sc}]*(?=\s)/u;
 
 /** The first of lines of one cell each that are no names: a sentence, or names with a number in front or behind that
- * isn't theirs, as theirs is in "Lot 1". */
-function noName(rows) {
+ * isn't theirs, as theirs is in "Lot 1". `isOfText` says that sentences stood beside them. */
+function noName(rows, isOfText) {
   const texts = rows.flatMap((row) => row.filter(Boolean)), found = texts.map((text) => AMOUNT.exec(text)?.[0]);
   if (rows.some((row) => row.filter(Boolean).length > 1)) return undefined;
   const names = new Set(texts.map((text) => text.replace(AMOUNT, ""))), isWord = (name) => /\p{L}/u.test(name);
@@ -159,7 +160,7 @@ function noName(rows) {
   const [unit, other] = new Set(texts.map((text) => /\s\d[\d.,]*\s(\p{L}{2,5})\.?$/u.exec(text)?.[1]));
   if (texts.length > 1 && (pair || (unit && !other))) return pair || texts[0];
   const isCount = found.every((text, k) => Number(text) === k + 1);
-  const isNoName = (text) => text.length > MOST_NAME || (texts.length > 1 && !isBareName(text));
+  const isNoName = (text) => text.length > MOST_NAME || ((texts.length > 1 || isOfText) && !isBareName(text));
   return texts.find(isNoName) ?? (isAll && !isCount ? texts[0] : undefined);
 }
 

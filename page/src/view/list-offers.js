@@ -76,7 +76,9 @@ export function askPair(grid, pair, said, use) {
     grid.turnDouble();
     use(said);
   };
-  const [one, other] = pair, what = one ? `“${withEscapes(one.word)}” has two numbers, ${one.text} and ${other.text}.`
+  const [one, other] = pair, words = [...new Set(pair.map(({ word }) => quoted(word)))];
+  const have = words.length > 1 ? "name a number each" : "has two numbers";
+  const what = one ? `${words.join(" and ")} ${have}, ${one.text} and ${other.text}.`
     : "These rows have two numbers each.";
   grid.say("");
   askIn(grid.element, grid.said, [`Nothing was taken yet. ${what} Are there two quotas at once? `,

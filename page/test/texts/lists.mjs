@@ -22,9 +22,9 @@ export const LISTS = [
     /“Members” is “Second votes”\. .*8, was taken as votes needed\. .*3, was taken as needed/, "Yes, two quotas"],
   ["votes", NEEDED, "Ann=7|Bo=4|Cy=2", /8, was taken as votes needed\. “Needed”, 3, was left out/, "No, one"],
   ["votes", `${COUNCIL}\nNeeded 8 3`, null, /“Needed” has two numbers, 8 and 3/],
-  ["votes", `${COUNCIL}\nNeeded\t\t3`, "Ann=7|Bo=4|Cy=2", /“Needed”, 3, was left out\. Use “Members” as second/],
+  ["votes", `${COUNCIL}\nNeeded\t\t3`, "Ann=7|Bo=4|Cy=2", /“Needed”, 3, was left out\. Use “Members” as/],
   ["votes", `${COUNCIL}\nVotes needed\t8\t\nMembers needed\t\t3`, "Ann=7|Bo=4|Cy=2",
-    /“Votes needed”, 8, was taken as votes needed\. “Members needed”, 3, was taken as needed of the/, "Yes, two quotas"],
+    /“Votes needed”, 8, was taken as votes needed\. “Members needed”, 3, was taken as needed/, "Yes, two quotas"],
   ["votes", `${COUNCIL}\nQuorum: 8 votes and 3 members`, "Ann=7|Bo=4|Cy=2",
     /type them above\. Votes needed: 8\. Needed of the second: 3/, "Use “Members” as second votes"],
   ["votes", "Ann\t7\t2\nBo\t4\t1", null, /These rows have two numbers each\. Are there two quotas/],
@@ -37,6 +37,10 @@ export const LISTS = [
   ["votes", "1. at least 8 of the 13 council seats: List A 5, List B 4", "List A=5|List B=4", /Votes needed: 8 of 13/],
   ["votes", SEATS, null, /These rows have two numbers each/],
   ["votes", SEATS, "List A=5|List B=4", /Votes needed: 8 of 13\. Needed of the second: 55 %/, "Yes, two quotas"],
+  ["votes", "Needed: 8 votes\nAnn 7\nBo 4", "Ann=7|Bo=4", /“Needed”, 8 votes, was taken as votes needed/],
+  ["votes", "Quorum\t8\nMajority\t5\nAnn\t7\nBo\t4", null, /“Quorum” and “Majority” name a number each, 8 and 5\./],
+  ["votes", "Vance has 41 votes, Ruiz 27 and Ott 32. At least 51 votes are needed.", /^Vance has/, /is no number/],
+  ["votes", "The board decides by at least 3 votes.\nThe chair has 2 votes, each other 1.", null, /Nothing was/],
   ["votes", "Holders with at least 5 % each\t40\nBo\t60", "Holders with at least 5 % each=40|Bo=60"],
 ];
 const MAYOR = "Ops 8,300, Sales 9,000 and Legal 7,250", OF_MAYOR = "9,000,8,300,7,250";
