@@ -244,7 +244,7 @@ const messy = [
     await told(page, "#answer .lead", /Lee – Cello and Khan – Piano trade: together they gain 7\.00/);
     expect("told", await page.text("#case .hint[role=status]"), /Left out, as no number stands beside: “Offers”\./);
     await page.paste('[data-cell="buyers.0"]', "\tPiano\tCello\nReserve price\t3\t1\nLee\t4\t2");
-    await told(page, "#case", /“Reserve price” looks like what sellers want\. .* Nothing was taken/);
+    await told(page, "#case", /Nothing was taken yet\. “Reserve price” looks like the least that sellers take\./);
   }],
   ["door: a number of a claim is no claim", "estate", async (page, expect) => {
     await pasted(page, [["Claim No.", "Creditor", "USD"], [17, "Alpha", 1250], [18, "Beta", 2250]]);

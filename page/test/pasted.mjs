@@ -308,6 +308,7 @@ const LEFT = [
   ["network", PIPES_OF("total"), /looks like a price for each/], ["network", [LINKS, "North\nSouth"], /names alone/],
   ["runway", "Airline\tAircraft\tTurns\tNeed\nAer\tATR\t1,240\t3,150\nBee\tB7\t310\t4,800", /Which column is/],
   ["costs", "Group\t2024\t2025\nA\t8\t9\nB\t7\t8\nA+B\t12\t13", /Which column is the cost\?/],
+  ["market", "\thut\tflat\nAnn\t5\t9\nBo\t8\t9\nReserve\t6\t4", /looks like the least that sellers take/],
   ["market", "A\t4\nB\t5\n\nX\t1\nY\t2", /Whose limit prices are those/],
 ];
 for (const [id, text, asked] of LEFT) {

@@ -18,7 +18,7 @@ const BY_PAIRS = [
   ["A B\nAnn 8'200 EUR 7'500 EUR\nBen 6'100 EUR 9 EUR", /^This/],
   ["\tA\tB\n1\t5 k€\t8 k€\n2\t7 k€\t6 k€", "1,2;A,B;5,8,7,6"],
   ["# A B\n1 Ann 5 8\n2 Ben 7 6", "Ann,Ben;A,B;5,8,7,6"],
-  ["Buyer 1\t5\t8\nBuyer 2\t7\t6", "Buyer 1,Buyer 2;;5,8,7,6"], ["\tA\nAnn\t5\nPrecio mínimo\t3", /what sellers want/],
+  ["Buyer 1\t5\t8\nBuyer 2\t7\t6", "Buyer 1,Buyer 2;;5,8,7,6"],
 ];
 // what is pasted as limit prices: buyers; sellers; what is told, or a part of that; "" where it is no such list
 const BOTH = "Ann 10,Ben 12;Cem 7;", HEADS = "Buyer\tBid\tSeller\tAsk\n", PEOPLE = "Ann\t10\tCem\t7\nBen\t12\t\t";

@@ -150,8 +150,6 @@ export function gainTexts({ buyers, sellers }, mark) {
 const SIDE = (words) => new RegExp(`^(${words})(\\s*[\\\\/|].*)?$`, "iu"); // in the corner, alone or above the other
 const SELLER = SIDE("sellers?|verkäufer|vendeurs?|vendedor|verkoper");
 const BUYER = SIDE("buyers?|bidders?|käufer|bieter|acheteurs?|comprador|koper");
-const ASKING = new RegExp("^(reserve|reservation|asking|minimum|lowest|least|seller wants|mindest|precio m|prix mini)"
-  + "[\\p{L} ]*( price|preis|wants)?$", "iu");
 const NO_MARKET = "This is no table of gains. Give the sellers’ names above, each buyer’s name before its row, and in "
   + "it what the two gain together, as a number, or nothing. Lists of limit prices need headings: Buyer, Bid, Seller, "
   + "Ask.";
@@ -160,10 +158,10 @@ const NO_MARKET = "This is no table of gains. Give the sellers’ names above, e
  * {names, notes}; or {fault} in words. */
 export function marketOf(pasted) {
   const block = blockOf(pasted), { rows: framed, left } = unframed(block.rows);
-  const asked = framed.flat().find((text) => ASKING.test(text)), saved = answerFault(pasted);
+  const saved = answerFault(pasted);
   if (saved) return { fault: saved };
   const { rows: given, units = [], fault } = withoutUnits(framed.filter((row) => row.some(Boolean)), 1);
-  if (asked || fault || block.loose) return { fault: asked ? notGains(asked) : fault ?? NO_MARKET };
+  if (fault || block.loose) return { fault: fault ?? NO_MARKET };
   const { rows: bare, left: sums } = withoutSums(given), [[corner = ""]] = bare, isTurned = SELLER.test(corner);
   const wide = bare.reduce((most, { length }) => Math.max(most, length), 0);
   const whole = bare.map((row) => Array.from({ length: wide }, (_, c) => row[c] ?? ""));
@@ -214,10 +212,4 @@ function shapeOf(rows) {
   if (hasValues(rows)) return { values: values(rows) };
   if (above.length > 1 && front.every(isName) && hasValues(others)) return { buyers: front, values: values(others) };
   return heads.every(isName) && hasValues(below) ? { sellers: heads, values: values(below) } : null;
-}
-
-/** Why a block with what sellers want isn't taken. */
-function notGains(text) {
-  return `“${withEscapes(text)}” looks like what sellers want. Here each pair has what it gains together: what the `
-    + "thing is worth to the buyer, less that. Take it off, and leave that row out.";
 }

@@ -15,7 +15,8 @@ const BID = words("bids?|most|up to|m[aá]x(im\\p{L}*)?|highest|(willing(ness)?|
 const ASK = words("asks?|asking|least|m[ií]n(im\\p{L}*)?|lowest|(willing(ness)?|ready) to (accept|sell|take)|wta"
   + "|takes?|mindest\\p{L}*|au moins");
 const RESERVE = words("reserves?|reservation"); // of a seller, unless it is said to be a buyer's
-const PRICE = /price|preis|pri[xj]|precio|limit|valu|wert|valeur|valor|amount|betrag|montant|\p{Sc}|bereitschaft/iu;
+const PRICE = new RegExp("price|preis|pri[xj]|precio|limit|valu|worth|wert|valeur|valor|amount|betrag|montant|\\p{Sc}|"
+  + "bereitschaft", "iu");
 const NAME = words("names?|traders?|who|persons?|participants?|players?|nom|nombre|wer|händler");
 const QUANTITY = words("quantit\\p{L}*|qty|units?|pieces?|pcs|size|volumes?|lots?|shares|menge|stück\\p{L}*|anzahl"
   + "|cantidad|aantal|how many|count|number( of \\p{L}+)?");

@@ -1,6 +1,7 @@
 // The grid of a market: what each buyer gains with each seller, or two lists of limit prices that say it.
 import { notNames } from "../cases/bare-names.js";
 import { gainTexts, marketOf } from "../cases/matrices.js";
+import { priceLineOf, takenOff, withoutLine } from "../cases/price-line.js";
 import { partOf, pricesOf } from "../cases/prices.js";
 import { withEscapes } from "../game/names.js";
 import { plural } from "../game/words.js";
@@ -93,12 +94,15 @@ class MarketGrid {
   // ---- What is pasted
 
   /** Takes limit prices or gains; `said` has what the user said: whose the first of two lists are (`side`), and whether
-   * names are of the traders here (`isSame`). */
+   * names are of the traders here (`isSame`), or a line of limit prices was taken out of a table (`isLine`), of
+   * which something is `told`. */
   pasted(cell, rows, said = {}) {
-    const { limits } = this.typed, prices = pricesOf(rows, said.side);
-    const use = (more) => this.pasted(cell, rows, { ...said, ...more });
+    const { limits } = this.typed, line = said.isLine === undefined ? priceLineOf(rows) : null;
+    const use = (more, some = rows) => this.pasted(cell, some, { ...said, ...more });
     unask(this.element);
     this.element.again = (grid) => grid.pasted(cell, rows, said);
+    if (line) return this.askLine(line, use);
+    const prices = said.isLine ? null : pricesOf(rows, said.side);
     if (prices?.asked) return this.askWhose(prices.asked, (side) => use({ side }));
     if (prices) return this.takePrices(prices);
     const found = marketOf(rows), isGains = !limits || (found.buyers && found.sellers && found.values);
@@ -112,7 +116,7 @@ class MarketGrid {
     if (part) return this.takePart(part);
     const fault = found.fault ?? this.faultOf(cell, found), kept = !fault && this.keptText(cell, found);
     const told = names && `Taken as the names of ${plural(names.length, "trader")}.`;
-    return this.take(fault, [...found.notes ?? [], told, kept], () => {
+    return this.take(fault, [...found.notes ?? [], said.told, told, kept], () => {
       delete this.typed.limits;
       this.fill(cell, found);
     });
@@ -148,6 +152,24 @@ class MarketGrid {
     if (fault) return;
     this.remember("Paste");
     this.change(doIt);
+  }
+
+  /** Asks what the numbers beside a line of limit prices are. */
+  askLine(line, use) {
+    const name = `“${withEscapes(line.name)}”`, out = withoutLine(line), isLine = true;
+    const way = (text, take) => [button(text, take, { class: "quiet" }), " "];
+    const takeOff = () => {
+      const { rows, fault } = takenOff(line, this.mark());
+      if (fault) return this.take(fault);
+      return use({ isLine, told: `A pair gains its number less “${line.name}”, or nothing.` }, rows);
+    };
+    const leave = () => use({ isLine, told: `“${line.name}” was left out.` }, out);
+    const [looks, ...ways] = line.side === "sellers"
+      ? ["the least that sellers take. What are the other numbers?",
+        way(`What a buyer would pay: take ${name} off`, takeOff), way(`What a pair gains: leave ${name} out`, leave)]
+      : ["the most that a buyer can pay, and there is no place for it here.", way(`Leave ${name} out`, leave)];
+    askIn(this.element, this.said, [`Nothing was taken yet. ${name} looks like ${looks} `, ways,
+      way(`${name} is no such price`, () => use({ isLine: false }))]);
   }
 
   askWhose(list, use) {

@@ -1,5 +1,27 @@
 // Texts of a network's links and of a market, as rows of pasted.mjs.
 export const LINKS_AND_TRADES = [
+  // limit prices in a table of buyers and sellers
+  ["market", "\thut\tflat\nAnn\t5\t9\nBo\t8\t9\nReserve\t6\t4", null,
+    /Nothing was taken yet\. “Reserve” looks like the least that sellers take\. What are the other numbers\?/],
+  ["market", "\thut\tflat\nAnn\t5\t9\nBo\t8\t9\nReserve\t6\t4", "hut|flat|Ann|Bo|0|5|2|5",
+    /A pair gains its number less “Reserve”, or nothing/, "What a buyer would pay: take “Reserve” off"],
+  ["market", "Buyer\thut\tflat\nSeller's minimum\t3\t4\nAnn\t5\t9\nBo\t8\t9", "hut|flat|Ann|Bo|5|9|8|9",
+    /“Seller's minimum” was left out/, "What a pair gains: leave “Seller's minimum” out"],
+  ["market", "Seller\tReserve\tAnn\tBo\nhut\t3\t5\t8\nflat\t4\t9\t9", "hut|flat|Ann|Bo|2|5|5|5", /less “Reserve”/,
+    "What a buyer would pay: take “Reserve” off"],
+  ["market", "\tAnn\tBo\tAsking price\nhut\t5,5\t8\t3\nflat\t9\t9\t4", "hut|flat|Ann|Bo|2,5|5|5|5", /less “Asking/,
+    "What a buyer would pay: take “Asking price” off"],
+  ["market", "\thut\tflat\nAnn\t1,500\t900\nBo\t800\t900\nReserve\t600\t400", null,
+    /“1,500” can be read in two ways\..* Nothing was taken/, "What a buyer would pay: take “Reserve” off"],
+  ["market", "\thut\tflat\nAnn\t5 €\t9 €\nBo\t8 €\t9 €\nReserve\t6 $\t4 $", null, /in EUR, others in USD/,
+    "What a buyer would pay: take “Reserve” off"],
+  ["market", "Buyer\thut\tflat\tBudget\nAnn\t5\t9\t7\nBo\t8\t9\t9", "hut|flat|Ann|Bo|5|9|8|9", /“Budget” was left out/,
+    "Leave “Budget” out"],
+  ["market", "\thut\tflat\nAnn\t5\t9\nMin\t3\t4", "hut|flat|Ann|Min|5|9|3|4", /^/, "“Min” is no such price"],
+  ["market", "\tA\nAnn\t5\nPrecio mínimo\t3", "A|Ann|2", /less “Precio/,
+    "What a buyer would pay: take “Precio mínimo” off"],
+  ["market", "\tMax\tMaria\nAnn\t5\t9\nBo\t3\t4", "Max|Maria|Ann|Bo|5|9|3|4"],
+  ["market", "\tSeller 1\tSeller 2\nBuyer 1\t5\t9\nBuyer 2\t3\t4", "Seller 1|Seller 2|Buyer 1|Buyer 2|5|9|3|4"],
   // places at which nobody is
   ["network", "Works\tFork\t12\nFork\tMill\t4\nFork\tFarm\t5", /^Works\|Fork\|Mill\|Farm/,
     /Each place pays\. Is “Fork” only a junction, where nobody is\? Yes: make a table of costs without it No, it pays/],
