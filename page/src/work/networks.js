@@ -1,6 +1,7 @@
 // Help for links that don't exist: the ways through the others, or a table of what each group's cheapest network costs.
 import { lcm, Rational } from "../exact/rational.js";
-import { cellNumber, shortText, typedText } from "../exact/decimals.js";
+import { writtenAs } from "../exact/styles.js";
+import { cellNumber, shortText } from "../exact/decimals.js";
 import { sourceName } from "../cases/matrices.js";
 import { withEscapes } from "../game/names.js";
 import { listed, plural } from "../game/words.js";
@@ -17,6 +18,9 @@ function linksOf({ names, links, mark }) {
   }
   return { n, cost: (i, j) => costs.get(i < j ? `${i}-${j}` : `${j}-${i}`) };
 }
+
+/** The links that are typed, in whose style others are written. */
+const styleIn = (links) => Object.values(links).filter((text) => text.trim());
 
 function placeName(names, i, source) {
   return i ? withEscapes(names[i - 1].trim()) || `Place ${i}` : sourceName({ source });
@@ -39,20 +43,21 @@ export function fillLinks({ names, links, source, mark, only = null }) {
       }
     }
   }
-  const filled = { ...links }, told = [], lacking = [], made = [];
+  const told = [], lacking = [], made = [], values = [];
   for (let i = 0; i <= n; i++) {
     for (let j = i + 1; j <= n; j++) {
       if (cost(i, j) || (only && !only.includes(`${i}-${j}`))) continue;
       const which = `${placeName(names, i, source)} – ${placeName(names, j)}`;
       if (!ways[i][j]) lacking.push(which);
       else {
-        filled[`${i}-${j}`] = typedText(ways[i][j], mark);
         made.push(`${i}-${j}`);
+        values.push(ways[i][j]);
         told.push(`${which} ${shortText(ways[i][j])}`);
       }
     }
   }
-  return { links: filled, ways: made, told, notes: notesOf(told, lacking) };
+  const texts = writtenAs(values, styleIn(links), mark), fresh = made.map((key, k) => [key, texts[k]]);
+  return { links: { ...links, ...Object.fromEntries(fresh) }, ways: made, told, notes: notesOf(told, lacking) };
 }
 
 function notesOf(told, lacking) {
@@ -84,9 +89,8 @@ export function costsOfNetwork({ names, links, mark, nobody = [] }) {
     return least[players.reduce((sum, i, k) => sum + (mask & (1 << k) ? 2 ** i : 0), 0)];
   });
   if (own.at(-1) === Infinity) return { fault: "No network joins all: some place has no way to the source." };
-  const numbers = own.map((value, mask) => {
-    return mask ? typedText(new Rational(BigInt(value), scale), mark) : "";
-  });
+  const values = own.slice(1).map((value) => new Rational(BigInt(value), scale));
+  const numbers = ["", ...writtenAs(values, styleIn(links), mark)];
   const notes = ["Made of a network: each group costs the cheapest network that joins it, over others’ places too."];
   if (nobody.length) notes.push(`Nobody is at ${listed(nobody.map((i) => `“${withEscapes(names[i])}”`))}.`);
   return { typed: { names: players.map((i) => names[i]), numbers }, notes };
