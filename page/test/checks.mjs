@@ -78,6 +78,7 @@ async function unread(page, expect, line, agreed) {
   const mail = await give(page, `Dear all,\n> ${line.replace(/(.{70})/g, "$1\n> ")}\nYours`, agreed);
   expect("a mail", mail,
     /This line can’t be read[\s\S]*begin with “>”[\s\S]*Read it without what the mail program added/);
+  expect("what that leaves out", mail, /That leaves out “Dear all,”, “Yours”, \d+ signs of quotation and \d+ line br/);
   await page.click("Read it without what the mail program added");
   await page.until("document.querySelectorAll('#verify .word.good').length === 3");
   expect("mended", await page.text("#verify .lead"), /Yes: these shares are the nucleolus of the agreed game/);

@@ -3,7 +3,7 @@
 import { parseJson } from "../src/exact/json.js";
 import { Game } from "../src/game/game.js";
 import { remarksOf } from "../src/game/names.js";
-import { mended, unreadable } from "../src/tell/mail.js";
+import { leftOut, mended, unreadable } from "../src/tell/mail.js";
 import { ruleFile, ruleName } from "../src/tell/rule-names.js";
 import { ruleOf } from "../src/tell/rules.js";
 import { Namer } from "../src/tell/words.js";
@@ -194,6 +194,13 @@ for (const [name, text, told] of [
   expect(name, JSON.stringify(JSON.parse(read(text).replace(/\n/g, "") || "0")), plain);
   expect(`${name}, told`, unreadable(text).join("\n"), told);
 }
+for (const [text, left] of [
+  [`Dear all,\n> ${plain.replace(",", ",\n> ")}\nBest, Eva`, "“Dear all,”, “Best, Eva” and 2 signs of quotation"],
+  [`\ufeff${plain.replace("tw", "t\nw")}`, "1 mark that nobody sees and 1 line break"],
+  [`a\nb\nc\nd\ne\n${plain}`, "“a”, “b”, “c” and 2 more lines"], [`{s. u.}\n${plain}\nF`, "“{s. u.}” and “F”"],
+  [plain.replace(/"(\w)/g, "“$1").replace(/"/g, "”"), "6 typographic quote marks"],
+  [plain.replaceAll(",", "=2C").replace("one", "o=\nne"), "3 “=” of a packed text"],
+]) expect(`left out of ${JSON.stringify(text)}`, leftOut(text), left);
 expect("nothing to mend", mended('{"a":'), null);
 expect("no other advice beside the way", unreadable(`> ${plain}`, true).join(), "Its lines begin with “>”, as in the "
   + "answer to a mail.");

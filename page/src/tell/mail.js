@@ -1,8 +1,11 @@
 // A line that came by mail and can’t be read: what has happened to it, and the line without that.
 import { parseJson } from "../exact/json.js";
+import { withEscapes } from "../game/names.js";
+import { listed, plural } from "../game/words.js";
 
 const MARKS = /[\ufeff\u200b\u200e\u200f\u2060]/g; // that programs put in front, or between, and nobody sees
 const QUOTES = /[\u201c-\u201f\u00ab\u00bb\u2033]/g;
+const SIGNS = /^[ \t]*(?:[>|][ \t]?)+/gm, BREAKS = /\r?\n/g, BARE = /(?<!=\r?)\r?\n/g, PACKED = /=3D|=2C|=\r?\n/g;
 const MOST_READ = 2000000; // letters of a text that is looked through
 
 const COPY = "Copy it from the first { to the last }, or choose the file that was attached.";
@@ -29,17 +32,40 @@ export function unreadable(text, isMended = false) {
 }
 
 /** The text without what a mail program did to it; null where that is no JSON either, or nothing was done. */
-export function mended(text) {
+export const mended = (text) => undone(text)?.way ?? null;
+
+/** A text without what mail programs add, with the part of it that is kept: {way, inside, plain}; null as above. */
+function undone(text) {
   if (text.length > MOST_READ) return null;
-  const plain = text.replace(MARKS, "").replace(/^[ \t]*([>|][ \t]?)+/gm, "");
+  const plain = text.replace(MARKS, "").replace(SIGNS, "");
   const from = plain.indexOf("{"), to = plain.lastIndexOf("}");
   if (from < 0 || to < from) return null;
   const own = [plain.slice(from, to + 1), objectIn(plain)].filter(Boolean);
   const ways = own.flatMap((inside) => {
-    const unbroken = inside.replace(/\r?\n/g, "");
-    return [inside, unbroken, unpacked(inside), unbroken.replace(QUOTES, '"'), inside.replace(QUOTES, '"')];
+    const unbroken = inside.replace(BREAKS, ""), plainly = (some) => some.replace(QUOTES, '"');
+    const some = [inside, unbroken, unpacked(inside), plainly(unbroken), plainly(inside)];
+    return some.map((way) => ({ way, inside, plain }));
   });
-  return ways.find((way) => way && way !== text && isJson(way)) ?? null;
+  return ways.find(({ way }) => way && way !== text && isJson(way)) ?? null;
+}
+
+const MOST_NAMED = 3, MOST_LETTERS = 40;
+
+/** What is left out of a text that is mended, in words: “Dear all”, “Best, Eva” and 3 signs of quotation. */
+export function leftOut(text) {
+  const { way, inside, plain } = undone(text), at = plain.indexOf(inside);
+  const lines = [plain.slice(0, at), plain.slice(at + inside.length)].flatMap((some) => some.split(BREAKS))
+    .map((line) => line.trim()).filter(Boolean);
+  const shown = lines.length > MOST_NAMED + 1 ? lines.slice(0, MOST_NAMED) : lines;
+  const lost = (sign, before, after = "") => (before.match(sign)?.length ?? 0) - (after.match(sign)?.length ?? 0);
+  const counts = [[lines.length - shown.length, "more line"],
+    [lost(SIGNS, text), "sign of quotation", "signs of quotation"],
+    [lost(MARKS, text), "mark that nobody sees", "marks that nobody sees"],
+    [lost(BARE, inside, way), "line break"], [lost(QUOTES, inside, way), "typographic quote mark"],
+    [lost(PACKED, inside, way), "“=” of a packed text", "“=” of a packed text"]];
+  const quoted = (line) => `“${withEscapes(line.slice(0, MOST_LETTERS))}${line.length > MOST_LETTERS ? " …" : ""}”`;
+  return listed([...shown.map(quoted),
+    ...counts.filter(([count]) => count > 0).map(([count, ...words]) => plural(count, ...words))]);
 }
 
 /** The first object in a text, to the brace that ends it; null where none does. */

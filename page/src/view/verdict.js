@@ -93,9 +93,15 @@ export function disagreement({ program, anew }) {
 }
 
 /** Why a text is no line, and what may help. */
-export function unreadable({ fault, help = [], mended }, onMend) {
+export function unreadable({ fault, help = [], mended, left }, onMend) {
+  const tool = mended && button("Read it without what the mail program added", () => onMend(mended));
   return el("div", { class: "notice bad" }, el("p", {}, fault), help.map((sentence) => el("p", {}, sentence)),
-    mended && el("p", { class: "tools" }, button("Read it without what the mail program added", () => onMend(mended))));
+    mended && withoutMail(tool, left));
+}
+
+/** A button that reads a text without what a mail program added, and what that leaves out. */
+export function withoutMail(tool, left) {
+  return el("p", { class: "tools" }, tool, el("span", { class: "hint" }, ` That leaves out ${left}.`));
 }
 
 /** What is missing in a line without a certificate, and what to ask for. */

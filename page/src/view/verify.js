@@ -13,7 +13,7 @@ import { settled } from "./questions.js";
 import { textPlace } from "./text-place.js";
 import { meaning } from "./trust.js";
 import {
-  bareText, besideRight, conclusion, disagreement, nameRemarks, notTaken, twice, unreadable,
+  bareText, besideRight, conclusion, disagreement, nameRemarks, notTaken, twice, unreadable, withoutMail,
 } from "./verdict.js";
 
 const NO_FILE = "No file of the game is given, so nobody can say. A certificate shows that shares are right for its "
@@ -204,8 +204,8 @@ class VerifyPanel {
   mendAgreed({ file }) {
     const { ofGame } = this.from, { agreed } = this;
     const mend = () => this.ofGame.setText(file.mended, { ...ofGame, given: ofGame.given ?? agreed });
-    return file?.mended && el("p", { class: "tools" },
-      button("Read the agreed file without what the mail program added", mend));
+    return file?.mended
+      && withoutMail(button("Read the agreed file without what the mail program added", mend), file.left);
   }
 
   agreedButton({ file }, { isYes }) {

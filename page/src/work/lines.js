@@ -7,7 +7,7 @@ import { CLASSES, mostOf } from "../game/classes.js";
 import { Game } from "../game/game.js";
 import { remarksOf, withEscapes } from "../game/names.js";
 import { UNSAID } from "../game/same-worths.js";
-import { mended, unreadable } from "../tell/mail.js";
+import { leftOut, mended, unreadable } from "../tell/mail.js";
 import { refusalText } from "../tell/refusals.js";
 import { answer } from "./answers.js";
 import { bothRead } from "./both-read.js";
@@ -18,7 +18,7 @@ import { found, sameGame } from "./same-game.js";
 export function lookAtLine({ line, agreed }, ask = answer) {
   const seen = lineOf(line), other = agreed.trim() ? gameFileOf(agreed) : null;
   const same = other && bothRead(sameGame(seen, other), seen, other, ask);
-  const file = other && { ...aboutFile(other), mended: other.isText ? mended(agreed) : null };
+  const file = other && { ...aboutFile(other), ...(other.isText ? helpOf(agreed) : {}) };
   if (seen.isInWords) return { fault: `${seen.fault} ${IN_WORDS}`, same, file };
   if (seen.fault) return { fault: seen.fault, ...(seen.isText ? helpOf(line) : {}), same, file };
   const { tree, game, shares, doubles } = seen;
@@ -55,7 +55,7 @@ export function compared(line, agreed, ask) {
 
 function helpOf(line) {
   const text = mended(line);
-  return { help: unreadable(line, text !== null), mended: text };
+  return { help: unreadable(line, text !== null), mended: text, left: text === null ? "" : leftOut(line) };
 }
 
 /** For asking the program anew: the shares as texts, and the game of which they may be, its own or the agreed. */
