@@ -32,7 +32,7 @@ class Element {
   get textContent() { return this.nodes.map((one) => one.textContent ?? one).join(""); }
   set textContent(text) { this.nodes = [text]; }
 }
-for (const name of ["after", "contains", "focus", "querySelector"]) Element.prototype[name] = nothing;
+for (const name of ["after", "contains", "dispatchEvent", "focus", "querySelector"]) Element.prototype[name] = nothing;
 globalThis.document = { createElement: (tagName) => Object.assign(new Element(), { tagName }) };
 const buttonsIn = (some) => some.flatMap((one) => one.all()).filter(({ tagName }) => tagName === "button");
 

@@ -29,6 +29,7 @@ import { precise } from "./precise.mjs";
 import { saying } from "./saying.mjs";
 import { strangers } from "./strangers.mjs";
 import { undone } from "./undo.mjs";
+import { untaken } from "./untaken.mjs";
 import { users } from "./users.mjs";
 
 const words = process.argv.slice(2), [page, top] = words.map((word) => resolve(word));
@@ -42,6 +43,7 @@ harness.add(desk);
 harness.add(door);
 harness.add(face);
 harness.add(strangers);
+harness.add(untaken);
 harness.add(users);
 harness.add(figures);
 harness.add(byLimitPrices);

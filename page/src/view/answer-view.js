@@ -20,6 +20,7 @@ import { tablesOf } from "./shares-table.js";
 import { csvButton, tabbed } from "./table-lines.js";
 import { todayOf } from "./today.js";
 import { unitIn } from "./unit.js";
+import { stillParts, stillText, untakenIn } from "./untaken.js";
 import { waitingParts } from "./waiting.js";
 import { fillsAsked, fillsPart } from "./two-fills.js";
 import { whyBody } from "./why.js";
@@ -132,6 +133,16 @@ export class AnswerView {
     this.showPeek(result);
   }
 
+  /** While a pasted text isn't taken, nothing of the answer of before can be saved or printed as another. */
+  showUntaken() {
+    const { session } = this, untaken = untakenIn(at("case-body")), isExample = !session.isTyped;
+    this.still = stillText(untaken, isExample);
+    refill(at("still"), stillParts(untaken, isExample));
+    for (const id of ["answer", "parts"]) at(id).classList.toggle("still", Boolean(untaken));
+    for (const id of ["answer-body", "parts"]) at(id).inert = Boolean(untaken);
+    if (session.result) this.showPeek(session.result);
+  }
+
   /** What is in the place of the answer while there is none; `panel` is that of the case. */
   showWaiting(reading, { goTo, choices }) {
     const labelOf = (cell) => labelOfCell(cell, this.session);
@@ -152,7 +163,7 @@ export class AnswerView {
   showPeek(result) {
     const said = result && !this.isHidden ? at("answer-body").querySelector(".lead")?.textContent : "";
     at("peek").hidden = !result;
-    at("peek").textContent = said || "See the answer";
+    at("peek").textContent = this.still || said || "See the answer";
   }
 
   /** Saving: `made` are the case and its document, as the panel of the case has them. */

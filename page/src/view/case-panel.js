@@ -15,6 +15,7 @@ import { numbered, shortened, withNames } from "../cases/mended-names.js";
 import { markChanged } from "./pinned.js";
 import { tableGrid } from "./table-grid.js";
 import { Undoing } from "./undo.js";
+import { dropText } from "./untaken.js";
 
 const MOST_FAULTS = 6;
 const DECIDES = "The answer rests on these numbers. How far off the others may be, “What if” says.";
@@ -24,17 +25,20 @@ const KEYS = { player: "Alt+Delete in a name removes the player.", row: "Alt+Del
 /** `settings` are {mark, setEntry, notes, onReset, steps, snapshot, onUndo} and what the grids need. */
 export function casePanel(kind, typed, settings) {
   const sample = sampleLine(kind, typed, settings), change = settings.onChange, undo = new Undoing(settings);
-  const onChange = (wait, removed) => (refill(sample), change(wait, { isTyped: undo.changed(), removed }));
-  settings = { ...settings, onChange };
-  const { onReset, notes = [] } = settings;
-  const grid = GRIDS[kind.grid](kind, typed, { ...settings, remember: (what) => undo.remember(what) });
+  let grid = null; // while it is made, it may change cells
+  const onChange = (wait, removed) => {
+    refill(sample);
+    if (grid) dropText(grid);
+    change(wait, { isTyped: undo.changed(), removed });
+  };
+  const { onReset, notes = [] } = (settings = { ...settings, onChange });
+  grid = GRIDS[kind.grid](kind, typed, { ...settings, remember: (what) => undo.remember(what) });
   const faults = el("div", { class: "faults", role: "status" }), made = el("div", { class: "made" });
   const coarse = el("div"), legend = el("p", { class: "hint legend screen" });
   const element = el("div", { class: "case" },
     el("p", { class: "help" }, kind.help), sample,
     notes.map((note) => el("p", { class: "note" }, note)), coarse, grid, legend, faults,
     el("div", { class: "tools bottom" }, moreTools(kind, typed, grid.more, onReset), undo.element));
-
   undo.watch(element);
 
   /** Shows what the reading of the cells says. */

@@ -108,24 +108,24 @@ export function columnHead({ title, name }, ...more) {
 
 const asked = new WeakMap(); // by what is typed of a case, how it is asked again of what was pasted there
 
-/** Asks something in the place `said` of a grid, before anything is taken: until then nothing else is said of its
- * cells. The question goes if somebody types into them. If the case is left it stays open, by `grid.again`. */
-export function askIn(grid, said, parts) {
-  refill(said, parts);
-  grid.classList.toggle("asks", true);
-  asked.set(grid.typed, grid.again);
-  const end = () => {
-    if (!grid.classList.contains("asks")) return;
-    refill(said);
-    unask(grid);
-  };
-  grid.addEventListener("input", end, { once: true });
+/** What becomes of a pasted text is seen at its grid, and told to what stands around that. */
+function become(grid, state) {
+  for (const one of ["asks", "refused"]) grid.classList.toggle(one, one === state);
+  if (state !== "asks") asked.delete(grid.typed);
+  grid.dispatchEvent(new CustomEvent("untaken", { bubbles: true }));
 }
 
-/** The question of a grid is answered, or is no more. */
-export function unask(grid) {
-  grid.classList.toggle("asks", false);
-  asked.delete(grid.typed);
+/** Asks something in the place `said` of a grid, before anything is taken: until then nothing else is said of its
+ * cells. If the case is left the question stays open, by `grid.again`. */
+export function askIn(grid, said, parts) {
+  refill(said, parts);
+  asked.set(grid.typed, grid.again);
+  become(grid, "asks");
+}
+
+/** The question of a grid is answered, or is no more; what was pasted is taken or refused. */
+export function unask(grid, isRefused = false) {
+  become(grid, isRefused ? "refused" : "");
 }
 
 /** Asks the question anew that stood open when the case `typed` was left; `mine` is its grid now. Whether one did. */

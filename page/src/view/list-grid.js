@@ -290,9 +290,10 @@ class ListGrid {
 
   /** Says what became of a pasted list; a column or line that was left out, or nothing taken, is seen at once. */
   say(text) {
-    unask(this.element);
+    const isRefused = /Nothing was/.test(text);
+    unask(this.element, isRefused);
     this.said.textContent = withEscapes(text);
-    this.said.classList.toggle("warn", /Nothing was/.test(text));
+    this.said.classList.toggle("warn", isRefused);
   }
 
   /** What wasn't pasted begins as a typed row does, and that is told; a list with names has them in each row. */

@@ -84,6 +84,7 @@ function openCase(kind, typed, { past = new Steps(), notes = [], doubt = "", pap
   });
   at("case-title").textContent = kind.title;
   refill(at("case-body"), panel.element);
+  view.showUntaken();
   showView(kind.id);
 }
 
@@ -157,8 +158,8 @@ function nowTyped() {
 
 /** Shows a part of the page; a case as it was left. What was typed is the game that a line is checked by at first. */
 function show(name) {
-  const kind = caseNamed(name), { isTyped, reading } = session;
-  if (name === "verify") verify.fromCase(reading?.text ? { ...reading, title: session.kind.title, isTyped } : null);
+  const kind = caseNamed(name), { isTyped, reading } = session, isOwn = reading?.text && !view.still;
+  if (name === "verify") verify.fromCase(isOwn ? { ...reading, title: session.kind.title, isTyped } : null);
   if (kind && session.kind !== kind) openCase(kind, kept.get(kind)?.typed ?? kind.example(), kept.get(kind));
   else showView(name);
 }
@@ -189,6 +190,7 @@ function listen() {
   });
   watchAnswer();
   watchParts();
+  at("case").addEventListener("untaken", () => view.showUntaken());
   at("case").addEventListener("paste", ({ clipboardData }) => {
     view.takeUnit(clipboardData?.getData("text/plain") ?? "");
   });

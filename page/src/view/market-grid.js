@@ -146,7 +146,7 @@ class MarketGrid {
 
   /** Takes something, or says why not. */
   take(fault, notes = [], doIt = undefined) {
-    unask(this.element);
+    unask(this.element, Boolean(fault));
     refill(this.said, fault ? `${fault} Nothing was taken.` : withEscapes(notes.filter(Boolean).join(" ")));
     this.said.classList.toggle("warn", Boolean(fault));
     if (fault) return;

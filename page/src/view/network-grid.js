@@ -165,7 +165,7 @@ class NetworkGrid {
     const cells = isWhole ? {} : pastedCells(this.kind, typed, cell, blockOf(rows).rows, said);
     const fault = isWhole ? found.fault : cells.fault;
     if (cells.asks) return askNames(this.element, this.said, NAMED, (isSame) => use({ isSame }));
-    unask(this.element);
+    unask(this.element, Boolean(fault));
     refill(this.said, fault && `${fault} Nothing was taken.`);
     this.said.classList.toggle("warn", Boolean(fault));
     if (fault) return undefined;

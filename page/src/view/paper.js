@@ -67,7 +67,7 @@ export class Paper {
   before() {
     const { session, view } = this, { dataset } = document.body, isCase = dataset.view === "case";
     let what = dataset.print ?? (isCase ? "sheet" : dataset.view === "verify" ? "check" : "all");
-    if (isCase && view.isHidden && what === "sheet") what = "all"; // the case alone
+    if (isCase && (view.isHidden || view.still) && what === "sheet") what = "all"; // the case alone, or what is open
     if (what === "sheet") showSheet(session, view.typed);
     if (what === "sheet" && !(isCase && at("sheet").childElementCount)) what = "all";
     dataset.print = what;
@@ -86,6 +86,7 @@ export class Paper {
     const own = what === "check" ? "The check of a line" : (isCase && heading?.trim()) || "";
     return [
       el("p", {}, own && el("b", {}, own), own && " – ", dayText()),
+      what === "all" && isCase && this.view.still && el("p", {}, el("b", {}, this.view.still)),
       what === "all" && unit && el("p", {}, `All amounts are in ${unit}.`),
       what === "all" && isCase && !this.view.isHidden && this.proved(),
     ];

@@ -12,6 +12,9 @@ const WAIT = 200; // milliseconds between the last key and the question
 const BUSY = 400; // milliseconds after which the page says that it is at work
 
 const textsOf = (list) => Array.from(list, (text) => text ?? "");
+/** Whether lists of amounts are the same, where some have no texts for the last rows. */
+const isSame = (one, other) => (one && other
+  ? [...one, ...other].every((_, r) => (one[r] ?? "") === (other[r] ?? "")) : one === other);
 
 export class Session {
   /** `on` is called as things happen: `stale`, `read`, `answer(came)`, `busy(isBusy)` and `fault(fault)`; and before
@@ -192,7 +195,7 @@ export class Session {
   /** `said` is told of a text that was pasted; `what` is the step, if it isn't typing. */
   setProposal(texts, said = "", what = "") {
     const own = textsOf(texts);
-    if (JSON.stringify(own) !== JSON.stringify(this.texts)) this.on.step(what || "Typing your division", !what);
+    if (!isSame(own, this.texts)) this.on.step(what || "Typing your division", !what);
     Object.assign(this, { ownSaid: said, texts: own });
     this.judged = {};
     this.readProposal();
@@ -212,7 +215,7 @@ export class Session {
   /** What each pays or has today, a text for each row; null where the user doesn't compare. No answer changes. */
   setTodays(texts, said = "", what = "") {
     const own = texts && textsOf(texts);
-    if (JSON.stringify(own) !== JSON.stringify(this.todays)) this.on.step(what || "Typing what each has", !what);
+    if (!isSame(own, this.todays)) this.on.step(what || "Typing what each has", !what);
     Object.assign(this, { ownSaid: said, todays: own });
     this.on.answer("todays");
   }

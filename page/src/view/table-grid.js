@@ -386,7 +386,7 @@ class TableGrid {
   }
 
   say(...parts) {
-    unask(this.element);
+    unask(this.element, /nothing was/i.test(parts.join(" ")));
     refill(this.message, parts);
   }
 }

@@ -46,6 +46,7 @@ export class Undoing {
 
   remember(what, cells = this.snapshot()) {
     this.steps.add(what, cells);
+    this.fresh = this.steps.past.at(-1);
     this.typed = this.still = null;
     this.show();
   }
@@ -77,7 +78,18 @@ export class Undoing {
     this.clicked = null;
   }
 
+  /** What was remembered is no step if the cells are as they were. */
+  withoutEmpty() {
+    const { fresh, steps } = this, isEmpty = fresh && fresh === steps.past.at(-1)
+      && textOf(fresh.cells) === textOf(this.snapshot());
+    this.fresh = null;
+    if (!isEmpty) return;
+    steps.past.pop();
+    this.show();
+  }
+
   changed() {
+    this.withoutEmpty();
     const isTyped = this.still !== null;
     if (isTyped) this.typing(TYPING, this.still);
     return isTyped;

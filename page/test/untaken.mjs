@@ -1,0 +1,62 @@
+// Scenarios: a pasted text that is asked about, or refused. Until that is settled the answer is said to be of before,
+// and can be neither saved nor printed as another.
+import { settle, told } from "./harness.mjs";
+
+const TWO = "Who\tA\tB\nAnn\t120\t30\nBo\t80\t20", TOO_FEW = "5\n6";
+const still = (page) => page.text("#still");
+const isLocked = (page) => page.run(`["answer-body", "parts"].every((id) => document.getElementById(id).inert)`);
+const lastStep = (page) => page.run(`document.querySelector("#case .bottom").textContent.match(/Undo “(.*?)”/)?.[1]`);
+
+export const untaken = [
+  ["an open question: the answer is still that of before", "estate", async (page, expect) => {
+    expect("nothing is said first", await still(page), "");
+    await page.paste('[data-cell="rows.0.name"]', TWO);
+    await told(page, "#still", /still the answer of the worked example\. Nothing of your text was taken yet/);
+    expect("it can’t be saved or printed", await isLocked(page), true);
+    expect("it is told", await page.run("document.getElementById('still').getAttribute('role')"), "status");
+    await page.run("dispatchEvent(new Event('beforeprint'))");
+    expect("no sheet to sign", await page.run("document.body.dataset.print"), "all");
+    expect("said on paper", await page.text("#paper-head"), /This is still the answer of the worked example/);
+    await page.run("dispatchEvent(new Event('afterprint'))");
+    await page.click("Keep the worked example");
+    expect("it goes with the text", await still(page), "");
+    expect("and the question", await page.text("#case .pasted"), "");
+    await page.paste('[data-cell="rows.0.name"]', TWO);
+    await page.click("“B”", "document.querySelector('#case .pasted')");
+    expect("it goes with the answer", await still(page), "");
+    await page.type("estate", "40");
+    await settle(page);
+    expect("free again", await isLocked(page), false);
+    await page.paste('[data-cell="rows.0.name"]', TWO);
+    await told(page, "#still", /still the answer of the table before/);
+    await page.type("rows.0.claim", "40");
+    expect("it goes with an edit", await still(page), "");
+  }],
+
+  ["a refused text: the answer is still that of before", "costs", async (page, expect) => {
+    await page.paste('[data-cell="numbers.2"]', TOO_FEW);
+    await told(page, "#still", /still the answer of the worked example\. Your text wasn’t taken/);
+    expect("no step", await lastStep(page), undefined);
+    await page.type("numbers.1", "150");
+    await settle(page);
+    expect("it goes with an edit", await still(page), "");
+    await page.paste('[data-cell="numbers.1"]', "nonsense and\nmore of it");
+    await told(page, "#still", /still the answer of the table before\. Your text wasn’t taken/);
+    await page.run("location.hash = '#gains'");
+    await settle(page);
+    expect("another case", await still(page), "");
+  }],
+
+  ["a division that is refused is no step, nor is the same table once more", "estate", async (page, expect) => {
+    await page.paste('[data-cell="proposal.0"]', "Zoe 4\nXaver 5");
+    await told(page, "#answer .own-said", /No row is called “Zoe”\..* Nothing was taken\./);
+    expect("no step", await lastStep(page), undefined);
+    const table = "Ann\t120\nBo\t80";
+    await page.paste('[data-cell="rows.0.name"]', table);
+    await page.type("estate", "100");
+    await settle(page);
+    await page.paste('[data-cell="rows.0.name"]', table);
+    await settle(page);
+    expect("the same once more", await lastStep(page), "Typing");
+  }],
+];
