@@ -10,7 +10,7 @@
 // from a relative path; an export stands in front of what it exports. Other forms of import and export are refused.
 import { spawnSync } from "node:child_process";
 import { createHash } from "node:crypto";
-import { existsSync, readFileSync, writeFileSync } from "node:fs";
+import { existsSync, readdirSync, readFileSync, writeFileSync } from "node:fs";
 import { dirname, join, resolve } from "node:path";
 import { fileURLToPath } from "node:url";
 import { deflateSync, inflateSync } from "node:zlib";
@@ -24,13 +24,21 @@ const MOST = 850_000; // bytes of the page
 const style = (name) => JSON.stringify(styleOf(name)).slice(1, -1);
 
 /** What stands in the place of "/* NAME *\/" in a module, as the text of a string. */
-const PLACES = { PALETTE: () => style("palette.css"), PICTURE: () => style("picture.css") };
+const PLACES = {
+  PALETTE: () => style("palette.css"), PICTURE: () => style("picture.css"), LINES: () => String(linesOfChecker()),
+};
 
 /** A style without comments, and a rule of it in one line, without blanks beside its signs. */
 function styleOf(name) {
   return readFileSync(join(SRC, name), "utf8").replace(/\/\*[^]*?\*\//g, "").replace(/([;{,])\s*\n\s*/g, "$1")
     .replace(/\n\s+/g, "\n").replace(/ \{/g, "{").replace(/([;{]) *(-{0,2}[\w-]+): /g, "$1$2:")
     .replace(/;?\s*\}/g, "}");
+}
+
+/** Of the page's own checker: its folder, and what reads JSON for it. */
+function linesOfChecker() {
+  const files = readdirSync(join(SRC, "check")).map((name) => join("check", name)), all = [...files, "exact/json.js"];
+  return all.reduce((sum, name) => sum + readFileSync(join(SRC, name), "utf8").trimEnd().split("\n").length, 0);
 }
 
 /** A module and all that it imports, each once, in front of what needs it: code by path. */

@@ -4,6 +4,8 @@ import { el } from "./dom.js";
 
 // What tools/gate/try-page compares, at least.
 const COMPARED = "some 7,200";
+// Those of the checker are counted as the page is built.
+const LINES = "/* LINES */";
 
 const RULES = {
   nucleolus: "The nucleolus treats the group that gains least by joining as well as possible, then the next one, "
@@ -53,13 +55,14 @@ function trusted() {
     el("h3", {}, "What is trusted"),
     el("p", {}, "No proof can tell that the game in the file is the one that you mean. For the rest you may choose."),
     el("ul", { class: "plain" },
-      el("li", {}, el("b", {}, "The program. "), "The prover of the Rattle kit has proved its source. You trust that ",
-        "prover, the kit’s compilers, what the kit’s own crates state, the translation of the proved code to this ",
+      el("li", {}, el("b", {}, "The program. "), "The prover of the Rattle kit has proved that its source does what ",
+        "its contracts state. You trust these statements, that they say what is meant. You trust that prover, the ",
+        "kit’s compilers, what the kit’s own crates state, the translation of the proved code to this ",
         "WebAssembly module, the few lines that give it memory (host.js), and this browser. No proof covers the ",
         `translation. On ${COMPARED} documents the module was compared with the program as it is built for Linux.`),
-      el("li", {}, el("b", {}, "The page’s own checker. "), "It is some 800 lines of JavaScript, shares nothing with ",
-        "the program, and isn’t proved. You trust these lines and this browser. In this file they are packed; their ",
-        "source is page/src/check.")),
+      el("li", {}, el("b", {}, "The page’s own checker. "), `It is ${LINES} lines of JavaScript, shares nothing `,
+        "with the program, and isn’t proved. You trust these lines and this browser. In this file they are packed; ",
+        "their source is page/src/check, and page/src/exact/json.js, which reads the document.")),
     el("p", {}, "Each of the two answers by itself. They share no code, but have the same makers. The project has two ",
       "more checkers, one in Python and one that Coq’s proofs cover. Nothing that you type leaves this page, and ",
       "nothing is kept."),
