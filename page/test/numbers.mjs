@@ -320,6 +320,7 @@ const QUOTAS = [
   ["qualified majority", SEATS, /^The quota is no number: “qualified majority”\. Write a number of votes, or a part/],
   ["66.7 %", PER_CENT, /^of 100 or 1001\/10: $/], ["66.7 %", [...PER_CENT.slice(1), "33.3"], /^The quota: 66/],
   ["half", [...SEATS, ""], /^$/], ["half", [...SEATS, "-1"], /^[^:]*can’t be negative\.$/],
+  ["66,667 %", SEATS, /^The quota: 66,667 % of 48 votes, so at least 33\.$/], // whatever mark comes before decimals
   ["1/4", SEATS, /Two groups/], ["0", SEATS, /^The quota is from 1 to 48, the votes of all\.$/],
 ];
 for (const [quota, counts, wanted] of QUOTAS) {
@@ -336,6 +337,7 @@ for (const [quota, counts, wanted] of QUOTAS) {
 const FILLED = [
   ["4,250,000;1,400,000;", ".", "5,650,000"], ["4.250.000;1.400,50;", ",", "4.251.400,5"],
   ["4250000;1400000;", ".", "5650000"], ["4’250’000;1’400’000;", ".", "5’650’000"],
+  ["1,200.50;2,189.50;", ".", "3390"], // and nothing that could be read otherwise
 ];
 for (const [typed, mark, wanted] of FILLED) {
   const numbers = ["", ...typed.split(";"), "1", "", "", "9"].join("\n"), names = ["A", "B", "C"];
@@ -347,10 +349,11 @@ for (const [typed, mark, wanted] of FILLED) {
 }
 const SAVED = [
   [",", ".", "4,250,000;1,400,000;650.5"], [".", ",", "4.250.000;1.400.000;650,5"],
-  [undefined, ".", "4250000;1400000;650.5"],
+  [undefined, ".", "4250000;1400000;650.5"], [",", ".", "3390;1,400,000;650.5"],
 ];
 for (const [thousands, entry, wanted] of SAVED) {
-  const texts = ["", "4250000", "1400000", `650${entry}5`], typed = { names: ["A", "B"], numbers: texts };
+  const texts = ["", wanted.startsWith("3390") ? "3390" : "4250000", "1400000", `650${entry}5`];
+  const typed = { names: ["A", "B"], numbers: texts };
   const found = withThousands(costs, typed, entry, thousands).numbers.slice(1).join(";");
   if (found === wanted) continue;
   faults += 1;

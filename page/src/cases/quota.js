@@ -1,5 +1,6 @@
 // A quota as people say it: a part of all votes, in per cent, as a fraction, or in words.
 import { readNumber } from "../exact/decimals.js";
+import { otherMark } from "../exact/marks.js";
 import { lcm, Rational, ZERO } from "../exact/rational.js";
 
 const MORE = /^(more than|over|above|mehr als|über|plus de|meer dan|>(?!=))\s*/;
@@ -71,11 +72,14 @@ function ofNumbers(text, mark, votes) {
       ? value : null;
   }
   const [, whole = "0", rest = percent ?? text] = /^(\d+) (\d+ ?\/ ?\d+)$/.exec(percent ?? "") ?? [];
-  const sign = SIGNS[rest.at(-1)], { value } = readNumber(sign ? rest.slice(0, -1).trim() || "0" : rest, mark);
+  const sign = SIGNS[rest.at(-1)], text = sign ? rest.slice(0, -1).trim() || "0" : rest;
+  const [value, other] = [mark, otherMark(mark)].map((by) => readNumber(text, by).value), hundred = Rational.of(100);
   if (!value) return null;
+  const isOther = percent !== undefined && other && hundred.less(value) && !hundred.less(other); // 66,667 %
+  if (isOther) return other.over(hundred);
   const all = value.plus(Rational.of(whole)).plus(Rational.of(sign ?? 0));
   if (isFraction) return all.less(Rational.of(1)) ? all : null;
-  return all.over(Rational.of(100));
+  return all.over(hundred);
 }
 
 /** The least number of votes that reaches the part of `all` that a text says, among the sums that votes can have; null

@@ -146,12 +146,13 @@ export function typedText(value, by = ".") {
   return text(readNumber(text(places)).doubt ? places + 1 : places);
 }
 
-/** The same with a sign between thousands, as a cell may have it; without, if it can't be read back so. */
+/** The same with a sign between thousands, as a cell may have it; without, if it could be read otherwise. */
 export function groupedText(value, by, thousands) {
   const plain = typedText(value, by), places = placesOf(value);
   if (places < 0 || !isMark(by) || !thousands || thousands === by) return plain;
   const text = decimal(value, places, { mark: by, thousands, least: 3 }).replace("−", "-");
-  return readNumber(text, by).value?.equals(value) ? text : plain;
+  const { value: read, doubt } = readNumber(text, by);
+  return read?.equals(value) && !doubt ? text : plain;
 }
 
 /** A text without blanks, where these part nothing but thousands, and without a sign of money; null for "5 3 2". */
