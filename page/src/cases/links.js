@@ -59,7 +59,8 @@ export function networkOf(pasted, { mark = ".", source = "", cost, columns } = {
   const block = blockOf(pasted.map(numbersApart)), rows = withEnds(block.rows);
   const { rows: framed, left: texts } = unframed(rows);
   const ways = [rows, framed].map((some) => readOf(some, { mark, cost, columns })), [whole] = ways;
-  const found = ways.find((one) => one && !one.fault) ?? whole, saved = answerFault(pasted) ?? partsElsewhere(pasted);
+  const found = ways.find((one) => one && !one.fault) ?? whole, saved = answerFault(pasted)
+    ?? partsElsewhere(pasted, { isSaid: Boolean(found) && !found.fault });
   if (saved) return { fault: saved };
   if (!found || block.loose) {
     const isMixed = rows.flat().some(isText) && rows.flat().some((text) => /\d/.test(text) && !isText(text));

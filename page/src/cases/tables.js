@@ -164,7 +164,7 @@ function partsRead(cells, mark, { isCost, isParts, isGroups, column, by }) {
   const found = isParts === false ? null : usedParts(cells, { mark, column });
   if (!found) return undefined;
   if (isParts === undefined) return { users: found.names, isGroups: found.isGroups };
-  if (found.fault || found.columns) return found;
+  if (found.fault || found.columns) return { fault: found.fault, columns: found.columns };
   if (!isGroups) return tableOfParts(found, { mark, by });
   const read = listOf(groupsOfParts(found), found.parts.map((_, k) => k + 1), { mark, cells, isCost });
   return read.state ? { ...read, remark: found.remark + read.remark } : read;

@@ -16,19 +16,23 @@ import { parted, unitsText, withoutUnits } from "./units.js";
 
 const MOST_LETTERS = 600; // of a line
 const MOST_USERS = 16, MOST_PARTS = 500;
-const BY = "(?:used|needed|shared|served) by|serves|users?:?|for|genutzt von|nutz(?:t|en|er):?|für|utilisée? par|pour";
-const TAIL = new RegExp(`^(.{0,300}?\\d[^()]{0,40}?)\\s*(?:[,;–—-]\\s*)?(?:\\((?:(?:${BY})\\s+)?([^()]{1,300})\\)`
-  + `|(?:${BY})\\s+([^()]{1,300}?))[.;,]?$`, "iu");
-const SURE = new RegExp(`^(?:${BY})$`, "iu");
+const USED_BY = "(?:used|needed|shared|served) by|serves|users?:?|genutzt von|nutz(?:t|en|er):?|utilisée? par";
+const BY = `${USED_BY}|for|für|pour`;
+const MONEY = "(?:[\\p{Sc}A-Z]{1,3}\\s?)?\\d"; // as a number begins
+const BEHIND = new RegExp(`^(.{0,300}?\\d[^()]{0,40}?)\\s*(?:[,;–—-]\\s*)?(?:\\((?:(?:${BY})\\s+)?([^()]{1,300})\\)`
+  + `|(?:${BY})\\s+([^()]{1,300}?)|:\\s*([^()\\d:]{1,300}?))[.;,]?$`, "iu");
+const BEFORE = new RegExp("^([^():]{1,200}?)\\s*(?:\\("
+  + `(?:(?:${BY})\\s+)?([^()]{1,300})\\)|[,;–—-]\\s*(?:${BY})\\s+([^():]{1,300}?))`
+  + `\\s*(?:[:=–—]|\\s-\\s|\\s)\\s*(${MONEY}[^():]{0,30})$`, "iu");
+const SUM = new RegExp(`^(\\D{1,60}?)[\\s:=]+(${MONEY}.{0,30})$`, "iu");
+const WORDED = new RegExp(`(?<!\\p{L})(?:${USED_BY})\\s`, "iu");
+const SURE = new RegExp(`^(?:${USED_BY})$`, "iu");
 const USERS = new RegExp(`^(?:${BY}|who|wer|qui|wem|(?:used|needed|shared|served)|(?:who|that|wer|qui) \\p{L}+(?: it)?|`
   + "beneficiar\\p{L}*|partners?|members?|part(?:y|ies)|participants?|benutzer|nutznießer|usagers?|utilisateurs?"
   + "|bénéficiaires?|mitglieder|beteiligte)$", "iu");
 const LIST = /\s*(?:[,/&+]|(?<!\p{L})(?:and|und|et|y|e|en|sowie)(?!\p{L}))\s*/u;
 const EXCEPT = /(?<!\p{L})(?:except|but|without|not|außer|ohne|sauf|nicht)(?!\p{L})/iu;
 const ALL = /^(?:(?:[Aa]ll|ALL|[Tt]ous|[Tt]outes)(?: (?:the |les )?\p{Ll}+)?|[Aa]lle(?: \p{L}+)?)$/u; // no "All Saints"
-
-const ELSEWHERE = "Each line looks like a part with its cost and who uses it. “Costs of each group” makes a table of "
-  + "groups of such lines: paste them there.";
 
 const quoted = (name) => `“${withEscapes(name)}”`;
 const isAll = (text) => isAllWord(text) || ALL.test(text);
@@ -47,11 +51,11 @@ function areUsers(lists, said = false) {
 }
 
 /** The parts in pasted cells: {parts, names}, each with its name, cost, users and line; `sums` are lines of a sum. The
- * `remark` has what was left out, and `isSure` says that words or brackets show that they are users. Or {fault}, or the
- * {columns} of which one is the cost. Null for another text. */
+ * `remark` has what was left out; `isSaid` tells that words call them users, and `isSure` that these or brackets behind
+ * the costs do. Or {fault}, or the {columns} of which one is the cost. Null for another text. */
 export function usedParts(pasted, { mark = ".", column } = {}) {
   if (pasted.length > MOST_PARTS) return null;
-  const found = behindCosts(pasted) ?? inColumn(pasted, mark) ?? byMarks(pasted);
+  const found = besideCosts(pasted) ?? inColumn(pasted, mark) ?? byMarks(pasted);
   if (!found) return null;
   const { rows: bare, units = [], fault: several } = withoutUnits(found.rows, 1);
   const pairs = pairsOf(bare, found.lines, { mark, column, cells: pasted }), { rows = [], lines } = pairs;
@@ -70,7 +74,7 @@ export function usedParts(pasted, { mark = ".", column } = {}) {
   const isGroups = names.every(isOwn) && new Set(kinds).size === lists.length;
   const fault = several ?? pairs.fault ?? faultOf(parts, names);
   const remark = told.join("") + (pairs.told ?? "");
-  return { parts, sums, names, remark, fault, columns: pairs.columns, isSure: found.isSure, isGroups };
+  return { ...found, parts, sums, names, remark, fault, columns: pairs.columns, isGroups };
 }
 
 /** Why parts can't be taken. */
@@ -86,27 +90,45 @@ function faultOf(parts, names) {
     ? `These are ${names.length} users, and a table has at most ${MOST_USERS} players.` : undefined;
 }
 
-/** Lines of a part, its cost, and who uses it in brackets or behind "used by". */
-function behindCosts(pasted) {
-  const whole = pasted.map((row, k) => ({ row, line: k + 1, tail: tailOf(row) }));
-  const first = whole.findIndex(({ tail }) => tail), lists = whole.map(({ tail }) => tail?.users).filter(Boolean);
-  if (!areUsers(lists)) return null;
-  const isOf = ({ row, tail }, k) => tail || (k > first && row.some((text) => /\d/.test(text)));
-  const kept = whole.filter(isOf), out = whole.filter((one) => !kept.includes(one));
-  const left = out.map(({ row }) => row.join(" ").trim());
-  const { rows, lines, notes, loose } = blockOf(kept.map(({ row, tail }) => tail?.cells ?? row), { words: true });
-  if (loose) return null;
-  return {
-    rows, notes, left: left.filter(Boolean), users: lines.map((line) => kept[line - 1].tail?.users ?? []),
-    lines: lines.map((line) => kept[line - 1].line), isSure: true,
-  };
+/** Lines of a part, its cost, and who uses it in brackets, behind "used by" or a colon; or these before the cost. */
+function besideCosts(pasted) {
+  for (const tailOf of [behind, before]) {
+    const whole = pasted.map((row, k) => ({ row, line: k + 1, tail: tailOf(row) }));
+    const own = whole.filter(({ tail }) => tail), called = own.map(({ tail }) => tail.cells.slice(0, -1).join());
+    const worded = own.some(({ row }) => row.some((text) => text.length <= MOST_LETTERS && WORDED.test(text)));
+    const isApart = new Set(called).size === called.length;
+    if (!areUsers(own.map(({ tail }) => tail.users)) || (tailOf === before && !isApart)) continue;
+    const isOf = ({ row, tail, line }) => tail || (line > own[0].line && row.some((text) => /\d/.test(text)));
+    const kept = whole.filter(isOf), left = whole.filter((one) => !isOf(one)).map(({ row }) => row.join(" ").trim());
+    const cells = kept.map(({ row, tail }) => tail?.cells ?? (tailOf === before ? sumIn(row) : row));
+    const { rows, lines, notes, loose } = blockOf(cells, { words: true });
+    if (loose) continue;
+    return {
+      rows, notes, left: left.filter(Boolean), users: lines.map((line) => kept[line - 1].tail?.users ?? []),
+      lines: lines.map((line) => kept[line - 1].line), isSure: worded || tailOf === behind, isSaid: worded,
+    };
+  }
+  return null;
 }
 
 /** The users behind a number, with the cells before them. */
-function tailOf(row) {
+function behind(row) {
   const last = row.findLastIndex(Boolean), text = row[last] ?? "";
-  const [, before, inside, behind] = (text.length <= MOST_LETTERS && TAIL.exec(text)) || [];
-  return before === undefined ? null : { cells: [...row.slice(0, last), before], users: usersIn(inside ?? behind) };
+  const [, head, ...some] = (text.length <= MOST_LETTERS && BEHIND.exec(text)) || [], users = some.find(Boolean);
+  return users === undefined ? null : { cells: [...row.slice(0, last), head], users: usersIn(users) };
+}
+
+/** The users between a name and its number, with both. */
+function before(row) {
+  const cells = row.filter(Boolean), text = cells.join(": ");
+  const [, name, inside, by, number] = (cells.length < 3 && text.length <= MOST_LETTERS && BEFORE.exec(text)) || [];
+  return number === undefined ? null : { cells: [name, number], users: usersIn(inside ?? by) };
+}
+
+/** The word and the number of a line of a sum; another row as it is. */
+function sumIn(row) {
+  const [, name, number] = SUM.exec(row.filter(Boolean).join(": ").slice(0, MOST_LETTERS)) ?? [];
+  return name && isSumWord(name) ? [name, number] : row;
 }
 
 /** A table with a column of users, beside one of names and one of numbers; users may have a cell each. Without a
@@ -127,8 +149,8 @@ function inColumn(pasted, mark) {
   if (loose || at === undefined || label === undefined || (named === undefined && !isApart)) return null;
   const isOut = (row, c) => c === label || c === at || (c > at && cellsAt(row, at, headings).length > 1);
   const bare = (row) => [row[label] ?? "", ...row.filter((_, c) => !isOut(row, c))];
-  const isSure = named !== undefined || parts.some((row) => /[,;]/.test(row[at]));
-  return { rows: rows.map(bare), lines, users: listsAt(at), notes, left, isSure };
+  const more = { notes, left, isSure: named !== undefined, isSaid: isSaid(at) };
+  return { rows: rows.map(bare), lines, users: listsAt(at), ...more };
 }
 
 /** The rows of a table that was pasted, without what frames it, and the numbers of their lines. */
@@ -156,11 +178,17 @@ function byMarks(pasted) {
   const isWhole = new Set(users.map(String)).size === below.length && below.length === 2 ** marks.length - 1;
   const isFit = marks.length > 1 && columns.length > marks.length + 1 && parts.every(([name]) => isText(name));
   if (loose || isWhole || !isFit || !areUsers(users.filter(({ length }) => length))) return null;
-  return { rows: rows.map(bare), lines, users, notes, left, isSure: false };
+  return { rows: rows.map(bare), lines, users, notes, left, isSure: false, isSaid: false };
 }
 
-/** What is said of parts that are pasted where they have no place; undefined for another text. */
-export const partsElsewhere = (pasted) => (usedParts(pasted)?.isSure ? ELSEWHERE : undefined);
+/** What is said of parts that are pasted where they have no place, if it is sure that they are such; undefined for
+ * another text. `isSaid` asks for words that say so. */
+export function partsElsewhere(pasted, { isSaid = false } = {}) {
+  const found = usedParts(pasted), some = found?.users.find(({ length }) => length > 1) ?? found?.users[0];
+  return found?.[isSaid ? "isSaid" : "isSure"] ? `Each line looks like a part with its cost and who uses it, as ${
+    quoted(some.join(", "))}. “Costs of each group” makes a table of groups of such lines: paste them there, or leave `
+    + "these names out." : undefined;
+}
 
 /** The table of groups of such parts: {state, remark}, or {fault}; or {doubt}, a number that can be read in two ways,
  * until somebody says by which mark (`by`). */
