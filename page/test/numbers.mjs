@@ -320,7 +320,7 @@ const QUOTAS = [
   ["qualified majority", SEATS, /^The quota is no number: “qualified majority”\. Write a number of votes, or a part/],
   ["66.7 %", PER_CENT, /^of 100 or 1001\/10: $/], ["66.7 %", [...PER_CENT.slice(1), "33.3"], /^The quota: 66/],
   ["half", [...SEATS, ""], /^$/], ["half", [...SEATS, "-1"], /^[^:]*can’t be negative\.$/],
-  ["66,667 %", SEATS, /^The quota: 66,667 % of 48 votes, so at least 33\.$/], // whatever mark comes before decimals
+  ["66,667 %", SEATS, /^of 100 or 48: $/], // and not 66667 %
   ["1/4", SEATS, /Two groups/], ["0", SEATS, /^The quota is from 1 to 48, the votes of all\.$/],
 ];
 for (const [quota, counts, wanted] of QUOTAS) {

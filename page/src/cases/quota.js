@@ -72,8 +72,8 @@ function ofNumbers(text, mark, votes) {
       ? value : null;
   }
   const [, whole = "0", rest = percent ?? text] = /^(\d+) (\d+ ?\/ ?\d+)$/.exec(percent ?? "") ?? [];
-  const sign = SIGNS[rest.at(-1)], text = sign ? rest.slice(0, -1).trim() || "0" : rest;
-  const [value, other] = [mark, otherMark(mark)].map((by) => readNumber(text, by).value), hundred = Rational.of(100);
+  const sign = SIGNS[rest.at(-1)], bare = sign ? rest.slice(0, -1).trim() || "0" : rest;
+  const [value, other] = [mark, otherMark(mark)].map((by) => readNumber(bare, by).value), hundred = Rational.of(100);
   if (!value) return null;
   const isOther = percent !== undefined && other && hundred.less(value) && !hundred.less(other); // 66,667 %
   if (isOther) return other.over(hundred);
