@@ -4,6 +4,7 @@ import { shortText, typedText } from "../exact/decimals.js";
 import { LIMITS, mostOf } from "../game/classes.js";
 import { shownName } from "../game/names.js";
 import { labelsOf, landingsOf, rowsOfLandings } from "./landings.js";
+import { ranksText } from "./ranks.js";
 import { Reading } from "./reading.js";
 import { bytesOf } from "../game/words.js";
 import { askOfSum, isEmpty } from "./sum-row.js";
@@ -138,7 +139,10 @@ export const estate = {
   unit: "claim",
   grid: "list",
   mapNumbers: numbersMapped,
-  single: { key: "estate", title: "The estate", help: "what there is to divide", heads: ESTATE, lineOf: wholeIn },
+  single: {
+    key: "estate", title: "The estate", help: "what there is to divide", heads: ESTATE, lineOf: wholeIn,
+    tells: ranksText,
+  },
   columns: [
     { key: "name", title: "Who claims", wide: true, placeholder: "Claimant", heads: CREDITOR },
     { key: "claim", title: "Claim", number: true, heads: CLAIM },

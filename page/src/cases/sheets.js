@@ -70,7 +70,7 @@ export function sheetOf(pasted, columns, { mark, single, usual, isFirst = true, 
   if (singles.fault || singles.asked) return singles;
   const notes = [...table.notes, title && `The first line, “${withEscapes(title)}”, was taken as a heading.`,
     pastedText(rows, headings, targets, usual), unitsText(unitsOf(units, targets)),
-    ...singlesText(singles, single, said)];
+    ...singlesText(singles, single, said), single?.tells?.(pasted)];
   const line = singles.number ? undefined : single?.lineOf?.(table.out);
   return { rows: below, targets, headings, notes: notes.filter(Boolean), isGuess, line, ...beside,
     number: singles.number?.text, other: singles.other?.text, isPercent: isOfHundred(title, headings, targets, units) };

@@ -42,6 +42,13 @@ export const LISTS = [
   ["votes", "Vance has 41 votes, Ruiz 27 and Ott 32. At least 51 votes are needed.", /^Vance has/, /is no number/],
   ["votes", "The board decides by at least 3 votes.\nThe chair has 2 votes, each other 1.", null, /Nothing was/],
   ["votes", "Holders with at least 5 % each\t40\nBo\t60", "Holders with at least 5 % each=40|Bo=60"],
+  // claims of several ranks
+  ["estate", "Creditor\tClaim\tRank\nTax office\t120\tpreferential\nBo\t80\tordinary", "Tax office=120|Bo=80",
+    /“Rank” was left out\. “preferential” stands here\. Only claims of one rank share an estate: take those/],
+  ["estate", "Bank (secured)\t120\nBo (unsecured)\t80", /^Bank/, /^“secured” stands here/],
+  ["estate", "Bo (unsecured)\t120\nCy (non-secured)\t80\nDi, nicht gesichert\t8", /^Bo/, /^(?!.*stands? here)/],
+  ["estate", "Finanzamt, Masseverbindlichkeit: 120\nBank, Absonderungsrecht: 80\nCy: 40", /Cy=40$/,
+    /“Masseverbindlichkeit” and “Absonderungsrecht” stand here/],
 ];
 const MAYOR = "Ops 8,300, Sales 9,000 and Legal 7,250", OF_MAYOR = "9,000,8,300,7,250";
 export const DIVIDED = [
