@@ -81,16 +81,30 @@ function columnsOf(below, heads, judge) {
   const isFew = columns.length === 3 || costs.length < 3 || heads.length > 0;
   const isPlain = names.length === 2 && costs.length > 0 && isFew;
   if (!isHeaded && (!isPlain || below.every((row) => /[–—→]|->| to /.test(row[names[0]])))) return null;
-  const [from, to] = isHeaded ? headed : names, isCount = (c) => below.every((row, k) => Number(row[c]) === k + 1);
-  const own = costs.filter((c) => c !== from && c !== to && !isCount(c)); // and no row numbers
+  const [from, to] = isHeaded ? headed : names, own = costs.filter((c) => {
+    return c !== from && c !== to && !isCountIn(below, c); // and no row numbers
+  });
   const by = (head) => own.filter((c) => head.test(heads[c] ?? "")), some = [by(HEADS[2]), by(LIKE_COST[0]), own];
   return { from, to, priced: some.find((list) => list.length) ?? [isHeaded ? headed[2] : costs[0]] };
+}
+
+/** Whether a column numbers the rows. */
+const isCountIn = (below, c) => below.every((row, k) => row[c].replace(/[.)]$/, "") === String(k + 1));
+
+/** Rows below lines of one text above a list, as a title: {rows, left}, these texts. */
+export function untitled(rows) {
+  const filled = rows.map((row) => row.filter(Boolean)), first = filled.findIndex(({ length }) => length > 1);
+  const above = filled.slice(0, Math.max(0, first)).filter(([text]) => text).flat();
+  const isLink = ([one, other, ...more]) => isText(one) && isText(other) && more.length > 0;
+  const isTitle = above.length > 0 && above.every(isText) && filled.slice(first).every(isLink);
+  return isTitle ? { rows: rows.slice(first), left: above } : { rows, left: [] };
 }
 
 /** Whether the first row of a list has headings: no number, and a word above each column of numbers; below "From" and
  * "To" it may be a year, or "x". A first link whose cost is missing, or is "ca. 12", has none. */
 function isHeadOfLinks([first, ...below], { isNumber }) {
-  const isCost = (c) => below.filter((row) => isNumber(row[c])).length * 2 > below.length;
+  const isNumeric = (c) => below.filter((row) => isNumber(row[c])).length * 2 > below.length;
+  const isCost = (c) => isNumeric(c) && !isCountIn(below, c);
   const isEnds = [0, 1].every((c) => first[c]?.length > 1 && HEADS[c].test(first[c]));
   const isYear = (text) => isEnds && YEAR.test(text), isWord = (text) => isYear(text) || !isSpoilt(text);
   return below.length > 0 && first.every((text, c) => {

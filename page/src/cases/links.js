@@ -23,7 +23,7 @@ import { plural } from "../game/words.js";
 import { blockOf, isText, withoutSums } from "./block.js";
 import { unframed } from "./frames.js";
 import { byCost, costsIn } from "./link-costs.js";
-import { clean, isNameless, isNone, listOf, numbersApart, titleOf, withEnds } from "./link-list.js";
+import { clean, isNameless, isNone, listOf, numbersApart, titleOf, untitled, withEnds } from "./link-list.js";
 import { isSpoilt, SPOILT } from "./pasting.js";
 import { answerFault } from "./saved-tables.js";
 import { withoutUnits } from "./units.js";
@@ -57,7 +57,7 @@ function padded(rows) {
  * alone, for the cells where it was pasted. */
 export function networkOf(pasted, { mark = ".", source = "", cost, columns } = {}) {
   const block = blockOf(pasted.map(numbersApart)), rows = withEnds(block.rows);
-  const { rows: framed, left: texts } = unframed(rows);
+  const { rows: bare, left: around } = unframed(rows), { rows: framed, left: above } = untitled(bare);
   const ways = [rows, framed].map((some) => readOf(some, { mark, cost, columns })), [whole] = ways;
   const found = ways.find((one) => one && !one.fault) ?? whole, saved = answerFault(pasted)
     ?? partsElsewhere(pasted, { isSaid: Boolean(found) && !found.fault });
@@ -75,8 +75,9 @@ export function networkOf(pasted, { mark = ".", source = "", cost, columns } = {
     const most = `A network has at most ${MOST_POINTS - 1} places and the source.`;
     return { fault: `These are ${points.length} points. ${most}` };
   }
-  const { links, fault } = joined(found, found.judge), out = whole === found ? [] : texts.map((text) => `“${text}”`);
+  const { links, fault } = joined(found, found.judge), texts = whole === found ? [] : [...around, ...above];
   if (fault) return { fault };
+  const out = texts.map((text) => `“${text}”`);
   if (rows !== block.rows) out.push(...titleOf(pasted, block));
   out.push(...left, ...found.units.map((unit) => `“${unit}”, the unit`));
   return { points, links, shape, left: out, told: [...block.notes, ...found.told], ...sourceOf(points, found, source) };

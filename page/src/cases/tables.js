@@ -240,7 +240,8 @@ function listOf(given, allLines, { mark, roles, column, cells, ...said }) {
     const k = Math.max(0, texts.findIndex((text) => readNumber(text).fault));
     return { fault: `${lineOf(k)}“${texts[k]}” is no number, and no group has one beside it.` };
   }
-  const several = rows.findIndex((row) => SEVERAL_IN.test(row.filter(Boolean).join("; ")));
+  const isPair = ([group, number = "", ...more]) => group && !more.some(Boolean) && !readNumber(number).fault;
+  const several = rows.findIndex((row) => SEVERAL_IN.test(row.filter(Boolean).join(isPair(row) ? " " : "; ")));
   if (several >= 0) {
     const text = withEscapes(rows[several].filter(Boolean).join(" ")).slice(0, 60);
     return { fault: `${lineOf(several)}A line has one group and its number; here are more: “${text}”. ${FORM}` };

@@ -8,6 +8,9 @@ const OWN = "No, each line is a group with its own cost";
 const PARTS = "Part A: 480 (Kim, Lee)\nPart B: 150 (Kim)\nPart C: 90 (Lee)";
 
 export const GROUPS = [
+  // a currency before a number, behind a name that ends with one
+  ["costs", "Unit 7\tEUR 8\nUnit 12\tEUR 7\nUnit 7+Unit 12\tEUR 10", "Unit 7|Unit 12|EUR 8|EUR 7|EUR 10"],
+  ["costs", "A alone 5, B alone\t4\nA and B\t7", null, /are more: “A alone 5, B alone 4”/],
   // a line of all under a name of its own
   ["costs", `${ALONE}\nJoint order\t690`, null,
     /Is “Joint order” all 3 together \(“Oberdorf”, “Niederau” and “St\. Veit”\), or somebody of its own\?/],

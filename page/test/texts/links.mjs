@@ -1,5 +1,12 @@
 // Texts of a network's links and of a market, as rows of pasted.mjs.
+const LINKED = "Works|A|B|0-1|12|0-2|9|1-2|4";
 export const LINKS_AND_TRADES = [
+  // a list below a title of its own, and with the numbers of its rows
+  ["network", "Title\t\t\nWorks\tA\t12\nWorks\tB\t9\nA\tB\t4", LINKED, /Left out: “Title”/],
+  ["network", "\tVon\tNach\tKosten\n1\tWorks\tA\tEUR 12\n2\tWorks\tB\tEUR 9\n3\tA\tB\tEUR 4",
+    "Works|A|B|0-1|EUR 12|0-2|EUR 9|1-2|EUR 4"],
+  ["network", "\tVon\tNach\tKosten\n1.\tWorks\t2\t12\n2.\tWorks\t3\t9\n3.\t2\t3\t4", "Works|2|3|0-1|12|0-2|9|1-2|4"],
+  ["network", "Works\nA\t12\nB\t9\t4", LINKED, /a lower triangle/],
   // limit prices in a table of buyers and sellers
   ["market", "\thut\tflat\nAnn\t5\t9\nBo\t8\t9\nReserve\t6\t4", null,
     /Nothing was taken yet\. “Reserve” looks like the least that sellers take\. What are the other numbers\?/],
