@@ -18,6 +18,8 @@ const PERHAPS = new RegExp(`^(?:(?:the|die|les?|i|los|las|de) )?(?:${COUNT})(?: 
 const SHARED = new RegExp(`(?<!\\p{L})(?:${WITH}|joint|shared|common|combined|collective|everybody|everyone|both`
   + "|alle[nr]?|(?:gemeinsam|gesamt|sammel|gezamenlijk)\\p{L}*|tous|toutes|en commun|groupée?s?|tutti"
   + "|tutte|in comune|todos|todas|conjunt[oa]|iedereen)(?!\\p{L})|^(?:one|a single) ", "iu");
+const SUMMED = /(?<!\p{L})(?:(?:sub)?totals?|sums?|summe|somme|suma|totale|totaal|insgesamt)(?!\p{L})/iu;
+const REST = /^(?:(?:the|total|joint) )?(?:savings?|ersparnis|einsparung|économies?|besparing|risparmio|ahorro)$/iu;
 const OF_ALL = /(?<!\p{L})(?:[Aa]ll|ALL)(?![\p{L}'’-]| \p{Lu})/u; // and no "All Saints"
 
 export const isLone = ({ members }) => members.length === 1;
@@ -41,12 +43,12 @@ function isSumOf(number, lines) {
   });
 }
 
-/** A line that is named as a sum, and is that of the lines of one player each, beside one of all together. */
+/** A line whose words say that it is a sum, and that is that of the lines of one player each, beside one of all. */
 export function sumBeside(read) {
-  const lone = read.filter(isLone), isNamed = (line) => isAllWord(textOf(line)) || isSumWord(textOf(line));
+  const lone = read.filter(isLone), isNamed = (line) => isAllWord(textOf(line)) || SUMMED.test(textOf(line));
   const named = lone.filter(isNamed), others = lone.filter((line) => !isNamed(line));
-  const isSum = (line) => isSumWord(textOf(line)) && isSumOf(line.number, others);
-  return named.length > 1 ? named.find(isSum) : undefined;
+  const hasAll = named.length > 1 || read.some(({ members }) => members.length === others.length && others.length > 1);
+  return hasAll ? named.find((line) => SUMMED.test(textOf(line)) && isSumOf(line.number, others)) : undefined;
 }
 
 /** Lines that may be all together: {lines, players}, and who then are the players. They say so, or how many they are;
@@ -55,7 +57,8 @@ function mayBeAll(read, roles) {
   const lone = read.filter(isLone), inside = new Set(read.flatMap((line) => (isLone(line) ? [] : line.members)));
   const names = [...new Set([...lone.map(textOf), ...inside])], n = names.length - 1;
   const free = lone.filter((line) => !inside.has(textOf(line)) && roles[textOf(line)] !== "player");
-  const isNamed = (text) => isAllWord(text) || isSumWord(text) || SHARED.test(text) || OF_ALL.test(text);
+  const isNamed = (text) => isAllWord(text) || isSumWord(text)
+    || [SHARED, SUMMED, REST, OF_ALL].some((words) => words.test(text));
   const named = free.filter((line) => roles[textOf(line)] || isNamed(textOf(line)));
   const counted = free.filter((line) => PERHAPS.test(textOf(line)) && countIn(textOf(line)) === n);
   const isLast = (line) => free.length === 1 && read.length === 2 ** n - 1;
@@ -72,14 +75,15 @@ function mayBeAll(read, roles) {
 export function wholeOf(read, roles = {}) {
   const { lines, players } = mayBeAll(read, roles), n = players.length;
   if (n < 2) return { out: [] };
-  const hasAll = read.some(({ members }) => members.length === n), others = read.filter((line) => {
-    return isLone(line) && !lines.includes(line);
-  });
-  const isSum = (line) => isSumWord(textOf(line)) && isSumOf(line.number, others);
+  const others = read.filter((line) => isLone(line) && !lines.includes(line)), roleOf = (line) => roles[textOf(line)];
+  const isSum = (line) => SUMMED.test(textOf(line)) && isSumOf(line.number, others);
   const isNamed = (text) => (isAllWord(text) || isSumWord(text)) && [undefined, n].includes(countIn(text));
-  const open = lines.find((line) => !roles[textOf(line)] && (hasAll || isSum(line) || !isNamed(textOf(line))));
-  if (open) return { asked: textOf(open), players, isSum: isSum(open), hasAll };
-  const [out, whole] = [true, false].map((isOut) => lines.filter((line) => (roles[textOf(line)] === "out") === isOut));
+  const isWhole = (line) => roleOf(line) === "all" || (!roleOf(line) && isNamed(textOf(line)) && !isSum(line));
+  const hasAll = (line) => read.some((one) => one !== line && (one.members.length === n
+    || (lines.includes(one) && isWhole(one))));
+  const open = lines.find((line) => !roleOf(line) && (hasAll(line) || !isWhole(line)));
+  if (open) return { asked: textOf(open), players, isSum: isSum(open), hasAll: hasAll(open) };
+  const [out, whole] = [true, false].map((isOut) => lines.filter((line) => (roleOf(line) === "out") === isOut));
   for (const line of whole) Object.assign(line, { members: players, words: textOf(line) });
   return { out };
 }

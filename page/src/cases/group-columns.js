@@ -1,6 +1,7 @@
 // Which column of a list of groups has their numbers, where it has several.
 import { readNumber } from "../exact/decimals.js";
 import { withEscapes } from "../game/names.js";
+import { listed } from "../game/words.js";
 import { headingsOf } from "./pasting.js";
 
 const MOST_SHOWN = 120; // letters of a line that is quoted
@@ -15,10 +16,11 @@ const isWorth = (heading = "") => WORTH.test(heading) && !PER.test(heading);
 /** Rows of a group and its number, of such as may have headings and further columns: {rows, lines, told}. Of several
  * columns of numbers the one `column` is taken; {columns} with their titles if nobody said which; {fault} where no
  * headings say what the others are. `lines` are the numbers of the lines of the text. */
-export function pairsOf(all, allLines, { mark, column, cells }) {
+export function pairsOf(given, allLines, { mark, column, cells }) {
+  const { rows: all, told: joined } = asOneColumn(given, mark);
   const headings = headingsOf(all, 1, mark) ?? yearsOf(all), skip = headings ? 1 : 0, rows = all.slice(skip);
   const lines = allLines.slice(skip), long = rows.findIndex((row) => row.slice(2).some(Boolean));
-  const told = headings ? headingText((cells[allLines[0] - 1] ?? headings).filter(Boolean).join("; ")) : "";
+  const told = headings ? headingText((cells[allLines[0] - 1] ?? headings).filter(Boolean).join("; ")) + joined : "";
   if (long < 0) return { rows, lines, told };
   const isNumber = (text) => Boolean(text) && !readNumber(text, mark).fault;
   const shown = withEscapes(rows[long].join("; ")).slice(0, 60), line = `Line ${lines[long]}: `;
@@ -41,6 +43,22 @@ export function pairsOf(all, allLines, { mark, column, cells }) {
   const out = others.filter((c) => c !== at).map((c) => withEscapes(headings?.[c] ?? rows[0][c] ?? ""));
   const left = out.map((text) => ` “${text}”${headings ? "" : " …"} was left out.`).join("");
   return { rows: rows.map((row) => [row[0], row[at] ?? ""]), lines, told: told + left };
+}
+
+/** Rows with one column for those that have one number between them in each row, as "Alone" and "Together". */
+function asOneColumn(given, mark) {
+  const headings = headingsOf(given, 1, mark), rows = given.slice(1);
+  const isNumber = (text) => !readNumber(text, mark).fault;
+  const columns = (headings ?? []).map((_, c) => c).filter((c) => c > 0 && rows.some((row) => !row[c])
+    && rows.some((row) => row[c]) && rows.every((row) => !row[c] || isNumber(row[c])));
+  const [first, ...more] = columns, numberIn = (row) => columns.map((c) => row[c]).filter(Boolean);
+  if (!more.length || !rows.every((row) => numberIn(row).length === 1)) return { rows: given, told: "" };
+  const bare = (row) => row.map((text, c) => (c === first ? numberIn(row).join(" / ") : text));
+  const names = columns.map((c) => `“${withEscapes(headings[c])}”`);
+  return {
+    rows: given.map((row) => bare(row).filter((_, c) => !more.includes(c))),
+    told: ` ${listed(names)} are one column: each row has one number there.`,
+  };
 }
 
 /** The first row, if it is a word and years above numbers. */

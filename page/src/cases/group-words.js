@@ -38,9 +38,9 @@ export function inOtherWords(all, roles) {
   if (odd) return { fault: `${odd.line}Here is a number without a group. Write its members before it.` };
   const each = alone.find(({ members: [one] }) => EACH.test(one));
   const given = all.filter((line) => !nobody.includes(line) && line !== each);
-  const words = withoutAlone(given, used), alike = namedAlike(given), spare = sumBeside(given);
-  const read = given.filter((line) => line !== spare);
-  for (const line of andGroups(read, used)) Object.assign(line, { members: line.parts, words: line.members[0] });
+  const words = withoutAlone(given, used), alike = namedAlike(given);
+  for (const line of andGroups(given, used)) Object.assign(line, { members: line.parts, words: line.members[0] });
+  const spare = sumBeside(given), read = given.filter((line) => line !== spare);
   const { out = [], ...asked } = wholeOf(read, roles);
   if (asked.asked) return asked;
   const kept = read.filter((line) => !out.includes(line));
@@ -54,11 +54,13 @@ export function inOtherWords(all, roles) {
   return { read: full, told: told + (nobody.length ? " The group of nobody was left out." : "") };
 }
 
-/** Gives members of groups the name that a line of one player has but for the size of its letters: what is told. */
+/** Gives members of groups the name that a line of one player has but for the size of its letters, or with the word
+ * that the first member begins with, as in "Flat 1 + 2": what is told. */
 function namedAlike(read) {
   const lone = read.filter(isLone).map(({ members: [one] }) => one), told = new Map();
-  const nameOf = (member) => {
-    const alike = lone.filter((one) => one.toLowerCase() === member.toLowerCase());
+  const nameOf = (member, k, [first]) => {
+    const forms = [member, ...(k ? [`${first.split(" ")[0]} ${member}`] : [])].map((form) => form.toLowerCase());
+    const alike = lone.filter((one) => forms.includes(one.toLowerCase()));
     if (lone.includes(member) || alike.length !== 1) return member;
     told.set(member, alike[0]);
     return alike[0];
@@ -80,11 +82,14 @@ function withoutAlone(read, used) {
 }
 
 /** The lines of groups without +, each with its `parts`: all have a line; or no part is in one such line only. A part
- * may have small letters where its line has great ones. */
+ * may have small letters where its line has great ones, and lack words that the first one has: "Kita Nord und Süd". */
 function andGroups(read, used) {
   const lone = read.filter(isLone).map(({ members: [one] }) => one), lines = new Set(lone);
   const likeOf = (part) => lone.find((one) => one.toLowerCase() === part.toLowerCase());
-  const ownOf = (part) => (lines.has(part) ? part : likeOf(part) ?? part);
+  const behind = (part, k, [first]) => lone.find((one) => k && one === `${first.split(" ")[0]} ${part}`);
+  const ownOf = (part, k, all) => {
+    return lines.has(part) ? part : likeOf(part) ?? behind(part, k, all) ?? part;
+  };
   const all = read.filter((line) => isLone(line) && !used.has(line.members[0])).map((line) => {
     return Object.assign(line, { parts: partsOf(line.members[0]).map(ownOf) });
   }).filter(({ parts }) => parts.length > 1);

@@ -1,4 +1,6 @@
-// A table whose columns say by marks who is in a group: 1 and 0, x or yes, below the names of the players.
+// A table whose columns say by marks who is in a group: 1 and 0, x or yes, below the names of the players; or which has
+// a cell for each member.
+import { readNumber } from "../exact/decimals.js";
 import { withEscapes } from "../game/names.js";
 
 export const IN = /^(1|x|✓|✔|☑|y|yes|ja|j|oui|sí|si)$/i;
@@ -18,7 +20,20 @@ export function joinedMembers(given) {
     const shown = firsts.map((head, c) => `“${withEscapes(head || `${below[0][c]} …`)}”`).join(" and ");
     return { rows, told: before ? `${shown}, before the columns of marks, was left out.` : "" };
   }
-  return { rows: given, told: "" };
+  const rows = fromCells(given);
+  return rows ? { rows, told: "Names side by side are a group." } : { rows: given, told: "" };
+}
+
+/** The rows of groups whose members have a cell each, and all a row alone; null for others. */
+function fromCells(given) {
+  const isNumber = (text) => !readNumber(text).fault, filled = given.map((row) => row.filter(Boolean));
+  const isHead = filled[0]?.length > 1 && !isNumber(filled[0].at(-1)), below = isHead ? filled.slice(1) : filled;
+  const alone = new Set(below.filter(({ length }) => length === 2).map(([name]) => name));
+  const isGroup = (row) => row.length > 1 && isNumber(row.at(-1))
+    && row.slice(0, -1).every((name) => !isNumber(name) && (row.length === 2 || alone.has(name)));
+  if (!below.some(({ length }) => length > 2) || !below.every(isGroup)) return null;
+  const heads = isHead ? [[filled[0][0], filled[0].at(-1)]] : [];
+  return [...heads, ...below.map((row) => [row.slice(0, -1).join("+"), row.at(-1)])];
 }
 
 /** Rows whose headings lack the cell of the first column, with an empty one there. */

@@ -143,7 +143,8 @@ function inColumn(pasted, mark) {
   const isSaid = (c) => SURE.test(headings?.[c] ?? "");
   const isOf = (c) => (c > 0 || isSaid(c)) && areUsers(listsAt(c).filter(({ length }) => length), isSaid(c));
   const named = columns.find((c) => isCalled(c) && isOf(c)), at = named ?? columns.find((c) => isWords(c) && isOf(c));
-  const own = columns.find((c) => c !== at && isWords(c)), label = own ?? (isSaid(at) ? at : undefined);
+  const isLabel = (c) => parts.every((row) => isText(row[c] ?? ""));
+  const own = columns.find((c) => c !== at && isLabel(c)), label = own ?? (isSaid(at) ? at : undefined);
   const called = parts.map((row) => row[label]);
   const isApart = new Set(called).size === called.length && !parts.some((row) => called.includes(row[at]));
   if (loose || at === undefined || label === undefined || (named === undefined && !isApart)) return null;

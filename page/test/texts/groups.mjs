@@ -64,4 +64,18 @@ export const GROUPS = [
   ["network", "Works - Mill (pipe, new): 12\nWorks - Farm (pipe): 9", /^Works\|Mill \(pipe, new\)\|/],
   ["network", "Works to Mill: 12 (pipe, new)\nWorks to Farm: 9 (pipe)", /^Works\|Mill\|Farm/, /Left out behind/],
   ["runway", "Aer\t20\tA320, B737\nBee\t40\tA320", /A320, B737/, /“Type”/], ["runway", PARTS, null, /as “Kim, Lee”\./],
+  ["costs", "1. Offer\t48\tAnn, Bo\n2. Offer\t30\tAnn\n3. Offer\t25\tBo", "Ann|Bo|30|25|48", /^/, OWN],
+  // sums and savings beside the groups, numbers in two columns, members in cells, and names that lack a word
+  ["costs", "School: 48\nMill: 30\nSchool and mill: 70\nTotal alone: 78", "School|Mill|48|30|70", /“Total alone” was/],
+  ["costs", `Alone total\t1220\n${ALONE}\nTogether\t690`, ALL, /“Alone total” was left out, as a sum of other lines/],
+  ["costs", "School: 48\nMill: 30\nboth together: 70\nSaving: 8", null, /line of all together\. Is “Saving” som/],
+  ["costs", "School: 48\nMill: 30\nboth together: 70\nSaving: 8", "School|Mill|48|30|70", /“Saving”/, "Leave it out"],
+  ["costs", "Joint: 690\nSaving: 530\nA: 480\nB: 390\nC: 350", null, /Is “Joint” all 3 together \(“A”, “B” and “C”\)/],
+  ["costs", "A: 8\nB: 7\nJoint: 9\nCommon: 10", null, /Is “Common” both together|“Common” all 3/, "One more player"],
+  ["gains", "Partner\tAlone\tTogether\nAnn\t20\t\nBo\t30\t\nAnn + Bo\t\t80", "Ann|Bo|20|30|80",
+    /“Alone” and “Together” are one column: each row has one number there/],
+  ["costs", "Group\t2024\t2025\nA\t8\t\nB\t7\t8\nA+B\t12\t13", null, /Which column is the cost\?/],
+  ["costs", "School\t48\nMill\t30\nSchool\tMill\t70", "School|Mill|48|30|70", /Names side by side are a group/],
+  ["costs", "Kita Nord 12,50\nKita Süd 11\nKita Nord und Süd 18", "Kita Nord|Kita Süd|12,50|11|18", /d Süd” is/],
+  ["costs", "Flat 1\t12\nFlat 2\t11\nFlat 1 + 2\t18", "Flat 1|Flat 2|12|11|18", /“2” is “Flat 2”/],
 ];
