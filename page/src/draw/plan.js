@@ -4,7 +4,7 @@ import { el } from "./tree.js";
 import { figure } from "./figure.js";
 import { fitted, widthOf } from "./measure.js";
 
-const ROW = 52;
+const [ROW, NAME] = [52, 130];
 
 /** Where each point stands: how many links from the source, and in which row. */
 function spotsOf(children) {
@@ -38,10 +38,16 @@ export function planPicture(game, links, { show, wide, source = "Source" }) {
       class: "link", d: `M${x(from)},${y(from)} C${bend},${y(from)} ${bend - step * 0.1},${y(to)} ${x(to)},${y(to)}`,
     });
   });
-  const points = [...spots.keys()].map((point) => placed(names[point], x(point), y(point), {
-    isSource: !point, isLeaf: point && !children.get(point).length, price: point ? show(cost.get(point)) : "",
+  const ends = new Map(links.map(([end, player]) => [Number(player), Number(end)]));
+  const isLeaf = (point) => point > 0 && !children.get(point).length;
+  const room = (point) => (isLeaf(point) ? Math.max(NAME, wide - x(point) - 20) : NAME); // to its right is nothing
+  const labels = new Map(names.map((name, point) => [point, fitted(name, room(point))]));
+  const points = [...spots.keys()].map((point) => placed(labels.get(point), x(point), y(point), {
+    isSource: !point, isLeaf: isLeaf(point), price: point ? show(cost.get(point)) : "",
+    isRising: isLeaf(point) && y(ends.get(point)) > y(point),
   }));
-  const size = { width: 12 + deepest * step + label, height: rows * ROW + 10 };
+  const sides = [...spots.keys()].filter(isLeaf).map((point) => x(point) + widthOf(labels.get(point)) + 18);
+  const size = { width: Math.max(12 + deepest * step + label, ...sides), height: rows * ROW + 10 };
   const told = links.map(([end, player]) => {
     const [from, to] = [Number(end), Number(player)];
     return `${names[to]} is joined to ${names[from]} and pays ${show(cost.get(to))}`;
@@ -52,14 +58,14 @@ export function planPicture(game, links, { show, wide, source = "Source" }) {
   }, curves, points);
 }
 
-function placed(name, x, y, { isSource, isLeaf, price }) {
-  const short = fitted(name, 130);
+/** The number of a link is on the side of it where no line comes from. */
+function placed(name, x, y, { isSource, isLeaf, isRising, price }) {
   const above = isSource ? { x: 4, y: y - 13 } : { x, y: y - 13, "text-anchor": "middle" };
   const spot = isLeaf ? { x: x + 12, y: y + 5 } : above;
   return [
     el("circle", { class: isSource ? "place source" : "place", cx: x, cy: y, r: isSource ? 7.5 : 5.5 }),
-    el("text", { class: "apart", ...spot }, short),
-    price && el("text", { class: "soft apart", x: x - 11, y: y + 16, "text-anchor": "end" }, price),
+    el("text", { class: "apart", ...spot }, name),
+    price && el("text", { class: "soft apart", x: x - 11, y: y + (isRising ? -7 : 16), "text-anchor": "end" }, price),
   ].filter(Boolean);
 }
 

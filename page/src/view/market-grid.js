@@ -210,7 +210,8 @@ class MarketGrid {
   // ---- The matrix
 
   showMatrix() {
-    const { buyers, sellers } = this.typed, none = el("td", { class: "tool" });
+    const { buyers, sellers, values } = this.typed, none = el("td", { class: "tool" });
+    const style = `--digits: ${Math.max(4, ...values.flat().map(({ length }) => length))}`;
     const seller = (_, j) => {
       return el("th", { scope: "col", class: "number" }, this.nameInput("sellers", j, `Seller ${j + 1}`));
     };
@@ -219,7 +220,8 @@ class MarketGrid {
       el("th", { scope: "row" }, this.nameInput("buyers", i, `Buyer ${i + 1}`)),
       sellers.map((other, j) => el("td", {}, this.valueInput(i, j, name, other))),
       el("td", { class: "tool" }, buyers.length > 1 && this.removal(i, name))));
-    refill(this.holder, el("table", { class: "grid matrix market" }, el("thead", {}, head), el("tbody", {}, rows)));
+    refill(this.holder, el("table", { class: "grid matrix market", style }, el("thead", {}, head),
+      el("tbody", {}, rows)));
     this.showTools();
   }
 

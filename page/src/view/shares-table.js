@@ -19,6 +19,7 @@ const BRIEF = 8; // rows that are kept on one printed page
 const NARROW = 520;
 const FEW = 3; // landings that are named one by one
 const MOST_DIGITS = 12; // of a fraction that is shown unfolded
+const MOST_NAME = 18; // letters of a name that stay in one line where columns need room
 const BY_PAGE = "by the page itself";
 
 export function sharesTable(result, settings) {
@@ -40,7 +41,7 @@ export function sharesTable(result, settings) {
   return el("div", {},
     pinned && pinnedNote(pinned, columns[0], rows, settings),
     settings.said && el("p", { class: "note own-said", role: "status" }, settings.said),
-    el("div", { class: "scroll" }, el("table", { class: kinds.filter(Boolean).join(" ") },
+    el("div", { class: "scroll" }, el("table", { class: kinds.filter(Boolean).join(" "), style: nameRoom(rows) },
       headOf(view), el("tbody", {}, linesOf(rows).map((line) => (line.of ? sumRow(line, view) : shareRow(line, view))),
         (kept.get(columns[0].key)?.gone ?? []).map((one, k) => goneRow(one, k, view))),
       footOf(view))),
@@ -49,6 +50,11 @@ export function sharesTable(result, settings) {
     proposal.shares && sameAs(columns, proposal.shares),
     isMoved(points, rows, format) && el("p", { class: "hint exact" }, "Rounded so that the shares add up."),
     pinned?.pin && el("div", { class: "tools" }, pinTools(pinned)));
+}
+
+/** How wide the names are at least: whole where they are short, and otherwise their lines are broken. */
+function nameRoom(rows) {
+  return `--name: ${Math.min(MOST_NAME, Math.max(...rows.map(({ label }) => label.length)))}ch`;
 }
 
 /** By which columns a group could do better alone, a line each. */

@@ -15,7 +15,7 @@ import { pasteBox } from "./paste-box.js";
 
 const NAMED = { things: "players", numbers: "numbers" };
 const MOST_WHOLE = 6; // players whose groups are all shown
-const PAGE = 42; // groups of more players that are shown at a time
+const [PAGE, LONG] = [42, 40]; // groups of more players that are shown at a time; letters that need the whole width
 const ASKED = "First say how the numbers are read: it is asked below.";
 const UNSAID = { opened: undefined, isUnnamed: false, filled: undefined, coarse: undefined, isMarked: undefined };
 const WAIT = 150; // milliseconds between the last key and filling anew
@@ -148,14 +148,14 @@ class TableGrid {
 
   showGroups() {
     this.showFills();
-    const bySize = new Map(), { names } = this.typed;
+    const bySize = new Map(), { names } = this.typed, isLong = (mask) => groupLabel(names, mask).length > LONG;
     for (const mask of this.found().slice(this.start, this.start + this.page())) {
       const count = membersOf(mask).length;
       bySize.set(count, [...(bySize.get(count) ?? []), mask]);
     }
     refill(this.list, [...bySize].map(([count, masks]) => [
       el("h3", {}, count === names.length ? "All together" : SIZES[count] ?? `${count} together`),
-      el("ol", { class: count > 4 ? "long" : "" }, masks.map((mask) => this.groupRow(mask))),
+      el("ol", { class: count > 4 || masks.some(isLong) ? "long" : "" }, masks.map((mask) => this.groupRow(mask))),
     ]));
     this.list.classList.toggle("few", names.length <= 3);
     showTips(this.list, this.tips);
