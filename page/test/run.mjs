@@ -5,6 +5,7 @@
 // where all is as expected, and 1 else. On a busy machine times may be longer by the factor.
 import { join, resolve } from "node:path";
 import { pathToFileURL } from "node:url";
+import { agreed } from "./agreed.mjs";
 import { assumed } from "./assumed.mjs";
 import { bothWays } from "./both-ways.mjs";
 import { casesTyped, otherCases, tables } from "./cases.mjs";
@@ -44,6 +45,7 @@ harness.add(door);
 harness.add(face);
 harness.add(strangers);
 harness.add(untaken);
+harness.add(agreed);
 harness.add(users);
 harness.add(figures);
 harness.add(byLimitPrices);

@@ -14,7 +14,8 @@ const TESTS = {
   filled: isObject, coarse: (one) => isObject(one) && Object.keys(one).every((key) => coarseOf(one)?.[key]),
   decimals: (one) => typeof one === "bigint" && one >= 0n && one <= 6n, mark: isMark, entry: isMark,
   thousands: (one) => typeof one === "string" && /^[.,’'\u202f\u00a0 ]$/.test(one),
-  heading: isText, unit: isText, source: isText, proposal: (one) => Array.isArray(one) && one.every(isText),
+  heading: isText, unit: isText, agreed: isText, source: isText,
+  proposal: (one) => Array.isArray(one) && one.every(isText),
   kept: isKept, limits: isLimits,
 };
 
@@ -39,8 +40,8 @@ function isKept(one) {
  * that of the cells, and `thousands` the sign between thousands, if they show one. */
 export function caseText({ kind, typed, text, limits, texts, places, mark, entry, thousands, kept: pin, paper }) {
   const proposal = texts.some(Boolean) ? texts : undefined;
-  const { coarse, source } = typed, { heading, unit } = paper, shown = { decimals: places, mark, entry };
-  const settings = { filled: kind.filled?.treeOf(typed), coarse, ...shown, heading, unit, source };
+  const { coarse, source } = typed, { heading, unit, agreed } = paper, shown = { decimals: places, mark, entry };
+  const settings = { filled: kind.filled?.treeOf(typed), coarse, ...shown, heading, unit, agreed, source };
   const beside = { limits: limits ?? undefined, proposal, kept: pin, thousands: thousands ?? undefined };
   const all = Object.entries({ ...settings, ...beside });
   const kept = all.filter(([, one]) => one !== undefined && one !== "");

@@ -1,6 +1,7 @@
 // The panels below a case: the answer, its settings, the reasons and the evidence.
 import { sourceName } from "../cases/matrices.js";
 import { MARKS, nameOfMark } from "../exact/marks.js";
+import { agreedColumn, agreedText } from "./agreed.js";
 import { answerParts, solutionOf } from "./answer.js";
 import { beyondParts } from "./beyond.js";
 import { beyondPower } from "./beyond-power.js";
@@ -34,10 +35,10 @@ const BODIES = ["answer-measure", "answer-settings", "answer-body", "own-body", 
   "evidence-body", "paper-body", "files-body"];
 /** Which parts of an answer are drawn anew as something comes: all at first, or if it isn't named here. */
 const DRAWN = {
-  reasons: ["body", "why"], divisions: ["settings", "body", "why", "own", "evidence", "files"],
+  reasons: ["body", "why"], divisions: ["settings", "body", "why", "own", "evidence", "files", "agreed"],
   verdicts: ["body", "why"],
-  checks: ["seals", "evidence"], margins: ["margins"], proposal: ["body", "why", "own"], todays: ["body", "own"],
-  pinned: ["body", "own"],
+  checks: ["seals", "evidence"], margins: ["margins"], proposal: ["body", "why", "own", "agreed"],
+  todays: ["body", "own"], pinned: ["body", "own"],
 };
 const LINKS = { "what-if": "What if", evidence: "Evidence", paper: "On paper", files: "Files" };
 
@@ -90,7 +91,7 @@ export class AnswerView {
       own: () => refill(at("own-body"), ownDivision(result, { ...view, onBegin: () => this.show("proposal") })),
       evidence: () => refill(at("evidence-body"), evidenceParts(result, this.session, view.filled)),
       files: () => this.made && this.showFiles(this.made),
-      links: () => this.showLinks(),
+      links: () => this.showLinks(), agreed: () => at("paper-body").firstElementChild?.showAgreed(),
     };
     for (const part of result.refusal ? ["settings", "body"] : some ?? Object.keys(parts)) parts[part]();
   }
@@ -174,7 +175,8 @@ export class AnswerView {
       const { rows } = session.reading, beside = { today: todayOf(session, rows), pinned: pinnedOf(session, rows) };
       const { coarse } = session.typed, filled = filledText(session), { proposal } = session;
       const all = tablesOf(session.result, { rows, format, coarse, proposal, ...beside });
-      const notes = [all.flat(2).some((text) => /^-?\d+\/\d+$/.test(text)) && OF_FRACTIONS, filled].filter(Boolean);
+      const notes = [all.flat(2).some((text) => /^-?\d+\/\d+$/.test(text)) && OF_FRACTIONS, filled,
+        agreedText(agreedColumn(session, this.typed))].filter(Boolean);
       return [...all, notes.map((note) => [note])];
     };
     at("files").hidden = !hasMade;

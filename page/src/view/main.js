@@ -4,6 +4,7 @@ import { caseNamed } from "../cases/cases.js";
 import { coarseOfSums, coarserStill } from "../cases/coarse.js";
 import { costs } from "../cases/tables.js";
 import { writtenBy } from "../exact/marks.js";
+import { agreedColumn } from "./agreed.js";
 import { AnswerView } from "./answer-view.js";
 import { casePanel } from "./case-panel.js";
 import { Documents } from "./documents.js";
@@ -108,7 +109,7 @@ function asked(kind) {
     caseText: () => {
       const { pinned, reading, marks } = session, kept = pinned ? keptTree(pinned, session.typed) : undefined;
       const { shown: mark, thousands } = marks, { text, facts } = reading, entry = writtenBy(reading);
-      const sheet = { ...view.typed, unit: unitOf(view.typed) };
+      const { typed } = view, sheet = { ...typed, unit: unitOf(typed), agreed: agreedColumn(session, typed)?.key };
       return caseText({ ...nowTyped(), paper: sheet, kind, kept, mark, thousands, entry, text, limits: facts?.limits });
     },
   };

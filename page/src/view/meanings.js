@@ -99,10 +99,13 @@ function folded(title, texts) {
   return el("details", { class: "meanings screen" }, el("summary", {}, title), texts.map((text) => el("p", {}, text)));
 }
 
-export function meanings(points, hasHolds, { perHead, kind }) {
-  const meaningOf = (key) => (key === "proportion" ? PROPORTION[kind] ?? PROPORTION.other
-    : (perHead && PER_HEAD[key]) || MEANINGS[key]);
-  const texts = points.map(({ key }) => meaningOf(key)).filter(Boolean);
+/** What a column means, in a sentence or two; undefined for one that has no rule. */
+export function meaningOf(key, { perHead, kind }) {
+  return key === "proportion" ? PROPORTION[kind] ?? PROPORTION.other : (perHead && PER_HEAD[key]) || MEANINGS[key];
+}
+
+export function meanings(points, hasHolds, game) {
+  const { perHead } = game, texts = points.map(({ key }) => meaningOf(key, game)).filter(Boolean);
   const holds = HOLDS + (perHead ? PER_HEAD_ISNT : PLAIN_IS_EVEN);
   return folded("What the columns and the questions mean", [...texts, GROUPS, ...(hasHolds ? [holds] : [])]);
 }

@@ -3,6 +3,7 @@ import { groupLabel } from "../cases/tables.js";
 import { countText } from "../exact/decimals.js";
 import { masksBySize } from "../game/groups.js";
 import { OWN_PROVED, provedText } from "../tell/proved.js";
+import { agreedChoice } from "./agreed.js";
 import { button, el, refill } from "./dom.js";
 import { dayText, showSheet } from "./sheet.js";
 import { unitOf } from "./unit.js";
@@ -32,13 +33,12 @@ export function paperPart(session, typed) {
       button("Print them", () => printAs(what), { class: "quiet" })]);
     if (count === 1) printAs(what);
   };
-  const { line, rule } = session.result ?? {};
-  return el("div", { class: "paper-part" },
+  const { line, rule } = session.result ?? {}, agreed = el("div");
+  const element = el("div", { class: "paper-part" },
     el("p", { class: "hint" }, "One page for a board or a court: who, how much, a picture, the reasons, what is ",
       "agreed on, and how to check it. Or everything on this page, with the amounts that were worked out, and the ",
       "check of a line if it is of this case."),
-    line && el("p", { class: "hint" }, `The one page is to sign the ${rule}. If you agreed on `,
-      "another rule, put the other columns there too, and name the rule in the heading."),
+    line && el("p", { class: "hint" }, `As long as nothing is agreed on, the one page has the ${rule}.`), agreed,
     field("heading", "Heading", typed.heading ?? session.kind.title, true),
     field("unit", "Unit of money", unitOf(typed), false),
     typed.pastedUnit && typed.unit === undefined && el("p", { class: "hint" }, `“${typed.pastedUnit}” is that of the `,
@@ -46,6 +46,8 @@ export function paperPart(session, typed) {
     el("label", { class: "single" }, own, " Put the other columns on the one page too"),
     el("p", { class: "tools" },
       button("Print one page", printed("sheet"), { class: "main" }), button("Print everything", printed("all"))), said);
+  element.showAgreed = () => refill(agreed, agreedChoice(session, typed));
+  return element;
 }
 
 function printAs(what) {

@@ -11,15 +11,16 @@ const TYPE_IN = " Or simply type the numbers into that page: the answer has to b
 /** By which page the sheet was made. */
 export const footText = () => [...document.querySelector("footer p").cloneNode(true).childNodes];
 
-export function checkOf({ result: { rule, answer, line, game, points }, kind, doubt, coarse, withProposal }) {
+export function checkOf({ result: { rule, answer, line, game, points }, kind, doubt, coarse, withProposal, agreed }) {
+  const isOfAnswer = !agreed || agreed.key === answer; // the column that is signed
   if (doubt) return el("section", {}, el("p", { class: "hint" }, footText()));
-  const hasLine = line && !game.ballots;
-  const steps = hasLine
+  const hasLine = line && !game.ballots, hasRule = hasLine && (isOfAnswer || withProposal);
+  const steps = hasLine && isOfAnswer
     ? `Choose “Check an answer”, and give it the agreed file and the line with the certificate, `
       + `${fileNames(kind.id, coarse).line}-${ruleFile(answer, game.perHead)}.json. `
       + `Two checkers that share no code, by the same makers, say whether these shares are the ${rule} of the agreed `
       + "game."
     : "Choose “Open a saved case”, and give it the agreed file. It works out the answer anew.";
   return el("section", {}, el("h2", {}, "How to check it"), el("p", {}, `${TAKE}${COMPARE} ${steps}${TYPE_IN}`),
-    el("p", { class: "hint" }, `${provedText(hasLine && rule, withProposal && points.length > 1)} `, footText()));
+    el("p", { class: "hint" }, `${provedText(hasRule && rule, withProposal && points.length > 1)} `, footText()));
 }

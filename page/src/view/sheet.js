@@ -12,9 +12,9 @@ import { fileNames } from "../cases/coarse.js";
 import { coarseText, dividedText } from "../tell/coarse-text.js";
 import { tiesText } from "../tell/other-pairs.js";
 import { OWN_PROVED } from "../tell/proved.js";
-import { plainPoints, sourceOf } from "../tell/rule-names.js";
+import { plainPoints } from "../tell/rule-names.js";
 import { Namer } from "../tell/words.js";
-import { listed } from "../game/words.js";
+import { agreedColumn, agreedText } from "./agreed.js";
 import { lead, notices, solutionOf } from "./answer.js";
 import { beyondSheet } from "./beyond.js";
 import { beyondPower } from "./beyond-power.js";
@@ -28,12 +28,12 @@ import { labelOfCell } from "./cell-names.js";
 import { pinnedOf, pinnedText } from "./pinned.js";
 import { CALCULATED } from "./questions.js";
 import { contextOf, ownSum, sameText } from "./shares-table.js";
+import { reasonsOf } from "./sheet-reasons.js";
 import { signing } from "./signing.js";
 import { airlineLines } from "./table-lines.js";
 import { changeText, todayOf, todayTitle } from "./today.js";
 import { unitOf } from "./unit.js";
 import { linesTable } from "./types-table.js";
-import { isHard } from "./why-pair.js";
 
 const WIDE = 700;
 const SMALL = 230; // of a side of the triangle, so that its letters can be read on paper
@@ -42,19 +42,12 @@ const MOST_PICTURED = 10; // rows whose bars leave room for the rest
 const MOST_ROWS = 18; // of one table; more stand in two, side by side
 const MANY_ROWS = 5; // above, letters are smaller, and a picture is lower
 const LONG = 900; // characters of the reasons above which they are, too
-const MOST_TOLD = 800; // characters of the first reason that are printed in full
-const MOST_LEVELS = 1100; // characters of what the levels behind the first settle
-const MOST_CUT = 4; // levels without their reason that are named
 const MOST_DOCUMENT = 420; // characters of the game's document that are printed
-const MOST_SAVING = 8; // rows of whom each saving is named
 const MOST_ALONE = 900; // the same if there is no picture
 
 const AREA = "The dark area, if there is one, contains the divisions by which no group could do better by itself.";
 const OF_FILE = " This is the SHA-256 of the file. The box below contains the same numbers, as this page writes them.";
 const OF_TEXT = " This is the SHA-256 of the text in the box below, with a line end after it.";
-const POWER = "A voter’s power is the part of all orders of joining in which the votes become enough when this voter "
-  + "joins (Shapley and Shubik 1954).";
-const PRICES = "These pairs gain most together. At these prices no other pair does better.";
 
 /** Fills the sheet with the answer of a session, and returns the number of sheets of paper that it takes. Without an
  * answer the sheet is empty. */
@@ -73,13 +66,16 @@ function fillSheet(sheet, session, typed) {
   const pinned = pinnedOf(session, rows);
   const labelOf = (cell) => labelOfCell(cell, session);
   const points = isBeyond ? [] : plainPoints(result.points, result.game);
+  const chosen = isBeyond ? null : agreedColumn(session, typed);
+  const agreed = points.find(({ key }) => key === chosen?.key) ?? chosen;
   const view = { ...session, heading, unit, withProposal, rows, format, today, coarse, pinned, labelOfCell: labelOf,
-    result: { ...result, points } };
+    result: { ...result, points }, agreed };
   if (isBeyond) return beyondOn(sheet, view);
   const reasons = reasonsOf(view), isLong = rows.length > MANY_ROWS || reasons.textContent.length > LONG;
-  const isTight = isLong || Boolean(withProposal || coarse || pinned.pin || result.core?.collection);
+  const isTight = isLong || Boolean(withProposal || agreed || coarse || pinned.pin || result.core?.collection);
   sheet.className = isTight ? "tight" : "";
-  return refill(sheet, headOf(view), notices(result, format, coarse), answerOf(view), pictureOf(view), reasons,
+  return refill(sheet, headOf(view), notices(result, format, coarse),
+    agreed && el("p", { class: "agreed" }, el("b", {}, agreedText(agreed))), answerOf(view), pictureOf(view), reasons,
     agreedOf(view), checkOf(view));
 }
 
@@ -102,10 +98,16 @@ export function dayText() {
 
 // ---- Who, and how much
 
+/** The column that the sheet is of: that which was agreed on, or the answer. */
+const mainOf = ({ result, agreed }) => agreed ?? solutionOf(result) ?? result.points[0];
+
+/** All columns of rules on the sheet. */
+const shownPoints = (view) => (view.withProposal ? view.result.points : [mainOf(view)]);
+
 function answerOf(view) {
-  const { result, rows, format, unit, today, coarse, pinned } = view, { game } = result;
+  const { result, rows, format, unit, today, coarse, pinned, agreed } = view, { game } = result;
   const shapley = result.points.find(({ key }) => key === "shapley"), power = { ...shapley, title: "Power", name: "" };
-  const point = game.ballots ? shapley && power : solutionOf(result) ?? result.points[0];
+  const point = game.ballots ? shapley && power : mainOf(view);
   if (!point) return null;
   if (result.matching) {
     const { matching } = result, deals = dealsOf(game, matching, solutionOf(result));
@@ -115,10 +117,11 @@ function answerOf(view) {
   const { title } = point, totals = totalsOf(rows, point.shares);
   const context = contextOf(game, rows, format), texts = format.column(totals, rows);
   const hasExact = totals.some((total) => !format.isExact(total)), who = game.costs ? "Who pays" : "Who gets";
-  const beside = othersOf(view, point);
-  const steps = format.steps(totals, rows), kept = pinned.pin && !game.ballots ? pinned.kept(point.key, format) : null;
+  const beside = othersOf(view, point), steps = format.steps(totals, rows);
+  const kept = pinned.pin && !game.ballots && !point.totals ? pinned.kept(point.key, format) : null;
   const others = [...todaysOf(today, steps, game, format), ...keptsOf(kept, steps, format), ...beside];
-  const heads = [game.ballots ? "Who votes" : who, context?.title, columnHead(point), hasExact ? "exactly" : undefined,
+  const own = columnHead(point, agreed && "agreed on"), exactly = hasExact ? "exactly" : undefined;
+  const heads = [game.ballots ? "Who votes" : who, context?.title, own, exactly,
     ...others.flatMap((other) => (other.exact ? [columnHead(other), "exactly"] : [columnHead(other)]))];
   const line = (r) => el("tr", {},
     el("th", { scope: "row" }, rows[r].label, rows[r].players.length > 1 && ` (${rows[r].players.length} uses)`),
@@ -164,7 +167,8 @@ function keptsOf(kept, steps, format) {
 function airlinesOf({ result: { points }, rows, format, withProposal, proposal, today }, shown) {
   const others = withProposal ? points.filter((point) => point !== shown) : [];
   const columns = [shown, ...others].map(({ title, shares }) => ({ title, totals: totalsOf(rows, shares) }));
-  const own = withProposal && proposal?.totals ? [{ title: "Your proposal", totals: proposal.totals }] : [];
+  const { totals } = proposal ?? {}, isOwn = withProposal && totals && !shown.totals;
+  const own = isOwn ? [{ title: "Your proposal", totals }] : [];
   const lines = withTodays(airlineLines(rows, [...columns, ...own], format), { rows, format, today, shown });
   return lines.length ? linesTable("What each user pays", lines, "shares dense") : null;
 }
@@ -191,9 +195,10 @@ function todaysOf({ texts, values }, steps, game, format) {
 
 /** A line for each column that is judged. The first column has one if others are beside it, or if a group does better
  * by itself. Columns with the same verdict share a line. */
-function saidOfAll({ result, format }, { title, ...point }, others) {
-  const own = { title, said: result.game.ballots ? "" : saidOf(result.game, point, format) };
-  const lines = others.length || point.verdict?.group ? [own, ...others] : [];
+function saidOfAll({ result, format, agreed }, { title, ...point }, others) {
+  const { game } = result, { verdict } = point;
+  const own = { title, said: game.ballots ? "" : saidOf(game, { verdict }, format) };
+  const lines = others.length || agreed || verdict?.group ? [own, ...others] : [];
   const titles = (text) => lines.filter(({ said }) => said === text).map((one) => `“${one.title}”`).join(", ");
   const told = [...new Set(lines.map(({ said }) => said))].filter(Boolean).map((text) => `${titles(text)}: ${text}`);
   const same = others.length > 0 && sameText(result);
@@ -204,7 +209,9 @@ function saidOfAll({ result, format }, { title, ...point }, others) {
  * returns the cell of a row with its fraction, which is to the right of the number as in the first column. */
 function othersOf({ result, rows, format, withProposal, proposal, judged }, shown) {
   if (!withProposal || result.game.ballots) return [];
-  const { game, points } = result, own = proposal?.totals && { title: "Your proposal", ...proposal, ...judged };
+  const { game, points } = result, isOwn = proposal?.totals && !shown.totals; // and not what was agreed on
+  const own = isOwn && { title: "Your proposal", ...proposal, ...judged };
+  if (own && shown !== solutionOf(result)) own.comparison = null; // that is one with the answer
   return [...points.filter((point) => point !== shown), own].filter(Boolean).map((point) => {
     const totals = point.totals ?? totalsOf(rows, point.shares), texts = format.column(totals, rows);
     const hasExact = !CALCULATED.includes(point.key) && totals.some((total) => !format.isExact(total));
@@ -252,7 +259,8 @@ function halves(count, heads, line, sum) {
 // ---- The picture
 
 function pictureOf({ result, rows, format, ...session }) {
-  const { game, points, bird } = result, solution = solutionOf(result), few = rows.length <= MOST_PICTURED;
+  const { game, points, bird } = result, solution = session.agreed ?? solutionOf(result);
+  const few = rows.length <= MOST_PICTURED;
   const settings = { ...format, wide: WIDE, source: sourceName(session.typed) };
   const holder = (drawn, said) => el("figure", { style: `--high: ${highOf(drawn)}mm` }, drawn,
     said && el("figcaption", { class: "hint" }, said));
@@ -280,80 +288,6 @@ function powerOf(game, points, { show }) {
   return powerPicture(game, shares, parts, percent, WIDE);
 }
 
-// ---- The reasons
-
-/** What each saves, or gets more, against going alone, as the numbers are shown; "" if somebody doesn't, or the class
- * has no such numbers. */
-function savingsText(game, { shares }, rows, format) {
-  if (!game.own || game.isMarket() || game.kind === "bankruptcy") return "";
-  const isRunway = game.kind === "airport"; // the landings of a row need one runway, not one each
-  const isShared = ({ sum }, r) => sum !== undefined && rows.some((one, k) => k !== r && one.sum === sum);
-  if (isRunway && rows.some(isShared)) return ""; // nor do those of an airline
-  const totals = totalsOf(rows, shares);
-  const alone = isRunway ? rows.map(({ players: [i] }) => game.own[i]) : totalsOf(rows, game.own),
-    unit = new Rational(10n ** BigInt(format.places));
-  const steps = format.steps(totals, rows), shown = alone.map((value, r) => {
-    const more = value.minus(new Rational(steps[r]).over(unit));
-    return game.costs ? more : more.negated();
-  });
-  if (shown.some((value) => value.isNegative())) return "";
-  const does = game.costs ? "saves" : "gains", sum = format.show(Rational.sum(shown));
-  const told = rows.map(({ label }, r) => `${label} ${does} ${format.show(shown[r])}`);
-  const most = rows[shown.findIndex((value) => value.equals(Rational.max(shown)))].label;
-  return `Against going alone, ${rows.length > MOST_SAVING ? `${most} ${does} most, ${format.show(Rational.max(shown))}`
-    : listed(told)}: together ${sum}.`;
-}
-
-function reasonsOf({ result, pair, rows, format }) {
-  const { reasons, answer, rule, game, points } = result;
-  if (game.ballots || !reasons) {
-    return el("section", {}, el("h2", {}, "How it was found"), el("p", {}, game.ballots ? POWER : PRICES));
-  }
-  const [said, isChosen] = pair ?? [];
-  const [principle, next] = reasons, levels = reasons.filter(({ isLevel }) => isLevel).length;
-  const first = next && toldOf(next), { told: behind, cut } = levelsBehind(reasons, next);
-  const sentences = [...principle.sentences, ...(first ?? [])], isOne = next?.isLevel && levels > 1 && !behind.length;
-  if (isOne) sentences.push(`This is the first of ${levels} levels: “Why” on the page has them all.`);
-  const lacking = [...(first?.isCut && next.isLevel ? [next.title] : []), ...cut];
-  const isCore = points.find(({ key }) => key === answer)?.verdict?.isCore;
-  const saved = savingsText(game, points[0], rows, format);
-  return el("section", {}, el("h2", {}, `Why: the ${rule}`), saved && el("p", {}, saved),
-    el("p", {}, sentences.join(" ")),
-    behind.length > 0 && el("ul", { class: "levels" }, behind.map((text) => el("li", {}, text))),
-    el("p", {}, lacking.length > 0 && cutText(lacking), isCore && "By these shares no group does better by itself. ",
-      `No other division meets the principle: there is exactly one ${rule} (${sourceOf(game.perHead)}).`),
-    (isChosen || (next?.isLevel && reasons.some(isHard))) && el("p", {}, said));
-}
-
-/** What the later levels say, `told`: who is worst off, why if that can be said, and what is settled; or only what is
- * settled, as there is room. `cut` are the titles of those whose reason is left out. */
-function levelsBehind(reasons, next) {
-  const others = next?.isLevel ? reasons.slice(2).filter(({ isLevel }) => isLevel) : [];
-  const short = others.map(({ title, brief }) => `${title}: ${brief}`);
-  const long = others.map(({ title, sentences, brief, items }) => {
-    const told = isHard({ isLevel: true, sentences }) ? [sentences[0], sentences[1], brief] : sentences;
-    return [`${title}:`, ...(items.length ? items.map(({ label }) => label) : told)].join(" ");
-  });
-  const isShort = (some) => some.join(" ").length <= MOST_LEVELS, titles = (some) => some.map(({ title }) => title);
-  if (isShort(long)) return { told: long, cut: titles(others.filter(isHard)) };
-  return isShort(short) ? { told: short, cut: titles(others) } : { told: [], cut: [] };
-}
-
-/** Where the reasons are that are left out. */
-function cutText(titles) {
-  const numbers = titles.map((title) => title.replace(/^Levels? /, "")), isOne = /^Level [^,]*$/.test(titles.join());
-  const some = numbers.length > MOST_CUT ? "most levels" : `level${isOne ? "" : "s"} ${listed(numbers)}`;
-  return `The reasons of ${some} are longer: “Why” on the page has them. `;
-}
-
-/** The first reason: with its items, or without, or its first sentences and the last one (`isCut`), as is room. */
-function toldOf({ sentences, items, last = "" }) {
-  const whole = [...sentences, ...items.map(({ label }) => label), last], short = [...sentences, last];
-  const isShort = (some) => some.join(" ").length <= MOST_TOLD, isCut = !isShort(short) && sentences.length > 3;
-  const told = isShort(whole) ? whole : isCut ? [...short.slice(0, 2), sentences.at(-1)] : short;
-  return Object.assign(told.filter(Boolean), { isCut });
-}
-
 // ---- What is agreed on
 
 /** Names the file with the numbers: the file that was opened, as long as they are its own, otherwise the page's. */
@@ -372,8 +306,8 @@ function agreedOf(view) {
   const given = (filled || !isShort) && givenText(view);
   const ofBox = isShort && (view.file?.made === text ? OF_FILE : OF_TEXT);
   const what = el("p", {}, numbersOf(view), ofBox, filled && ` ${filled}`,
-    filled && view.withProposal && ` ${countedText(view, view.result.points, view.result.game)}`, given && ` ${given}`,
-    fills?.text === text && ` ${fills.told(shownTitles(view))}`,
+    filled && ` ${countedText(view, shownPoints(view), view.result.game)}`, given && ` ${given}`,
+    fills?.text === text && ` ${fills.told(shownPoints(view).map(({ title }) => title))}`,
     coarse && ` ${coarseText(coarse)}`);
   return el("section", {}, el("h2", {}, doubt ? "Not agreed on" : "What is agreed on"),
     doubt && el("p", {}, doubt), what,
@@ -381,10 +315,4 @@ function agreedOf(view) {
       : el("p", { class: "hint" }, `The file, ${countText(new TextEncoder().encode(text).length + 1)} bytes as the `
         + "page writes it, isn’t printed. Keep it with this sheet."),
     !doubt && signing(rows));
-}
-
-/** The rules whose shares are on the page. */
-function shownTitles({ result, withProposal }) {
-  const own = solutionOf(result) ?? result.points[0];
-  return (withProposal ? result.points : [own]).map(({ title }) => title);
 }

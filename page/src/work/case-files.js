@@ -58,6 +58,7 @@ function openCase(tree, usual) {
   const fault = faultOfCase(tree);
   if (fault) return { refusal: fault };
   const { entry = usual, mark = usual, decimals, heading, unit, source, proposal = [], kept, thousands } = tree;
+  const agreed = tree.agreed && { key: tree.agreed };
   const found = withMark(openDocument({ text: writeJson(tree.document), mark }), entry);
   if (found.refusal) {
     const { sentence, place } = found.refusal;
@@ -75,7 +76,7 @@ function openCase(tree, usual) {
       ...(isFollowing ? filled : {}), ...(source && kind.isNetwork ? { source } : {}), ...prices,
       coarse: coarseOf(tree.coarse),
     },
-    settings: { entry, mark, thousands, places: decimals && Number(decimals), paper: { heading, unit }, kept },
+    settings: { entry, mark, thousands, places: decimals && Number(decimals), paper: { heading, unit, agreed }, kept },
     notes: [OF_A_CASE, ...(isFollowing ? [] : [NOT_FOLLOWING]), ...(isOther ? [OTHER_GAINS] : [])],
   };
 }

@@ -1,0 +1,53 @@
+// What the parties agreed on, as they say it for the sheet to sign: one of the columns, or nothing yet.
+import { Rational } from "../exact/rational.js";
+import { plainPoints } from "../tell/rule-names.js";
+import { el } from "./dom.js";
+
+const OWN = "proposal";
+const CHANGED = "The numbers have changed since something was agreed on, so the sheet says nothing of it. If it still "
+  + "holds, choose it again.";
+
+/** The columns that can be agreed on; an own division where it adds to the whole. */
+function columnsOf({ result, proposal }) {
+  const { game, points = [] } = result ?? {};
+  if (!game || game.ballots || game.isMarket()) return [];
+  const { totals, shares, verdict } = proposal, isWhole = totals && Rational.sum(totals).equals(game.whole());
+  const own = { key: OWN, title: "Own division", totals, shares, verdict };
+  return [...plainPoints(points, game), ...(isWhole ? [own] : [])];
+}
+
+/** By what numbers something was agreed on: by others it is another division. */
+function numbersOf({ result, proposal }, key) {
+  return key === OWN ? `${result.text}\n${proposal.totals}` : result.text;
+}
+
+/** The column that was agreed on, of these numbers; null for none. */
+export function agreedColumn(session, { agreed }) {
+  if (!agreed || !session.result?.text) return null;
+  agreed.of ??= numbersOf(session, agreed.key); // of a saved case
+  const isSame = agreed.of === numbersOf(session, agreed.key);
+  return (isSame && columnsOf(session).find(({ key }) => key === agreed.key)) || null;
+}
+
+/** Who agreed on what, in a sentence; "" where nothing is. */
+export function agreedText(column) {
+  if (!column) return "";
+  const { title, note, name } = column, small = title[0].toLowerCase() + title.slice(1);
+  const rule = [small, note].filter(Boolean).join(" ");
+  return `The parties agreed on: ${rule}${name ? ` (${name})` : ""}.`;
+}
+
+/** The choice; `typed.agreed` keeps it, with the numbers that it is of. */
+export function agreedChoice(session, typed) {
+  const columns = columnsOf(session), now = agreedColumn(session, typed)?.key ?? "";
+  const isChanged = typed.agreed?.of && typed.agreed.of !== numbersOf(session, typed.agreed.key);
+  const choose = ({ target: { value: key } }) => {
+    typed.agreed = key ? { key, of: numbersOf(session, key) } : undefined;
+    said.remove();
+  };
+  const said = el("p", { class: "note" }, isChanged && CHANGED), ways = [{ key: "", title: "nothing yet" }, ...columns];
+  return columns.length > 0 && [el("label", { class: "single" }, el("span", { class: "field" }, "Agreed on"),
+    el("select", { "data-cell": "paper.agreed", on: { change: choose } }, ways.map(({ key, title, note }) => {
+      return el("option", { value: key, selected: key === now }, [title, note].filter(Boolean).join(" "));
+    }))), said];
+}

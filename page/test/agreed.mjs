@@ -1,0 +1,64 @@
+// Scenarios: what the parties agreed on, on the sheet to sign, and in a saved case.
+import { settle } from "./harness.mjs";
+
+const sheet = async (page) => {
+  await page.run("dispatchEvent(new Event('beforeprint'))");
+  const text = await page.run("document.getElementById('sheet').textContent");
+  await page.run("dispatchEvent(new Event('afterprint'))");
+  return text;
+};
+const choose = (page, value) => page.run(`(() => {
+  const one = document.querySelector('[data-cell="paper.agreed"]');
+  one.value = "${value}";
+  one.dispatchEvent(new Event("change", { bubbles: true }));
+  return one.value;
+})()`);
+const chosen = (page) => page.run(`document.querySelector('[data-cell="paper.agreed"]').value`);
+const saved = (page) => page.run(`(async () => {
+  const made = URL.createObjectURL;
+  let kept = null;
+  URL.createObjectURL = (blob) => (kept = blob, made.call(URL, blob));
+  HTMLAnchorElement.prototype.click = () => 0;
+  [...document.querySelectorAll("button")].find((one) => one.textContent === "Save the case").click();
+  URL.createObjectURL = made;
+  return kept.text();
+})()`);
+
+export const agreed = [
+  ["what was agreed on stands on the sheet, and in the saved case", "gains", async (page, expect) => {
+    await settle(page);
+    expect("nothing yet", await chosen(page), "");
+    expect("so it is the nucleolus", await sheet(page), /Why: the nucleolus/);
+    expect("a rule", await choose(page, "shapley"), "shapley");
+    const text = await sheet(page);
+    expect("who agreed on what", text, /The parties agreed on: by what each adds \(Shapley shares\)\./);
+    expect("its shares", text, /singer gets 41\.67/);
+    expect("what is proved", text, /These numbers have no certificate\./);
+    expect("nothing of another rule", /nucleolus/.test(text), false);
+    const file = await saved(page);
+    expect("in the file", file, /"agreed":"shapley"/);
+    await page.type("numbers.7", "121");
+    await settle(page);
+    expect("of other numbers it is nothing", await chosen(page), "");
+    expect("which is said", await page.text("#paper-body .note"), /numbers have changed since something was agreed on/);
+    expect("also on paper", /agreed on:/.test(await sheet(page)), false);
+    await page.run("location.hash = '#document'");
+    await page.fill("#document textarea", file);
+    await page.until(`document.querySelector('[data-cell="numbers.7"]')?.value === "120"`);
+    await settle(page);
+    expect("opened again", await chosen(page), "shapley");
+  }],
+
+  ["an own division that was agreed on stands on the sheet", "estate", async (page, expect) => {
+    await settle(page);
+    await page.click("equal parts");
+    await settle(page);
+    expect("it can be chosen", await choose(page, "proposal"), "proposal");
+    const text = await sheet(page);
+    expect("who agreed on what", text, /The parties agreed on: own division\..*Adler gets 666\.6\d/s);
+    expect("once", /Your proposal/.test(text), false);
+    await page.type("proposal.0", "600");
+    await settle(page);
+    expect("another one isn’t", await chosen(page), "");
+  }],
+];
