@@ -67,7 +67,9 @@ class Fit {
     Object.assign(this, { columns, all, headings, choice, out: [...out, ...times], units });
     this.targets = all.map(({ c }) => columns.find(({ key }) => choice[key] === c));
     const hasWords = all.some((one) => one.isWords && one.isFull && !one.isNumbers); // then no numbers are names
-    const isOf = (one, own) => isHeadOf(one.head, own) && (own.number || !one.isNumbers || !hasWords);
+    const hasOther = (one) => all.some((other) => other !== one && other.isNumbers && !other.isCount); // "1-40"
+    const isIts = (one, { number }) => (number ? one.hasNumbers || !hasOther(one) : !one.isNumbers || !hasWords);
+    const isOf = (one, own) => isHeadOf(one.head, own) && isIts(one, own);
     for (const is of [(one, own) => isTitle(one.head, own), isOf]) {
       for (const one of all) if (this.isOpen(one)) this.give([one], this.free((own) => is(one, own)).slice(0, 1));
     }

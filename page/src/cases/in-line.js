@@ -1,10 +1,12 @@
 // Names and numbers in one line, as a sentence has them: "Vance 41, Ruiz 26.5 and Ott 7.5".
 import { isSumWord } from "../game/names.js";
+import { WHOEVER } from "./leaders.js";
 
 const MOST_LETTERS = 2000; // of a text with such a line
 const NUMBER = "\\p{Sc}?\\s?\\d(?:[\\d.,'’]*\\d)?(?:\\s?(?:\\p{Sc}|%|[A-Z]{3}))?";
 const END = "(?=\\s*(?:;|[,.](?!\\d)|\\s(?:and|und|et|e|y|en)\\s|$))"; // and not within 8,300
-const ITEM = new RegExp(`\\s*([^\\d,;:]*\\p{L}[^\\d,;:]*?)\\s*[ :=]\\s*(${NUMBER})${END}\\s*(?:[,;.]\\s*)*`
+const UNIT = "(?:\\s(?!(?:and|und|et|e|y|en)\\s)\\p{Ll}{2,12})?"; // as in "41 shares"
+const ITEM = new RegExp(`\\s*([^\\d,;:]*\\p{L}[^\\d,;:]*?)\\s*[ :=]\\s*(${NUMBER}${UNIT})${END}\\s*(?:[,;.]\\s*)*`
   + "(?:(?:and|und|et|e|y|en)\\s+)?", "uy");
 const BEHIND = new RegExp(`^\\s*(?:[:=]|[–-](?=\\s)|gets|pays|bekommt|zahlt)?\\s*(${NUMBER})(?![.,'’]?\\d)`, "u");
 const ENDS = new RegExp(`^(?:${END}|\\s\\()`, "u"), HAS_WORDS = /^\s\p{L}+\s\p{L}/u; // behind a number
@@ -18,7 +20,7 @@ function itemsOf(line) {
   ITEM.lastIndex = 0;
   while (ITEM.lastIndex < line.length) {
     const item = ITEM.exec(line);
-    if (!item) return null;
+    if (!item || WHOEVER.test(item[1])) return null;
     found.push([item[1].trim().replace(VERB, ""), item[2].trim()]);
   }
   return found.length > 1 && new Set(found.map(([name]) => name)).size === found.length ? found : null;
@@ -31,11 +33,18 @@ function saidItemsOf(line) {
   return found.find((one) => one.items) ?? { items };
 }
 
+/** A line by its sentences, if it is no list as a whole, and one of them is. */
+function sentencesOf(line) {
+  const some = saidItemsOf(line).items ? [line] : line.split(/(?<=\d|\p{L}{3})[.;]\s+(?=\p{L})/u);
+  return some.filter((one) => saidItemsOf(one).items).length === 1 ? some : [line];
+}
+
 /** Rows with a row for each name of a line of names and numbers, if one line is such and none is another row: {rows,
  * isParted}. Of two such lines with the same names each row has both numbers. Words before a list are a line above. */
 export function partedInLine(rows) {
-  const lines = rows.map((row) => row.join(",").trim().replace(/\s+/g, " "));
-  if (lines.reduce((sum, { length }) => sum + length, 0) > MOST_LETTERS) return { rows, isParted: false };
+  const all = rows.map((row) => row.join(",").trim().replace(/\s+/g, " "));
+  if (all.reduce((sum, { length }) => sum + length, 0) > MOST_LETTERS) return { rows, isParted: false };
+  const lines = all.flatMap(sentencesOf);
   const found = lines.map(saidItemsOf), [one, two, other] = found.filter(({ items }) => items);
   const numberOf = (name) => two.items.find(([own]) => own === name)?.[1];
   const isPair = two && !other && two.items.length === one.items.length && one.items.every(([own]) => numberOf(own));

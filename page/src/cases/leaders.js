@@ -8,7 +8,8 @@ const COUNTED = new RegExp("^(\\p{L}.*[\\p{L}\\d)])\\s+(\\d[\\d.,'’]*\\s(?:vot
   + "|anteile?|voix|sièges?|parts|stem(?:men)?|zetels?|votos?|voti|escaños|seggi)[.,;]?)$", "iu");
 const VERB = /\s(?:has|have|holds?|hat|haben|besitzt|a|ont|heeft|tiene|ha|with|mit|[-–:=])$/iu;
 const NAME = /^(?:\p{Lu}|(?:de|den|van|von|du|la|le|di)\s)/u; // begins so
-const WHOEVER = /^(?:each|every|all|any|no|jede[rs]?|alle|kein\p{L}*|chaque|tous|toutes|elke?|cada|ogni)\s/iu;
+/** How a name begins that is no person, as "each other member". */
+export const WHOEVER = /^(?:each|every|all|any|no|jede[rs]?|alle|kein\p{L}*|chaque|tous|toutes|elke?|cada|ogni)\s/iu;
 const PARAGRAPH = /^(?:§|art(?:icle|ikel)?\.?\s\d|[([]?(?:\d+|[a-z])[.)\]]\s|\(\d+\))/iu;
 
 const SAYS = /[:=]\s*[^\s:=]*\d\S*(?:\s\S+){0,3}$/u; // a line of a name, a colon and a number

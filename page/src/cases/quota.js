@@ -6,7 +6,8 @@ import { lcm, Rational, ZERO } from "../exact/rational.js";
 const MORE = /^(more than|over|above|mehr als|über|plus de|meer dan|>(?!=))\s*/;
 const LEAST = /^(at least|mindestens|au moins|minstens|>=|≥)\s*/;
 const NAME = "(?:the |die )?(?:(?:simple|absolute|qualified|two-thirds|2/3|einfache|erforderliche|nötige)[ -])?(?:"
-  + "quota|quorum|threshold|majority|mehrheit|majorité|benötigt|erforderlich"
+  + "quota|quorum|threshold|majority|mehrheit|majorité|(?:ja-?stimmen |stimmen |sitze )?"
+  + "(?:benötigt|erforderlich|nötig)|at least|mindestens|au moins"
   + "|(?:(?:votes|seats|shares|members|inhabitants) )?(?:needed|required))"
   + "(?: needed| required| absolue)?(?: (?:for|to) [^:]*)?(?: \\(.*\\))?";
 const NAMED = new RegExp(`^${NAME}\\s*[:=]\\s*`, "iu");

@@ -13,7 +13,7 @@ import { answerFault } from "./saved-tables.js";
 import { quotasOf, singleOf, singlesOf, withSingle } from "./single.js";
 import { unitsText, withoutUnits } from "./units.js";
 
-const MOST_NAME = 80; // letters
+const MOST_NAME = 80, MOST_PROSE = 600; // letters
 const MOST_HEADS = 3; // words of two headings in a line
 const PROSE = /\d[^\t]*\s\p{L}{2,}\s[^\t]*\s\d+ ?\S*, /u;
 const IN_LINE = "The line of names and numbers was parted between them.";
@@ -22,6 +22,13 @@ const SENTENCE = "This is one sentence. Give each a line: the name, a tab and th
 const lineText = (text) => (/\d/.test(text) ? undefined : notNames([text], AS_ROWS)) ?? looseText(text);
 const AS_ROWS = "Give each row a name, a tab and a number, and leave other lines out.";
 const PAGE = new RegExp(`^\\P{L}*(${PAGES}) ?\\d+(( ?/| \\p{L}+) ?\\d+)?\\P{L}*$`, "iu");
+
+const SAID = /\p{L}\D{1,60}\d[\d.,'’]{0,20}[.,'’]\d{2,3}(?!\d)/gu; // a name and an amount
+
+/** Whether rows are one line, with two names and amounts. */
+export function isProse([[text = "", more] = [], other]) {
+  return !more && !other && text.slice(0, MOST_PROSE).match(SAID)?.length > 1;
+}
 
 /** Pasted rows without what stands around their table: {given, rows, out, notes}, or {fault}, in words; or {asked}, if
  * there is nothing but clauses that name quotas. */
@@ -35,7 +42,7 @@ function tableIn(pasted, { single, isFirst }) {
   const { rows: parted, notes: counted, loose } = isFirst ? blockOf(led, { words: true }) : whole;
   const odd = loose ?? (isFirst ? noName(parted, clauses.length > 0) : undefined);
   if (odd !== undefined || saved) return { fault: saved ?? lineText(odd) };
-  if (given.length === 1 && PROSE.test(pasted[0].join(", "))) return { fault: SENTENCE };
+  if (isProse(given) || (given.length === 1 && PROSE.test(pasted[0].join(", ")))) return { fault: SENTENCE };
   const { rows, left } = unframed(single ? withSingle(parted, single) : parted), out = [...around, ...left, ...clauses];
   return { given, rows, out, notes: [leftText([...out, ...pages]), isParted && IN_LINE, ...counted] };
 }
@@ -78,7 +85,8 @@ export function sheetOf(pasted, columns, { mark, single, usual, isFirst = true, 
 
 /** Whether rows are as wide as a list with second votes. */
 const fitsSecond = (rows, columns, { mark, single, units }) => {
-  if (!rows.every(([name]) => /\p{L}/u.test(name))) return false;
+  const isAmount = (text) => !readNumber((text ?? "").replace(/ ?%$/, ""), mark).fault;
+  if (!rows.every(([name, ...others]) => /\p{L}/u.test(name) && others.every(isAmount))) return false;
   const all = [...columns, single.second.column], found = columnsFor(all, null, { rows, mark, units });
   return !found.asked && !widthFault(rows, null, found, all);
 };

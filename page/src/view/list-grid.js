@@ -3,7 +3,7 @@ import { NONE, UNKNOWN } from "../cases/columns.js";
 import { isClause } from "../cases/clauses.js";
 import { partedInLine } from "../cases/in-line.js";
 import { SPOILT } from "../cases/pasting.js";
-import { sheetOf } from "../cases/sheets.js";
+import { isProse, sheetOf } from "../cases/sheets.js";
 import { readNumber } from "../exact/decimals.js";
 import { withEscapes } from "../game/names.js";
 import { cellInput, moveByKeys, pasteCells, removal } from "./cells.js";
@@ -31,7 +31,7 @@ class ListGrid {
       const [, r, key] = cell.split(".");
       return `rows.${Number(r) + step}.${key}`;
     });
-    const isSeveral = (rows) => partedInLine(rows).isParted || (kind.isVote && rows.some(isClause));
+    const isSeveral = (rows) => partedInLine(rows).isParted || isProse(rows) || (kind.isVote && rows.some(isClause));
     pasteCells(table, (cell, rows) => this.fill(cell, rows), readCells, isSeveral);
     this.showSingles();
     this.show();
