@@ -17,6 +17,9 @@ const ALONE = [ // a name and such a word
 const EACH = new RegExp("^(?:(?:each|every(?:one|body)?|any(?:one|body)|jede[rs]?|chacune?|ciascun[oa]|cada un[oa]|"
   + `ieder(?:een)?)(?: one| of them)? )?(?:${LONE}|einzeln|individually|separately)$`, "iu");
 
+/** Whether a text says that each is alone. */
+export const isAloneWord = (text) => EACH.test(text);
+
 const quoted = (texts) => texts.slice(0, MOST_TOLD).map((text) => `“${withEscapes(text)}”`).join(", ")
   + (texts.length > MOST_TOLD ? " and others" : "");
 const partsOf = (text) => text.replace(TOGETHER, "").split(AND).filter(Boolean);

@@ -11,6 +11,7 @@ import { inOtherWords, membersIn } from "./group-words.js";
 import { joinedMembers } from "./member-marks.js";
 import { rowsOf } from "./lists.js";
 import { oddsOf } from "./odds.js";
+import { fromPairs } from "./pair-squares.js";
 import { UNKNOWN } from "./columns.js";
 import { leftText, unframed } from "./frames.js";
 import { cellsOf } from "./pasting.js";
@@ -20,7 +21,7 @@ import { unitsText, withoutUnits } from "./units.js";
 import { groupsOfParts, partsElsewhere, tableOfParts, usedParts } from "./used-parts.js";
 import { headingOf, manyBelow, numbersIn, vectorOf } from "./vectors.js";
 
-const SEVERAL_IN = /\d[,;] .*\p{L}.* \S*\d\S*$/u; // several groups in a line
+const SEVERAL_IN = /\d(?:[,;]| \/) .*\p{L}.* \S*\d\S*$/u; // several groups in a line
 const MOST_BY_NAME = 6; // above, the document lists numbers alone: it would be too long by names
 const MOST_PLAYERS = mostOf("table");
 const MOST_TOLD = 4; // names without a line
@@ -141,7 +142,8 @@ export function tableOf(text, names = [], order = "size", mark = ".", said = {})
   if (ofParts) return ofParts;
   if (block.loose || saved) return { fault: saved ?? looseText(block.loose) };
   const kept = rows.filter((row) => row.some(Boolean));
-  const marked = joinedMembers(kept), joined = groupsFirst(marked.rows);
+  const own = joinedMembers(kept), marked = own.rows === kept ? fromPairs(kept) : own;
+  const joined = groupsFirst(marked.rows);
   const isList = joined !== kept || isGroups(kept);
   const found = isList ? {} : vectorIn(text, names, order, mark);
   if (found.state || found.isAll) return found;
@@ -150,7 +152,8 @@ export function tableOf(text, names = [], order = "size", mark = ".", said = {})
   const told = [leftText(left), ...block.notes, marked.told, unitsText(units)].filter(Boolean)
     .map((words) => ` ${words}`).join("");
   const plain = told && !isList ? vectorIn(bare.map((row) => row.join("\t")).join("\n"), names, order, mark) : {};
-  const places = new Map(block.rows.map((row, k) => [row, block.lines[k]])), lines = kept.map((row) => places.get(row));
+  const places = new Map(block.rows.map((row, k) => [row, block.lines[k]])), all = kept.map((row) => places.get(row));
+  const lines = marked.from?.map((k) => all[k]) ?? all;
   const isVector = plain.state || plain.isAll || plain.many, more = { mark, cells, ...said };
   const read = isVector ? { ...plain, fault: plain.fault ?? plain.many } : listOf(bare, lines, more);
   return read.state ? { ...read, remark: told + read.remark } : read;

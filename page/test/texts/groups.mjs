@@ -78,4 +78,13 @@ export const GROUPS = [
   ["costs", "School\t48\nMill\t30\nSchool\tMill\t70", "School|Mill|48|30|70", /Names side by side are a group/],
   ["costs", "Kita Nord 12,50\nKita Süd 11\nKita Nord und Süd 18", "Kita Nord|Kita Süd|12,50|11|18", /d Süd” is/],
   ["costs", "Flat 1\t12\nFlat 2\t11\nFlat 1 + 2\t18", "Flat 1|Flat 2|12|11|18", /“2” is “Flat 2”/],
+  // squares of pairs
+  ["costs", "Name,Alone,With B,With C\nA,480,600,590\nB,390,,520\nC,350,,", "A|B|C|480|390|600|350|590|520|",
+    /Each number was taken as that of the two beside and above it, or of one alone/],
+  ["costs", "\tA\tB\tC\nA\t480\t600\t590\nB\t\t390\t520\nC\t\t\t350\nAll\t\t\t690",
+    "A|B|C|480|390|600|350|590|520|690", /“All” is a group/],
+  ["gains", "\tAlone\tWith Ann\tWith Bo\nAnn\t20\t\t80\nBo\t30\t80\t", "Ann|Bo|20|30|80"],
+  ["costs", "\tA\tB\nA\t48\t60\nB\t61\t39", null, /Nothing was taken/],
+  ["costs", "Group\tA\tB\nA\t1\t2\nB\t2\t3\nA+B\t3\t4", null, /Which column is the cost/],
+  ["costs", "Offer A: Ann 480 / Bo 390 / Cy 350\nOffer B: 690", null, /Line 1: A line has one group and/],
 ];
