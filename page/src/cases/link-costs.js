@@ -32,13 +32,14 @@ export function costsIn([heads = [], ...below], mark) {
 /** Whether two columns that may both be the cost may be its factors, and not two years or two offers. */
 export function areFactors([one, other, more]) {
   const bare = ({ head = "" }) => head.replace(/[\d\s]/g, ""), isMoney = (column) => column.texts.some(moneyIn);
-  return !more && !(one.head && bare(one) === bare(other)) && !(isMoney(one) && isMoney(other));
+  const isCost = ({ head = "" }) => WHOLE.test(head), isBoth = (is) => is(one) && is(other);
+  return !more && !(one.head && bare(one) === bare(other)) && !isBoth(isMoney) && !isBoth(isCost);
 }
 
 /** How a column is named: by its heading, or by its first texts. */
 export function columnLabel({ head, texts, unit }) {
-  const some = texts.slice(0, 2).map((text) => (unit ? `${text} ${unit}` : text)).join(", ");
-  return `“${head || some}${head || texts.length < 3 ? "" : " …"}”`;
+  const filled = texts.filter(Boolean), some = filled.slice(0, 2).map((text) => (unit ? `${text} ${unit}` : text)).join(", ");
+  return `“${head || some}${head || filled.length < 3 ? "" : " …"}”`;
 }
 
 /** The text of a link's cost: of a column, or of two that are multiplied. A link that isn't there has none. */

@@ -18,6 +18,8 @@ export const isNone = (text = "") => NONE.test(text.trim());
 export const isNameless = (text = "") => /^[-–—.]?$/.test(text.trim());
 export const clean = (text) => text.normalize("NFC").trim();
 const PAIR = /^(?:[Ff]rom (?=.* to ))?(.{1,99}?)(?: (?:to|[-–—/]) |\s?(?:[–—→]|->)\s?|(?<=\S)-(?=\S))(.{1,99})$/u;
+const SIGN = /\S\s*([–—→]|->)\s*\S|\S (-|to) \S/u; // between the ends of a link, and not within a name
+const COSTS = /\s+(costs?|kostet|coûte)$/iu, LONG = /\s\d[\d.,]*\s?(k?m|met(re|er)s?|ft|yd)$/iu; // behind an end
 
 /** A row as "Alby - Brook: 40 m, 1,240 EUR", in a cell or two, with a cell for each number. */
 export function numbersApart(row) {
@@ -32,12 +34,19 @@ export function withEnds(given) {
   const rows = given.filter((row) => row.some(Boolean)).map((row) => {
     return row.length > 1 ? row : row[0].split(/\s*:\s*(?=\d)/);
   });
-  const ends = rows.map(([one]) => PAIR.exec(one)?.slice(1).map(clean)), below = ends.slice(ends[0] ? 0 : 1);
-  const all = below.flat(), isWord = (text) => isText(text) && /^\p{L}/u.test(text);
-  const isPlain = rows.slice(1).every(([, ...others]) => !others.some(isWord));
-  if (!isPlain || below.length < 2 || !below.every(Boolean) || new Set(all).size === all.length) return given;
-  return rows.map(([, ...others], k) => [...(ends[k] ?? ["From", "To"]), ...others]);
+  const last = rows.at(-1) ?? [], isSum = rows.length > 2 && isSumWord(last[0] ?? "") && !PAIR.test(last[0]);
+  const ends = rows.map(([one]) => PAIR.exec(one)?.slice(1).map((end) => clean(end.replace(COSTS, ""))));
+  const below = ends.slice(ends[0] ? 0 : 1, isSum ? -1 : undefined), all = below.flat();
+  const isWord = (text) => isText(text) && /^\p{L}/u.test(text), isOdd = ([one, other]) => {
+    return one.includes(": ") || LONG.test(other);
+  };
+  const isPlain = rows.slice(1).every(([, ...others]) => !others.some(isWord)), isPairs = below.every(Boolean);
+  if (!isPlain || !isPairs || below.length < 2 || below.some(isOdd) || new Set(all).size === all.length) return given;
+  return rows.map(([one, ...others], k) => [...(ends[k] ?? (k ? [one, ""] : ["From", "To"])), ...others]);
 }
+
+/** Whether names look like the two ends of a link each. */
+export const arePairs = (names) => names.filter((name) => SIGN.test(name)).length * 2 > names.length;
 
 /** The line above links whose ends share a cell, if it is no word for them: told as it was. */
 export function titleOf(pasted, { rows, lines }) {
@@ -80,7 +89,7 @@ function columnsOf(below, heads, judge) {
     && below.some((row) => judge.isNumber(row[c])));
   const isFew = columns.length === 3 || costs.length < 3 || heads.length > 0;
   const isPlain = names.length === 2 && costs.length > 0 && isFew;
-  if (!isHeaded && (!isPlain || below.every((row) => /[–—→]|->| to /.test(row[names[0]])))) return null;
+  if (!isHeaded && (!isPlain || below.every((row) => SIGN.test(row[names[0]])))) return null;
   const [from, to] = isHeaded ? headed : names, own = costs.filter((c) => {
     return c !== from && c !== to && !isCountIn(below, c); // and no row numbers
   });

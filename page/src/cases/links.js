@@ -23,7 +23,7 @@ import { plural } from "../game/words.js";
 import { blockOf, isText, withoutSums } from "./block.js";
 import { unframed } from "./frames.js";
 import { byCost, costsIn } from "./link-costs.js";
-import { clean, isNameless, isNone, listOf, numbersApart, titleOf, untitled, withEnds } from "./link-list.js";
+import { arePairs, clean, isNameless, isNone, listOf, numbersApart, titleOf, untitled, withEnds } from "./link-list.js";
 import { isSpoilt, SPOILT } from "./pasting.js";
 import { answerFault } from "./saved-tables.js";
 import { withoutUnits } from "./units.js";
@@ -177,7 +177,7 @@ function namedOf(given, judge) {
   const isHeading = rows[0][0] !== "" && rows[0].slice(1).every((text) => judge.isName(text) || !text)
     && rows[0].slice(1).some(Boolean);
   const lines = rows.slice(isHeading ? 1 : 0), points = lines.map(([name]) => name);
-  if (!points.every(judge.isName) || isHeading) return null;
+  if (!points.every(judge.isName) || isHeading || arePairs(points)) return null;
   const block = lines.map((row) => row.slice(1)), n = points.length;
   const found = halfOf(block, n, points, judge);
   return found && { ...found, left };

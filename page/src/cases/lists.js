@@ -50,8 +50,8 @@ export const runway = {
       not: HOW_FAR,
     },
   ],
-  help: "One row for each user: what one use needs alone, and the number of uses. A landing is a use of a runway; of a "
-    + "lift each flat may be one, and needs the lift up to its floor.",
+  help: "One row for each user, such as an airline or a flat: what one use (a landing, a ride) needs alone, and "
+    + "how many.",
   most: 500,
   example: () => ({
     rows: [

@@ -12,8 +12,8 @@ const SELLS = words("sell(er|ers|ing|s)?|vendors?|suppl(y|iers?)|verkäufer(in|i
   + "|vendeu[rs]e?s?|ventes?|vendedor\\p{L}*|ventas?|verkopers?|verkoop");
 const BID = words("bids?|most|up to|m[aá]x(im\\p{L}*)?|highest|(willing(ness)?|ready) to (pay|buy)|wtp|pays?|au plus"
   + "|höchst\\p{L}*|gebote?|zahlungsbereitschaft|bod");
-const ASK = words("asks?|asking|least|m[ií]n(im\\p{L}*)?|lowest|(willing(ness)?|ready) to (accept|sell|take)|wta"
-  + "|takes?|mindest\\p{L}*|au moins");
+const ASK = words("ask(s|ed|ing)?|wants?|least|m[ií]n(im\\p{L}*)?|lowest|(willing(ness)?|ready) to (accept|sell|take)"
+  + "|wta|takes?|mindest\\p{L}*|au moins");
 const RESERVE = words("reserves?|reservation"); // of a seller, unless it is said to be a buyer's
 const PRICE = new RegExp("price|preis|pri[xj]|precio|limit|valu|worth|wert|valeur|valor|amount|betrag|montant|\\p{Sc}|"
   + "bereitschaft", "iu");

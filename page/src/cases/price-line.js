@@ -26,11 +26,12 @@ function sideOfLine(text, beside) {
  * sellers, or with sellers before the rows and that of the buyers; null if there is none, or several. */
 export function priceLineOf(pasted) {
   const block = blockOf(pasted), { rows: framed } = unframed(block.rows);
-  const { rows } = withoutUnits(framed.filter((row) => row.some(Boolean)), 1);
-  const wide = rows?.[0]?.length ?? 0, [[corner = "", ...above] = [], ...below] = rows ?? [];
-  const isTable = wide > 1 && below.length > 1 && above.every(Boolean)
-    && below.every(([name, ...texts]) => isText(name) && texts.length === wide - 1 && texts.every(isValue));
-  if (block.loose || !isTable || !above.every(isText)) return null;
+  const { rows: given = [] } = withoutUnits(framed.filter((row) => row.some(Boolean)), 1);
+  const rows = given.map((row) => Array.from({ length: given[0].length }, (_, c) => row[c] ?? ""));
+  const [[corner = "", ...above] = [], ...below] = rows, isEven = given.every(({ length }) => length <= rows[0].length);
+  const isTable = isEven && above.length > 0 && below.length > 1 && above.every(isText)
+    && below.every(([name, ...texts]) => name && (isText(name) || isText(corner)) && texts.every(isValue));
+  if (block.loose || !isTable) return null;
   const [before, top] = SELLERS.test(corner) ? ["sellers", "buyers"] : ["buyers", "sellers"];
   const lines = [above.map((name, c) => ({ name, at: c + 1, isColumn: true, side: sideOfLine(name, before) })),
     below.map(([name], r) => ({ name, at: r + 1, side: sideOfLine(name, top) }))].flat().filter(({ side }) => side);

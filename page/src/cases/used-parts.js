@@ -26,7 +26,7 @@ const BEFORE = new RegExp("^([^():]{1,200}?)\\s*(?:\\("
   + `\\s*(?:[:=–—]|\\s-\\s|\\s)\\s*(${MONEY}[^():]{0,30})$`, "iu");
 const SUM = new RegExp(`^(\\D{1,60}?)[\\s:=]+(${MONEY}.{0,30})$`, "iu");
 const WORDED = new RegExp(`(?<!\\p{L})(?:${USED_BY})\\s`, "iu");
-const SURE = new RegExp(`^(?:${USED_BY})$`, "iu");
+const SURE = new RegExp(`^(?!user$)(?:${USED_BY})$`, "iu"); // “User” is above the names of a runway
 const USERS = new RegExp(`^(?:${BY}|who|wer|qui|wem|(?:used|needed|shared|served)|(?:who|that|wer|qui) \\p{L}+(?: it)?|`
   + "beneficiar\\p{L}*|partners?|members?|part(?:y|ies)|participants?|benutzer|nutznießer|usagers?|utilisateurs?"
   + "|bénéficiaires?|mitglieder|beteiligte)$", "iu");

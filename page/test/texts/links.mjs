@@ -1,6 +1,22 @@
 // Texts of a network's links and of a market, as rows of pasted.mjs.
 const LINKED = "Works|A|B|0-1|12|0-2|9|1-2|4";
 export const LINKS_AND_TRADES = [
+  // links whose ends share a cell with more, and those that no list shows
+  ["network", "Pipe quotes 2026, net of VAT\nWell -> Alby: 125 EUR\nWell -> Brook: 180 EUR\nAlby -> Brook: 71 EUR\n"
+    + "Total: 376 EUR", "Well|Alby|Brook|0-1|125 EUR|0-2|180 EUR|1-2|71 EUR",
+  /“Pipe quotes 2026, net of VAT”, a heading, “Total; 376 EUR”, a sum/],
+  ["network", "Well to Alby costs 125 EUR\nWell to Brook costs 180 EUR\nAlby to Brook costs 71 EUR",
+    "Well|Alby|Brook|0-1|125 EUR|0-2|180 EUR|1-2|71 EUR"],
+  ["network", "Street A: Well - Alby, 120\nStreet B: Well - Brook, 180\nStreet C: Alby - Brook, 70", null,
+    /This is no list/],
+  ["network", "Well-Alby 120m 45€/m\nWell-Brook 180m 45€/m\nAlby-Brook 70m 45€/m", null, /Nothing was taken/],
+  ["network", "Anne-Marie\t\t\nJean-Luc\t3\t\nPaul-Henri\t4\t5", "Anne-Marie|Jean-Luc|Paul-Henri|0-1|3|0-2|4|1-2|5"],
+  ["network", "From\tTo\tCost low\tCost high\nWell\tAlby\t12\t15\nWell\tBrook\t18\t20", null,
+    /“Cost low” “Cost high” +\|/],
+  ["market", "\tLamp\tChair\nAnn\t12\t5\nBo\t8\t9\nSeller wants\t6", "Lamp|Chair|Ann|Bo|6||2|", /less “Seller wants”/,
+    "What a buyer would pay: take “Seller wants” off"],
+  ["market", "Room\tRent asked\tAnn\tBo\n1\t400\t450\t500\n2\t350\t380\t300", "1|2|Ann|Bo|50|30|100|0", /less “Rent/,
+    "What a buyer would pay: take “Rent asked” off"],
   // a list below a title of its own, and with the numbers of its rows
   ["network", "Title\t\t\nWorks\tA\t12\nWorks\tB\t9\nA\tB\t4", LINKED, /Left out: “Title”/],
   ["network", "\tVon\tNach\tKosten\n1\tWorks\tA\tEUR 12\n2\tWorks\tB\tEUR 9\n3\tA\tB\tEUR 4",
