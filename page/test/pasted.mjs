@@ -159,7 +159,6 @@ const TEXTS = [
   ["estate", "Name | Claim\n--- | ---\n**Ann** | 120\nBo | 80", "Ann=120|Bo=80"],
   ["estate", '"Ann\nRoe"\t"120"\n"Bo ""B"""\t80', 'Ann Roe=120|Bo "B"=80'],
   ["estate", "Ann\u00a0120\nBo\u00a080", "Ann=120|Bo=80"],
-  ["estate", "Name\tClaim\nAnn\nRoe\t120\nBo\t80", "Ann|Roe=120|Bo=80", /1 empty/],
   // amounts before names, in thousands, below zero and none
   ["estate", "120 € Anna\n80 € Ben", "Anna=120 €|Ben=80 €", /The numbers stand before the names/],
   ["estate", "120: Anna\n80: Ben", "Anna=120|Ben=80", /The numbers stand before the names/],

@@ -2,6 +2,7 @@
 import { readNumber } from "../exact/decimals.js";
 import { isBareName, notNames } from "./bare-names.js";
 import { blockOf, looseText, PAGES } from "./block.js";
+import { brokenName, mendedName } from "./broken-names.js";
 import { withoutClauses } from "./clauses.js";
 import { withEscapes } from "../game/names.js";
 import { columnsFor, isKnownHead, knownHeads, widthFault } from "./columns.js";
@@ -49,9 +50,9 @@ function tableIn(pasted, { single, isFirst }) {
 
 /** Pasted rows for the `columns` from a cell on, of which `usual` go without saying: {rows, targets, headings, notes},
  * the rows below the headings, the column that each cell is for, and what has to be told. Or {fault}, in words; or
- * {asked}, if the user has to choose columns, or to say whether the first row has their `heads`, or there are two
- * quotas: then it is asked again with what was chosen (`said`). A row with the number above the list (`single`) is
- * none. */
+ * {asked}, if the user has to choose columns, or to say whether the first row has their `heads`, a name is `broken`
+ * in two lines, or there are two quotas: then it is asked again with what was chosen (`said`). A row with the number
+ * above the list (`single`) is none. */
 export function sheetOf(pasted, columns, { mark, single, usual, isFirst = true, ...said }) {
   const { isHead, choice, out = [] } = said, table = tableIn(pasted, { single, isFirst });
   if (table.fault || table.asked) return table;
@@ -69,7 +70,9 @@ export function sheetOf(pasted, columns, { mark, single, usual, isFirst = true, 
   if (headings && isAcross(rows, columns)) return { fault: "Here names stand side by side. Give each a row." };
   const found = columnsFor(columns, headings, { rows, mark, choice, out, units }), { targets, asked, isGuess } = found;
   if (asked) return { asked };
-  const below = headings ? rows.slice(1) : rows, beside = besides(below, headings, targets, mark);
+  const own = headings ? rows.slice(1) : rows, broken = isFirst && said.isBroken !== false ? brokenName(own) : null;
+  if (broken && !said.isBroken) return { asked: { broken: broken.lines } };
+  const below = broken ? mendedName(own, broken) : own, beside = besides(below, headings, targets, mark);
   const lost = widthFault(rows, headings, found, columns), isOther = lost && single?.second && !isTwo && !said.isOne;
   if (isOther && fitsSecond(rows, columns, { mark, single, units })) return { asked: { pair: [] } };
   if (lost) return { fault: lost };

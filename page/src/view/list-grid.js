@@ -8,7 +8,7 @@ import { readNumber } from "../exact/decimals.js";
 import { withEscapes } from "../game/names.js";
 import { cellInput, moveByKeys, pasteCells, removal } from "./cells.js";
 import { askAgain, askIn, button, el, refill, unask } from "./dom.js";
-import { askClause, askPair, offersOf } from "./list-offers.js";
+import { askBroken, askClause, askPair, offersOf } from "./list-offers.js";
 import { askNames } from "./names-asked.js";
 
 const NAMED = { things: "names", numbers: "numbers" };
@@ -225,9 +225,10 @@ class ListGrid {
   }
 
   /** Asks which of several pasted columns is meant; `use` takes the list by what is said then. */
-  askWhich({ heads, pair, clause, column: { key, title } = {}, at = [], isOnly, canNone }, said, use) {
+  askWhich({ heads, pair, clause, broken, column: { key, title } = {}, at = [], isOnly, canNone }, said, use) {
     if (heads) return this.askHead(heads, (isHead) => use({ ...said, isHead }));
     if (clause) return askClause(this, clause);
+    if (broken) return askBroken(this, broken, (isBroken) => use({ ...said, isBroken }));
     if (pair) return askPair(this, pair, said, use);
     const { choice, out } = said;
     const others = (own) => (isOnly ? at.map(({ c }) => c).filter((c) => c !== own) : []);

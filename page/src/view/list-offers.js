@@ -85,3 +85,13 @@ export function askPair(grid, pair, said, use) {
     button("Yes, two quotas", two, { class: "quiet" }), " ",
     button("No, one", () => use({ ...said, isOne: true }), { class: "quiet" })]);
 }
+
+/** Asks whether a line without an amount and the name below it are one name. */
+export function askBroken(grid, lines, use) {
+  const [one, other] = lines.map(quoted), way = (text, isBroken) => {
+    return button(text, () => use(isBroken), { class: "quiet" });
+  };
+  grid.say("");
+  askIn(grid.element, grid.said, [`Nothing was taken yet. Are ${one} and ${other} one name, broken in two lines? `,
+    way(`Yes, ${quoted(lines.join(" "))}`, true), " ", way("No, two rows", false)]);
+}

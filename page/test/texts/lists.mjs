@@ -4,6 +4,17 @@ const CLAUSE = "Carried if at least 8 of the 13 council seats and at least 55 % 
 const SEATS = "1. at least 8 of the 13 council seats: List A 5, List B 4\n"
   + "2. at least 55 % of the inhabitants: List A 5,200, List B 3,100";
 export const LISTS = [
+  // a name that a cell had in two lines
+  ["estate", "Name\tClaim\nAnn\nRoe\t120\nBo\t80", null,
+    /^Nothing was taken yet\. Are “Ann” and “Roe” one name, broken in two lines\?/],
+  ["estate", "Name\tClaim\nAnn\nRoe\t120\nBo\t80", "Ann Roe=120|Bo=80", /^/, "Yes, “Ann Roe”"],
+  ["estate", "Name\tClaim\nAnn\nRoe\t120\nBo\t80", "Ann|Roe=120|Bo=80", /1 empty/, "No, two rows"],
+  ["votes", "Party\tVotes\nGreen\t7\nWorkers’\nUnion\t5", "Green=7|Workers’ Union=5", /^/, "Yes, “Workers’ Union”"],
+  ["runway", "User\tUses\tCost\nMill\nFarm\t4\t100\nBee\t2\t50", "Mill Farm=100=4|Bee=50=2", /^/,
+    "Yes, “Mill Farm”"],
+  ["estate", "Name\tClaim\nAnn\t\nRoe\t120\nBo\t80", "Ann|Roe=120|Bo=80", /1 empty/], // an empty cell
+  ["estate", "Name\tClaim\nRoe\t120\nBo\t80\nAnn", "Roe=120|Bo=80|Ann", /1 empty/],
+  ["estate", "Name\tClaim\nAnn\nRoe\t120\nEva\nBo\t80", "Ann|Roe=120|Eva|Bo=80", /2 empty/],
   // users of what is no runway: a lift, a road, a channel, lights
   ["runway", "Flat\tFloor\tCost up to that floor\nA\t1\t100\nB\t2\t200\nC\t3\t350", "A=100=1|B=200=1|C=350=1",
     /“Cost up to that floor” is “Needs alone”\. “Floor” was left out\. No “Uses” were pasted/],
