@@ -30,7 +30,9 @@ const SURE = new RegExp(`^(?!user$)(?:${USED_BY})$`, "iu"); // “User” is abo
 const USERS = new RegExp(`^(?:${BY}|who|wer|qui|wem|(?:used|needed|shared|served)|(?:who|that|wer|qui) \\p{L}+(?: it)?|`
   + "beneficiar\\p{L}*|partners?|members?|part(?:y|ies)|participants?|benutzer|nutznießer|usagers?|utilisateurs?"
   + "|bénéficiaires?|mitglieder|beteiligte)$", "iu");
-const LIST = /\s*(?:[,/&+]|(?<!\p{L})(?:and|und|et|y|e|en|sowie)(?!\p{L}))\s*/u;
+const FIRM = "(?:[Ss](?:ons?|öhne|ohn)|[Cc]o(?:mpany)?|[Cc]ie|[Pp]artners?|[Ff]ils|[Bb]ro(?:ther)?s|[Aa]ssociates)";
+const LIST = new RegExp("\\s*(?:[,/+]|(?:&|(?<!\\p{L})(?:and|und|et|y|e|en|sowie)(?!\\p{L}))"
+  + `(?!\\s*${FIRM}(?!\\p{L})))\\s*`, "u"); // and no "Kim & Sons"
 const EXCEPT = /(?<!\p{L})(?:except|but|without|not|außer|ohne|sauf|nicht)(?!\p{L})/iu;
 const ALL = /^(?:(?:[Aa]ll|ALL|[Tt]ous|[Tt]outes)(?: (?:the |les )?\p{Ll}+)?|[Aa]lle(?: \p{L}+)?)$/u; // no "All Saints"
 

@@ -87,4 +87,5 @@ export const GROUPS = [
   ["costs", "\tA\tB\nA\t48\t60\nB\t61\t39", null, /Nothing was taken/],
   ["costs", "Group\tA\tB\nA\t1\t2\nB\t2\t3\nA+B\t3\t4", null, /Which column is the cost/],
   ["costs", "Offer A: Ann 480 / Bo 390 / Cy 350\nOffer B: 690", null, /Line 1: A line has one group and/],
+  ["costs", "Road\t9\tAnn, Kim & Sons\nFork\t5\tAnn and Bo & Co.", null, /: “Ann”, “Kim & Sons” and “Bo & Co/],
 ];
