@@ -38,6 +38,7 @@ import { linesTable } from "./types-table.js";
 const WIDE = 700;
 const SMALL = 230; // of a side of the triangle, so that its letters can be read on paper
 const PAPER_WIDE = 176; // millimetres of A4 between the margins
+const [READ, SAID] = [7, 5]; // units of a picture in a millimetre at most, and millimetres of the words below it
 const MOST_PICTURED = 10; // rows whose bars leave room for the rest
 const MOST_ROWS = 18; // of one table; more stand in two, side by side
 const MANY_ROWS = 5; // above, letters are smaller, and a picture is lower
@@ -262,7 +263,7 @@ function pictureOf({ result, rows, format, ...session }) {
   const { game, points, bird } = result, solution = session.agreed ?? solutionOf(result);
   const few = rows.length <= MOST_PICTURED;
   const settings = { ...format, wide: WIDE, source: sourceName(session.typed) };
-  const holder = (drawn, said) => el("figure", { style: `--high: ${highOf(drawn)}mm` }, drawn,
+  const holder = (drawn, said) => el("figure", { style: highOf(drawn, said) }, drawn,
     said && el("figcaption", { class: "hint" }, said));
   if (game.ballots) return few ? holder(powerOf(game, points, format)) : null;
   if (result.matching) {
@@ -275,10 +276,11 @@ function pictureOf({ result, rows, format, ...session }) {
   return few ? holder(barsPicture(game, rows, [solution], settings), filledLines(session, rows)) : null;
 }
 
-/** How high a picture is on paper, across the whole page. */
-function highOf(drawn) {
+/** How high a picture is on paper, across the whole page, and at least, so that its letters can be read. */
+function highOf(drawn, said) {
   const [, , wide, high] = drawn.attributes.viewBox.split(" ").map(Number);
-  return Math.round((PAPER_WIDE * high) / wide);
+  const least = Math.round(high / READ) + (said ? SAID : 0);
+  return `--high: ${Math.round((PAPER_WIDE * high) / wide)}mm; --least: ${least}mm`;
 }
 
 function powerOf(game, points, { show }) {

@@ -15,7 +15,7 @@ import { pasteBox } from "./paste-box.js";
 
 const NAMED = { things: "players", numbers: "numbers" };
 const MOST_WHOLE = 6; // players whose groups are all shown
-const [PAGE, LONG] = [42, 40]; // groups of more players that are shown at a time; letters that need the whole width
+const [PAGE, LONG] = [42, 30]; // groups of more players that are shown at a time; letters that need the whole width
 const ASKED = "First say how the numbers are read: it is asked below.";
 const UNSAID = { opened: undefined, isUnnamed: false, filled: undefined, coarse: undefined, isMarked: undefined };
 const WAIT = 150; // milliseconds between the last key and filling anew
