@@ -76,7 +76,7 @@ export const casesTyped = [
       expect(`sum of ${airline}`, own.find(([kind]) => kind === "subtotal")[2], told);
     }
     expect("rounded", lines.some(([, , text]) => text === "3.34"), true);
-    const first = /What each airline pays for all its rows is rounded first, and then the rows, so that they add/;
+    const first = /What each user pays for all its rows is rounded first, and then the rows, so that they add/;
     expect("and told", await page.run("document.querySelector('#why .moved').textContent"), first);
   }],
 

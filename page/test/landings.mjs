@@ -134,7 +134,7 @@ const types = [
     expect("rows", await page.text(".shares tbody"), /^Albatros, DH8[\s\S]*Albatros, A320[\s\S]*Albatros, together/);
     const each = /one use of each type pays[\s\S]*DH8\s+20.50[\s\S]*A320\s+40.00[\s\S]*B744/;
     expect("types", await page.text(".lines"), each);
-    const bill = /What each airline pays.*Albatros528,03Bergfalke14,10Condor227,87together860,00/;
+    const bill = /What each user pays.*Albatros528,03Bergfalke14,10Condor227,87together860,00/;
     expect("the bill on paper", await sheetOf(page), bill);
     await page.run("dispatchEvent(new Event('afterprint'))");
     await page.type("rows.1.type", "DH8");
@@ -185,7 +185,7 @@ const beyond = [
     expect("a row", rows, first);
     expect("an airline", rows, /Albatros, together\s+302/);
     expect("types", await page.text(".beyond .lines"), /DH8\s+20.50\s+0.07\s+0.07/);
-    const scaled = /by the nucleolus airlines may pay other shares[\s\S]*Shapley shares each airline pays the same/;
+    const scaled = /by the nucleolus users may pay other shares[\s\S]*Shapley shares each user pays the same/;
     expect("scaled", await page.text(".beyond"), scaled);
     const sheet = await sheetOf(page);
     expect("on paper", sheet, /Albatros, together.*do NOT come from the proved.*shapley_is_by_step.*Agreed on by/);

@@ -38,8 +38,8 @@ export function areFactors([one, other, more]) {
 
 /** How a column is named: by its heading, or by its first texts. */
 export function columnLabel({ head, texts, unit }) {
-  const filled = texts.filter(Boolean), some = filled.slice(0, 2).map((text) => (unit ? `${text} ${unit}` : text)).join(", ");
-  return `“${head || some}${head || filled.length < 3 ? "" : " …"}”`;
+  const filled = texts.filter(Boolean), some = filled.slice(0, 2).map((text) => (unit ? `${text} ${unit}` : text));
+  return `“${head || some.join(", ")}${head || filled.length < 3 ? "" : " …"}”`;
 }
 
 /** The text of a link's cost: of a column, or of two that are multiplied. A link that isn't there has none. */
