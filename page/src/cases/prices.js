@@ -31,11 +31,11 @@ export function pricesOf(pasted, said) {
   return sided && (sided.lists ? { ...taken(sided.lists), notes: [...notes, ...notesOf(lists)] } : sided);
 }
 
-/** Lists of which each has its side: {lists}; or {asked} or {fault}; null for one list that says nothing of sides. */
+/** Lists of which each has its side: {lists}; or {asked} or {fault}; null for one list of no prices. */
 function sidesOf(lists, said) {
   const [one, other] = lists, name = (list) => listed(list.rows.map((row) => row.name || row.price).slice(0, 2));
   const more = (list) => (list.rows.length > 2 ? " …" : "");
-  if (!other) return one.side ? { lists } : null;
+  if (!other && !one.side && !kindOf(one.head ?? "").isPrice) return null;
   if (lists.every(({ side }) => side) || lists.length > 2) return { lists };
   if (!said) return { asked: quoted(`${one.label ?? name(one)}${one.label ? "" : more(one)}`) };
   return { lists: lists.map((list, k) => ({ ...list, side: SIDES[(SIDES.indexOf(said) + k) % 2] })) };
@@ -120,7 +120,7 @@ function inColumns(pasted) {
   const [one, other] = groups, isShared = other && [one, other].filter(({ name }) => name).length === 1;
   if (isShared) return both(one, other, { notes, out });
   if (other) return withLists(groups.map((group, k) => ({ ...group, out: k ? [] : out })), notes);
-  return bySide({ ...one, out }, sides, notes);
+  return bySide({ ...one, out, isLone: rows.every((row) => row.filter(Boolean).length < 3) }, sides, notes);
 }
 
 /** One list of names with two columns of prices, of which each row has one. */
@@ -158,7 +158,8 @@ function bySide(group, column, notes) {
     const lists = SIDES.map((one, k) => ({ ...listOf((r) => own[r] === one, one), out: k ? [] : group.out }));
     return withLists(lists, notes);
   }
-  return side && !group.isWeak && price.isPrice ? withLists([group], notes) : null;
+  const isList = side ? !group.isWeak : group.isLone && name; // of prices without a side it is asked
+  return isList && price.isPrice ? withLists([group], notes) : null;
 }
 
 // ---- The columns
