@@ -188,10 +188,12 @@ class ListGrid {
     for (const { isStill, element } of this.offers ?? []) if (!isStill()) refill(element);
   }
 
-  /** The quotas above the list, one or two. */
+  /** The quotas above the list, one or two; none of the worked example votes by them. */
   setQuotas([quota, other]) {
     const { typed } = this;
     this.remember("The quotas");
+    if (this.isExample()) typed.rows = [];
+    if (this.element.classList.contains("asks")) this.say(""); // of clauses alone
     typed.quota = quota;
     if (other) typed.secondQuota = other;
     this.showSingles();

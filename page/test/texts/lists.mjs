@@ -44,6 +44,7 @@ export const LISTS = [
   ["votes", "Ann\t7\t2\nBo\t4\t1", null, /These rows have 3 cells/, "No, one"],
   ["votes", CLAUSE, null,
     /names two quotas, and nobody who votes\. Type the .*needed: 8 of 13\. Needed of the second: 55 %/],
+  ["votes", CLAUSE, "", /2 empty|1 empty/, "Votes needed: 8 of 13. Needed of the second: 55 %"],
   ["votes", "A motion needs a majority of the votes.", null, /names a quota, .* Votes needed: more than 1\/2/],
   ["votes", `Ann,7\nBo,4\nCarried if at least 8, and 3 members agree`, "Ann=7|Bo=4",
     /Left out, as it is no row: “Carried if at least 8, and 3 members agree”/],
