@@ -1,7 +1,8 @@
 // Texts of a network's links and of a market, as rows of pasted.mjs.
 const LINKED = "Works|A|B|0-1|12|0-2|9|1-2|4";
 export const LINKS_AND_TRADES = [
-  ["market", "Things\tPrice\nBike\t50\nSofa\t80\nLamp\t30", null, /Whose limit prices are those of “Bike and Sofa …”\?/],
+  ["market", "Things\tPrice\nBike\t50\nSofa\t80\nLamp\t30", null,
+    /Whose limit prices are those of “Bike and Sofa …”\?/],
   ["market", "\thut\nAnn\t30\nBo\t40", "hut|Ann|Bo|30|40"],
   // links whose ends share a cell with more, and those that no list shows
   ["network", "Pipe quotes 2026, net of VAT\nWell -> Alby: 125 EUR\nWell -> Brook: 180 EUR\nAlby -> Brook: 71 EUR\n"
