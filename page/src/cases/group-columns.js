@@ -10,7 +10,7 @@ export const FORM = "Give each group a line: its members with + between them, th
 const WORTH = new RegExp("cost|gain|worth|value|saving|amount|price|profit|kosten|gewinn|wert|betrag|preis|ersparnis"
   + "|co[uû]t|valeur|montant|\\bv ?\\(s\\)|\\b(eur|usd|gbp|chf)\\b|\\p{Sc}", "iu");
 
-const PER = /\b(?:per|je|pro|par|por)\b|\/ ?\p{L}/iu; // of a price for each of something
+const PER = /\b(?:per|je|pro|par|por|unit|each)\b|einzel|stück|unitaire|\/ ?\p{L}/iu; // a price for each
 const isWorth = (heading = "") => WORTH.test(heading) && !PER.test(heading);
 
 /** Rows of a group and its number, of such as may have headings and further columns: {rows, lines, told}. Of several

@@ -8,6 +8,7 @@ const MOST_TOLD = 4; // groups in other words that are named
 export const NOBODY = /^(∅|none|nobody|no ?one|empty( set)?|niemand|personne|[-–—]|0|)$/i;
 const AND = /\s*(?:[&,/;|]|\b(?:and|und|et|y|e|en|och|with|mit|avec)\b)\s*/u;
 const TOGETHER = new RegExp(`[\\s,]+(?:${WITH})$`, "iu");
+const RANGE = /^(.{1,60}?) (\d{1,2})(?:\s?[-–]\s?| (?:to|bis|à) )(\d{1,2})$/u;
 const LONE = "alone|only|(?:all )?by (?:itself|themselves|himself|herself)|on (?:its|his|her|their) own|alleine?|"
   + "für sich|(?:tout )?seule?s?|(?:da )?sol[oa]|alleen|sozinh[oa]";
 const ALONE = [ // a name and such a word
@@ -57,16 +58,25 @@ export function inOtherWords(all, roles) {
   return { read: full, told: told + (nobody.length ? " The group of nobody was left out." : "") };
 }
 
-/** Gives members of groups the name that a line of one player has but for the size of its letters, or with the word
- * that the first member begins with, as in "Flat 1 + 2": what is told. */
+/** The one of the names that a part of a group has but for the size of its letters, or for words that stand beside the
+ * `first` part, as in "Flats 1 + 2", or behind all, as in "Ann + Bo together"; undefined if none has, or several. */
+function nameLike(lone, part, k, [first]) {
+  const [head, ...rest] = first.split(" "), bare = part.replace(TOGETHER, ""), tail = k ? bare : rest.join(" ");
+  const small = (text) => text.toLowerCase(), alike = lone.filter((one) => {
+    const [word, ...more] = one.split(" "), longer = head.length - word.length;
+    const isHead = small(head).startsWith(small(word)) && longer < 3;
+    return small(one) === small(bare) || (more.length > 0 && more.join(" ") === tail && isHead);
+  });
+  return lone.includes(part) ? part : alike.length === 1 ? alike[0] : undefined;
+}
+
+/** Gives members of groups the names that lines of one player have: what is told. */
 function namedAlike(read) {
   const lone = read.filter(isLone).map(({ members: [one] }) => one), told = new Map();
-  const nameOf = (member, k, [first]) => {
-    const forms = [member, ...(k ? [`${first.split(" ")[0]} ${member}`] : [])].map((form) => form.toLowerCase());
-    const alike = lone.filter((one) => forms.includes(one.toLowerCase()));
-    if (lone.includes(member) || alike.length !== 1) return member;
-    told.set(member, alike[0]);
-    return alike[0];
+  const nameOf = (member, k, all) => {
+    const name = nameLike(lone, member, k, all) ?? member;
+    if (name !== member) told.set(member, name);
+    return name;
   };
   for (const line of read) if (!isLone(line)) line.members = line.members.map(nameOf);
   return [...told].map(([one, name]) => ` “${withEscapes(one)}” is “${withEscapes(name)}”.`).join("");
@@ -84,22 +94,24 @@ function withoutAlone(read, used) {
   return [...new Set(kept.map(({ word }) => word))];
 }
 
-/** The lines of groups without +, each with its `parts`: all have a line; or no part is in one such line only. A part
- * may have small letters where its line has great ones, and lack words that the first one has: "Kita Nord und Süd". */
+/** The lines of groups without +, each with its `parts`: all have a line; or no part is in one such line only. */
 function andGroups(read, used) {
   const lone = read.filter(isLone).map(({ members: [one] }) => one), lines = new Set(lone);
-  const likeOf = (part) => lone.find((one) => one.toLowerCase() === part.toLowerCase());
-  const behind = (part, k, [first]) => lone.find((one) => k && one === `${first.split(" ")[0]} ${part}`);
-  const ownOf = (part, k, all) => {
-    return lines.has(part) ? part : likeOf(part) ?? behind(part, k, all) ?? part;
-  };
   const all = read.filter((line) => isLone(line) && !used.has(line.members[0])).map((line) => {
-    return Object.assign(line, { parts: partsOf(line.members[0]).map(ownOf) });
+    const parts = rangeIn(line.members[0]) ?? partsOf(line.members[0]);
+    return Object.assign(line, { parts: parts.map((part, k) => nameLike(lone, part, k, parts) ?? part) });
   }).filter(({ parts }) => parts.length > 1);
   const known = all.filter(({ parts }) => parts.every((part) => lines.has(part)));
   if (known.length) return known;
   const countOf = (part) => all.filter(({ parts }) => parts.includes(part)).length;
   return all.length > 2 && all.every(({ parts }) => parts.every((part) => countOf(part) > 1)) ? all : [];
+}
+
+/** The parts of "Lots 1-3"; undefined for another text. */
+function rangeIn(text) {
+  const [, head, from, to] = RANGE.exec(text) ?? [], count = to - from + 1;
+  const numbers = Array.from({ length: Math.max(0, count || 0) }, (_, k) => String(Number(from) + k));
+  return count > 1 ? [`${head} ${from}`, ...numbers.slice(1)] : undefined;
 }
 
 /** Gives each player without a number alone that of the line `each`: {read, told}, or {fault} where all have others. */

@@ -57,10 +57,11 @@ function manyText(rows) {
 }
 
 /** The same of rows below a heading, which may name the groups, and behind a first column of what they are called: none
- * is called a total. */
+ * is called a total, or as a group or a heading is. */
 export function manyBelow(rows) {
   const isWord = (cell) => /\p{L}/u.test(cell) && !SPOILT.test(cell), [heads, ...below] = rows;
-  if (!below.length || !heads.slice(1).every(isWord) || below.some(([name]) => isSumWord(name))) return null;
+  const isGroup = ([name = ""]) => isSumWord(name) || name.includes("+") || (isWord(name) && heads.includes(name));
+  if (!below.length || !heads.slice(1).every(isWord) || below.some(isGroup)) return null;
   const isNumeric = (some) => some.every((row) => row.every((cell) => isNumber(cell)));
   const plain = [below, below.map((row) => row.slice(1))].filter(isNumeric);
   return plain.map(manyText).find(Boolean) ?? null;

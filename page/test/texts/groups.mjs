@@ -88,4 +88,11 @@ export const GROUPS = [
   ["costs", "Group\tA\tB\nA\t1\t2\nB\t2\t3\nA+B\t3\t4", null, /Which column is the cost/],
   ["costs", "Offer A: Ann 480 / Bo 390 / Cy 350\nOffer B: 690", null, /Line 1: A line has one group and/],
   ["costs", "Road\t9\tAnn, Kim & Sons\nFork\t5\tAnn and Bo & Co.", null, /: “Ann”, “Kim & Sons” and “Bo & Co/],
+  // parts that lack words of the names, and a price of each unit
+  ["costs", "Ann\t480\nBo\t390\nAnn + Bo together\t690", "Ann|Bo|480|390|690", /“Bo together” is “Bo”/],
+  ["costs", "Lot 1\t8\nLot 2\t7\nLot 3\t6\nLots 1 and 2\t9\nLots 1-3\t12", "Lot 1|Lot 2|Lot 3|8|7|9|6|||12",
+    /“Lots 1 and 2”, “Lots 1-3” are groups/],
+  ["costs", "Flat 1\t8\nFlat 2\t7\nFlats 1+2\t9", "Flat 1|Flat 2|8|7|9", /“Flats 1” is “Flat 1”\. “2” is “Flat 2”/],
+  ["costs", "Hof A\t8\nHof B\t7\nHöfe A und B\t9", /^Hof A\|Hof B\|Höfe/],
+  ["costs", "Who\tQty\tUnit price\tSum\nA\t2\t4\t8\nB\t1\t7\t7\nA+B\t3\t3\t9", null, /Which column is/],
 ];
