@@ -6,6 +6,7 @@ import { cellsOf } from "../src/cases/pasting.js";
 import { sheetOf } from "../src/cases/sheets.js";
 import { costs, tableOf } from "../src/cases/tables.js";
 import { votes } from "../src/cases/votes.js";
+import { writtenAs } from "../src/exact/styles.js";
 import { Rational } from "../src/exact/rational.js";
 import { withThousands } from "../src/work/case-files.js";
 import { fillSplits } from "../src/work/splits.js";
@@ -77,6 +78,20 @@ for (const text of VALUES) {
     console.log(`${text} is written as ${written}, and read with ${other} as ${value}`);
   }
 }
+// numbers that are written as others beside them are
+const STYLES = [
+  [["16,100.00", "2,000.50"], "630 6305/10 16100", "630.00 630.50 16,100.00"],
+  [["480", "150"], "16100 1/2", "16100 0.5"],
+  [["48.000,00 €", "9,50 €"], "16100 1/3", "16.100,00 € 1/3"], [["1 480", "150"], "16100 630", "16 100 630"],
+  [["48,000", "21,000"], "69000 630", "69000 630"], [["1,234,567", "2,000"], "69000", "69000"], [["1/3", "2"], "5", "5"],
+];
+for (const [texts, values, wanted] of STYLES) {
+  const found = writtenAs(values.split(" ").map((one) => Rational.of(one)), texts, ".").join(" ");
+  if (found === wanted) continue;
+  faults += 1;
+  console.log(`${values} as ${texts} is written as ${found}, and not ${wanted}`);
+}
+
 // lists of a whole table: the numbers in the order of the masks, or a part of the refusal
 const LISTS = [
   ["5 3 2 10 9 6 16", "5 3 10 2 9 6 16"], ["5,3,2,10,9,6,16", "5 3 10 2 9 6 16"], ["5;3;9", "5 3 9"],
