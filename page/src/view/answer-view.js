@@ -91,7 +91,7 @@ export class AnswerView {
       own: () => refill(at("own-body"), ownDivision(result, { ...view, onBegin: () => this.show("proposal") })),
       evidence: () => refill(at("evidence-body"), evidenceParts(result, this.session, view.filled)),
       files: () => this.made && this.showFiles(this.made),
-      links: () => this.showLinks(), agreed: () => at("paper-body").firstElementChild?.showAgreed(),
+      links: () => this.showLinks(), agreed: () => this.showAgreed(),
     };
     for (const part of result.refusal ? ["settings", "body"] : some ?? Object.keys(parts)) parts[part]();
   }
@@ -244,7 +244,7 @@ export class AnswerView {
 
   /** What a pasted table says of the unit of its amounts; a single number says nothing. */
   takeUnit(text) {
-    if (!/[\t\n;]/.test(text.trim())) return;
+    if (!/[\t\n;]/.test(text.trim()) || untakenIn(at("case-body"))?.isAsked === false) return; // nor one refused
     this.typed.pastedUnit = unitIn(text);
     this.shownPaper = null;
     if (at("paper-body").childElementCount) this.showPaper();
@@ -254,6 +254,11 @@ export class AnswerView {
     if (this.shownPaper === this.session.kind && at("paper-body").childElementCount) return;
     this.shownPaper = this.session.kind;
     refill(at("paper-body"), paperPart(this.session, this.typed));
+    this.showAgreed();
+  }
+
+  showAgreed() {
+    at("paper-body").firstElementChild?.showAgreed();
   }
 
   /** The parts with fields of their own are kept while answers come, and made anew for another game or other decimals.
