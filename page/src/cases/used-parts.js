@@ -15,7 +15,7 @@ import { headingsOf } from "./pasting.js";
 import { parted, unitsText, withoutUnits } from "./units.js";
 
 const MOST_LETTERS = 600; // of a line
-const MOST_USERS = 16, MOST_PARTS = 500;
+const MOST_USERS = 16, MOST_PARTS = 500, MOST_COLUMNS = 40;
 const USED_BY = "(?:used|needed|shared|served) by|serves|users?:?|genutzt von|nutz(?:t|en|er):?|utilisée? par";
 const BY = `${USED_BY}|for|für|pour`;
 const MONEY = "(?:[\\p{Sc}A-Z]{1,3}\\s?)?\\d"; // as a number begins
@@ -56,7 +56,7 @@ function areUsers(lists, said = false) {
  * `remark` has what was left out; `isSaid` tells that words call them users, and `isSure` that these or brackets behind
  * the costs do. Or {fault}, or the {columns} of which one is the cost. Null for another text. */
 export function usedParts(pasted, { mark = ".", column } = {}) {
-  if (pasted.length > MOST_PARTS) return null;
+  if (pasted.length > MOST_PARTS || pasted.some(({ length }) => length > MOST_COLUMNS)) return null;
   const found = besideCosts(pasted) ?? inColumn(pasted, mark) ?? byMarks(pasted);
   if (!found) return null;
   const { rows: bare, units = [], fault: several } = withoutUnits(found.rows, 1);
