@@ -61,18 +61,19 @@ export function inOtherWords(all, roles) {
 /** The one of the names that a part of a group has but for the size of its letters, or for words that stand beside the
  * `first` part, as in "Flats 1 + 2", or behind all, as in "Ann + Bo together"; undefined if none has, or several. */
 function nameLike(lone, part, k, [first]) {
+  if (lone.has(part)) return part;
   const [head, ...rest] = first.split(" "), bare = part.replace(TOGETHER, ""), tail = k ? bare : rest.join(" ");
-  const small = (text) => text.toLowerCase(), alike = lone.filter((one) => {
+  const small = (text) => text.toLowerCase(), alike = [...lone].filter((one) => {
     const [word, ...more] = one.split(" "), longer = head.length - word.length;
     const isHead = small(head).startsWith(small(word)) && longer < 3;
     return small(one) === small(bare) || (more.length > 0 && more.join(" ") === tail && isHead);
   });
-  return lone.includes(part) ? part : alike.length === 1 ? alike[0] : undefined;
+  return alike.length === 1 ? alike[0] : undefined;
 }
 
 /** Gives members of groups the names that lines of one player have: what is told. */
 function namedAlike(read) {
-  const lone = read.filter(isLone).map(({ members: [one] }) => one), told = new Map();
+  const lone = new Set(read.filter(isLone).map(({ members: [one] }) => one)), told = new Map();
   const nameOf = (member, k, all) => {
     const name = nameLike(lone, member, k, all) ?? member;
     if (name !== member) told.set(member, name);
@@ -96,10 +97,10 @@ function withoutAlone(read, used) {
 
 /** The lines of groups without +, each with its `parts`: all have a line; or no part is in one such line only. */
 function andGroups(read, used) {
-  const lone = read.filter(isLone).map(({ members: [one] }) => one), lines = new Set(lone);
+  const lines = new Set(read.filter(isLone).map(({ members: [one] }) => one));
   const all = read.filter((line) => isLone(line) && !used.has(line.members[0])).map((line) => {
     const parts = rangeIn(line.members[0]) ?? partsOf(line.members[0]);
-    return Object.assign(line, { parts: parts.map((part, k) => nameLike(lone, part, k, parts) ?? part) });
+    return Object.assign(line, { parts: parts.map((part, k) => nameLike(lines, part, k, parts) ?? part) });
   }).filter(({ parts }) => parts.length > 1);
   const known = all.filter(({ parts }) => parts.every((part) => lines.has(part)));
   if (known.length) return known;
