@@ -134,7 +134,7 @@ const questions = [
   }],
   ["door: three decimals throughout are asked about", "runway", async (page, expect) => {
     await pasted(page, [["Airline", "Cost", "Landings"], ["North", "1.200", 1], ["South", "2.500", 2]]);
-    await noted(page, /“1\.200” can be read as 1200 or as 1\.2, .* So can the 2 numbers like it\. Which is it\?/);
+    await noted(page, /“1\.200” can be read as 1200 or as 1\.2, .* So can one other number like it\. Which is it\?/);
     expect("no answer before", await page.run("document.getElementById('answer').hidden"), true);
     await page.click("1200, whole");
     await told(page, "#answer .lead", /together 2\.500,00/);

@@ -1,7 +1,8 @@
 // A quota as people say it: a part of all votes, in per cent, as a fraction, or in words.
-import { readNumber } from "../exact/decimals.js";
+import { readNumber, shortText } from "../exact/decimals.js";
 import { otherMark } from "../exact/marks.js";
 import { lcm, Rational, ZERO } from "../exact/rational.js";
+import { withEscapes } from "../game/names.js";
 
 const MORE = /^(more than|over|above|mehr als|über|plus de|meer dan|>(?!=))\s*/;
 const LEAST = /^(at least|mindestens|au moins|minstens|>=|≥)\s*/;
@@ -90,6 +91,13 @@ export function leastOf(typed, votes, mark, all = Rational.sum(votes)) {
   if (!said) return null;
   const unit = Rational.of(votes.reduce((den, one) => lcm(den, one.den), 1n)), steps = all.times(said.part).times(unit);
   return Rational.of(said.isMore ? steps.floor() + 1n : -steps.negated().floor()).over(unit);
+}
+
+/** What is needed of a ballot, of how many: "75 % of 320 votes, so at least 240", "12 of 17 votes". */
+export function neededText(typed, { votes, quota }, mark) {
+  const [all, least] = [Rational.sum(votes), quota].map(shortText);
+  if (!leastOf(typed, votes, mark)) return `${least} of ${all} votes`;
+  return `${withEscapes(bareQuota(typed))} of ${all} votes, so at least ${least}`;
 }
 
 /** 66.67 % of 90 votes is a little more than 60, and two thirds are 60. If a rounded fraction asks for another number

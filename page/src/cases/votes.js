@@ -1,12 +1,13 @@
 // Votes: by one quota, which is a game of its own class, or by two at once, which is a table of who wins.
-import { gcd, lcm, Rational } from "../exact/rational.js";
+import { gcd, Rational } from "../exact/rational.js";
 import { countText, shortText, typedText } from "../exact/decimals.js";
 import { LIMITS, mostOf } from "../game/classes.js";
+import { inWhole } from "../game/ballots.js";
 import { membersOf } from "../game/groups.js";
 import { withEscapes } from "../game/names.js";
 import { quotaLine } from "./clauses.js";
 import { numbersMapped, readList } from "./lists.js";
-import { bareQuota, isQuota, leastOf, QUOTA, roundedPart } from "./quota.js";
+import { bareQuota, isQuota, leastOf, neededText, QUOTA, roundedPart } from "./quota.js";
 import { askOfSum } from "./sum-row.js";
 import { askOfTwice } from "./twice.js";
 
@@ -102,18 +103,12 @@ function readBallot(reading, typed, cell, what, { values, cells }, state) {
 
 /** Says how many votes a part of all is, and asks what it is a part of. */
 function tellPart(reading, { typed, cell, what, values, part }, { exactParts = [], isPercent = false }) {
-  const all = Rational.sum(values), [told, least] = [all, part].map(shortText);
+  const all = Rational.sum(values);
   const rounded = !exactParts.includes(typed) && roundedPart(typed, values, reading.mark);
   if (rounded) reading.part = { cell, typed, ...rounded };
   if (isPercent && !all.equals(HUNDRED)) reading.rest = restOf(cell, typed, values, reading.mark);
   if (reading.part || reading.rest) return; // the question says it
-  reading.notes.push(`${what}: ${withEscapes(bareQuota(typed))} of ${told} votes, so at least ${least}.`);
-}
-
-/** A ballot in whole numbers. */
-export function inWhole({ votes, quota }) {
-  const scale = Rational.of([...votes, quota].reduce((all, { den }) => lcm(all, den), 1n));
-  return { votes: votes.map((one) => one.times(scale).num), quota: quota.times(scale).num };
+  reading.notes.push(`${what}: ${neededText(typed, { votes: values, quota: part }, reading.mark)}.`);
 }
 
 /** The second votes, in the rows that have a name or votes. As long as all are empty each counts as 1; once one is

@@ -1,6 +1,7 @@
 // Who trades with whom, and the range of the price; and the power of votes.
 import { Rational } from "../exact/rational.js";
-import { decimal, fractionText, shortText } from "../exact/decimals.js";
+import { fractionText, percentText, shortText } from "../exact/decimals.js";
+import { standingOf } from "../game/ballots.js";
 import { el } from "./tree.js";
 import { listed } from "../game/words.js";
 import { tickText } from "./bars.js";
@@ -136,19 +137,18 @@ export function votesText(value) {
 const HUNDRED = Rational.of(100);
 const NARROW = 520;
 
-function remarkOn(i, share, ballots) {
-  const without = ({ votes }) => Rational.sum(votes.filter((_, j) => j !== i));
-  if (share.isZero()) return "no influence";
-  if (ballots.some((ballot) => without(ballot).less(ballot.quota))) return "has a veto";
-  return ballots.every(({ votes, quota }) => !votes[i].less(quota)) ? "wins alone" : "";
+/** What is remarked of a voter beside its name; "" for nothing. */
+export function remarkOn(i, share, ballots) {
+  const { vetoes, isEnough, isIdle } = standingOf(i, share, ballots);
+  const remarks = [isIdle && "no influence", vetoes.length > 0 && "has a veto", isEnough && "wins alone"];
+  return remarks.filter(Boolean).join(", ");
 }
 
 /** `ballots` have the votes and the quota of each of one or two ballots. */
 export function power(game, shares, { mark, wide, kept }) {
   const { ballots, shown } = game, isDouble = ballots.length > 1;
   const hasParts = !isDouble || wide >= NARROW; // the power has to be seen without scrolling
-  const parts = ballots.map(({ votes }) => votes.map((own) => own.over(Rational.sum(votes))));
-  const percent = (value) => `${decimal(value.times(HUNDRED), 1, { mark })}\u202f%`;
+  const parts = partsOf(game), percent = (value) => percentText(value, { mark });
   const rows = game.everyone().map((i) => {
     const remark = remarkOn(i, shares[i], ballots), exact = !shares[i].isZero() && fractionText(shares[i]);
     return el("tr", {},
@@ -169,13 +169,20 @@ export function power(game, shares, { mark, wide, kept }) {
       `Power: in what part of all orders of joining a voter is the one who ${reaches}.`,
       el("span", { class: "field-name" }, " (Shapley and Shubik 1954. This page has no Banzhaf index, and no third ",
         "condition such as a blocking minority.)")),
-    figure("powers", "power", powerPicture(game, shares, parts, percent, wide)));
+    figure("powers", "power", powerDrawn(game, shares, { mark }, wide)));
 }
 
 const MARKS = ["adds", "alone"]; // of the votes of the first ballot, and of the second
 
-/** `parts` are the voters' parts of the votes, of one or two ballots. */
-export function powerPicture(game, shares, parts, percent, wide) {
+/** The voters' parts of the votes, of each ballot. */
+export const partsOf = ({ ballots }) => ballots.map(({ votes }) => {
+  const all = Rational.sum(votes);
+  return votes.map((own) => own.over(all));
+});
+
+/** The power of each voter beside its parts of the votes. */
+export function powerDrawn(game, shares, { mark }, wide) {
+  const parts = partsOf(game), percent = (value) => percentText(value, { mark });
   const names = parts.length > 1 ? ["first votes", "second votes"] : ["votes"];
   const told = (i) => parts.map((own, b) => `${names[b]} ${percent(own[i])}`).join(", ");
   const number = (value) => value.times(HUNDRED).toNumber();

@@ -47,6 +47,11 @@ export function decimal(value, places, options) {
   return decimalOf(stepsOf(value, places), places, options);
 }
 
+/** A part of 1 in per cent, with one decimal. */
+export function percentText(part, { mark } = spoken) {
+  return `${decimal(part.times(Rational.of(100)), 1, { mark })}\u202f%`;
+}
+
 /** How many there are, as numbers are shown: no comma that might stand in front of decimals. */
 export function countText(count) {
   return decimalOf(BigInt(count), 0);

@@ -16,6 +16,7 @@ import { paperPart } from "./paper.js";
 import { pinnedOf } from "./pinned.js";
 import { marginsPart } from "./margins-part.js";
 import { takesPerHead } from "./questions.js";
+import { powerReasons } from "./reasons.js";
 import { fillSeals } from "./seals.js";
 import { tablesOf } from "./shares-table.js";
 import { csvButton, tabbed } from "./table-lines.js";
@@ -156,7 +157,7 @@ export class AnswerView {
     const link = (id, title, kind) => button(title, () => 0, {
       class: kind, "data-part": id, "aria-controls": id, "aria-expanded": String(at(id).open),
     });
-    refill(at("next"), first && link(first, "Why these shares?", "main"),
+    refill(at("next"), first && link(first, this.session.kind.isVote ? "Why this power?" : "Why these shares?", "main"),
       Object.entries(LINKS).filter(([id]) => isThere(id)).map(([id, title]) => link(id, title, "quiet")));
   }
 
@@ -218,9 +219,10 @@ export class AnswerView {
     this.hush();
   }
 
-  /** What the page calculates by itself has no reasons and no evidence. */
+  /** What the page calculates by itself has no evidence, and, but for power, no reasons. */
   showBeyond({ beyond }) {
-    for (const id of ["why", "evidence", "what-if"]) at(id).hidden = true;
+    for (const id of ["why", "evidence", "what-if"]) at(id).hidden = id !== "why" || !beyond.game;
+    refill(at("why-body"), beyond.game && powerReasons(beyond.game, beyond.shares));
     refill(at("answer-settings"), this.formats(), this.fractions(), this.hiding());
     refill(at("answer-measure"));
     const view = this.viewOf(this.session.result);

@@ -1,5 +1,5 @@
 // The answer: who gets or pays what, by several divisions side by side, with pictures.
-import { decimal, decimalOf, shortText, stepsOf } from "../exact/decimals.js";
+import { decimalOf, percentText, shortText, stepsOf } from "../exact/decimals.js";
 import { Rational } from "../exact/rational.js";
 import { bars } from "../draw/bars.js";
 import { plan } from "../draw/plan.js";
@@ -16,10 +16,12 @@ import { beyondParts } from "./beyond.js";
 import { extremes } from "./extremes.js";
 import { el } from "./dom.js";
 import { totalsOf } from "./format.js";
+import { meanings } from "./meanings.js";
 import { pinnedNote, pinTools } from "./pinned.js";
 import { missingText } from "./questions.js";
 import { sealsOf } from "./seals.js";
-import { sharesTable } from "./shares-table.js";
+import { divisionReasons } from "./reasons.js";
+import { roundingPart, sharesTable } from "./shares-table.js";
 import { turningTetrahedron } from "./turning.js";
 import { typesTable } from "./types-table.js";
 
@@ -41,7 +43,7 @@ export function answerParts(result, settings) {
     solution && !game.ballots && !game.isMarket() && becauseOf(result),
     solution && !game.ballots && sealsOf(result, solution, format),
     deals && !solution && deals.table,
-    points.length > 0 && (!game.ballots || solution) && inPlace(result, sharesTable(result, settings)),
+    points.length > 0 && (!game.ballots || solution) && inPlace(result, settings),
     notices(result, format, coarse, result.odds),
     filled && el("p", { class: "note filled-note" }, filled),
     coarse && el("p", { class: "note coarse-note" }, coarseText(coarse)),
@@ -129,18 +131,21 @@ function pictures({ game, bird }, points, { rows, format, wide, remark, source, 
 }
 
 function votes({ game, points }, settings) {
-  const shapley = points.find(({ key }) => key === "shapley");
-  const parts = shapley ? [powerLead(game, shapley.shares, settings.format),
-    ...powerTable(game, shapley.shares, settings)] : [];
-  return parts;
+  const shares = powerOf(points);
+  return shares ? [powerLead(game, shares, settings.format), ...powerTable(game, shares, settings)] : [];
 }
 
-/** Of votes the shares are another question than the answer, and folded. */
-function inPlace({ game }, table) {
+/** The power of each voter, where it is known. */
+export const powerOf = (points) => points.find(({ key }) => key === "shapley")?.shares;
+
+/** Of votes the shares are another question than the answer, and folded, with their reasons. */
+function inPlace(result, settings) {
+  const { game, points } = result, table = sharesTable(result, settings);
   return game.ballots ? el("details", { class: "fold-part" },
     el("summary", {}, "Dividing a prize of 1 among the voters"),
     el("p", { class: "hint" }, "That is another question than power: a voter may get nothing of the prize and have ",
-      "influence all the same."), table) : table;
+      "influence all the same."), table, divisionReasons(result), meanings(points, false, game),
+    roundingPart(result, settings)) : table;
 }
 
 /** The power of each voter beside what was kept. */
@@ -169,7 +174,7 @@ function keptPower(pinned, percents) {
 export function powerLead({ shown }, shares, { mark }) {
   const most = Rational.max(shares), of = (is) => shown.filter((_, i) => is(shares[i]));
   const strong = of((share) => share.equals(most)), none = of((share) => share.isZero());
-  const part = `${decimal(most.times(Rational.of(100)), 1, { mark })}\u202f%`;
+  const part = percentText(most, { mark });
   const [has, each] = strong.length > 1 ? ["have", " each"] : ["has", ""];
   const others = none.length > 3 ? `; ${none.length} voters have none` : none.length > 0
     && `; ${listed(none)} ${none.length > 1 ? "have" : "has"} none`;

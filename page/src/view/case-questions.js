@@ -111,7 +111,8 @@ function mixedQuestion({ typed, value, whole, proof, count }, { settled, mark },
 function unsureQuestion({ typed, count, ways: [[more, one], [less, other]] }, { mark }, { setEntry }) {
   const shown = (text) => quotedText(Rational.of(text), mark), quoted = `“${withEscapes(typed.trim())}”`;
   const way = (text, by, how) => button(`${shown(text)}, ${how}`, () => setEntry(by), { class: "quiet" });
-  const like = count > 1 ? ` So can the ${count} numbers like it.` : "";
+  const others = count > 2 ? `the ${count - 1} other numbers` : "one other number";
+  const like = count > 1 ? ` So can ${others} like it.` : "";
   return el("p", { class: "note asked" }, `${quoted} can be read as ${shown(more)} or as ${shown(less)}, and no other `,
     `number here shows which.${like} Which is it? `, way(more, one, "whole"), " ", way(less, other, "with decimals"));
 }

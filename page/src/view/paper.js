@@ -33,17 +33,18 @@ export function paperPart(session, typed) {
       button("Print them", () => printAs(what), { class: "quiet" })]);
     if (count === 1) printAs(what);
   };
-  const { line, rule } = session.result ?? {}, agreed = el("div");
+  const { line, rule } = session.result ?? {}, { isVote } = session.kind, agreed = el("div");
   const element = el("div", { class: "paper-part" },
     el("p", { class: "hint" }, "One page for a board or a court: who, how much, a picture, the reasons, what is ",
       "agreed on, and how to check it. Or everything on this page, with the amounts that were worked out, and the ",
       "check of a line if it is of this case."),
-    line && el("p", { class: "hint" }, `As long as nothing is agreed on, the one page has the ${rule}.`), agreed,
+    line && !isVote && el("p", { class: "hint" }, `As long as nothing is agreed on, the one page has the ${rule}.`),
+    agreed,
     field("heading", "Heading", typed.heading ?? session.kind.title, true),
-    field("unit", "Unit of money", unitOf(typed), false),
-    typed.pastedUnit && typed.unit === undefined && el("p", { class: "hint" }, `“${typed.pastedUnit}” is that of the `,
-      "table that was pasted."),
-    el("label", { class: "single" }, own, " Put the other columns on the one page too"),
+    !isVote && [field("unit", "Unit of money", unitOf(typed), false),
+      typed.pastedUnit && typed.unit === undefined && el("p", { class: "hint" },
+        `“${typed.pastedUnit}” is that of the table that was pasted.`),
+      el("label", { class: "single" }, own, " Put the other columns on the one page too")],
     el("p", { class: "tools" },
       button("Print one page", printed("sheet"), { class: "main" }), button("Print everything", printed("all"))), said);
   element.showAgreed = () => refill(agreed, agreedChoice(session, typed));
@@ -89,7 +90,7 @@ export class Paper {
     return [
       el("p", {}, own && el("b", {}, own), own && " – ", dayText()),
       what === "all" && isCase && this.view.still && el("p", {}, el("b", {}, this.view.still)),
-      what === "all" && unit && el("p", {}, `All amounts are in ${unit}.`),
+      what === "all" && unit && !(isCase && this.session.kind.isVote) && el("p", {}, `All amounts are in ${unit}.`),
       what === "all" && isCase && !this.view.isHidden && this.proved(),
     ];
   }

@@ -1,6 +1,7 @@
 // The reasons on the one printed page: of the answer as there is room, and of what was agreed on what it means.
 import { Rational } from "../exact/rational.js";
 import { listed } from "../game/words.js";
+import { POWER } from "../tell/power.js";
 import { sourceOf } from "../tell/rule-names.js";
 import { el } from "./dom.js";
 import { totalsOf } from "./format.js";
@@ -12,8 +13,6 @@ const MOST_LEVELS = 1100; // characters of what the levels behind the first sett
 const MOST_CUT = 4; // levels without their reason that are named
 const MOST_SAVING = 8; // rows of whom each saving is named
 
-const POWER = "A voter’s power is the part of all orders of joining in which the votes become enough when this voter "
-  + "joins (Shapley and Shubik 1954).";
 const PRICES = "These pairs gain most together. At these prices no other pair does better.";
 
 /** What each saves, or gets more, against going alone, as the numbers are shown; "" if somebody doesn't, or the class
@@ -49,7 +48,8 @@ export function reasonsOf({ result, pair, rows, format, ...view }) {
   const { reasons, answer, rule, game, points } = result;
   if (view.agreed && view.agreed.key !== answer) return meantOf({ ...view, result, rows, format });
   if (game.ballots || !reasons) {
-    return el("section", {}, el("h2", {}, "How it was found"), el("p", {}, game.ballots ? POWER : PRICES));
+    const [title, text] = game.ballots ? ["What power is", POWER] : ["How it was found", PRICES];
+    return el("section", {}, el("h2", {}, title), el("p", {}, text));
   }
   const [said, isChosen] = pair ?? [];
   const [principle, next] = reasons, levels = reasons.filter(({ isLevel }) => isLevel).length;

@@ -4,7 +4,7 @@ import { countText, fractionText } from "../exact/decimals.js";
 import { barsPicture } from "../draw/bars.js";
 import { planPicture } from "../draw/plan.js";
 import {
-  dealsOf, idleOf, powerPicture, priceOf, pricesPicture, priceText, tradesLead, tradesTable,
+  dealsOf, idleOf, powerDrawn, priceOf, pricesPicture, priceText, tradesLead, tradesTable,
 } from "../draw/ranges.js";
 import { trianglePicture } from "../draw/triangle.js";
 import { Rational } from "../exact/rational.js";
@@ -15,13 +15,14 @@ import { OWN_PROVED } from "../tell/proved.js";
 import { plainPoints } from "../tell/rule-names.js";
 import { Namer } from "../tell/words.js";
 import { agreedColumn, agreedText } from "./agreed.js";
-import { lead, notices, solutionOf } from "./answer.js";
+import { lead, notices, powerOf, solutionOf } from "./answer.js";
 import { beyondSheet } from "./beyond.js";
 import { beyondPower } from "./beyond-power.js";
 import { checkOf } from "./sheet-check.js";
 import { columnHead, el, refill } from "./dom.js";
 import { knownDigest } from "./files.js";
 import { fitOnPaper } from "./fit.js";
+import { halves } from "./halves.js";
 import { countedText, filledLines, filledText, givenText } from "./filled.js";
 import { movedText, totalsOf, withSum } from "./format.js";
 import { labelOfCell } from "./cell-names.js";
@@ -34,13 +35,13 @@ import { airlineLines } from "./table-lines.js";
 import { changeText, todayOf, todayTitle } from "./today.js";
 import { unitOf } from "./unit.js";
 import { linesTable } from "./types-table.js";
+import { filedText, neededHint, votesOn } from "./votes-sheet.js";
 
 const WIDE = 700;
 const SMALL = 230; // of a side of the triangle, so that its letters can be read on paper
 const PAPER_WIDE = 176; // millimetres of A4 between the margins
 const [READ, SAID] = [7, 5]; // units of a picture in a millimetre at most, and millimetres of the words below it
 const MOST_PICTURED = 10; // rows whose bars leave room for the rest
-const MOST_ROWS = 18; // of one table; more stand in two, side by side
 const MANY_ROWS = 5; // above, letters are smaller, and a picture is lower
 const LONG = 900; // characters of the reasons above which they are, too
 const MOST_DOCUMENT = 420; // characters of the game's document that are printed
@@ -63,7 +64,7 @@ function fillSheet(sheet, session, typed) {
   const isBeyond = result?.beyond && !result.game;
   if (!isBeyond && (!result || result.refusal || !result.points.length)) return refill(sheet);
   const { rows } = reading, format = session.format(), today = todayOf(session, rows);
-  const { heading, withProposal } = typed, unit = unitOf(typed), { coarse } = session.typed;
+  const { heading, withProposal } = typed, unit = session.kind.isVote ? "" : unitOf(typed), { coarse } = session.typed;
   const pinned = pinnedOf(session, rows);
   const labelOf = (cell) => labelOfCell(cell, session);
   const points = isBeyond ? [] : plainPoints(result.points, result.game);
@@ -85,7 +86,8 @@ function beyondOn(sheet, view) {
   const { result: { beyond } } = view;
   sheet.className = "tight";
   refill(sheet, headOf(view), beyond.game
-    ? [beyondPower(beyond, { ...view, wide: WIDE, isPaper: true }), el("p", { class: "hint" }, OWN_PROVED)]
+    ? [neededHint(view, beyond.game), beyondPower(beyond, { ...view, wide: WIDE, isPaper: true }),
+      el("p", { class: "hint" }, OWN_PROVED)]
     : beyondSheet(beyond, { ...view, sign: signing(beyond.rows) }));
 }
 
@@ -107,8 +109,8 @@ const shownPoints = (view) => (view.withProposal ? view.result.points : [mainOf(
 
 function answerOf(view) {
   const { result, rows, format, unit, today, coarse, pinned, agreed } = view, { game } = result;
-  const shapley = result.points.find(({ key }) => key === "shapley"), power = { ...shapley, title: "Power", name: "" };
-  const point = game.ballots ? shapley && power : mainOf(view);
+  if (game.ballots) return votesOn(view);
+  const point = mainOf(view);
   if (!point) return null;
   if (result.matching) {
     const { matching } = result, deals = dealsOf(game, matching, solutionOf(result));
@@ -119,10 +121,10 @@ function answerOf(view) {
   const context = contextOf(game, rows, format), texts = format.column(totals, rows);
   const hasExact = totals.some((total) => !format.isExact(total)), who = game.costs ? "Who pays" : "Who gets";
   const beside = othersOf(view, point), steps = format.steps(totals, rows);
-  const kept = pinned.pin && !game.ballots && !point.totals ? pinned.kept(point.key, format) : null;
+  const kept = pinned.pin && !point.totals ? pinned.kept(point.key, format) : null;
   const others = [...todaysOf(today, steps, game, format), ...keptsOf(kept, steps, format), ...beside];
   const own = columnHead(point, agreed && "agreed on"), exactly = hasExact ? "exactly" : undefined;
-  const heads = [game.ballots ? "Who votes" : who, context?.title, own, exactly,
+  const heads = [who, context?.title, own, exactly,
     ...others.flatMap((other) => (other.exact ? [columnHead(other), "exactly"] : [columnHead(other)]))];
   const line = (r) => el("tr", {},
     el("th", { scope: "row" }, rows[r].label, rows[r].players.length > 1 && ` (${rows[r].players.length} uses)`),
@@ -135,7 +137,7 @@ function answerOf(view) {
     el("td", { class: "number strong" }, texts.at(-1)), hasExact && el("td"),
     others.map((other) => [el("td", { class: "number" }, other.texts.at(-1)), other.exact && el("td")]));
   return el("section", {},
-    !game.ballots && !game.isMarket() && (airlinesOf(view, point) ?? lead(result, point, { rows, format })),
+    !game.isMarket() && (airlinesOf(view, point) ?? lead(result, point, { rows, format })),
     unit && el("p", { class: "hint" }, `All amounts are in ${unit}.`),
     halves(rows.length, heads.filter((head) => head !== undefined), line, [goneLines(kept, heads, format), sum]),
     format.isMoved(totals, rows) && el("p", { class: "hint" }, `${movedText(rows)} The fractions are exact.`),
@@ -198,7 +200,7 @@ function todaysOf({ texts, values }, steps, game, format) {
  * by itself. Columns with the same verdict share a line. */
 function saidOfAll({ result, format, agreed }, { title, ...point }, others) {
   const { game } = result, { verdict } = point;
-  const own = { title, said: game.ballots ? "" : saidOf(game, { verdict }, format) };
+  const own = { title, said: saidOf(game, { verdict }, format) };
   const lines = others.length || agreed || verdict?.group ? [own, ...others] : [];
   const titles = (text) => lines.filter(({ said }) => said === text).map((one) => `“${one.title}”`).join(", ");
   const told = [...new Set(lines.map(({ said }) => said))].filter(Boolean).map((text) => `${titles(text)}: ${text}`);
@@ -209,7 +211,7 @@ function saidOfAll({ result, format, agreed }, { title, ...point }, others) {
 /** The other columns, and the user's proposal, if the user wants them: {title, texts, totals, exact, said}. `exact`
  * returns the cell of a row with its fraction, which is to the right of the number as in the first column. */
 function othersOf({ result, rows, format, withProposal, proposal, judged }, shown) {
-  if (!withProposal || result.game.ballots) return [];
+  if (!withProposal) return [];
   const { game, points } = result, isOwn = proposal?.totals && !shown.totals; // and not what was agreed on
   const own = isOwn && { title: "Your proposal", ...proposal, ...judged };
   if (own && shown !== solutionOf(result)) own.comparison = null; // that is one with the answer
@@ -243,20 +245,6 @@ function saidOf(game, { verdict, comparison }, { by, apart }) {
   return parts.join(" ");
 }
 
-/** One table; if there are many rows two, side by side, with the sum below the second. */
-function halves(count, heads, line, sum) {
-  const isLong = count > MOST_ROWS, middle = isLong ? Math.ceil(count / 2) : count;
-  const head = el("thead", {}, el("tr", {}, heads.map((title, k) => {
-    return el("th", { scope: "col", class: k ? "number" : "" }, title);
-  })));
-  const tables = [[0, middle], [middle, count]].filter(([from, to]) => from < to).map(([from, to]) => {
-    const lines = Array.from({ length: to - from }, (_, k) => line(from + k));
-    return el("table", { class: isLong ? "shares dense" : "shares" }, head.cloneNode(true), el("tbody", {}, lines),
-      el("tfoot", {}, to === count && sum));
-  });
-  return el("div", { class: "halves" }, tables);
-}
-
 // ---- The picture
 
 function pictureOf({ result, rows, format, ...session }) {
@@ -265,7 +253,7 @@ function pictureOf({ result, rows, format, ...session }) {
   const settings = { ...format, wide: WIDE, source: sourceName(session.typed) };
   const holder = (drawn, said) => el("figure", { style: highOf(drawn, said) }, drawn,
     said && el("figcaption", { class: "hint" }, said));
-  if (game.ballots) return few ? holder(powerOf(game, points, format)) : null;
+  if (game.ballots) return few ? holder(powerDrawn(game, powerOf(points), format, WIDE)) : null;
   if (result.matching) {
     const deals = dealsOf(game, result.matching, solution);
     return deals.length > 0 && few ? holder(pricesPicture(deals, priceOf(format), format.show, WIDE)) : null;
@@ -281,13 +269,6 @@ function highOf(drawn, said) {
   const [, , wide, high] = drawn.attributes.viewBox.split(" ").map(Number);
   const least = Math.round(high / READ) + (said ? SAID : 0);
   return `--high: ${Math.round((PAPER_WIDE * high) / wide)}mm; --least: ${least}mm`;
-}
-
-function powerOf(game, points, { show }) {
-  const { shares } = points.find(({ key }) => key === "shapley");
-  const parts = game.ballots.map(({ votes }) => votes.map((own) => own.over(Rational.sum(votes))));
-  const percent = (value) => `${show(value.times(Rational.of(100)))}\u202f%`;
-  return powerPicture(game, shares, parts, percent, WIDE);
 }
 
 // ---- What is agreed on
@@ -310,7 +291,8 @@ function agreedOf(view) {
   const what = el("p", {}, numbersOf(view), ofBox, filled && ` ${filled}`,
     filled && ` ${countedText(view, shownPoints(view), view.result.game)}`, given && ` ${given}`,
     fills?.text === text && ` ${fills.told(shownPoints(view).map(({ title }) => title))}`,
-    coarse && ` ${coarseText(coarse)}`);
+    coarse && ` ${coarseText(coarse)}`,
+    view.result.game.ballots && ` ${filedText(view.result.game)}`);
   return el("section", {}, el("h2", {}, doubt ? "Not agreed on" : "What is agreed on"),
     doubt && el("p", {}, doubt), what,
     isShort ? el("p", { class: "document" }, text)

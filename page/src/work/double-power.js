@@ -3,7 +3,7 @@
 // compared with the program. The groups of all other voters are counted by size, from the sorted sums of two halves of
 // them.
 import { Rational } from "../exact/rational.js";
-import { inWhole } from "../cases/votes.js";
+import { inWhole } from "../game/ballots.js";
 
 const MOST_PAIRS = 1.5e8; // of sums that are put side by side for all voters
 
