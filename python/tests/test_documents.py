@@ -330,7 +330,7 @@ class Reports(unittest.TestCase):
         document = solved()
         texts = " ".join(" ".join(Page(report(document, "", Style())).texts).split())
         self.assertIn(
-            "medium pays 1.50, 0.50 more than the earlier ones. A runway for it and the earlier one costs 4. The "
+            "medium pays 1.50, 0.50 more than the earlier ones. What it and the earlier one need costs 4. The "
             "earlier one pays 1, so 3 is left.",
             texts,
         )

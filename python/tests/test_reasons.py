@@ -284,7 +284,7 @@ class Reasons(unittest.TestCase):
     def test_styles(self) -> None:
         """The places, the unit and the mark of the sentences of the page."""
         text = said(solved(), say=Style(2, "EUR"))[0]
-        self.assertIn("The runway for all costs 6.00 EUR.", text)
+        self.assertIn("What all need costs 6.00 EUR.", text)
         self.assertIn("- medium pays 1.50 EUR, 0.50 EUR more than the earlier ones.", text)
         self.assertNotIn("rounded", text)
         self.assertIn("medium pays 1,5 kr, ", said(solved(), say=Style(1, "kr", ","))[0])
@@ -312,8 +312,8 @@ class Reasons(unittest.TestCase):
         costs = {**AIRPORT, "costs": [2, 4, 5]}
         told = said({**solved(), "game": costs, "shares": ["1", "3/2", "5/2"]}, say=Style(0))
         self.assertEqual(told[1], 0)
-        self.assertIn("- medium pays 2, about 1 more than the earlier ones. A runway", told[0])
-        self.assertIn("- heavy pays 2, about 1 more than the earlier ones. The runway for all costs 5. "
+        self.assertIn("- medium pays 2, about 1 more than the earlier ones. What it", told[0])
+        self.assertIn("- heavy pays 2, about 1 more than the earlier ones. What all need costs 5. "
                       "The 2 earlier ones pay about 3, so about 3 is left.", told[0])
 
     def test_shares_that_werent_judged(self) -> None:

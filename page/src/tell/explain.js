@@ -11,7 +11,7 @@ import { listed, times } from "../game/words.js";
 const WHOLE = {
   table: "All together gain #.",
   "cost-table": "All together cost #.",
-  airport: "The runway for all costs #.",
+  airport: "What all need costs #.",
   bankruptcy: "There is # to divide.",
   tree: "The cheapest network for all costs #.",
   assignment: "The best trades gain # together.",

@@ -42,10 +42,10 @@ function runwayRule(game, shares, namer) {
   return {
     title: "The rule (Littlechild 1974)",
     sentences: [
-      "Put the landings in the order of what they need.",
-      "At each step, take the cost of a runway for the next landings too, less what the earlier ones pay.",
-      "Split it into equal parts: one for each landing that pays now, and one that is saved.",
-      "The next landings that make this part least pay now.",
+      "Put all in the order of what they need.",
+      "At each step, take the cost of what the next ones need too, less what the earlier ones pay.",
+      "Split it into equal parts: one for each that pays now, and one that is saved.",
+      "The next ones that make this part least pay now.",
     ],
     items: steps.map((step, k) => ({
       label: `${namer.whatTheyGet(texts, step.who, "pay")}${moreThan(steps[k - 1], step)}.`,
@@ -57,7 +57,7 @@ function runwayRule(game, shares, namer) {
 function runwayStep(game, { who, done, paid }, steps, texts) {
   const end = done + who.length, isLast = end === game.n, several = who.length > 1;
   const cost = game.amounts[who.at(-1)], left = cost.minus(paid), count = partsUpTo(done, end, game.n);
-  const sentences = [`${runway(done, end, game.n)} costs ${saidText(cost)}.`];
+  const sentences = [`${needed(done, end, game.n)} costs ${saidText(cost)}.`];
   const those = done === 1 ? `The earlier one pays ${texts[steps[0].who[0]]}`
     : `The ${done} earlier ones pay ${saidText(paid, ...steps.map(({ part }) => part))}`;
   if (done) sentences.push(`${those}, so ${saidText(left)} is left.`);
@@ -74,12 +74,12 @@ function moreThan(before, { part }) {
   return `, ${about}${fullText(by)} more than the earlier ones`;
 }
 
-function runway(done, end, players) {
-  if (end === players) return "The runway for all";
-  if (end === 1) return "Its own runway";
-  if (!done) return `A runway for these ${end}`;
+function needed(done, end, players) {
+  if (end === players) return "What all need";
+  if (end === 1) return "What it needs";
+  if (!done) return `What these ${end} need`;
   const earlier = done === 1 ? "earlier one" : `${done} earlier ones`;
-  return `A runway for ${end - done === 1 ? "it" : "them"} and the ${earlier}`;
+  return `What ${end - done === 1 ? "it" : "they"} and the ${earlier} need`;
 }
 
 // ---- An estate
