@@ -50,17 +50,17 @@ export const byLimitPrices = [
     const lead = /together they gain 4\.50\. The price is from 8\.00 to 9\.00, the same for all/;
     await told(page, "#answer .lead", lead);
     const { text: saved } = await savedBy(page, "Save the case");
-    expect("saved", saved, /"limits":\{"buyers":\["21\/2","9"\],"sellers":\["7","8"\]\}/);
+    expect("saved", saved, /"limits":\{"buyers":\["10\.5","9"\],"sellers":\["7","\$8"\]\}/);
     const open = (from, to) => openText(page, saved.replace(from, to));
-    for (const [from, to] of [['"21/2",', ""], ['"9"]', '"9x"]'], ['{"buyers"', '{"buyer"']]) {
+    for (const [from, to] of [['"9"]', "9]"], ['{"buyers":["10', '{"buyer":["10']]) {
       await open(from, to);
-      await told(page, "#document-message", /isn’t as the page saved it[\s\S]*Place: limits/);
+      await told(page, "#document-message", /isn’t as the page saved it[\s\S]*Place: cells/);
     }
     await open("", "");
     await told(page, "#answer .lead", lead);
     await page.until(`document.querySelector('[data-cell="limits.buyers.0"]')?.value === "10.5"`);
-    await open('"21/2"', '"11"');
-    await told(page, "#case", /make other gains than its document has/);
+    await open('"10.5"', '"11"');
+    await told(page, "#case", /make another document than the one in it/);
     await page.click("Undo “Open a document”");
     await page.click("Enter gains instead");
     await page.until(`document.querySelector('[data-cell="values.0.0"]')?.value === "3.5"`);

@@ -7,7 +7,7 @@ const PAGE = readFileSync(new URL("../coop.html", import.meta.url), "utf8");
 const spoken = { mark: ".", thousands: "\u202f" };
 
 /** A part of the page's code, as a browser reads it. */
-function codeOf(id) {
+export function codeOf(id) {
   const [, code] = new RegExp(`<script[^>]*id="${id}"[^>]*>([^]*?)</script>`).exec(PAGE);
   return code.replace(/<\\\/script/gi, "</script").replace(/<\\!--/g, "<!--");
 }

@@ -1,30 +1,40 @@
 // A case as the page saves it: the document, and what a document has no place for, as which numbers were assumed.
 import { isObject, writeJson } from "../exact/json.js";
-import { isMark } from "../exact/marks.js";
-import { typedText } from "../exact/decimals.js";
-import { Rational } from "../exact/rational.js";
+import { DECIMALS, isMark, WHOLE } from "../exact/marks.js";
+import { caseNamed } from "./cases.js";
 import { coarseOf } from "./coarse.js";
-import { gainTexts } from "./matrices.js";
 
 const WORD = "coop-page", VERSION = 1n;
 const isText = (one) => typeof one === "string" && one.length <= 200;
+const isTexts = (one) => Array.isArray(one) && one.every(isText);
 
 /** What may stand beside the document, each with its test. */
 const TESTS = {
   filled: isObject, coarse: (one) => isObject(one) && Object.keys(one).every((key) => coarseOf(one)?.[key]),
-  decimals: (one) => typeof one === "bigint" && one >= 0n && one <= 6n, mark: isMark, entry: isMark,
+  decimals: (one) => typeof one === "bigint" && one >= 0n && one <= 6n, mark: isMark,
+  entry: (one) => isMark(one) || one === WHOLE || one === DECIMALS,
   thousands: (one) => typeof one === "string" && /^[.,’'\u202f\u00a0 ]$/.test(one),
   heading: isText, unit: isText, agreed: isText, source: isText,
-  proposal: (one) => Array.isArray(one) && one.every(isText),
-  kept: isKept, limits: isLimits,
+  proposal: isTexts, todays: isTexts, withProposal: (one) => one === true, kept: isKept,
+  case: (one) => caseNamed(one) !== undefined,
+  cells: (one, { case: id }) => isLike(emptyOf(caseNamed(id), one), one) && isOfTexts(one),
 };
 
 const isNumberText = (text) => typeof text === "string" && /^-?\d{1,400}(\/[1-9]\d{0,400})?$/.test(text);
 
-/** Limit prices of a market: of each buyer, and of each seller. */
-function isLimits(one) {
-  return isObject(one) && Object.keys(one).sort().join() === "buyers,sellers"
-    && Object.values(one).every((list) => Array.isArray(list) && list.every(isNumberText));
+const emptyOf = (kind, { limits }) => (limits && kind?.emptyLimits ? kind.emptyLimits() : kind?.empty() ?? "");
+
+/** Whether cells have all that those of an empty case have, each of its form. */
+function isLike(model, one) {
+  if (Array.isArray(model)) return Array.isArray(one) && one.every((item) => isLike(model[0], item));
+  if (!isObject(model)) return typeof one === typeof model;
+  return isObject(one) && Object.entries(model).every(([key, item]) => isLike(item, one[key]));
+}
+
+/** Whether all that is in cells are texts, and answers to questions. */
+function isOfTexts(one) {
+  if (typeof one !== "object" || one === null) return ["string", "boolean"].includes(typeof one);
+  return Object.values(one).every(isOfTexts);
 }
 
 /** An answer that was kept to compare: the rows, their shares by each rule, and the cells that have changed since. */
@@ -36,19 +46,27 @@ function isKept(one) {
     && Object.values(cells).every(isText);
 }
 
-/** The file of a case: `text` is its document, `limits` are its limit prices, `mark` is that of what is shown, `entry`
- * that of the cells, and `thousands` the sign between thousands, if they show one. */
-export function caseText({ kind, typed, text, limits, texts, places, mark, entry, thousands, kept: pin, paper }) {
-  const proposal = texts.some(Boolean) ? texts : undefined;
-  const { coarse, source } = typed, { heading, unit, agreed } = paper, shown = { decimals: places, mark, entry };
-  const settings = { filled: kind.filled?.treeOf(typed), coarse, ...shown, heading, unit, agreed, source };
-  const beside = { limits: limits ?? undefined, proposal, kept: pin, thousands: thousands ?? undefined };
-  const all = Object.entries({ ...settings, ...beside });
-  const kept = all.filter(([, one]) => one !== undefined && one !== "");
-  return `{"${WORD}":${VERSION},\n"document":${text}${kept.map(([key, one]) => {
+/** The file of a case: `text` is its document, `mark` is that of what is shown, `entry` that of the cells, and
+ * `thousands` the sign between thousands, if they show one. */
+export function caseText({ kind, typed, text, texts, todays, places, mark, entry, thousands, kept: pin, paper }) {
+  const { filled, how, coarse, source, ...cells } = typed, [model] = kind.empty().rows ?? [];
+  const rows = cells.rows?.map((row) => ({ ...model, ...row })), { heading, unit, agreed } = paper;
+  const shown = { decimals: places, mark, entry, thousands: thousands ?? undefined };
+  const own = {
+    proposal: texts.some(Boolean) ? texts : undefined, todays: todays ?? undefined, kept: pin,
+    withProposal: paper.withProposal || undefined,
+  };
+  const all = { filled: kind.filled?.treeOf(typed), coarse, ...shown, heading, unit, agreed, source, ...own };
+  const kept = Object.entries(all).filter(([key, one]) => one !== undefined && (one !== "" || key === "entry"));
+  const typedText = `"case":"${kind.id}",\n"cells":${textOfCells({ ...cells, rows })}`;
+  return `{"${WORD}":${VERSION},\n"document":${text},\n${typedText}${kept.map(([key, one]) => {
     return `,\n"${key}":${writeJson(one)}`;
   }).join("")}}\n`;
 }
+
+const textOfCells = (cells) => JSON.stringify(cells, (_, one) => {
+  return Array.isArray(one) ? Array.from(one, (item) => item ?? "") : one;
+});
 
 export function isCaseFile(tree) {
   return isObject(tree) && WORD in tree;
@@ -62,7 +80,7 @@ export function faultOfCase(tree) {
   }
   if (tree[WORD] !== VERSION) return spoilt(WORD);
   if (!isObject(tree.document)) return spoilt("document");
-  const key = Object.keys(TESTS).find((one) => one in tree && !TESTS[one](tree[one]));
+  const key = Object.keys(TESTS).find((one) => one in tree && !TESTS[one](tree[one], tree));
   return key ? spoilt(key) : null;
 }
 
@@ -78,16 +96,4 @@ export function filledOf(kind, names, tree) {
   const wrong = list.findIndex((one) => !Array.isArray(one) || !isRight(one, BigInt(names?.length ?? 0)));
   if (wrong >= 0) return { fault: spoilt(`filled, ${key}, item ${wrong + 1}`) };
   return typedOf(list, tree, kind);
-}
-
-/** The limit prices of a market, as what was typed has them: {limits}; or {isOther}, if they make other gains than the
- * `typed` ones; or {fault} with its place. */
-export function limitsOf(typed, tree, mark) {
-  if (tree === undefined) return {};
-  const isOf = (side) => typed[side]?.length === tree[side].length;
-  if (!typed.values || !isOf("buyers") || !isOf("sellers")) return { fault: spoilt("limits") };
-  const texts = (list) => list.map((text) => typedText(Rational.of(text), mark));
-  const limits = { buyers: texts(tree.buyers), sellers: texts(tree.sellers) };
-  const isSame = JSON.stringify(gainTexts(limits, mark)) === JSON.stringify(typed.values);
-  return isSame ? { limits } : { isOther: true };
 }

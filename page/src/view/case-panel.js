@@ -170,8 +170,9 @@ function documentOf(kind, text, { coarse }, { caseText }) {
   return el("div", {},
     el("p", { class: "tools" },
       button("Save the case", () => download(`${kind.id}-case.json`, caseText()), { class: "main" })),
-    el("p", { class: "hint screen" }, "Open it here later and go on: it keeps what the page filled in, the decimal ",
-      "mark, the heading, the unit, your own division, and the answer that you kept to compare."),
+    el("p", { class: "hint screen" }, "Open it here later and go on: it keeps the cells as you typed them, what the ",
+      "page filled in, the decimal mark, the heading, the unit, your own division, and the answer that you kept to ",
+      "compare."),
     el("p", { class: "tools" },
       button(`Save the document${numbers ? ` (${numbers})` : ""}`, () => download(file, `${text}\n`), {
         class: "quiet",

@@ -3,7 +3,6 @@ import { caseText } from "../cases/case-file.js";
 import { caseNamed } from "../cases/cases.js";
 import { coarseOfSums, coarserStill } from "../cases/coarse.js";
 import { costs } from "../cases/tables.js";
-import { writtenBy } from "../exact/marks.js";
 import { agreedColumn } from "./agreed.js";
 import { AnswerView } from "./answer-view.js";
 import { casePanel } from "./case-panel.js";
@@ -108,9 +107,9 @@ function asked(kind) {
     help: (task, what) => session.reader.ask(task, what),
     caseText: () => {
       const { pinned, reading, marks } = session, kept = pinned ? keptTree(pinned, session.typed) : undefined;
-      const { shown: mark, thousands } = marks, { text, facts } = reading, entry = writtenBy(reading);
+      const { shown: mark, thousands } = marks, { text, settled } = reading, entry = settled ?? reading.entry;
       const { typed } = view, sheet = { ...typed, unit: unitOf(typed), agreed: agreedColumn(session, typed)?.key };
-      return caseText({ ...nowTyped(), paper: sheet, kind, kept, mark, thousands, entry, text, limits: facts?.limits });
+      return caseText({ ...nowTyped(), paper: sheet, kind, kept, mark, thousands, entry, text });
     },
   };
 }

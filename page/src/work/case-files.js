@@ -3,18 +3,19 @@ import { JsonFault, parseJson, writeJson } from "../exact/json.js";
 import { groupedText, readNumber, typedText } from "../exact/decimals.js";
 import { isMark } from "../exact/marks.js";
 import { caseNamed } from "../cases/cases.js";
-import { faultOfCase, filledOf, isCaseFile, limitsOf } from "../cases/case-file.js";
+import { faultOfCase, filledOf, isCaseFile } from "../cases/case-file.js";
 import { coarseOf } from "../cases/coarse.js";
 import { tableFault } from "../cases/saved-tables.js";
 import { packed } from "../cases/tables.js";
-import { openDocument } from "./cases.js";
+import { openDocument, readCase } from "./cases.js";
 import { fillSplits } from "./splits.js";
 
 const OF_A_CASE = "A saved case. Whether somebody has changed the file since, the page can’t know. The program reads "
   + "its document alone.";
 const NOT_FOLLOWING = "The cells that the file calls filled have other numbers than the page would fill in, so they "
   + "stand here as typed ones.";
-const OTHER_GAINS = "The limit prices in the file make other gains than its document has, so only the gains are here.";
+const OTHER_CELLS = "The cells in the file make another document than the one in it, so the cells here are those of "
+  + "its document. Somebody has changed the file.";
 
 /** A text as a case: as openDocument has it, and of a saved case `more` of what was typed, `settings`, and `notes`. */
 export function openText({ text, mark }) {
@@ -57,28 +58,34 @@ function treeOf(text) {
 function openCase(tree, usual) {
   const fault = faultOfCase(tree);
   if (fault) return { refusal: fault };
-  const { entry = usual, mark = usual, decimals, heading, unit, source, proposal = [], kept, thousands } = tree;
-  const agreed = tree.agreed && { key: tree.agreed };
+  const { entry = usual, mark = usual, decimals, heading, unit, withProposal, source, kept, thousands } = tree;
+  const agreed = tree.agreed && { key: tree.agreed }, { proposal = [], todays } = tree;
   const found = withMark(openDocument({ text: writeJson(tree.document), mark }), entry);
   if (found.refusal) {
     const { sentence, place } = found.refusal;
     return { refusal: { sentence, place: place ? `document, ${place}` : "document" } };
   }
-  const kind = caseNamed(found.id), typed = kind.unpack?.(found.typed) ?? found.typed;
-  const { fault: wrong, ...filled } = filledOf(kind, typed.names, tree.filled);
-  const { fault: odd, isOther, ...prices } = limitsOf(typed, tree.limits, entry);
-  if (wrong || odd) return { refusal: wrong ?? odd };
-  const cells = withThousands(kind, typed, entry, thousands);
-  const isFollowing = !kind.isTable || follows(kind, typed, filled, entry);
+  const { isOther, ...own } = cellsOf(tree, found, entry), kind = caseNamed(own.id ?? found.id);
+  const plain = kind.unpack?.(found.typed) ?? found.typed;
+  const { fault: wrong, ...filled } = filledOf(kind, plain.names, tree.filled);
+  if (wrong) return { refusal: wrong };
+  const cells = own.typed ?? withThousands(kind, plain, entry, thousands);
+  const isFollowing = !kind.isTable || follows(kind, plain, filled, entry);
   return {
-    ...found, isCase: true, typed: kind.pack?.(cells) ?? cells, texts: proposal,
+    ...found, id: kind.id, isCase: true, typed: own.typed ?? kind.pack?.(cells) ?? cells, texts: proposal,
     more: {
-      ...(isFollowing ? filled : {}), ...(source && kind.isNetwork ? { source } : {}), ...prices,
-      coarse: coarseOf(tree.coarse),
+      ...(isFollowing ? filled : {}), ...(source && kind.isNetwork ? { source } : {}), coarse: coarseOf(tree.coarse),
     },
-    settings: { entry, mark, thousands, places: decimals && Number(decimals), paper: { heading, unit, agreed }, kept },
-    notes: [OF_A_CASE, ...(isFollowing ? [] : [NOT_FOLLOWING]), ...(isOther ? [OTHER_GAINS] : [])],
+    settings: { entry, mark, thousands, places: decimals && Number(decimals), todays: todays ?? null, kept,
+      paper: { heading, unit, agreed, withProposal } },
+    notes: [OF_A_CASE, ...(isFollowing ? [] : [NOT_FOLLOWING]), ...(isOther ? [OTHER_CELLS] : [])],
   };
+}
+
+/** The cells of a case as they were typed, {id, typed}, if they make its very document; or {isOther}. */
+function cellsOf({ case: id, cells: typed, document }, { measure }, mark) {
+  if (!typed) return {};
+  return readCase({ id, typed, mark, measure }).text === writeJson(document) ? { id, typed } : { isOther: true };
 }
 
 /** Whether the filled cells have the numbers that the page would fill in: else these would change at the next key. */
