@@ -26,6 +26,7 @@ import { access, large, looks } from "./looks.mjs";
 import { byLimitPrices } from "./market.mjs";
 import { monkey } from "./monkey.mjs";
 import { parts } from "./parts.mjs";
+import { powerWhy } from "./power-why.mjs";
 import { precise } from "./precise.mjs";
 import { saying } from "./saying.mjs";
 import { strangers } from "./strangers.mjs";
@@ -52,7 +53,7 @@ harness.add(byLimitPrices);
 harness.add(parts);
 for (const some of [entering, assumed, saying, lecture, landings, bothWays, casesTyped, tables, otherCases,
   documents(top, program), checking(top), checks(top), letters(top), lawyer(top), failing(page, top), looks, access,
-  precise]) {
+  precise, powerWhy]) {
   harness.add(some);
 }
 harness.add(monkey(Number(option("--seed", "1")), Number(option("--steps", "60"))));
