@@ -123,7 +123,7 @@ export const saying = [
     const changes = /3.88\s+−0.12 \(−3.0\s%\)[\s\S]*4.00\s+−1.00 \(−20.0\s%\)/;
     expect("money and per cent", await page.text(".shares tbody"), changes);
     expect("together", await page.text(".shares .sum"), /13.00\s+12.00\s+−1.00 \(−7.7\s%\)/);
-    expect("told", await page.text("#own-body"), /It isn’t saved/);
+    expect("told", await page.text("#own-body"), /The column is for the table and for paper\./);
     expect("the same game", await page.run("document.querySelector('.made pre').textContent"), before);
     expect("on paper", await sheetOf(page), /Pays todayChange[\s\S]*Sales[\s\S]*4.00−0.12 \(−3.0\s%\)/);
     await page.run("dispatchEvent(new Event('afterprint'))");

@@ -143,6 +143,11 @@ const huge = readTwo(`1e40${"*1e40".repeat(7)}`, "1", "2");
 expect("too large", `${huge.faults[0].cell} ${huge.odds.length}`, "numbers.1 0");
 expect("too long", readTwo(`1${"*9e39".repeat(2000)}`, "1", "2").faults[0].sentence, /too long to be worked out/);
 expect("as before", readTwo("10", "8", "20").odds.length, 1);
+const readFilled = (...filled) => {
+  return costs.read({ names: ["a", "b"], numbers: ["", "10", "8", "26,000"], filled }, ".").reading;
+};
+expect("a given number is asked about", [readFilled().odds.length, readFilled().doubts.size].join(), "1,1");
+expect("one that the page filled in isn’t", [readFilled(3).odds.length, readFilled(3).doubts.size].join(), "0,0");
 
 console.log(`${tried} expectations of shapes, ${faults} faults`);
 process.exit(faults ? 1 : 0);

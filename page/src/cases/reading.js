@@ -94,10 +94,10 @@ export class Reading {
     return Boolean(this.asked || this.mixed || this.unsure || this.empty.count);
   }
 
-  /** The value of a cell, or null; `hint` says what to write instead. */
-  number(cell, typed, what, { canBeNegative = false, hint = "" } = {}) {
+  /** The value of a cell, or null; `hint` says what to write instead. What the page `isFilled` with is in no doubt. */
+  number(cell, typed, what, { canBeNegative = false, isFilled = false, hint = "" } = {}) {
     const { value, fault, doubt, by } = this.known(typed);
-    if (doubt) this.doubt(doubt, typed, value);
+    if (doubt && !isFilled) this.doubt(doubt, typed, value);
     if (by && !this.shown.has(by)) this.shown.set(by, typed);
     if (fault === "is empty") return this.open(cell);
     if (DATE.test(typed)) return this.fault(cell, `${what} looks like a date: “${typed.trim()}”.`);

@@ -29,9 +29,10 @@ const MOST_SPARSE = 4; // players of whose groups most may be empty
 const MOST_LETTERS = 4000; // of a group with all its names
 
 /** A table as it goes to a worker and back: one text is copied faster than 65,536. */
-export function packed({ names, numbers, opened, isUnnamed }) {
+export function packed({ names, numbers, opened, isUnnamed, filled }) {
   const ofDocument = { ...(opened && { opened }), ...(isUnnamed && { isUnnamed }) }; // what is said of its names
-  return { names, numbers: Array.from(numbers, (text) => text ?? "").join("\n"), ...ofDocument };
+  const ofCells = filled?.length ? { filled } : {};
+  return { names, numbers: Array.from(numbers, (text) => text ?? "").join("\n"), ...ofDocument, ...ofCells };
 }
 
 export function unpacked({ numbers, ...others }) {
@@ -62,14 +63,16 @@ function tableCase(settings) {
       const state = unpacked(sent);
       const reading = new Reading(mark, state), n = state.names.length, order = masksBySize(n);
       const names = reading.names(state.names.map((typed, i) => ({ typed, cell: `names.${i}` })), "Player");
-      const values = Array(2 ** n), settled = { canBeNegative: true };
+      const values = Array(2 ** n), filled = new Set(state.filled);
       for (const mask of order) {
+        const settled = { canBeNegative: true, isFilled: filled.has(mask) };
         values[mask] = reading.number(`numbers.${mask}`, state.numbers[mask] ?? "", settings.what, settled);
       }
       reading.close();
       const rows = rowsOf(names), isFit = Boolean(reading.version); // of others no remark is exact, and some take long
       const given = isFit ? values.map((value) => value ?? undefined) : [];
-      reading.odds = oddsOf(given, n, { isCost: settings.isCost, nameOf: (mask) => groupLabel(names, mask) })
+      const isGiven = (mask) => !filled.has(mask), nameOf = (mask) => groupLabel(names, mask);
+      reading.odds = oddsOf(given, n, { isCost: settings.isCost, nameOf, isGiven })
         .map(({ mask, sentence }) => ({ cell: `numbers.${mask}`, sentence, mask }));
       if (!reading.isRight()) return { reading, rows, tree: {} };
       const named = reading.named(names, state.names), member = (i) => named.names?.[i] ?? BigInt(i + 1);

@@ -162,7 +162,8 @@ function percentsOf({ mark }) {
   const text = (steps) => `${decimalOf(steps, 1, { mark })}\u202f%`;
   const stepOf = (value) => stepsOf(value.times(HUNDRED), 1);
   const show = (value) => text(stepsOf(value, 1));
-  return { places: 1, mark, text, show, steps: (values) => values.map(stepOf) };
+  const ofChange = (value) => `${decimalOf(stepsOf(value, 1), 1, { mark })} percentage points`;
+  return { places: 1, mark, text, show, ofChange, steps: (values) => values.map(stepOf) };
 }
 
 /** The kept power of each voter, of 1. */

@@ -45,13 +45,13 @@ export function casePanel(kind, typed, settings) {
   function tell(reading) {
     grid.tell?.(reading);
     markFaults(grid, reading.faults);
-    markOdds(grid, oddsOf(reading, typed));
+    markOdds(grid, reading.odds ?? []);
     markChanged(grid, settings.changed?.());
     refill(coarse, coarseNote(typed, settings));
     refill(faults, reading.notes.map((note) => el("p", { class: "note" }, note)),
       questions(reading, typed, settings),
       emptyCells(reading, kind, grid), faultList(reading, grid), nameHelp(reading, typed, settings),
-      oddList(oddsOf(reading, typed), grid, () => onReset(lowered(typed, reading.odds), "Lower the links", true)),
+      oddList(reading.odds ?? [], grid, () => onReset(lowered(typed, reading.odds), "Lower the links", true)),
       reading.isTooFine && finenessHelp(settings));
     const isBeyond = reading.beyond?.points && !reading.text; // more landings than a document has
     refill(made, reading.text && documentOf(kind, reading.text, typed, settings),
@@ -112,11 +112,6 @@ function faultList({ faults, count }, grid) {
     return el("li", {}, button(sentence, () => goTo(grid, cell), { class: "fault" }));
   });
   return el("ul", {}, items, count > MOST_FAULTS && el("li", {}, `and ${count - MOST_FAULTS} more`));
-}
-
-/** Remarks on numbers that were typed; what the page filled follows them. */
-function oddsOf({ odds = [] }, { filled }) {
-  return odds.filter(({ mask }) => !Array.isArray(filled) || !filled.includes(mask));
 }
 
 function oddList(odds, grid, onLower) {

@@ -148,8 +148,8 @@ function againstKept(before, point, rows, { format, fresh, gone }) {
     : "The shares are those of the kept answer.";
 }
 
-function signed(label, by, { show }) {
-  return `${label} ${by.isNegative() ? "" : "+"}${show(by)}`;
+function signed(label, by, { show, ofChange = show }) {
+  return `${label} ${by.isNegative() ? "" : "+"}${ofChange(by)}`;
 }
 
 /** The same beside the table. */

@@ -41,5 +41,5 @@ export function todayTools({ costs }, { canBe, texts, setAll }) {
   if (!texts) return el("p", { class: "tools" }, way(`Compare with ${what}`, []));
   return el("p", { class: "tools" }, way(`Without ${what}`, null),
     el("span", { class: "hint" }, "Each share shows how much more or less it is. The column is for the table and for "
-      + "paper. It isn’t saved."));
+      + "paper."));
 }
