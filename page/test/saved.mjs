@@ -2,6 +2,7 @@
 // they were typed; and cells that make another document than that of the file are left out, and told.
 import { caseText } from "../src/cases/case-file.js";
 import { caseNamed, CASES } from "../src/cases/cases.js";
+import { unitOf, unitText } from "../src/view/unit.js";
 import { openText } from "../src/work/case-files.js";
 import { readCase } from "../src/work/cases.js";
 import { warmUp } from "../src/work/engine.js";
@@ -31,15 +32,23 @@ const HELD = {
     { name: "A", claim: "12.500" }, { name: "B", claim: "9,500" },
   ], isMarked: true }, { entry: "" }],
   "costs that were filled": ["costs", { ...table, numbers: [...table.numbers, "190000", "155000", "285000"],
-    filled: [5, 6], how: "split", isMarked: true }, { texts: ["130,000", "", "60000.5"], heading: "Pump house" }],
+    filled: [5, 6], how: "split", isMarked: true }, {
+    texts: ["130,000", "", "60000.5"], heading: "Pump house", unit: "£" }],
   "gains": ["gains", { ...table, numbers: [...table.numbers, "1/3", "2e5", "300,000.25"], isMarked: true }],
   "a network": ["network", { names: ["Mill", "", "Farm"], source: "Well ", filled: { "0-3": "way" }, links: {
     "0-1": "1,200", "0-2": "900.50", "0-3": "2,050", "1-2": "700", "1-3": "850", "2-3": "4.25",
-  } }, { withProposal: true, unit: "EUR" }],
+  } }, { withProposal: true, pastedUnit: "EUR" }],
   "a market": ["market", { buyers: ["Ann", ""], sellers: ["house"], values: [["5.50"], ["1,700.25"]] }],
   "limit prices": ["market", { buyers: ["Ann", "Ben"], sellers: ["Cem"], values: [["3.5"], ["1"]],
     limits: { buyers: ["10.50", "8 €"], sellers: ["7 €"] } }],
 };
+
+/** What is said of the unit on paper: that of a pasted table goes with it, and one that was typed stays. */
+const UNITS = [
+  [{ pastedUnit: "£" }, "£", /“£” is that of the table/], [{ pastedUnit: "" }, "", /^$/],
+  [{ unit: "EUR", pastedUnit: "£" }, "EUR", /“EUR” was typed, and the table that was pasted has “£”\./],
+  [{ unit: "EUR", pastedUnit: "" }, "EUR", /^$/], [{ unit: "£ ", pastedUnit: "£" }, "£", /^$/],
+];
 
 let tried = 0, faults = 0;
 
@@ -80,10 +89,10 @@ for (const [name, [id, typed, settings = {}]] of Object.entries(HELD)) {
   expect(`${name}: the cells`, sorted({ ...found.typed, rows: found.typed.rows?.map(sorted) }),
     sorted({ ...typed, rows: typed.rows?.map(sorted) }));
   expect(`${name}: the document`, readCase({ id: found.id, typed: found.typed, mark: found.entry }).text, document);
-  const { entry = ".", mark = ".", texts = [], todays = null, heading, unit, withProposal } = settings;
+  const { entry = ".", mark = ".", texts = [], todays = null, heading, unit, pastedUnit, withProposal } = settings;
   expect(`${name}: marks`, [found.entry, found.mark], [entry, mark]);
   expect(`${name}: own amounts`, [found.texts, found.todays], [texts, todays]);
-  expect(`${name}: on paper`, sorted(found.paper), sorted({ heading, unit, withProposal }));
+  expect(`${name}: on paper`, sorted(found.paper), sorted({ heading, unit, pastedUnit, withProposal }));
   expect(`${name}: notes`, notes.length, 1);
 }
 for (const kind of CASES) {
@@ -106,6 +115,9 @@ for (const [text, from, to, wanted] of CHANGED) {
   const { refusal, notes = [] } = openedOf(text.replace(from, to));
   const said = refusal ? `${refusal.sentence} Place: ${refusal.place}` : notes.join(" ");
   expect(`${from} as ${to}: ${said}`, wanted.test(said), true);
+}
+for (const [typed, unit, said] of UNITS) {
+  expect(`the unit of ${JSON.stringify(typed)}`, [unitOf(typed), said.test(unitText(typed))], [unit, true]);
 }
 console.log(`${tried} parts of cases saved and opened again, ${faults} faults`);
 process.exit(faults || !tried ? 1 : 0);

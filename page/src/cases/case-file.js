@@ -14,7 +14,7 @@ const TESTS = {
   decimals: (one) => typeof one === "bigint" && one >= 0n && one <= 6n, mark: isMark,
   entry: (one) => isMark(one) || one === WHOLE || one === DECIMALS,
   thousands: (one) => typeof one === "string" && /^[.,’'\u202f\u00a0 ]$/.test(one),
-  heading: isText, unit: isText, agreed: isText, source: isText,
+  heading: isText, unit: isText, pastedUnit: isText, agreed: isText, source: isText,
   proposal: isTexts, todays: isTexts, withProposal: (one) => one === true, kept: isKept,
   case: (one) => caseNamed(one) !== undefined,
   cells: (one, { case: id }) => isLike(emptyOf(caseNamed(id), one), one) && isOfTexts(one),
@@ -50,13 +50,14 @@ function isKept(one) {
  * `thousands` the sign between thousands, if they show one. */
 export function caseText({ kind, typed, text, texts, todays, places, mark, entry, thousands, kept: pin, paper }) {
   const { filled, how, coarse, source, ...cells } = typed, [model] = kind.empty().rows ?? [];
-  const rows = cells.rows?.map((row) => ({ ...model, ...row })), { heading, unit, agreed } = paper;
+  const rows = cells.rows?.map((row) => ({ ...model, ...row })), { heading, unit, pastedUnit, agreed } = paper;
   const shown = { decimals: places, mark, entry, thousands: thousands ?? undefined };
   const own = {
     proposal: texts.some(Boolean) ? texts : undefined, todays: todays ?? undefined, kept: pin,
     withProposal: paper.withProposal || undefined,
   };
-  const all = { filled: kind.filled?.treeOf(typed), coarse, ...shown, heading, unit, agreed, source, ...own };
+  const onPaper = { heading, unit, pastedUnit, agreed };
+  const all = { filled: kind.filled?.treeOf(typed), coarse, ...shown, ...onPaper, source, ...own };
   const kept = Object.entries(all).filter(([key, one]) => one !== undefined && (one !== "" || key === "entry"));
   const typedText = `"case":"${kind.id}",\n"cells":${textOfCells({ ...cells, rows })}`;
   return `{"${WORD}":${VERSION},\n"document":${text},\n${typedText}${kept.map(([key, one]) => {

@@ -247,7 +247,7 @@ export class AnswerView {
   /** What a pasted table says of the unit of its amounts; a single number says nothing. */
   takeUnit(text) {
     if (!/[\t\n;]/.test(text.trim()) || untakenIn(at("case-body"))?.isAsked === false) return; // nor one refused
-    this.typed.pastedUnit = unitIn(text);
+    Object.assign(this.typed, { pastedUnit: unitIn(text), isPastedOver: true });
     this.shownPaper = null;
     if (at("paper-body").childElementCount) this.showPaper();
   }

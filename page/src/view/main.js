@@ -16,7 +16,6 @@ import { Session } from "./session.js";
 import { demo } from "./demo.js";
 import { startCards } from "./start.js";
 import { Steps } from "./undo.js";
-import { unitOf } from "./unit.js";
 import { verifyPanel } from "./verify.js";
 import { showPart, showView, viewOfAddress, watchAnswer, watchParts } from "./views.js";
 
@@ -108,7 +107,7 @@ function asked(kind) {
     caseText: () => {
       const { pinned, reading, marks } = session, kept = pinned ? keptTree(pinned, session.typed) : undefined;
       const { shown: mark, thousands } = marks, { text, settled } = reading, entry = settled ?? reading.entry;
-      const { typed } = view, sheet = { ...typed, unit: unitOf(typed), agreed: agreedColumn(session, typed)?.key };
+      const { typed } = view, sheet = { ...typed, agreed: agreedColumn(session, typed)?.key };
       return caseText({ ...nowTyped(), paper: sheet, kind, kept, mark, thousands, entry, text });
     },
   };

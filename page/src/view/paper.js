@@ -6,7 +6,7 @@ import { OWN_PROVED, provedText } from "../tell/proved.js";
 import { agreedChoice } from "./agreed.js";
 import { button, el, refill } from "./dom.js";
 import { dayText, showSheet } from "./sheet.js";
-import { unitOf } from "./unit.js";
+import { unitOf, unitText } from "./unit.js";
 
 const MOST_GROUPS = 1023; // that are printed, all groups of ten players
 const ON_SCREEN = 63; // of the groups, those that stand in the grid
@@ -41,9 +41,8 @@ export function paperPart(session, typed) {
     line && !isVote && el("p", { class: "hint" }, `As long as nothing is agreed on, the one page has the ${rule}.`),
     agreed,
     field("heading", "Heading", typed.heading ?? session.kind.title, true),
-    !isVote && [field("unit", "Unit of money", unitOf(typed), false),
-      typed.pastedUnit && typed.unit === undefined && el("p", { class: "hint" },
-        `“${typed.pastedUnit}” is that of the table that was pasted.`),
+    typed.isPastedOver && typed.heading && el("p", { class: "hint" }, `The heading is still “${typed.heading}”.`),
+    !isVote && [field("unit", "Unit of money", unitOf(typed), false), el("p", { class: "hint" }, unitText(typed)),
       el("label", { class: "single" }, own, " Put the other columns on the one page too")],
     el("p", { class: "tools" },
       button("Print one page", printed("sheet"), { class: "main" }), button("Print everything", printed("all"))), said);

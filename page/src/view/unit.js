@@ -21,3 +21,10 @@ export function unitIn(text) {
 export function unitOf({ unit, pastedUnit = "" }) {
   return (unit ?? pastedUnit).trim();
 }
+
+/** Whence the unit is, if a pasted table names one. */
+export function unitText({ unit, pastedUnit }) {
+  if (!pastedUnit || unit?.trim() === pastedUnit) return "";
+  return unit === undefined ? `“${pastedUnit}” is that of the table that was pasted.`
+    : `“${unit.trim()}” was typed, and the table that was pasted has “${pastedUnit}”.`;
+}

@@ -59,7 +59,7 @@ function openCase(tree, usual) {
   const fault = faultOfCase(tree);
   if (fault) return { refusal: fault };
   const { entry = usual, mark = usual, decimals, heading, unit, withProposal, source, kept, thousands } = tree;
-  const agreed = tree.agreed && { key: tree.agreed }, { proposal = [], todays } = tree;
+  const agreed = tree.agreed && { key: tree.agreed }, { proposal = [], todays, pastedUnit } = tree;
   const found = withMark(openDocument({ text: writeJson(tree.document), mark }), entry);
   if (found.refusal) {
     const { sentence, place } = found.refusal;
@@ -77,7 +77,7 @@ function openCase(tree, usual) {
       ...(isFollowing ? filled : {}), ...(source && kind.isNetwork ? { source } : {}), coarse: coarseOf(tree.coarse),
     },
     settings: { entry, mark, thousands, places: decimals && Number(decimals), todays: todays ?? null, kept,
-      paper: { heading, unit, agreed, withProposal } },
+      paper: { heading, unit, pastedUnit, agreed, withProposal } },
     notes: [OF_A_CASE, ...(isFollowing ? [] : [NOT_FOLLOWING]), ...(isOther ? [OTHER_CELLS] : [])],
   };
 }
