@@ -8,6 +8,7 @@ import { oddsOf } from "../src/cases/odds.js";
 import { costs } from "../src/cases/tables.js";
 import { coreOfFour } from "../src/draw/core-of-four.js";
 import { Rational } from "../src/exact/rational.js";
+import { countedText } from "../src/view/filled.js";
 
 let tried = 0, faults = 0;
 
@@ -143,6 +144,13 @@ const huge = readTwo(`1e40${"*1e40".repeat(7)}`, "1", "2");
 expect("too large", `${huge.faults[0].cell} ${huge.odds.length}`, "numbers.1 0");
 expect("too long", readTwo(`1${"*9e39".repeat(2000)}`, "1", "2").faults[0].sentence, /too long to be worked out/);
 expect("as before", readTwo("10", "8", "20").odds.length, 1);
+const levelWith = (group) => ({ excess: "0", coalitions: [[group, 1]], earlier: [], bounds: [], total: 1 });
+const restsOn = (...groups) => countedText({
+  kind: costs, typed: { names: ["a", "b", "c"], filled: [3] },
+  result: { line: JSON.stringify({ certificate: { levels: groups.map(levelWith) } }) },
+}, [{ key: "nucleolus", title: "" }, { key: "shapley", title: "" }], { costs: true });
+expect("the first rule rests on a filled number", restsOn([2], [1, 2]), /of “Fairest .*” and “By what each adds” rest/);
+expect("the first rule doesn’t", restsOn([2], [1]), /of “By what each adds” rest/);
 const readFilled = (...filled) => {
   return costs.read({ names: ["a", "b"], numbers: ["", "10", "8", "26,000"], filled }, ".").reading;
 };

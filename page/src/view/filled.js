@@ -1,7 +1,9 @@
 // What the page filled in by itself, in sentences: it has to be told wherever the answer goes.
 import { groupLabel } from "../cases/tables.js";
+import { parseJson } from "../exact/json.js";
 import { maskOf, masksBySize, membersOf } from "../game/groups.js";
 import { listed } from "../game/words.js";
+import { levelOf, listedIn } from "../tell/levels.js";
 import { plainPoints } from "../tell/rule-names.js";
 
 const MOST_TOLD = 5; // players, with 31 groups
@@ -21,13 +23,22 @@ export function givenText({ kind, typed }) {
   return told.length > MOST_GIVEN ? "" : `Given were: ${told}.`;
 }
 
-/** Which rules count filled numbers whatever they are, in a sentence; "" for none. */
-export function countedText({ kind, typed: { filled = [], names } }, points, game) {
+/** Whose shares rest on filled numbers, in a sentence: the first rule’s by its certificate, and those of the rules that
+ * count them whatever they are; "" for none. */
+export function countedText({ kind, typed: { filled = [], names }, result }, points, game) {
   const isOfRest = (mask) => membersOf(mask).length === names.length - 1, keys = ["shapley"];
   if (!kind.isTable || !filled.length) return "";
   if (filled.some(isOfRest)) keys.push("agencies");
+  if (restsOn(result?.line, filled)) keys.push(points[0]?.key);
   const titles = plainPoints(points, game).filter(({ key }) => keys.includes(key)).map(({ title }) => `“${title}”`);
   return titles.length ? `The shares of ${listed(titles)} rest on filled numbers.` : "";
+}
+
+/** Whether the certificate of a line lists one of these groups. */
+function restsOn(line, masks) {
+  const { certificate } = line ? parseJson(line) : {};
+  const listed = listedIn(certificate?.levels.map(levelOf) ?? []);
+  return masks.some((mask) => listed.has(mask));
 }
 
 /** Whether the page filled the number of one of these groups. */

@@ -6,7 +6,7 @@
 import { SettledPlayers, SettledSpan } from "../check/settled.js";
 import { lcm, Rational } from "../exact/rational.js";
 import { maskOf, membersOf } from "../game/groups.js";
-import { levelOf } from "../tell/levels.js";
+import { levelOf, listedIn } from "../tell/levels.js";
 
 const MOST_CLOSEST = 3;
 
@@ -42,9 +42,7 @@ export function groupBounds({ answer, certificate, shares }, { n, costs, perHead
   if (answer === "nucleolus") { // nobody gets less than alone
     for (let i = 0; i < n; i++) if (most[1 << i] > got[1 << i]) most[1 << i] = got[1 << i];
   }
-  const listed = new Set(levels.flatMap(({ coalitions, bounds }) => {
-    return [...coalitions, ...bounds].map(([group]) => maskOf(group));
-  }));
+  const listed = listedIn(levels);
   for (const mask of listed) most[mask] = undefined;
   return { unit, over, most, listed };
 }
