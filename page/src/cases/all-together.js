@@ -8,7 +8,7 @@ export const WITH = "together|jointly|zusammen|gemeinsam|ensemble|insieme|junt[o
 const COUNTS = ["two|zwei|beiden?|both|allebei|ambos|entramb[ie]|deux|due|dos|twee", "three|drei|trois|tre|tres|drie",
   "four|vier|quatre|quattro|cuatro", "five|fünf|cinq|cinque|cinco|vijf", "six|sechs|sei|seis|zes", "seven|sieben|sept",
   "eight|acht|huit"];
-const COUNT = `\\d+|${COUNTS.join("|")}`;
+export const COUNT = `\\d+|${COUNTS.join("|")}`;
 const COUNTED = new RegExp(`(?:^|\\s)(${COUNT})(?=\\s|$)`, "iu");
 const WORDS = new RegExp("^(?:(?:(?:all|alle|tous|toutes|tutt[ie]|tod[oa]s|allemaal)"
   + `(?: of (?:them|us)| the| les| e| l[oa]s)?(?: (?:${COUNT}))?`

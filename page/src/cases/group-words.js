@@ -9,8 +9,8 @@ export const NOBODY = /^(∅|none|nobody|no ?one|empty( set)?|niemand|personne|[
 const AND = /\s*(?:[&,/;|]|\b(?:and|und|et|y|e|en|och|with|mit|avec)\b)\s*/u;
 const TOGETHER = new RegExp(`[\\s,]+(?:${WITH})$`, "iu");
 const RANGE = /^(.{1,60}?) (\d{1,2})(?:\s?[-–]\s?| (?:to|bis|à) )(\d{1,2})$/u;
-const LONE = "alone|only|(?:all )?by (?:itself|themselves|himself|herself)|on (?:its|his|her|their) own|alleine?|"
-  + "für sich|(?:tout )?seule?s?|(?:da )?sol[oa]|alleen|sozinh[oa]";
+export const LONE = "alone|only|(?:all )?by (?:itself|themselves|himself|herself)|on (?:its|his|her|their) own|"
+  + "alleine?|für sich|(?:tout )?seule?s?|(?:da )?sol[oa]|alleen|sozinh[oa]";
 const ALONE = [ // a name and such a word
   new RegExp(`^(?<name>.+?)(?:\\s*[,(–-]\\s*|\\s+)(?<word>${LONE})\\)?$`, "iu"),
   /^(?<word>only|just|nur|allein|seulement|solo|alleen|soltanto|solamente) (?<name>.+)$/iu,

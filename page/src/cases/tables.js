@@ -17,16 +17,20 @@ import { leftText, unframed } from "./frames.js";
 import { cellsOf } from "./pasting.js";
 import { Reading } from "./reading.js";
 import { answerFault } from "./saved-tables.js";
+import { spokenGroups } from "./spoken-groups.js";
 import { unitsText, withoutUnits } from "./units.js";
 import { groupsOfParts, partsElsewhere, tableOfParts, usedParts } from "./used-parts.js";
 import { headingOf, manyBelow, numbersIn, vectorOf } from "./vectors.js";
 
+const ADVICE = " Write a line for each group, its members and its number, such as “Tigers 480” and “Tigers + Rovers "
+  + "640”.";
 const SEVERAL_IN = /\d(?:[,;]| \/) .*\p{L}.* \S*\d\S*$/u; // several groups in a line
 const MOST_BY_NAME = 6; // above, the document lists numbers alone: it would be too long by names
 const MOST_PLAYERS = mostOf("table");
 const MOST_TOLD = 4; // names without a line
 const MOST_SPARSE = 4; // players of whose groups most may be empty
 const MOST_LETTERS = 4000; // of a group with all its names
+const MOST_SHOWN = 60; // of a sentence that is quoted
 
 /** A table as it goes to a worker and back: one text is copied faster than 65,536. */
 export function packed({ names, numbers, opened, isUnnamed, filled }) {
@@ -143,7 +147,9 @@ export function tableOf(text, names = [], order = "size", mark = ".", said = {})
   const { rows, left } = unframed(block.rows), saved = answerFault(cells);
   const ofParts = saved ? undefined : partsRead(cells, mark, said);
   if (ofParts) return ofParts;
-  if (block.loose || saved) return { fault: saved ?? looseText(block.loose) };
+  const spoken = saved ? null : spokenGroups(text, said.isCost);
+  if (spoken) return spokenTable(spoken, { ...said, mark, cells });
+  if (block.loose || saved) return { fault: saved ?? looseFault(block.loose) };
   const kept = rows.filter((row) => row.some(Boolean));
   const own = joinedMembers(kept), marked = own.rows === kept ? fromPairs(kept) : own;
   const joined = groupsFirst(marked.rows);
@@ -160,6 +166,27 @@ export function tableOf(text, names = [], order = "size", mark = ".", said = {})
   const isVector = plain.state || plain.isAll || plain.many, more = { mark, cells, ...said };
   const read = isVector ? { ...plain, fault: plain.fault ?? plain.many } : listOf(bare, lines, more);
   return read.state ? { ...read, remark: told + read.remark } : read;
+}
+
+/** Why a line of which nobody can part the name from the number isn't taken. */
+const looseFault = (line) => looseText(line) + (/\d/.test(line) ? "" : ADVICE);
+
+/** What comes of sentences that name groups: what was read is asked about, until somebody said that it `isSpoken`. */
+function spokenTable({ rows, lines, left, odd }, { isSpoken, ...said }) {
+  if (isSpoken === false) return { fault: ADVICE.trim() };
+  if (odd) {
+    const short = withEscapes(odd.text.slice(0, MOST_SHOWN)) + (odd.text.length > MOST_SHOWN ? " …" : "");
+    return { fault: `Line ${odd.line}: “${short}” doesn’t say for sure which group each amount is of.${ADVICE}` };
+  }
+  const read = listOf(rows, lines, said);
+  if (read.fault) return { fault: read.fault + ADVICE };
+  if (!isSpoken && read.state) {
+    const told = rows.map(([group, number]) => withEscapes(`${group.replaceAll("+", " + ")} ${number}`)).join("; ");
+    return { fault: `Read as: ${told}. Is it meant so?`, ways: [["Yes, take it", { isSpoken: true }],
+      ["No", { isSpoken: false }]] };
+  }
+  const out = leftText(left);
+  return read.state ? { ...read, remark: (out && ` ${out}`) + read.remark } : read;
 }
 
 /** What comes of parts with who uses each: {users} are asked about, until somebody said what they are (`isParts`, or
@@ -244,7 +271,7 @@ function listOf(given, allLines, { mark, roles, column, cells, ...said }) {
   if (!rows.some(([, number = ""]) => /\d/.test(number))) {
     const texts = rows.map(([group, number]) => withEscapes((number || group).slice(0, 40)));
     const k = Math.max(0, texts.findIndex((text) => readNumber(text).fault));
-    return { fault: `${lineOf(k)}“${texts[k]}” is no number, and no group has one beside it.` };
+    return { fault: `${lineOf(k)}“${texts[k]}” is no number, and no group has one beside it.${ADVICE}` };
   }
   const isPair = ([group, number = "", ...more]) => group && !more.some(Boolean) && !readNumber(number).fault;
   const several = rows.findIndex((row) => SEVERAL_IN.test(row.filter(Boolean).join(isPair(row) ? " " : "; ")));

@@ -10,12 +10,13 @@ const MOST_NAMED = 8; // players
 
 /** What is asked of a list before it is taken, and the answers, each with what then is said; undefined for nothing. */
 export function listAsked(found, kind, { roles } = {}) {
-  const { columns, users, doubt, asked, state, way, fault } = found, what = kind.what.toLowerCase();
+  const { columns, users, doubt, asked, state, way, fault } = found, { ways = way && [way] } = found;
+  const what = kind.what.toLowerCase();
   if (columns) return [`Which column is ${what}?`, ...columns.map(({ c, title }) => [`“${title}”`, { column: c }])];
   if (users) return partsAsked(found);
   if (doubt) return markAsked(found);
   if (asked) return wholeAsked(found, kind, roles);
-  return state || !way ? undefined : [fault, way];
+  return state || !ways ? undefined : [fault, ...ways];
 }
 
 /** What is asked of a line that may be all together, and the answers; `roles` are those that were given before. */

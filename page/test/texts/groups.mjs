@@ -7,7 +7,32 @@ const MARKED = "Section\tA\tB\tC\tCost\nRoad\tx\tx\tx\t480\nTo A\tx\t\t\t50\nTo 
 const OWN = "No, each line is a group with its own cost";
 const PARTS = "Part A: 480 (Kim, Lee)\nPart B: 150 (Kim)\nPart C: 90 (Lee)";
 
+const TOM = "Hi Margaret,\n\nI rang Harper Coaches again about the district tournament. A minibus for the Tigers "
+  + "alone would be £480, for the Rovers alone £420 and for United alone £360. Tigers and Rovers together in one "
+  + "coach: £640. Tigers and United: £600. Rovers and United: £560. If all three go together it is £780.\n\nCan you "
+  + "work out who pays what?\n\nBest wishes\nTom";
 export const GROUPS = [
+  // groups in the sentences of a mail
+  ["costs", TOM, null, /^Nothing was taken yet\. Read as: Tigers £480; Rovers £420; .*Rovers \+ United £780\. Is it/],
+  ["costs", TOM, "Tigers|Rovers|United|£480|£420|£640|£360|£600|£560|£780",
+    /Left out, as no number stands beside: “Hi Margaret,”, “I rang Harper Coaches/, "Yes, take it"],
+  ["costs", TOM, null, /^Write a line for each group, .* \+ Rovers 640”\. Nothing was taken\./, "No"],
+  ["costs", "Tigers alone would be £480\nRovers alone would be £420\nBoth together in one coach: £640",
+    "Tigers|Rovers|£480|£420|£640", /3 groups\./, "Yes, take it"],
+  ["gains", "For Ann alone it is 40, for Bo alone it is 30. Ann and Bo together would save 90.",
+    "Ann|Bo|40|30|90", /3 groups\./, "Yes, take it"],
+  ["costs", "Ann alone is 40, Bo alone is 30. Ann and Bo together would save 20.", null, /“Ann and Bo .* sure/],
+  ["costs", "It is £48 for the Tigers alone, £42 for the Rovers alone and £64 for both together.",
+    "Tigers|Rovers|£48|£42|£64", /3 groups/, "Yes, take it"],
+  ["costs", "Für die Tiger allein wären es 48 €, für die Falken allein 42 €.\nWenn beide zusammen fahren: 64 €.",
+    "Tiger|Falken|48 €|42 €|64 €", /3 groups/, "Yes, take it"],
+  ["costs", "Pour les Tigres seuls ce serait 48 €, pour les Aigles seuls 42 €. Les deux ensemble: 64 €.",
+    "Tigres|Aigles|48 €|42 €|64 €", /3 groups/, "Yes, take it"],
+  ["costs", "Tigers alone is £480, £420 for the Rovers alone, both together £640", null, /for sure which group each/],
+  ["costs", "Tigers alone is £48, Rovers alone is £42. Tigers, Rovers and City together: £90.", null, /“Tigers, Ro/],
+  ["costs", "Little Tigers and Rovers: £60. Tigers alone is £48, Rovers alone is £42.", null, /“Little Tigers and/],
+  ["costs", "Tigers, Rovers alone £64, Tigers alone is £48, Rovers alone is £42", null, /for sure/],
+  ["costs", "Hi Margaret,\nthanks for the call.\nBest\nTom", null, /“Hi Margaret,” is no number.* \+ Rovers 640”\. N/],
   // a currency before a number, behind a name that ends with one
   ["costs", "Unit 7\tEUR 8\nUnit 12\tEUR 7\nUnit 7+Unit 12\tEUR 10", "Unit 7|Unit 12|EUR 8|EUR 7|EUR 10"],
   ["costs", "A alone 5, B alone\t4\nA and B\t7", null, /are more: “A alone 5, B alone 4”/],
