@@ -269,7 +269,7 @@ const fills = [
     await page.click("Fill the empty ones");
     await settle(page);
     expect("filled", await value(page, "numbers.3"), "15.5");
-    const counted = /The shares of “By what each adds” and “The agencies’ rule” rest on filled numbers/;
+    const counted = /The shares of .*“By what each adds” and “The agencies’ rule” rest on filled numbers/;
     expect("which count it", await page.text("#answer-body .filled-note"), counted);
     await page.type("numbers.1", "6");
     await page.until(`document.querySelector('[data-cell="numbers.3"]').value === "13.5"`);

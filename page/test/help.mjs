@@ -1,6 +1,6 @@
 // What the page works out by itself to help with cells, against plain slow searches on small cases by a fixed seed:
 // ways and costs of a network whose links are partly missing, and groups that are filled by their best split.
-import { shortText } from "../src/exact/decimals.js";
+import { placesOf, readNumber } from "../src/exact/decimals.js";
 import { parseJson, writeJson } from "../src/exact/json.js";
 import { Rational } from "../src/exact/rational.js";
 import { runway } from "../src/cases/lists.js";
@@ -100,7 +100,7 @@ function trySplits(n, costs) {
 
 // ---- Two divisions side by side
 
-/** What each group could gain by leaving, from the greatest down, as texts. */
+/** What each group could gain by leaving, from the greatest down. */
 function excessList(game, shares) {
   const all = 2 ** game.n - 1, sign = Rational.of(game.costs ? -1 : 1), list = [];
   for (let mask = 1; mask < all; mask++) {
@@ -108,7 +108,7 @@ function excessList(game, shares) {
     const heads = Rational.of(game.perHead ? group.length : 1);
     list.push(game.worth(group).minus(got).over(heads));
   }
-  return list.sort((a, b) => b.compare(a)).map(shortText);
+  return list.sort((a, b) => b.compare(a));
 }
 
 function tryComparison(n, name, excess) {
@@ -117,11 +117,14 @@ function tryComparison(n, name, excess) {
   const some = () => Array.from({ length: n }, () => `${draw(40) - 9}/${1 + draw(7)}`);
   const game = new Game(parseJson(text).game), [one, other] = [some(), some()];
   const lists = [one, other].map((shares) => excessList(game, shares.map(Rational.of)));
-  const differs = lists[0].findIndex((value, k) => value !== lists[1][k]), divisions = [one, other];
+  const differs = lists[0].findIndex((value, k) => !value.equals(lists[1][k])), divisions = [one, other];
   const found = compare({ divisions }, game);
   expect(`the first difference of ${text}`, found.differs, differs + 1);
   found.lists.forEach((list, which) => list.forEach((entry, k) => {
-    expect(`place ${k} of ${text}`, entry.excess, lists[which][found.first - 1 + k]);
+    const value = lists[which][found.first - 1 + k], shown = readNumber(entry.excess).value;
+    const isNear = shown.minus(value).abs().less(Rational.of("1/100")), isExact = placesOf(value) >= 0;
+    expect(`place ${k} of ${text}: ${entry.excess}`, isExact ? shown.equals(value) : isNear, true);
+    expect(`place ${k} of ${text}: ${entry.excess} is no fraction`, entry.excess.includes("/"), false);
   }));
 }
 

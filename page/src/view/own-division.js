@@ -11,10 +11,10 @@ const HINT = "Put it beside the answer, and see which group could do better by i
 
 const inSentence = (point) => ({ ...point, title: point.title[0].toLowerCase() + point.title.slice(1) });
 
-/** `onBegin()` shows the column of the user's own division. */
+/** `onBegin()` shows the column of the user's own division, or hides it, as `typed.isProposing` says. */
 export function ownDivision(result, { rows, format, proposal, today, pinned, typed, onBegin }) {
   const { game, points } = result, named = { ...result, points: plainPoints(points, game).map(inSentence) };
-  const isOpen = typed.isProposing || proposal.texts?.some(Boolean);
+  const hasTexts = proposal.texts?.some(Boolean), isOpen = typed.isProposing || hasTexts;
   const begin = () => {
     typed.isProposing = true;
     onBegin();
@@ -22,10 +22,15 @@ export function ownDivision(result, { rows, format, proposal, today, pinned, typ
     cell?.scrollIntoView({ block: "center" });
     cell?.focus();
   };
+  const end = () => {
+    typed.isProposing = false;
+    onBegin();
+  };
   return [
     proposal.canBe && [
       el("h3", {}, "Your own division"), el("p", { class: "hint" }, HINT),
       !isOpen && el("p", { class: "tools" }, button("Type your own division", begin)),
+      isOpen && !hasTexts && el("p", { class: "tools" }, button("Without your own division", end, { class: "quiet" })),
       proposalTools(named, { rows, proposal, format, isOpen }),
     ],
     (proposal.canBe || today.canBe) && points.length > 0

@@ -1,11 +1,15 @@
 // Two divisions of a game side by side, as the nucleolus compares them: what the groups lack, from the greatest down.
 import { lcm, Rational } from "../exact/rational.js";
-import { shortText, shortTexts } from "../exact/decimals.js";
+import { apartTexts, decimal, placesOf, shortText } from "../exact/decimals.js";
+import { spoken } from "../exact/marks.js";
 import { membersOf } from "../game/groups.js";
 import { Namer } from "../tell/words.js";
 
 const MOST_SHOWN = 8;
 const MOST_PLAYERS = 12; // of other games than tables, whose groups take longer to be worked out
+
+/** As decimals, exact where four do: two lists beside each other are read alike. */
+const textOf = (value) => (placesOf(value) < 0 ? decimal(value, 2, spoken) : shortText(value));
 
 /** `divisions` are the shares of two, as texts: the first places of both lists, and where they differ first; null where
  * the game has too many groups. */
@@ -15,11 +19,12 @@ export function compare({ divisions }, game) {
   const differs = lists[0].findIndex(({ excess }, k) => excess !== lists[1][k].excess);
   const namer = new Namer(game), first = Math.max(0, Math.min(differs, lists[0].length - 1) - MOST_SHOWN + 2);
   const shown = (list) => list.slice(first, first + MOST_SHOWN).map(({ mask, excess }) => {
-    return { group: namer.group(membersOf(mask)), excess: shortText(new Rational(excess, unit)) };
+    return { group: namer.group(membersOf(mask)), excess: textOf(new Rational(excess, unit)) };
   });
   const shownLists = lists.map(shown);
   if (differs >= 0) {
-    const texts = shortTexts(lists.map((list) => new Rational(list[differs].excess, unit)));
+    const values = lists.map((list) => new Rational(list[differs].excess, unit)), [one, other] = values.map(textOf);
+    const texts = one === other ? apartTexts(values, 2) : [one, other];
     shownLists.forEach((list, k) => (list[differs - first].excess = texts[k])); // never the same where they differ
   }
   const better = differs < 0 ? "same" : lists[0][differs].excess < lists[1][differs].excess ? "one" : "other";
