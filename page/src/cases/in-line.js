@@ -58,6 +58,22 @@ export function partedInLine(rows) {
   return { rows: found.flatMap(rowsOf), isParted: true };
 }
 
+const MONEY = "(?=(?:\\p{Sc}|[A-Z]{3})?\\s?\\d)", NEXT = `[;,]?\\s+(?:and|und|et|y|e|en)\\s+${MONEY}|[;,]\\s+${MONEY}`;
+const FOR = "(?:for|to|für|an|pour|à|voor|aan|para)\\s(?:the\\s|die\\s)?";
+const GIVEN = new RegExp(`^([\\p{L}\\s.,:’']{0,80}?)((?:[A-Z]{3}\\s)?${NUMBER})\\s${FOR}(\\D{1,80}?)[.;,]?$`, "u");
+
+/** Lines of a name and its number of a text that has the number before each, as "8,300 for Ops and 9,000 for Sales":
+ * {text, left}, `left` being the words before them, which are none of the `names`. Null for another text. */
+export function linesByNumber(text, names) {
+  if (text.length > MOST_LETTERS) return null;
+  const lines = text.trim().split(new RegExp(`${NEXT}|[\\r\\n]+`, "u")).map((line) => line.trim().replace(/\s+/g, " "));
+  const found = lines.map((line) => GIVEN.exec(line)), [before = "", ...others] = found.map((one) => one?.[1].trim());
+  const isName = names.some((name) => before.toLowerCase().includes(name.toLowerCase()));
+  if (!others.length || !found.every(Boolean) || others.some(Boolean) || isName) return null;
+  const own = found.map(([, , number, name]) => `${name}\t${number}`);
+  return { text: own.join("\n"), left: [before].filter(Boolean) };
+}
+
 const BETWEEN = /^(?:[\s,;.:/+&–-]|(?:and|und|et|e|y|en)(?=\s|$))+|[\s,;:–-]+$/gu;
 const AMOUNT = /(?:^|\s)\p{Sc}?\d[\d.,'’]*$/u; // behind a name
 

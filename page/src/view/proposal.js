@@ -2,7 +2,7 @@
 import { readNumber, readTogether } from "../exact/decimals.js";
 import { isMark, nameOfMark, otherMark } from "../exact/marks.js";
 import { Rational } from "../exact/rational.js";
-import { linesByName } from "../cases/in-line.js";
+import { linesByName, linesByNumber } from "../cases/in-line.js";
 import { withoutSigns } from "../cases/signs.js";
 import { unitsText, withoutUnits } from "../cases/units.js";
 import { isSumWord, withEscapes } from "../game/names.js";
@@ -21,7 +21,7 @@ export function pastedDivision(text, labels, { first, before }) {
   const isOdd = labels.some((label) => /["|]/.test(label)), plain = isOdd ? (line) => line
     : (line) => line.replace(/^ *"([^"]*)"/, "$1").replace(/ *\| */g, " ");
   const bare = (line) => plain(line).trim().replace(/\s+/g, " ");
-  const named = linesByName(text, labels), own = named?.text ?? (isLine(text) ? text.replace(IN_LINE, "\n") : text);
+  const named = partedLines(text, labels), own = named?.text ?? (isLine(text) ? text.replace(IN_LINE, "\n") : text);
   const given = own.split(/\r\n?|\n/).map(bare).filter((line) => /[^-: ]/.test(line));
   const lines = withoutSigns(given.map((line) => [line])).rows.flat(), alone = withoutUnit(lines);
   const isAlone = alone.fault === undefined && alone.numbers.every((line) => NUMBER.test(line));
@@ -31,11 +31,12 @@ export function pastedDivision(text, labels, { first, before }) {
   return { texts: before.map((own, r) => amounts[at(r)] ?? own), said: said.filter(Boolean).join(" ") };
 }
 
+const partedLines = (text, labels) => linesByName(text, labels) ?? linesByNumber(text, labels);
 const isLine = (text) => !/[\r\n]/.test(text.trim());
 
 /** Whether a pasted text is of several rows, and not of one cell. */
 export const isOfRows = (text, labels) => !isLine(text) || text.trim().replace(IN_LINE, "\n").includes("\n")
-  || linesByName(text, labels) !== null;
+  || partedLines(text, labels) !== null;
 
 /** What is told of lines and words that were left out. */
 function outText(texts) {

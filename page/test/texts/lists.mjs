@@ -77,6 +77,16 @@ export const LISTS = [
 ];
 const MAYOR = "Ops 8,300, Sales 9,000 and Legal 7,250", OF_MAYOR = "9,000,8,300,7,250";
 export const DIVIDED = [
+  ["8,300 for Ops, 9,000 for Sales and 7,250 for Legal", OF_MAYOR, /Taken by name: Ops, Sales and Legal\.$/],
+  ["We propose £9,000 to Sales; £8,300 to Ops.", "£9,000,£8,300,", /Left out: “We propose”/],
+  ["9,000 for Sales\n8,300 for Ops\n7,250 for Legal", OF_MAYOR],
+  ["Ops: 8,300; Sales: 9,000", "9,000,8,300,"],
+  ["8,300 for Ops, 9,000 for Marketing", "No row is called “Marketing”. Rows without an amount: Sales and Legal. "
+    + "Nothing was taken."],
+  ["8,300 for Ops and Sales, 7,250 for Legal", "“Ops and Sales” can be Sales or Ops. Nothing was taken."],
+  ["Sales 8,300 for Ops, 9,000 for Legal", "“8,300 for Ops, 9,000 for Legal” beside Sales is no amount. Write one "
+    + "amount beside each name, such as 12.50. Nothing was taken."],
+  ["-250 for Ops, 300 for Sales", "Give a number a line, or a name and a number in each. Nothing was taken."],
   [`Proposal of the mayor: ${MAYOR}, rounded to tens`, OF_MAYOR,
     /Left out: “Proposal of the mayor”, “rounded to tens”\.$/],
   [`${MAYOR} (proposal of the mayor)`, OF_MAYOR, /Left out: “\(proposal of the mayor\)”/],
