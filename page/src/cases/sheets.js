@@ -2,6 +2,7 @@
 import { readNumber } from "../exact/decimals.js";
 import { isBareName, notNames } from "./bare-names.js";
 import { blockOf, looseText, PAGES } from "./block.js";
+import { bracketVotes } from "./bracket-votes.js";
 import { brokenName, mendedName } from "./broken-names.js";
 import { withoutClauses } from "./clauses.js";
 import { withEscapes } from "../game/names.js";
@@ -54,6 +55,8 @@ function tableIn(pasted, { single, isFirst }) {
  * in two lines, or there are two quotas: then it is asked again with what was chosen (`said`). A row with the number
  * above the list (`single`) is none. */
 export function sheetOf(pasted, columns, { mark, single, usual, isFirst = true, ...said }) {
+  const bracket = single?.second && isFirst ? bracketVotes(pasted, columns) : undefined;
+  if (bracket) return bracket;
   const { isHead, choice, out = [] } = said, table = tableIn(pasted, { single, isFirst });
   if (table.fault || table.asked) return table;
   const { rows: all, found: units, fault } = withoutUnits(table.rows.filter((row) => row.some(Boolean)), 1);

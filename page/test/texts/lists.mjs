@@ -4,6 +4,15 @@ const CLAUSE = "Carried if at least 8 of the 13 council seats and at least 55 % 
 const SEATS = "1. at least 8 of the 13 council seats: List A 5, List B 4\n"
   + "2. at least 55 % of the inhabitants: List A 5,200, List B 3,100";
 export const LISTS = [
+  // the form of textbooks
+  ["votes", "[8; 5, 4, 4]", "Voter 1=5|Voter 2=4|Voter 3=4",
+    /“\[8; 5, 4, 4\]” was taken as votes needed, 8, and the votes of 3 voters: “Voter 1” to “Voter 3”/],
+  ["votes", "[8;5,4,4]", "Voter 1=5|Voter 2=4|Voter 3=4"],
+  ["votes", "v = [8: 5, 4, 4]", "Voter 1=5|Voter 2=4|Voter 3=4"],
+  ["votes", "[8,000; 5,000, 4,000]", "Voter 1=5,000|Voter 2=4,000"],
+  ["votes", "[8000; 5,000,4,000]", null, /isn’t clear\. Write the votes needed first, a semicolon and then/],
+  ["votes", "[51; 41,5, 30]", null, /isn’t clear/], ["votes", "[5, 4, 4; 8]", null, /isn’t clear/],
+  ["votes", "[8, 3; 5, 4, 4]", null, /isn’t clear/],
   // a name that a cell had in two lines
   ["estate", "Name\tClaim\nAnn\nRoe\t120\nBo\t80", null,
     /^Nothing was taken yet\. Are “Ann” and “Roe” one name, broken in two lines\?/],
