@@ -9,6 +9,11 @@ const MOST_LETTERS = 60;
 const YEAR = /(?<!\d)(?:19|20)\d\d(?!\d)/g;
 const NOTE = /^([(*†]|sources?\b|notes?\b|remarks?\b|quellen?\b|hinweis|anmerkung|stand\b)/iu;
 
+const PARAGRAPH = /^(?:§|art(?:icle|ikel|\.)\s*\d)/iu;
+const TITLE = new RegExp("(?:claims|debts|creditors|forderungen|gläubiger|votes|seats|shares|stimmen|sitze|anteile|voix"
+  + "|sièges|parts|créances|créanciers|\\p{L}*verteilung|distribution|allocation|répartition)"
+  + "\\s*(?:\\([^()]{1,60}\\))?:?$", "iu");
+
 const filledOf = (row) => row.filter(Boolean);
 const isBlank = (row) => !row.some(Boolean);
 
@@ -24,6 +29,10 @@ function isLone(row) {
 export function unframed(rows, text = "") {
   const whole = { rows, text, left: [] }, isOf = (row) => !isBlank(row) && !isLone(row);
   if (rows.filter((row) => filledOf(row).length > 1).length < 2) return whole;
+  const isRow = (row) => filledOf(row).some((one) => !readNumber(one).fault), begin = rows.findIndex(isRow);
+  const isTitle = (row, k) => isLone(row) && isHeadline(filledOf(row)[0], k < begin);
+  const titles = new Set(rows.filter(isTitle));
+  if (titles.size) return withoutTitles(rows, text, titles);
   const first = rows.findIndex(isOf), end = rows.length - [...rows].reverse().findIndex(isOf);
   const isHeaded = headingsOf(rows.slice(first, end), 0) !== null;
   const above = apart(rows.slice(0, first).reverse(), rows[first], () => isHeaded);
@@ -36,6 +45,16 @@ export function unframed(rows, text = "") {
   const isKept = (_, k) => isInside(k) || !(isBlank(rows[k]) || left.has(rows[k]));
   const texts = rows.filter((row) => left.has(row)).flatMap(filledOf);
   return { rows: rows.filter(isKept), text: lines.slice(0, rows.length).filter(isKept).join("\n"), left: texts };
+}
+
+/** Whether a text alone in its row is a paragraph of statutes or, `isAbove` the rows, says what is listed: nobody. */
+const isHeadline = (text, isAbove) => PARAGRAPH.test(text) || (isAbove && TITLE.test(text));
+
+/** The same without titles, which are told with what else is left out. */
+function withoutTitles(rows, text, titles) {
+  const isKept = (_, k) => !titles.has(rows[k]), lines = text.split(/\r\n?|\n/).slice(0, rows.length);
+  const found = unframed(rows.filter(isKept), lines.filter(isKept).join("\n"));
+  return { ...found, left: [...[...titles].flatMap(filledOf), ...found.left] };
 }
 
 /** Of lines on one side of a table, the nearest first, the texts that aren't of it. */

@@ -4,6 +4,14 @@ const CLAUSE = "Carried if at least 8 of the 13 council seats and at least 55 % 
 const SEATS = "1. at least 8 of the 13 council seats: List A 5, List B 4\n"
   + "2. at least 55 % of the inhabitants: List A 5,200, List B 3,100";
 export const LISTS = [
+  // titles within a table
+  ["votes", "Partei\tSitze\nSitzverteilung (25 Sitze)\t\nListe A\t12\nListe B\t9", "Liste A=12|Liste B=9",
+    /Left out, as it is no row: “Sitzverteilung \(25 Sitze\)”\..*“Sitze” is “Votes”/],
+  ["votes", "§ 7 Stimmen\nAnn: 12\nBo: 9", "Ann=12|Bo=9", /Left out, as it is no row: “§ 7 Stimmen”/],
+  ["votes", "Ann\t12\n§ 8 Weitere\t\nBo\t9", "Ann=12|Bo=9", /“§ 8 Weitere”/],
+  ["estate", "Creditor\tClaim\nUnsecured claims\t\nAnn\t120\nBo\t80", "Ann=120|Bo=80", /“Unsecured claims”/],
+  ["estate", "Ann\t120\nUnsecured claims\t\nBo\t80", "Ann=120|Unsecured claims|Bo=80", /1 empty/],
+  ["estate", "Creditor\tClaim\nClaims Direct Ltd\t\nBo\t80", "Claims Direct Ltd|Bo=80", /1 empty/],
   // the form of textbooks
   ["votes", "[8; 5, 4, 4]", "Voter 1=5|Voter 2=4|Voter 3=4",
     /“\[8; 5, 4, 4\]” was taken as votes needed, 8, and the votes of 3 voters: “Voter 1” to “Voter 3”/],
