@@ -300,6 +300,28 @@ for (const [text, wanted, told = /^/, labels = ["Sales", "Ops", "Legal"]] of [..
   faults += isAll ? 0 : 1;
 }
 
+/** Texts that lead to two questions or offers: those that are answered, and what then is offered or asked still. */
+const MEMBERS = "Member\tInhabitants\tVotes\nAda\t2400\t12\nBo\t1900\t9\nCy\t900\t7\nTotal\t5200\t28";
+const OWED = "Hi,\nthe estate comes to 84,000 after costs.\n\nAnn\t20,500\nBo\t30,250\nTotal\t50,750";
+const SECOND = "Use “Inhabitants” as second votes", GONE = "Yes, remove it", CLAUSED = `${MEMBERS}\n\nDecisions need `
+  + "at least 15 votes.";
+const PAIRS = [
+  ["votes", MEMBERS, [GONE], SECOND, "Ada=12|Bo=9|Cy=7"], ["votes", MEMBERS, [SECOND], GONE],
+  ["votes", MEMBERS, [GONE, SECOND], "", "Ada=12|Bo=9|Cy=7"], ["votes", MEMBERS, ["No, it counts"], SECOND],
+  ["votes", MEMBERS, ["No, it counts", SECOND], ""], ["votes", CLAUSED, [GONE], SECOND],
+  ["estate", OWED, [GONE], "Yes, 84,000", "Ann=20,500|Bo=30,250"], ["estate", OWED, ["Yes, 84,000"], GONE],
+  ["estate", OWED, ["20500, whole", GONE], "Yes, 84,000"], ["estate", OWED, ["20500, whole"], "Yes, 84,000"],
+];
+for (const [id, text, answers, still, cells] of PAIRS) {
+  const desk = new Desk(id, "."), buttonOf = (title) => desk.read().buttons.find((one) => one.textContent === title);
+  await desk.paste("rows.0.name", text);
+  for (const one of answers) await settled(buttonOf(one)?.on.click({}));
+  const isAny = desk.read().buttons.some(({ textContent }) => textContent === SECOND || textContent === GONE);
+  if ((still ? buttonOf(still) : !isAny) && (cells === undefined || desk.cells() === cells)) continue;
+  faults += 1;
+  console.log(`${id}: ${JSON.stringify(text)}, after ${answers}: ${desk.cells()}, ${desk.read().said}, not ${still}`);
+}
+
 /** Texts about which something is asked, and what is asked again when the case was left and is shown again. */
 const LEFT = [
   ["network", "\tA\tB\tC\nA\t-\t4\t5\nB\t4\t-\t6\nC\t5\t6\t-", /Which point is the source\?/],

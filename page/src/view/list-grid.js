@@ -8,7 +8,7 @@ import { readNumber } from "../exact/decimals.js";
 import { withEscapes } from "../game/names.js";
 import { cellInput, moveByKeys, pasteCells, removal } from "./cells.js";
 import { askAgain, askIn, button, el, refill, unask } from "./dom.js";
-import { askBroken, askClause, askPair, offersOf } from "./list-offers.js";
+import { askBroken, askClause, askPair, offersOf, withoutGone } from "./list-offers.js";
 import { askNames } from "./names-asked.js";
 
 const NAMED = { things: "names", numbers: "numbers" };
@@ -35,7 +35,7 @@ class ListGrid {
     pasteCells(table, (cell, rows) => this.fill(cell, rows), readCells, isSeveral);
     this.showSingles();
     this.show();
-    askAgain(this, typed);
+    if (!askAgain(this, typed)) this.offerAgain();
   }
 
   /** The columns that are shown. */
@@ -129,17 +129,10 @@ class ListGrid {
   /** Takes what was pasted into a cell; `said` has what the user said of its columns. Names are for the first column,
    * wherever they are pasted. */
   fill(cell, pasted, said = { choice: {}, out: [] }) {
-    const [, r, key] = cell.split("."), columns = this.columns(), place = columns.findIndex((one) => one.key === key);
-    if (place < 0) return;
-    const isName = (text) => /\p{L}/u.test(text) && !SPOILT.test(text) && readNumber(text).fault;
-    const first = pasted.slice(1).some((row) => row.length > 1 && row.some(isName)) ? 0 : place;
-    const { single } = this.kind, own = first ? columns.slice(first) : this.allColumns();
-    const sheet = sheetOf(pasted, own, {
-      mark: this.mark(), usual: columns.slice(first), isFirst: !first, ...said,
-      single: single?.heads && { ...single, second: this.kind.second },
-    });
+    const [, r] = cell.split("."), { sheet, first } = this.sheetIn(cell, pasted, said), { single } = this.kind;
+    if (!sheet) return;
     const other = this.kind.refusal?.(pasted) ?? sheet.fault;
-    const fault = other ?? (first ? this.wordsFault(pasted, columns[first]) : undefined);
+    const fault = other ?? (first ? this.wordsFault(pasted, this.columns()[first]) : undefined);
     if (fault) return this.say(`${fault} Nothing was taken.`);
     const most = this.kind.most * 4, count = sheet.rows?.length ?? 0;
     if (count > most) return this.say(`These are ${count} rows, and at most ${most} fit. Nothing was taken.`);
@@ -157,8 +150,36 @@ class ListGrid {
     if (!isOpen) sheet.notes.push(`${single.title} was ${old} before.`);
     if (said.isSame === false) this.emptied(Number(r), count);
     this.take({ ...sheet, number: said.amount ?? sheet.number, kept }, Number(r));
-    this.offers = offersOf(this, sheet, said, use);
+    this.typed.offered = { cell, pasted, said, told: this.said.textContent };
+    return this.offerOf(sheet, this.typed.offered);
+  }
+
+  /** What a pasted text is in the columns from that of a cell on, the `first`; no sheet where the cell is gone. */
+  sheetIn(cell, pasted, said) {
+    const [, , key] = cell.split("."), columns = this.columns(), place = columns.findIndex((one) => one.key === key);
+    if (place < 0) return {};
+    const isName = (text) => /\p{L}/u.test(text) && !SPOILT.test(text) && readNumber(text).fault;
+    const first = pasted.slice(1).some((row) => row.length > 1 && row.some(isName)) ? 0 : place;
+    const { single } = this.kind, own = first ? columns.slice(first) : this.allColumns();
+    const sheet = sheetOf(pasted, own, {
+      mark: this.mark(), usual: columns.slice(first), isFirst: !first, ...said,
+      single: single?.heads && { ...single, second: this.kind.second },
+    });
+    return { sheet, first };
+  }
+
+  /** Offers what a text says beside its rows, until that is used or other rows come. */
+  offerOf(sheet, { cell, pasted, said }) {
+    this.offers = offersOf(this, sheet, said, (more) => this.fill(cell, withoutGone(pasted, sheet, this.typed), more));
     return this.showOffers();
+  }
+
+  /** The same of cells that were shown before, as behind a question that took a row out, or behind Undo. */
+  offerAgain() {
+    const { offered } = this.typed, { sheet } = offered ? this.sheetIn(offered.cell, offered.pasted, offered.said) : {};
+    if (!sheet?.rows) return;
+    this.said.textContent = offered.told;
+    this.offerOf(sheet, offered);
   }
 
   /** Why words alone don’t go into a column of numbers. */
@@ -323,7 +344,7 @@ class ListGrid {
   leave(isExample) {
     const { typed, kind } = this, { key } = kind.single ?? {};
     Object.assign(typed, { rows: [], isPasted: true });
-    for (const said of ["notSums", "coarse", "isMarked", "isNamed"]) delete typed[said];
+    for (const said of ["notSums", "coarse", "isMarked", "isNamed", "offered"]) delete typed[said];
     if (isExample && key && typed[key] === kind.example()[key]) typed[key] = "";
   }
 

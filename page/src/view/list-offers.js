@@ -21,8 +21,9 @@ export function offersOf(grid, sheet, said, use) {
   const turn = (head, c) => () => {
     grid.remember("Two quotas");
     grid.turnDouble();
-    const votes = targets.findIndex((own) => own?.key === "votes");
+    const votes = targets.findIndex((own) => own?.key === "votes"), { notSums, notTwice } = typed;
     if (c) use({ ...said, choice: { ...said.choice, votes, second: c } });
+    Object.assign(typed, { notSums, notTwice }); // the rows are the same
   };
   const isFilled = () => !isOpen() && (isOne() || typed[second.single.key].trim());
   const parts = [
@@ -36,6 +37,14 @@ export function offersOf(grid, sheet, said, use) {
   ].map(([isStill, part]) => ({ isStill, element: el("span", {}, part) }));
   grid.said.append(...parts.map(({ element }) => element));
   return parts;
+}
+
+/** Pasted rows without those that were taken out of the list since, if it is clear which they are. */
+export function withoutGone(pasted, { rows, targets }, typed) {
+  const at = targets.findIndex((own) => own?.key === "name"), names = typed.rows.map(({ name = "" }) => name.trim());
+  const gone = rows.map((row) => (row[at] ?? "").trim()).filter((name) => name && !names.includes(name));
+  const isClear = gone.length === rows.length - names.filter(Boolean).length;
+  return isClear ? pasted.filter((row) => !row.some((text) => gone.includes(text.trim()))) : pasted;
 }
 
 const isSingle = ({ quotas }) => quotas.length !== 2;
