@@ -26,8 +26,7 @@ const MEANINGS = {
   prenucleolus: "The prenucleolus is the same rule for all divisions of the whole: it doesn’t ask that each does at "
     + "least as well as alone. If some division satisfies all groups, the two are the same.",
   shapley: "Shapley shares let the players join one by one. Each gets what it adds, on average over all orders. "
-    + "No other rule is efficient, symmetric and additive, and gives nothing for nothing (Shapley 1953). Some group "
-    + "may do better by itself.",
+    + "No other rule is efficient, symmetric and additive, and gives nothing for nothing (Shapley 1953).",
   core: "A core point is a division by which no group does better by itself. This is one of many, so it says "
     + "nothing about who deserves what.",
   bird: "Bird’s shares let each place pay the link by which the cheapest network reaches it (Bird 1976).",
@@ -37,6 +36,8 @@ const MEANINGS = {
   buyers: "The two ends of the market: the lowest and the highest prices by which no buyer and seller do better "
     + "together (Shapley and Shubik 1971).",
 };
+
+const MAY_LEAVE = "Some group may do better by itself."; // unless it is said of these shares
 
 const PROPORTION = {
   bankruptcy: "In proportion: each gets the same part of its claim, as insolvency law commonly has it. The page itself "
@@ -105,7 +106,9 @@ export function meaningOf(key, { perHead, kind }) {
 }
 
 export function meanings(points, hasHolds, game) {
-  const { perHead } = game, texts = points.map(({ key }) => meaningOf(key, game)).filter(Boolean);
+  const { perHead } = game, texts = points.map(({ key }) => {
+    return [meaningOf(key, game), key === "shapley" && MAY_LEAVE].filter(Boolean).join(" ");
+  }).filter(Boolean);
   const holds = HOLDS + (perHead ? PER_HEAD_ISNT : PLAIN_IS_EVEN);
   return folded("What the columns and the questions mean", [...texts, GROUPS, ...(hasHolds ? [holds] : [])]);
 }

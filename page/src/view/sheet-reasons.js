@@ -37,10 +37,10 @@ function savingsText(game, { shares }, rows, format) {
     : listed(told)}: together ${sum}.`;
 }
 
-/** What is said for a column that was agreed on, and isn't the answer. */
+/** What is said for a column that was agreed on, and isn't the answer; "" for nothing. */
 function meantOf({ result: { game }, rows, format, agreed }) {
-  return el("section", {}, el("h2", {}, agreed.title), el("p", {}, savingsText(game, agreed, rows, format), " ",
-    meaningOf(agreed.key, game)));
+  const text = [savingsText(game, agreed, rows, format), meaningOf(agreed.key, game)].filter(Boolean).join(" ");
+  return text && el("section", {}, el("h2", {}, agreed.title), el("p", {}, text));
 }
 
 /** Why the column that the sheet is of has these shares. */

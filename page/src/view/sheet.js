@@ -73,7 +73,7 @@ function fillSheet(sheet, session, typed) {
   const view = { ...session, heading, unit, withProposal, rows, format, today, coarse, pinned, labelOfCell: labelOf,
     result: { ...result, points }, agreed };
   if (isBeyond) return beyondOn(sheet, view);
-  const reasons = reasonsOf(view), isLong = rows.length > MANY_ROWS || reasons.textContent.length > LONG;
+  const reasons = reasonsOf(view), isLong = rows.length > MANY_ROWS || (reasons && reasons.textContent.length > LONG);
   const isTight = isLong || Boolean(withProposal || agreed || coarse || pinned.pin || result.core?.collection);
   sheet.className = isTight ? "tight" : "";
   return refill(sheet, headOf(view), notices(result, format, coarse),
