@@ -53,7 +53,8 @@ export function tetrahedron(game, points, { wide, view }) {
   }, partsOf(shapes, view));
   const worse = game.costs ? "pays more" : "gets less";
   const tree = el("div", {}, figure("triangle tetrahedron", "tetrahedron", drawn, `${said} The frame has all `
-    + `divisions in which nobody ${worse} than alone. Drag it, or use the arrow keys, to turn it.`),
+    + `divisions in which nobody ${worse} than alone.`, el("span", { class: "screen" },
+    " Drag it, or use the arrow keys, to turn it.")),
   cornersTable(corners, game, sign));
   return { tree, partsOf: (other) => partsOf(shapes, other) };
 }

@@ -3,7 +3,7 @@
 
 const WIDE = "176mm"; // of A4 between the margins
 const MOST = (264 * 96) / 25.4; // its height in pixels, with some to spare: paper breaks lines a little otherwise
-const SIZES = [["tight"], ["tight", "tighter"]]; // of letters, each smaller than the one before
+const SIZES = ["tight", "closer", "tighter"]; // of letters, each smaller than the one before
 
 /** What stands in the styles for paper counts, and what stands there for narrow windows doesn't. */
 function mediaOfPaper(text) {
@@ -38,7 +38,7 @@ export function fitOnPaper(sheet) {
     for (const isWithout of picture ? [false, true] : [false]) {
       if (isWithout) picture.remove();
       for (const size of SIZES) {
-        sheet.classList.add(...size);
+        sheet.classList.add(size);
         if (isIn()) return 1;
       }
       sheet.className = own;
