@@ -33,12 +33,11 @@ export function paperPart(session, typed) {
       button("Print them", () => printAs(what), { class: "quiet" })]);
     if (count === 1) printAs(what);
   };
-  const { line, rule } = session.result ?? {}, { isVote } = session.kind, agreed = el("div");
+  const { isVote } = session.kind, agreed = el("div");
   const element = el("div", { class: "paper-part" },
     el("p", { class: "hint" }, "One page for a board or a court: who, how much, a picture, the reasons, what is ",
       "agreed on, and how to check it. Or everything on this page, with the amounts that were worked out, and the ",
       "check of a line if it is of this case."),
-    line && !isVote && el("p", { class: "hint" }, `As long as nothing is agreed on, the one page has the ${rule}.`),
     agreed,
     field("heading", "Heading", typed.heading ?? session.kind.title, true),
     typed.isPastedOver && typed.heading && el("p", { class: "hint" }, `The heading is still “${typed.heading}”.`),
@@ -46,7 +45,11 @@ export function paperPart(session, typed) {
       el("label", { class: "single" }, own, " Put the other columns on the one page too")],
     el("p", { class: "tools" },
       button("Print one page", printed("sheet"), { class: "main" }), button("Print everything", printed("all"))), said);
-  element.showAgreed = () => refill(agreed, agreedChoice(session, typed));
+  element.showAgreed = () => {
+    const { line, rule } = session.result ?? {}, choice = agreedChoice(session, typed), hint = { class: "hint" };
+    refill(agreed, choice && line && el("p", hint, `As long as nothing is agreed on, the one page has the ${rule}.`),
+      choice);
+  };
   return element;
 }
 
