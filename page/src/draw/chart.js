@@ -21,7 +21,7 @@ export function chart({ title, rows, legend, low, high, wide, text, columns = []
   let y = drawn.high + (isNarrow ? 14 : 10) + (columns.length ? LINE : 0);
   const top = y, ticks = ticksOf(low, high), bodies = [], middles = [];
   for (const row of rows) {
-    if (isNarrow) y += LINE - 4;
+    if (isNarrow) y += LINE - 2;
     const label = labelOf(row, y, left, isNarrow, wide);
     bodies.push(el("g", {}, el("title", {}, row.told), label, bodyOf(row, x, y)));
     middles.push(y + heightOf(row) / 2 + 5);
@@ -74,7 +74,7 @@ function labelOf({ label, note, ...row }, y, left, isNarrow, wide) {
   const high = heightOf(row), room = isNarrow ? wide - 20 : left - 14;
   const [anchor, x] = isNarrow ? ["start", 12] : ["end", left - 12];
   const beside = note && isNarrow ? ` (${note})` : "";
-  const middle = isNarrow ? y - 7 : y + high / 2 + (note ? -3 : 5);
+  const middle = isNarrow ? y - 9 : y + high / 2 + (note ? -3 : 5);
   const first = el("text", { class: isNarrow && "apart", x, y: middle, "text-anchor": anchor },
     fitted(label + beside, room));
   if (!note || isNarrow) return [first];
