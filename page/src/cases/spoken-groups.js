@@ -5,7 +5,10 @@ import { LONE } from "./group-words.js";
 
 const MOST_LETTERS = 4000, MOST_NAME = 40, MOST_WORDS = 4, MOST_NAMES = 16;
 const CODE = "(?<!\\p{L})[A-Z]{3}(?!\\p{L})", MONEY = `(?:\\p{Sc}|${CODE})`;
-const AMOUNT = new RegExp(`(?:${MONEY}\\s?)?(?<![\\p{L}\\d.,])\\d(?:[\\d.,'’\u202f]{0,15}\\d)?(?:\\s?${MONEY})?`, "gu");
+const DIGITS = "(?:\\d{1,3}(?:[\u00a0 ]\\d{3}){1,4}(?!\\d)|\\d(?:[\\d.,'’\u202f]{0,15}\\d)?)";
+const AMOUNT = new RegExp(`(?:(?<=\\s)[-−])?(?:${MONEY}\\s?)?(?<![\\p{L}\\d.,])${DIGITS}(?![\\p{L}\\d%/])`
+  + `(?:\\s?${MONEY})?`, "gu");
+const UNIT = /^\s\p{L}+(?=[,;])/u; // behind an amount
 const HAS_MONEY = new RegExp(MONEY, "u");
 const MARKS = /^\s*(?:>\s*)*(?:[-–•*]\s+|\d{1,2}[.)]\s+)?/u; // of a list or a quotation
 const WRAPPED = /[^.:;!?\d\s\p{Sc}]\s*$/u, GOES_ON = /^(?:\p{Ll}|\p{Sc}?\d)/u; // a line that the next one goes on
@@ -16,7 +19,7 @@ const STRONG = `(?:${AND}|for|about|if|that|für|wenn|dass|pour|si|que|voor|als|
 const capital = (words) => `(?:${words}|${words.replace(/(?<![\p{L}])\p{Ll}(?=\p{L})/gu, (one) => one.toUpperCase())})`;
 const CUT = new RegExp(`^.*(?:[,:(–]|(?<!\\p{L})${capital(STRONG)}(?=\\s))\\s*`, "u");
 const LEAST = new RegExp(`^(?:.*(?<![\\p{L}]|\\p{Lu}\\p{L}{0,30}\\s)${ARTICLE}\\s+|${capital(ARTICLE)}\\s+)`, "u");
-const GOING = /\s+(?:would |to )?(?:go(?:es|ing)?|travels?|fahren|fährt|vont|va|gaat|gaan)$/u;
+const GOING = /\s+(?:would |to )?(?:go(?:es|ing)?|do(?:es)? it|travels?|fahren|fährt|vont|va|gaat|gaan)$/u;
 const NAME = /^[\p{L}\d][\p{L}\d .'’&-]*$/u;
 const LONE_WORD = new RegExp(`(?<!\\p{L})(?:${LONE})(?!\\p{L})`, "iu");
 const WITH_WORD = new RegExp(`(?<!\\p{L})(?:${WITH})(?!\\p{L})`, "iu");
@@ -27,6 +30,7 @@ const ALL = new RegExp("(?<!\\p{L})(?:"
   + ")(?!\\p{L})", "iu");
 const OTHERWISE = new RegExp("(?<!\\p{L})(?:each|per (?:head|person|team|club|child|day|week|month|year|seat|km)|apiece"
   + "|jeweils|je|pro|chacune?s?|par|less|more|than|discount|rebate|deposit|instead|extra|cheaper|dearer|except"
+  + "|thousand|millions?|tausend|mille|duizend|plus|an? (?:day|week|month|year|head)"
   + "|without|unless|not|neither|nor|or|between|ohne|nicht|statt|oder|sans|pas|ou|zonder|niet|of which|davon"
   + ")(?!\\p{L})", "iu");
 const SAVED = /(?<!\p{L})(?:sav(?:e|es|ed|ing|ings)|spar(?:en|t)|économi\p{L}*|bespa\p{L}*)(?!\p{L})/iu;
@@ -36,6 +40,7 @@ const VERB = /\s(?:is|are|was|were|be|costs?|to|at|of|ist|sind|wäre|kostet|est|
 const JOINER = new RegExp(`^\\s*(?:[,&+]|,?\\s*${AND}(?!\\p{L}))\\s*(?:${capital(ARTICLE)}\\s+)?$`, "u");
 const CAPITAL_END = new RegExp(`(?<!\\p{L})(?!${capital(`${STRONG}|${ARTICLE}`)}\\s)\\p{Lu}[\\p{L}’'-]*\\s+$`, "u");
 const GOES_FURTHER = new RegExp(`^\\s*(?:[&+]|,?\\s*${AND}\\s+(?:${ARTICLE}\\s+)?\\p{Lu}|\\p{Lu})`, "u");
+const SEVERAL = new RegExp(`\\s(?:&|${AND})\\s`, "u");
 const FROM = new RegExp(`\\S.*(?:,|&|\\+|(?<!\\p{L})${AND})\\s*(?:${ARTICLE}\\s+)?$`, "u");
 
 /** The sentences of a text, each with the number of its line; lines that a mail program broke are one. */
@@ -61,7 +66,7 @@ function partsOf(text) {
 function bareName([words, behind, more]) {
   const [, name = ""] = BARE.exec(words) ?? [], isOne = more === undefined && /^\P{L}*$/u.test(behind);
   const isName = isOne && !VERB.test(name) && !ALL.test(name) && !LONE_WORD.test(name) && !WITH_WORD.test(name);
-  return isName && !FROM.test(`${name} `.replace(/\S+ $/, "")) ? name : undefined;
+  return isName && !SEVERAL.test(name) ? name : undefined;
 }
 
 /** The name before "alone" in some words; undefined if there is none. */
@@ -81,9 +86,10 @@ function groupIn(words, names, isCost) {
   if (!found.length && all) return !isAlone && [undefined, names.length].includes(countIn(all)) ? names : null;
   if (!found.length) return isAlone || WITH_WORD.test(words) ? null : undefined;
   const endOf = ({ index, 0: own }) => index + own.length, last = endOf(found.at(-1)), [{ index: first }] = found;
+  const before = words.slice(0, first), behind = words.slice(last);
   const isRun = found.every((one, k) => !k || JOINER.test(words.slice(endOf(found[k - 1]), one.index)));
-  const isOpen = CAPITAL_END.test(words.slice(0, first)) || GOES_FURTHER.test(words.slice(last))
-    || FROM.test(words.slice(0, first).replace(/^\W+/u, ""));
+  const isOpen = CAPITAL_END.test(before) || GOES_FURTHER.test(behind) || /\d/.test(before + behind)
+    || FROM.test(before.replace(UNIT, "").replace(/^\W+/u, ""));
   const isOne = found.length === 1, isCounted = !all || [undefined, found.length].includes(countIn(all));
   const isBare = isOne && BARE.exec(words)?.[1] === found[0][0];
   if (!isRun || isOpen || (isAlone !== isOne && !isBare) || !isCounted) return null;
@@ -105,7 +111,7 @@ function groupsOf({ amounts, words }, names, isCost) {
 export function spokenGroups(text, isCost) {
   if (text.length > MOST_LETTERS || /[\t|]/.test(text)) return null;
   const all = sentencesOf(text).map((one) => ({ ...one, ...partsOf(one.text) }));
-  const said = all.filter(({ amounts }) => amounts.length), pieces = said.flatMap(({ words }) => words);
+  const said = all.filter((one) => /\d/.test(one.text)), pieces = said.flatMap(({ words }) => words);
   const isMarked = (one) => LONE_WORD.test(one) || WITH_WORD.test(one);
   const isSpoken = said.some(({ words }) => words.some((one) => SPOKEN.test(one)));
   if (!isSpoken && !said.some(({ words }) => words.filter(isMarked).length > 1)) return null;

@@ -179,14 +179,14 @@ function spokenTable({ rows, lines, left, odd }, { isSpoken, ...said }) {
     return { fault: `Line ${odd.line}: “${short}” doesn’t say for sure which group each amount is of.${ADVICE}` };
   }
   const read = listOf(rows, lines, said);
-  if (read.fault) return { fault: read.fault + ADVICE };
-  if (!isSpoken && read.state) {
+  if (!read.state) return read;
+  if (!isSpoken) {
     const told = rows.map(([group, number]) => withEscapes(`${group.replaceAll("+", " + ")} ${number}`)).join("; ");
     return { fault: `Read as: ${told}. Is it meant so?`, ways: [["Yes, take it", { isSpoken: true }],
       ["No", { isSpoken: false }]] };
   }
   const out = leftText(left);
-  return read.state ? { ...read, remark: (out && ` ${out}`) + read.remark } : read;
+  return { ...read, remark: (out && ` ${out}`) + read.remark };
 }
 
 /** What comes of parts with who uses each: {users} are asked about, until somebody said what they are (`isParts`, or
