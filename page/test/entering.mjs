@@ -35,7 +35,8 @@ const marks = [
     expect("and said", await notes(page), read);
     await useList(page, "3.922\n1.234\n5\n6\n7\n8\n40.000");
     await asked(page);
-    expect("asked", await notes(page), /“3.922” can be read as 3922 or as 3.922[\s\S]*So can the 2 other numbers like it/);
+    const asks = /“3.922” can be read as 3922 or as 3.922[\s\S]*So can the 2 other numbers like it/;
+    expect("asked", await notes(page), asks);
     await page.click("3.922, with decimals");
     await settle(page);
     expect("told", await notes(page), /“3.922” is read as 3.922, with decimals[\s\S]*So are the 3 numbers/);
