@@ -10,8 +10,8 @@ const YEAR = /(?<!\d)(?:19|20)\d\d(?!\d)/g;
 const NOTE = /^([(*†]|sources?\b|notes?\b|remarks?\b|quellen?\b|hinweis|anmerkung|stand\b)/iu;
 
 const PARAGRAPH = /^(?:§|art(?:icle|ikel|\.)\s*\d)/iu;
-const TITLE = new RegExp("(?:claims|debts|creditors|forderungen|gläubiger|votes|seats|shares|stimmen|sitze|anteile|voix"
-  + "|sièges|parts|créances|créanciers|\\p{L}*verteilung|distribution|allocation|répartition)"
+const TITLE = new RegExp("^(?:\\p{L}+\\s)?(?:claims|debts|creditors|forderungen|gläubiger|votes|seats|shares|stimmen"
+  + "|sitze|anteile|voix|sièges|parts|créances|créanciers|\\p{L}*verteilung|distribution|allocation|répartition)"
   + "\\s*(?:\\([^()]{1,60}\\))?:?$", "iu");
 
 const filledOf = (row) => row.filter(Boolean);

@@ -10,6 +10,7 @@ export const LISTS = [
   ["votes", "§ 7 Stimmen\nAnn: 12\nBo: 9", "Ann=12|Bo=9", /Left out, as it is no row: “§ 7 Stimmen”/],
   ["votes", "Ann\t12\n§ 8 Weitere\t\nBo\t9", "Ann=12|Bo=9", /“§ 8 Weitere”/],
   ["estate", "Creditor\tClaim\nUnsecured claims\t\nAnn\t120\nBo\t80", "Ann=120|Bo=80", /“Unsecured claims”/],
+  ["estate", "Gemeinschaft der Gläubiger\t\nAnn\t120\nBo\t80", /^Gemeinschaft/, /1 empty/],
   ["estate", "Ann\t120\nUnsecured claims\t\nBo\t80", "Ann=120|Unsecured claims|Bo=80", /1 empty/],
   ["estate", "Creditor\tClaim\nClaims Direct Ltd\t\nBo\t80", "Claims Direct Ltd|Bo=80", /1 empty/],
   // the form of textbooks
@@ -19,6 +20,9 @@ export const LISTS = [
   ["votes", "v = [8: 5, 4, 4]", "Voter 1=5|Voter 2=4|Voter 3=4"],
   ["votes", "[8,000; 5,000, 4,000]", "Voter 1=5,000|Voter 2=4,000"],
   ["votes", "[8000; 5,000,4,000]", null, /isn’t clear\. Write the votes needed first, a semicolon and then/],
+  ["votes", "Hello,\nour game is [8; 5, 4, 4].\nBest, Jo", "Voter 1=5|Voter 2=4|Voter 3=4",
+    /Left out, as no number stands beside: “Hello, our game is \. Best, Jo”/],
+  ["votes", "[8; 5, 4, 4]\n[7; 3, 3]", null, /isn’t clear/],
   ["votes", "[51; 41,5, 30]", null, /isn’t clear/], ["votes", "[5, 4, 4; 8]", null, /isn’t clear/],
   ["votes", "[8, 3; 5, 4, 4]", null, /isn’t clear/],
   // a name that a cell had in two lines
