@@ -1,4 +1,5 @@
 // The user's proposal beside the program's division, as the nucleolus compares them.
+import { spoken } from "../exact/marks.js";
 import { quoted } from "../tell/rule-names.js";
 import { el } from "./dom.js";
 import { labelOf, signedDifferences, totalsOf } from "./format.js";
@@ -28,9 +29,10 @@ export function comparisonPart({ shares, comparison, verdict, hold }, point, gam
 function comparisonOf(found, point, game, { rows: all, hold }) {
   const { title, key } = point, name = quoted(point), place = (k) => found.first + k;
   const { lists: [own, other], differs } = found;
-  const cell = ({ group, excess }) => [el("td", { class: "number" }, excess), el("td", {}, group)];
+  const texts = alike([...own, ...other].map(({ excess }) => excess));
+  const cell = ({ group }, k) => [el("td", { class: "number" }, texts[k]), el("td", {}, group)];
   const rows = own.map((entry, k) => el("tr", { class: place(k) === differs ? "differs" : "" },
-    el("th", { scope: "row", class: "number" }, String(place(k))), cell(entry), cell(other[k])));
+    el("th", { scope: "row", class: "number" }, String(place(k))), cell(entry, k), cell(other[k], own.length + k)));
   return [
     el("p", {}, principleOf(name, key, game)),
     el("div", { class: "scroll" }, el("table", { class: "shares small" },
@@ -43,6 +45,15 @@ function comparisonOf(found, point, game, { rows: all, hold }) {
     ].join(" ").trim()),
     el("p", { class: "field-name" }, prenucleolusText(found, key, game, all, hold).join(" ")),
   ];
+}
+
+/** Numbers of a table with as many decimals each, so that they stand in line; as they are if one is a fraction. */
+function alike(texts) {
+  const form = new RegExp(`^([^/]*?\\d)(?:[${spoken.mark}](\\d+))?(\\D*)$`);
+  const parts = texts.map((text) => text.match(form));
+  if (!parts.every(Boolean)) return texts;
+  const most = Math.max(...parts.map(([, , decimals = ""]) => decimals.length)), mark = most ? spoken.mark : "";
+  return parts.map(([, whole, decimals = "", unit]) => `${whole}${mark}${decimals.padEnd(most, "0")}${unit}`);
 }
 
 /** Why a proposal isn't the prenucleolus either. */
