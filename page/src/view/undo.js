@@ -25,7 +25,10 @@ export class Steps {
   }
 }
 
-const textOf = (cells) => JSON.stringify(cells, (_, one) => (typeof one === "bigint" ? String(one) : one));
+/** Cells as a text; what is `offered` beside them is no step. */
+const textOf = (cells) => JSON.stringify(cells, (key, one) => {
+  return key === "offered" ? undefined : typeof one === "bigint" ? String(one) : one;
+});
 
 /** The two buttons, as `element`. `remember(what)` is called before a step changes the cells, and `typing(what)` before
  * a key does: what is typed is one step, until another comes. `watch(panel)` sees keys and clicks in a panel by itself,
