@@ -9,6 +9,7 @@ const DIGITS = "(?:\\d{1,3}(?:[\u00a0 ]\\d{3}){1,4}(?!\\d)|\\d(?:[\\d.,'’\u202
 const AMOUNT = new RegExp(`(?:(?<=\\s)[-−])?(?:${MONEY}\\s?)?(?<![\\p{L}\\d.,])${DIGITS}(?![\\p{L}\\d%/])`
   + `(?:\\s?${MONEY})?`, "gu");
 const UNIT = /^\s\p{L}+(?=[,;])/u; // behind an amount
+const BLANK = /\d[\u00a0 ]\d/, NAMED = /(?<!\p{L})\p{Lu}\p{L}*\s*$/u;
 const HAS_MONEY = new RegExp(MONEY, "u");
 const MARKS = /^\s*(?:>\s*)*(?:[-–•*]\s+|\d{1,2}[.)]\s+)?/u; // of a list or a quotation
 const WRAPPED = /[^.:;!?\d\s\p{Sc}]\s*$/u, GOES_ON = /^(?:\p{Ll}|\p{Sc}?\d)/u; // a line that the next one goes on
@@ -101,6 +102,7 @@ function groupIn(words, names, isCost) {
 function groupsOf({ amounts, words }, names, isCost) {
   const groups = words.map((one) => groupIn(one, names, isCost));
   if (groups.every((group) => group === undefined)) return undefined;
+  if (amounts.some((one, k) => BLANK.test(one) && NAMED.test(words[k]))) return null; // "Lot 1 480"
   const ways = [groups.slice(0, -1), groups.slice(1)], rests = [groups.at(-1), groups[0]];
   const way = ways.findIndex((some, k) => some.every(Array.isArray) && rests[k] === undefined);
   return way < 0 ? null : ways[way].map((group, k) => [group.join("+"), amounts[k]]);

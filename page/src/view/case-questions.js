@@ -65,7 +65,8 @@ function twiceQuestion({ name, more, ways, canKeep }, typed, { onReset, onChange
 /** Asks whether costs stand where landings belong: until that is settled there is no answer. */
 function swapQuestion({ count, cost, name }, typed, { onReset, onChange }) {
   const rows = typed.rows.map((row) => ({ ...row, cost: row.count, count: row.cost }));
-  const swapped = () => onReset({ ...typed, rows, isUnordered: false }, "Swap the columns", true);
+  const next = { ...typed, rows, isUnordered: false, offered: undefined }; // what was said of the columns is no more
+  const swapped = () => onReset(next, "Swap the columns", true);
   const keep = () => {
     typed.isUnordered = false;
     onChange(0);
