@@ -133,4 +133,8 @@ export function spokenGroups(text, isCost) {
   };
 }
 
+/** Whether a text is a sentence with several numbers, and nothing for one cell. */
+export const isSentence = (text) => text.length <= MOST_LETTERS && text.match(/\d[\d.,'’]*/gu)?.length > 1
+  && text.match(/\p{L}{2,}/gu)?.length > MOST_WORDS;
+
 const isMoney = (amount) => HAS_MONEY.test(amount);

@@ -17,7 +17,7 @@ import { leftText, unframed } from "./frames.js";
 import { cellsOf } from "./pasting.js";
 import { Reading } from "./reading.js";
 import { answerFault } from "./saved-tables.js";
-import { spokenGroups } from "./spoken-groups.js";
+import { isSentence, spokenGroups } from "./spoken-groups.js";
 import { unitsText, withoutUnits } from "./units.js";
 import { groupsOfParts, partsElsewhere, tableOfParts, usedParts } from "./used-parts.js";
 import { headingOf, manyBelow, numbersIn, vectorOf } from "./vectors.js";
@@ -169,7 +169,7 @@ export function tableOf(text, names = [], order = "size", mark = ".", said = {})
 }
 
 /** Why a line of which nobody can part the name from the number isn't taken. */
-const looseFault = (line) => looseText(line) + (/\d/.test(line) ? "" : ADVICE);
+const looseFault = (line) => looseText(line) + (/\d/.test(line) && !isSentence(line) ? "" : ADVICE);
 
 /** What comes of sentences that name groups: what was read is asked about, until somebody said that it `isSpoken`. */
 function spokenTable({ rows, lines, left, odd }, { isSpoken, ...said }) {

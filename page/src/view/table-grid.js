@@ -1,7 +1,7 @@
 // The grid of a table: the players, and a cell for each group, by size. Of many groups a page is shown at a time.
 import { isBareName } from "../cases/bare-names.js";
 import { blockOf, isNumbers } from "../cases/block.js";
-import { spokenGroups } from "../cases/spoken-groups.js";
+import { isSentence } from "../cases/spoken-groups.js";
 import { groupLabel, packed, unpacked, withoutPlayer, withPlayer } from "../cases/tables.js";
 import { masksBySize, membersOf } from "../game/groups.js";
 import { countText } from "../exact/decimals.js";
@@ -51,7 +51,7 @@ class TableGrid {
     this.element.addEventListener("show-cell", ({ detail }) => this.showCell(detail));
     removeByKey(players);
     moveByKeys(list, (cell, step) => `numbers.${this.order[this.placeOf(cell) + step]}`);
-    const isSeveral = ([[text]]) => spokenGroups(text, kind.isCost) !== null;
+    const isSeveral = ([[text]]) => isSentence(text);
     pasteCells(list, (cell, rows, text) => this.paste(cell, rows, text), readCells, isSeveral);
     pasteCells(players, (cell, rows, text) => this.pasteNames(cell, rows, text), readCells, isSeveral);
     this.show();

@@ -38,6 +38,8 @@ export const GROUPS = [
   ["costs", "Villars seul paierait 48 000 francs, Ollon seul 39 000 francs. Villars et Ollon ensemble: 69 000.",
     "Villars|Ollon|48 000|39 000|69 000", /3 groups/, "Yes, take it"],
   ["costs", "Lot 1 480\nLot 2 450\nBoth together in one go: 640\nLot 1 alone is 30.", null, /sure which/],
+  ["gains", "Alone the singer would earn 20 and the pianist 30. Both together would earn 80.", null,
+    / \+ Rovers 640”\. Nothing was taken/],
   ["costs", "Ann alone is £40k, Bo alone is £30k. Both together: £60", null, /sure which/],
   ["costs", "Ann alone is £40 a month, Bo alone is £30 a year. Both together: £60", null, /sure which/],
   ["costs", "Tigers, Rovers alone £64, Tigers alone is £48, Rovers alone is £42", null, /for sure/],
