@@ -76,7 +76,7 @@ export const assumed = [
     expect("told", await page.text("#case .case > .note"), /changed the file since, the page can’t know/);
     await told(page, MESSAGE, /^5 groups were filled[^]*1 of them cost more than a larger group that holds them/);
     const dearer = await page.run("document.querySelector('.named ul').textContent");
-    expect("and which", dearer, "Aston + Dale: 184,9 (Aston + Bray + Dale: 175)");
+    expect("and which", dearer, "Aston + Dale: 184,9 (Aston + Bray + Dale: 175,0)");
     expect("by its mark", await value(page, "numbers.5"), "177,1");
     expect("shown", await page.text(".lead"), /together 251,50/);
     expect("proposal", await value(page, "proposal.0"), "90,5");
@@ -203,6 +203,11 @@ export const assumed = [
     const change = /largest change of the others without Colne is that of \w+: [\d,]+ (more|less) \(“/;
     await told(page, ".leaves .found", change);
     expect("by each rule", leaves, /“Fairest to [\w ]+”: Dale pays [\d,]+, and alone [\d,]+ more; the others together/);
+    const before = await page.run(`[...document.querySelectorAll(".leaves .found tbody tr:not(.sum)")].every((line) => {
+      const name = line.cells[0].textContent, own = [...document.querySelectorAll("#answer .shares tbody tr")];
+      return own.find(({ cells }) => cells[0].textContent === name).innerText.includes(line.cells[1].innerText);
+    })`);
+    expect("before, each has the cents of the answer", before, true);
     await choose(page, "pair.0", "Aston");
     await choose(page, "pair.1", "Bray");
     const pair = await told(page, ".pair", /Alone Aston costs 112.00/);

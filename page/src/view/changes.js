@@ -2,15 +2,16 @@
 import { Rational } from "../exact/rational.js";
 import { fractionText } from "../exact/decimals.js";
 import { columnHead, el } from "./dom.js";
-import { movedText, signedDifferences, totalsOf } from "./format.js";
+import { movedText, signedSteps, totalsOf, withSum } from "./format.js";
 
-/** What a rule makes of it: the shares before and after, and the changes of what is shown, as texts. */
-export function changesOf({ title, before, after, leaving, ...rule }, rows, format) {
+/** What a rule makes of it: the shares before and after, and the changes of what is shown, as texts. `shown` are the
+ * steps that are shown of the shares before, if these are a part of a column. */
+export function changesOf({ title, before, after, leaving, ...rule }, rows, format, shown) {
   const [old, fresh] = [before, after].map((shares) => totalsOf(rows, shares.map(Rational.of)));
   const differences = fresh.map((value, r) => value.minus(old[r]));
   const isMoved = [old, fresh].some((totals) => format.isMoved(totals, rows));
-  const changes = signedDifferences(fresh, old, rows, format);
-  const texts = [...[old, fresh].map((totals) => format.column(totals, rows)), changes];
+  const steps = [shown ?? format.steps(old, rows), format.steps(fresh, rows)];
+  const texts = [...steps.map((own) => format.texts(withSum(own))), signedSteps(steps[1], steps[0], format.text)];
   return { ...rule, title, differences, leaving, isMoved, texts };
 }
 

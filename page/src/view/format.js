@@ -54,7 +54,11 @@ export function withSum(steps) {
 
 /** What is shown of the rows' values less what is shown of others, with signs, and the sum of that as the last. */
 export function signedDifferences(values, others, rows, { steps, text }) {
-  const [own, beside] = [values, others].map((some) => steps(some, rows));
+  return signedSteps(...[values, others].map((some) => steps(some, rows)), text);
+}
+
+/** Steps less others, as texts with signs, and their sum as the last. */
+export function signedSteps(own, beside, text) {
   return withSum(own.map((step, k) => step - beside[k])).map((step) => `${step > 0n ? "+" : ""}${text(step)}`);
 }
 

@@ -3,6 +3,7 @@ import { Rational } from "../exact/rational.js";
 import { quoted } from "../tell/rule-names.js";
 import { changesOf, changesTable } from "./changes.js";
 import { el, refill } from "./dom.js";
+import { totalsOf } from "./format.js";
 import { fillsOfRest } from "./two-fills.js";
 
 /** `view` are {game, rows, format, typed, ask, assumed}; `typed.leaves` keeps who was chosen. */
@@ -63,8 +64,11 @@ function leavingParts(found, { label, players }, stay, byFills, view) {
 
 /** What the others have without the one who leaves, what that means by each rule, and a table of it. */
 function sideParts(found, label, stay, view) {
-  const { game, format } = view, [verb, cost] = game.costs ? ["pays", "cost"] : ["gets", "gain"];
-  const columns = found.rules.map((rule) => changesOf(rule, stay, format));
+  const { game, rows, format } = view, [verb, cost] = game.costs ? ["pays", "cost"] : ["gets", "gain"];
+  const gone = rows.findIndex((row) => row.label === label), columns = found.rules.map((rule) => {
+    const steps = format.steps(totalsOf(rows, rule.all.map(Rational.of)), rows), [own] = steps.splice(gone, 1);
+    return { ...changesOf(rule, stay, format, steps), own };
+  });
   const [whole, rest, alone] = [found.whole, found.rest, found.alone].map(Rational.of);
   const [others, all] = format.apart(rest, whole), adds = whole.minus(rest), size = format.by(adds.abs());
   const does = !adds.isNegative() ? `adds ${size}` : game.costs ? `saves them ${size}` : `takes ${size} away`;
@@ -78,12 +82,11 @@ function sideParts(found, label, stay, view) {
 }
 
 /** What the one who leaves loses or gains by one rule, and the others together. */
-function ofRule(column, { label, verb, alone, game, format: { show, by } }) {
-  const own = Rational.of(column.own), others = Rational.sum(column.differences), way = (value) => {
-    return value.isNegative() ? "less" : "more";
-  };
+function ofRule(column, { label, verb, alone, game, format: { text, by, places } }) {
+  const own = new Rational(column.own, 10n ** BigInt(places)), others = Rational.sum(column.differences);
+  const way = (value) => (value.isNegative() ? "less" : "more");
   const told = (value) => (value.isZero() ? "the same" : `${by(value.abs())} ${way(value)}`);
   const verbs = game.costs ? "pay" : "get";
-  return `${quoted(column)}: ${label} ${verb} ${show(own)}, and alone ${told(alone.minus(own))}; the others together `
-    + `then ${verbs} ${told(others)}.`;
+  return `${quoted(column)}: ${label} ${verb} ${text(column.own)}, and alone ${told(alone.minus(own))}; the others `
+    + `together then ${verbs} ${told(others)}.`;
 }

@@ -83,7 +83,7 @@ function restOf(game, stay, amounts = amountsOf(game)) {
   return { ...sideOf(game, rest), n: stay.length, shown: stay.map((i) => game.shown[i]) };
 }
 
-/** What those who stay pay or get if `who` leave, by each rule; `own` is what those who leave paid or got. Of a
+/** What those who stay pay or get if `who` leave, by each rule; `all` is what each paid or got before. Of a
  * `network` with ways that the page filled, `gone` is the same if nobody may build through their places: null if some
  * place then has no way. */
 export function leave({ who, network }, game) {
@@ -107,8 +107,7 @@ function networkWithout({ mark, ...typed }, who) {
 
 function leaving(game, amounts, { who, stay, small }) {
   const rules = byEachRule([sideOf(game, amounts), small]).map(({ before, ...rule }) => {
-    const own = Rational.sum(who.map((i) => Rational.of(before[i])));
-    return { ...rule, own: String(own), before: stay.map((i) => before[i]) };
+    return { ...rule, all: before, before: stay.map((i) => before[i]) };
   });
   const rest = String(small.amounts.at(-1));
   return { whole: String(game.whole()), alone: String(game.told(who)), rest, stay, rules };
