@@ -47,13 +47,18 @@ function comparisonOf(found, point, game, { rows: all, hold }) {
   ];
 }
 
-/** Numbers of a table with as many decimals each, so that they stand in line; as they are if one is a fraction. */
+const [OF_DIGIT, OF_MARK] = ["\u2007", "\u2008"]; // blanks as wide as these
+
+/** Numbers of a table with blanks behind them, so that their decimals stand in line: zeros there may be wrong. As they
+ * are if one is a fraction. */
 function alike(texts) {
   const form = new RegExp(`^([^/]*?\\d)(?:[${spoken.mark}](\\d+))?(\\D*)$`);
   const parts = texts.map((text) => text.match(form));
   if (!parts.every(Boolean)) return texts;
-  const most = Math.max(...parts.map(([, , decimals = ""]) => decimals.length)), mark = most ? spoken.mark : "";
-  return parts.map(([, whole, decimals = "", unit]) => `${whole}${mark}${decimals.padEnd(most, "0")}${unit}`);
+  const most = Math.max(...parts.map(([, , decimals = ""]) => decimals.length));
+  return parts.map(([, , decimals = ""], k) => {
+    return `${texts[k]}${decimals || !most ? "" : OF_MARK}${OF_DIGIT.repeat(most - decimals.length)}`;
+  });
 }
 
 /** Why a proposal isn't the prenucleolus either. */
