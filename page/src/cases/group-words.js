@@ -95,12 +95,23 @@ function withoutAlone(read, used) {
   return [...new Set(kept.map(({ word }) => word))];
 }
 
+/** The names in a text that joins several of them; undefined for another text. */
+export function joinedOf(text, names) {
+  const parts = partsLike(text, names);
+  return parts.length > 1 && parts.every((part) => names.has(part)) ? parts : undefined;
+}
+
+/** The parts of a text, with the names that they are like. */
+function partsLike(text, names) {
+  const parts = rangeIn(text) ?? partsOf(text);
+  return parts.map((part, k) => nameLike(names, part, k, parts) ?? part);
+}
+
 /** The lines of groups without +, each with its `parts`: all have a line; or no part is in one such line only. */
 function andGroups(read, used) {
   const lines = new Set(read.filter(isLone).map(({ members: [one] }) => one));
   const all = read.filter((line) => isLone(line) && !used.has(line.members[0])).map((line) => {
-    const parts = rangeIn(line.members[0]) ?? partsOf(line.members[0]);
-    return Object.assign(line, { parts: parts.map((part, k) => nameLike(lines, part, k, parts) ?? part) });
+    return Object.assign(line, { parts: partsLike(line.members[0], lines) });
   }).filter(({ parts }) => parts.length > 1);
   const known = all.filter(({ parts }) => parts.every((part) => lines.has(part)));
   if (known.length) return known;

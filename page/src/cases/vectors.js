@@ -2,8 +2,8 @@
 // MATLAB's v = [1 2];
 import { mostOf } from "../game/classes.js";
 import { isSumWord } from "../game/names.js";
-import { MANY } from "../game/words.js";
 import { readNumber } from "../exact/decimals.js";
+import { joinedOf } from "./group-words.js";
 import { SPOILT } from "./pasting.js";
 
 const MOST_PLAYERS = mostOf("table");
@@ -53,15 +53,17 @@ function separatorOf(lines) {
 function manyText(rows) {
   const count = rows.length, [{ length: wide }] = rows, isTable = rows.every((row) => row.length === wide);
   if (count < 2 || wide < 2 || !isTable || !Number.isInteger(Math.log2(wide + 1))) return null;
-  return `These are ${count} rows of ${wide} numbers, so ${count} games. Paste one row. ${MANY}`;
+  return `These are ${count} rows of ${wide} numbers, so ${count} games. One game at a time here: paste one row.`;
 }
 
-/** The same of rows below a heading, which may name the groups, and behind a first column of what they are called: none
- * is called a total, or as a group or a heading is. */
+/** The same of rows below a heading, and behind a first column of what they are called. A column of names is of groups,
+ * unless headings without one above it, or such of groups, say what the numbers are. */
 export function manyBelow(rows) {
-  const isWord = (cell) => /\p{L}/u.test(cell) && !SPOILT.test(cell), [heads, ...below] = rows;
+  const isWord = (cell) => /\p{L}/u.test(cell) && !SPOILT.test(cell), [heads, ...below] = rows, titles = heads.slice(1);
+  const isNamed = below.some(([name = ""]) => !isNumber(name)) && below.every(({ length }) => length === heads.length);
+  const apart = new Set(titles), isOfGroups = titles.some((one) => one.includes("+") || joinedOf(one, apart));
   const isGroup = ([name = ""]) => isSumWord(name) || name.includes("+") || (isWord(name) && heads.includes(name));
-  if (!below.length || !heads.slice(1).every(isWord) || below.some(isGroup)) return null;
+  if (!below.length || !titles.every(isWord) || (isNamed && !isOfGroups) || below.some(isGroup)) return null;
   const isNumeric = (some) => some.every((row) => row.every((cell) => isNumber(cell)));
   const plain = [below, below.map((row) => row.slice(1))].filter(isNumeric);
   return plain.map(manyText).find(Boolean) ?? null;
