@@ -33,6 +33,7 @@ import { strangers } from "./strangers.mjs";
 import { undone } from "./undo.mjs";
 import { untaken } from "./untaken.mjs";
 import { users } from "./users.mjs";
+import { wholeNames } from "./whole-names.mjs";
 
 const words = process.argv.slice(2), [page, top] = words.map((word) => resolve(word));
 const option = (name, byDefault) => (words.includes(name) ? words[words.indexOf(name) + 1] : byDefault);
@@ -48,6 +49,7 @@ harness.add(strangers);
 harness.add(untaken);
 harness.add(agreed);
 harness.add(users);
+harness.add(wholeNames);
 harness.add(figures);
 harness.add(byLimitPrices);
 harness.add(parts);

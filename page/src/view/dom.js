@@ -64,6 +64,11 @@ export function cellOf(element, cell) {
   return element.querySelector(`[data-cell="${CSS.escape(cell)}"]`);
 }
 
+/** A name of which only a word of more than 16 letters may be broken. */
+export function breakable(name) {
+  return name.split(/([^\s\-–/]{17,})/).map((part, k) => (k % 2 ? el("span", { class: "long" }, part) : part));
+}
+
 /** Has the texts of pictures measured as the page shows them. */
 export function measureByCanvas() {
   const context = document.createElement("canvas").getContext("2d");

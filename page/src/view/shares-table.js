@@ -6,7 +6,7 @@ import { plainPoints } from "../tell/rule-names.js";
 import { Namer } from "../tell/words.js";
 import { listed, plural } from "../game/words.js";
 import { againstOf } from "./comparison.js";
-import { columnHead, el } from "./dom.js";
+import { breakable, columnHead, el } from "./dom.js";
 import { labelOf, movedText, totalsOf, withSum } from "./format.js";
 import { subtitleOf } from "./meanings.js";
 import { pinnedNote, pinTools, sinceKept } from "./pinned.js";
@@ -41,7 +41,7 @@ export function sharesTable(result, settings) {
   return el("div", {},
     pinned && pinnedNote(pinned, columns[0], rows, settings),
     settings.said && el("p", { class: "note own-said", role: "status" }, settings.said),
-    el("div", { class: "scroll" }, el("table", { class: kinds.filter(Boolean).join(" "), style: nameRoom(rows) },
+    el("div", { class: "scroll" }, el("table", { class: kinds.filter(Boolean).join(" "), style: roomOf(view) },
       headOf(view), el("tbody", {}, linesOf(rows).map((line) => (line.of ? sumRow(line, view) : shareRow(line, view))),
         (kept.get(columns[0].key)?.gone ?? []).map((one, k) => goneRow(one, k, view))),
       footOf(view))),
@@ -52,9 +52,11 @@ export function sharesTable(result, settings) {
     pinned?.pin && el("div", { class: "tools" }, pinTools(pinned)));
 }
 
-/** How wide the names are at least: whole where they are short, and otherwise their lines are broken. */
-function nameRoom(rows) {
-  return `--name: ${Math.min(MOST_NAME, Math.max(...rows.map(({ label }) => label.length)))}ch`;
+/** How wide the names are at least, in one line where they are short, and what is typed, which stays whole. */
+function roomOf({ rows, proposal, today }) {
+  const longest = (texts) => Math.max(0, ...texts.map(({ length }) => length));
+  const own = longest([...proposal.texts ?? [], ...today.texts ?? []].map(String));
+  return `--name: ${Math.min(MOST_NAME, longest(rows.map(({ label }) => label)))}ch; --own-digits: ${own}`;
 }
 
 /** By which columns a group could do better alone, a line each. */
@@ -122,7 +124,7 @@ function kindOf(k) {
 function shareRow({ row, r }, view) {
   const { game, context, columns, format, proposal, today, pinned, against } = view, count = row.players.length;
   const kept = (key) => view.kept.get(key)?.values[r];
-  return named(view, "", [row.label, count > 1 && el("small", {}, plural(count, "use"))], [
+  return named(view, "", [breakable(row.label), count > 1 && el("small", {}, plural(count, "use"))], [
     context && el("td", { class: "number context" }, context.texts[r]),
     today.texts && el("td", { class: "number today" }, ownInput(row, r, today, "today", todayTitle(game))),
     pinned?.pin && el("td", { class: "number kept" }, kept(columns[0].key) ? format.show(kept(columns[0].key)) : "–"),
@@ -148,7 +150,7 @@ function eachText(share, { places, mark, thousands, isExact }) {
 function goneRow({ label }, g, view) {
   const { context, columns, format, proposal, today, against } = view;
   const [first, ...others] = columns.map(({ key }) => view.kept.get(key)?.gone[g]?.value);
-  return named(view, "gone", [label, el("small", {}, "gone since")], [
+  return named(view, "gone", [breakable(label), el("small", {}, "gone since")], [
     context && el("td", { class: "number context" }), today.texts && el("td"),
     el("td", { class: "number kept" }, format.show(first)), el("td", { class: "number main" }, "–"),
     others.map((value, k) => el("td", { class: kindOf(k + 1) }, "–",
@@ -189,7 +191,7 @@ function sumRow({ sum, of }, view) {
     const change = now && changeBelow(shown.at(-1), now, format);
     return shareCell(format.text(shown.at(-1)), exact, 1, format, change, kindOf(k));
   });
-  return named(view, "subtotal", `${sum}, together`, [
+  return named(view, "subtotal", [breakable(sum), ", together"], [
     context && el("td", { class: "context" }), today.texts && el("td", { class: "number" }, now && format.show(now)),
     pinned?.pin && el("td", { class: "kept" }), cells,
     proposal.canBe && el("td", { class: "number proposed" }, proposed && format.show(proposed)),
