@@ -98,6 +98,7 @@ const GREETING = new RegExp("^(hi|hello|hey|dear|hallo|liebe[rs]?|sehr|guten|bon
 const PERSON = /^\p{Lu}[\p{L}'’. -]*(, ?\p{Lu}[\p{L}'’. -]{0,40}:?|:)$/u; // "Rossi, M", or "Cleo:"
 const FULL_NAME = /^\p{Lu}[\p{L}'’.-]*( \p{Lu}[\p{L}'’.-]*){0,2}$/u;
 const PHONE = /(^|[:=]\s*)\+?0\d{5,}$/;
+const CALL = /^(?:tel|t[eé]l[eé](?:ph|f)one?|phone|mobile?|handy|fon|fax)(?!\p{L})\P{L}{0,4}[+0]\d[\d ()/.-]{4,40}$/iu;
 const SOME_OF = /^\d+ (?:of|von|sur|de|van) \d+$/; // a quota
 const SAYING = /^(.*\S)(?:\s*[:=]\s*|\s{2,})([^\s:=].*)$/u;
 
@@ -106,12 +107,17 @@ function isPerson(text, isBelow = true) {
   return PERSON.test(text) && !GREETING.test(text) && (isBelow || !text.endsWith(":"));
 }
 
+/** Whether some line of these, between a list and a line beyond it, begins or ends a mail, or is empty. */
+export function isMail(some, isBelow) {
+  return some.some((text) => !text || (MAIL.test(text) && !isPerson(text, isBelow)));
+}
+
 /** Whether a line right below a table may be one of its people, whose number is lost: "Rossi, M", or "Eva Weiss". */
 export const isLostPerson = (text) => isPerson(text) || (FULL_NAME.test(text) && !GREETING.test(text));
 
 /** The ways in which a line is a name and a number behind it, which may have blanks; behind a colon one. */
 function waysOf(text, hasWords) {
-  if (text.length > MOST_LETTERS) return [];
+  if (text.length > MOST_LETTERS || CALL.test(text)) return [];
   const [, named, whole = ""] = SAYING.exec(text) ?? [], words = text.split(/\s+/);
   const last = words.at(-1), isWord = hasWords && words.length > 1 && NOTHING.test(last);
   if (isWord) return [[bare(words.slice(0, -1).join(" ")).replace(/\s*[:=–-]$/, ""), last]];
@@ -139,7 +145,8 @@ function evenOf(texts) {
   const parts = texts.map(withNumbers), found = parts.filter(Boolean), wide = found[0]?.length ?? 0;
   const isWhole = (row) => row.slice(2).every((text, c) => !/^\d{3}(\D|$)/.test(text) || !/^\d{1,3}$/.test(row[c + 1]));
   const isName = ([name]) => endsName(name.split(" ").at(-1));
-  const isEven = wide > 2 && found.every((row) => row.length === wide && isWhole(row) && isName(row));
+  const isRow = (row) => row.length === wide && isWhole(row) && isName(row);
+  const isEven = wide > 2 && found.length > 1 && found.every(isRow);
   const bareOf = ([name]) => name.replace(/^\d+[.)]? /, ""); // "1 Unit" and "2 Unit" are one name
   return isEven && new Set(found.map(bareOf)).size === found.length ? parts : null;
 }
@@ -164,7 +171,7 @@ function partedLines(rows, { canBeNegative, words: hasWords }) {
   const broken = texts.slice(first, last).find((text, k) => text && !parts[first + k]) ?? texts[severalIn(parts)];
   const loose = broken ?? (even || isOneName ? undefined : texts.find((text, r) => !isSure(ways[r], text)));
   if (loose !== undefined) return { rows, loose };
-  const isHead = (text, r) => r === first - 1 && /\S\s+\S/.test(text) && !/\d|:$/.test(text) && !isPerson(text);
+  const isHead = (text, r) => r === first - 1 && /\S\s+\S/.test(text) && !/\d|[:,!]$/.test(text) && !isPerson(text);
   const called = found.filter(([name]) => /[\p{L}\d]/u.test(name));
   const isCounted = called.every(([name], k) => / /.test(name) && name.replace(/[.)]? .*/, "") === String(k + 1));
   const own = ([name, ...others]) => [isCounted ? name.replace(/^\S+ /, "") : name, ...others];
@@ -175,7 +182,6 @@ function partedLines(rows, { canBeNegative, words: hasWords }) {
     const words = text.split(/\s+/), heads = isCounted ? words.slice(-wide) : words;
     return heads.length === wide ? heads : wide > 2 ? [text] : text.split(/\s+(?=\S+$)/);
   };
-  const isMail = (some, isBelow) => some.some((text) => !text || (MAIL.test(text) && !isPerson(text, isBelow)));
   const isFrame = (r) => (r < first ? isMail(texts.slice(r, first), false) : isMail(texts.slice(last + 1, r + 1)));
   const isOut = (r) => isFrame(r) || (r === 0 && isTitled);
   const other = (text, r) => (isHead(text, r) ? headOf(text) : isOut(r) ? [text] : [text.replace(/:$/, ""), ""]);

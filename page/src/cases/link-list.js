@@ -1,6 +1,7 @@
 // Links that were pasted as a list: a link a row, with its two ends and its cost, in a column each, or as "A - B: 12".
+import { readNumber } from "../exact/decimals.js";
 import { isSumWord, withEscapes } from "../game/names.js";
-import { isText } from "./block.js";
+import { isMail, isText } from "./block.js";
 import { columnLabel, costText } from "./link-costs.js";
 import { isSpoilt } from "./pasting.js";
 
@@ -12,7 +13,7 @@ const HEADS = [
 ];
 const LIKE_COST = [/\b(euros?|eur|usd|gbp|chf)\b/iu, // where no heading names a cost
   /weight|length|distance|value|gewicht|länge|longueur|valeur/iu];
-const YEAR = /^(19|20)\d\d$/;
+const YEAR = /^(19|20)\d\d$/, SENTENCE = /[:;,.!?]$/, MOST_LETTERS = 300;
 
 export const isNone = (text = "") => NONE.test(text.trim());
 export const isNameless = (text = "") => /^[-–—.]?$/.test(text.trim());
@@ -38,11 +39,30 @@ export function withEnds(given) {
   const ends = rows.map(([one]) => PAIR.exec(one)?.slice(1).map((end) => clean(end.replace(COSTS, ""))));
   const below = ends.slice(ends[0] ? 0 : 1, isSum ? -1 : undefined), all = below.flat();
   const isWord = (text) => isText(text) && /^\p{L}/u.test(text), isOdd = ([one, other]) => {
-    return one.includes(": ") || LONG.test(other);
+    return one.includes(": ") || LONG.test(other) || /: \p{L}/u.test(other);
   };
   const isPlain = rows.slice(1).every(([, ...others]) => !others.some(isWord)), isPairs = below.every(Boolean);
   if (!isPlain || !isPairs || below.length < 2 || below.some(isOdd) || new Set(all).size === all.length) return given;
   return rows.map(([one, ...others], k) => [...(ends[k] ?? (k ? [one, ""] : ["From", "To"])), ...others]);
+}
+
+const isLink = (row) => PAIR.test(row[0] ?? "") && row.slice(1).some((text) => text && !readNumber(text).fault);
+
+/** Rows of links as "Alby-Brook" and 12 without the lines of a mail around them: {rows, left, odd}. `left` are these
+ * lines, and `odd` is the first other one that is no such link. A line that may be a link without its cost is no line
+ * of a mail. */
+export function withoutMail(rows) {
+  const texts = rows.map((row) => row.filter(Boolean).join("; ")), own = rows.map(isLink), first = own.indexOf(true);
+  const last = own.lastIndexOf(true), isLone = (row) => row.filter(Boolean).length < 2;
+  const isOpen = (r) => PAIR.test(texts[r].slice(0, MOST_LETTERS)) && !SENTENCE.test(texts[r]);
+  const isBeyond = (r) => (r < first ? isMail(texts.slice(r, first), false)
+    : isMail(texts.slice(last + 1, r + 1), true));
+  const isOut = (r) => (r < first || r > last) && isLone(rows[r]) && isBeyond(r) && !isOpen(r);
+  if (first < 0) return { rows, left: [] };
+  const out = rows.map((_, r) => isOut(r)), odd = texts.find((text, r) => {
+    return text && !own[r] && !out[r] && (r > first || isLone(rows[r]));
+  });
+  return { rows: rows.filter((_, r) => !out[r] && texts[r]), left: texts.filter((text, r) => text && out[r]), odd };
 }
 
 /** Whether names look like the two ends of a link each. */

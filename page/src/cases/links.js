@@ -23,7 +23,9 @@ import { plural } from "../game/words.js";
 import { blockOf, isText, withoutSums } from "./block.js";
 import { unframed } from "./frames.js";
 import { byCost, costsIn } from "./link-costs.js";
-import { arePairs, clean, isNameless, isNone, listOf, numbersApart, titleOf, untitled, withEnds } from "./link-list.js";
+import {
+  arePairs, clean, isNameless, isNone, listOf, numbersApart, titleOf, untitled, withEnds, withoutMail,
+} from "./link-list.js";
 import { isSpoilt, SPOILT } from "./pasting.js";
 import { answerFault } from "./saved-tables.js";
 import { withoutUnits } from "./units.js";
@@ -56,7 +58,7 @@ function padded(rows) {
  * `cost` is; {asked} if several `columns` may be it, and nobody said which; null if it is numbers alone, or names
  * alone, for the cells where it was pasted. */
 export function networkOf(pasted, { mark = ".", source = "", cost, columns } = {}) {
-  const block = blockOf(pasted.map(numbersApart)), rows = withEnds(block.rows);
+  const block = blockOf(pasted.map(numbersApart)), { rows, left: letter, odd: unread } = linksIn(block);
   const { rows: bare, left: around } = unframed(rows), { rows: framed, left: above } = untitled(bare);
   const ways = [rows, framed].map((some) => readOf(some, { mark, cost, columns })), [whole] = ways;
   const found = ways.find((one) => one && !one.fault) ?? whole, saved = answerFault(pasted)
@@ -65,7 +67,7 @@ export function networkOf(pasted, { mark = ".", source = "", cost, columns } = {
   if (!found || block.loose) {
     const isMixed = rows.flat().some(isText) && rows.flat().some((text) => /\d/.test(text) && !isText(text));
     const odd = oddCost(rows, judgeOf(mark));
-    const words = odd ? `“${withEscapes(odd)}” is no number. Write the number alone.` : NO_SHAPE;
+    const words = odd ? `“${withEscapes(odd)}” is no number. Write the number alone.` : noShape(unread);
     return isMixed || block.loose ? { fault: words } : null;
   }
   if (found.fault || found.product || found.asked) return found;
@@ -75,10 +77,10 @@ export function networkOf(pasted, { mark = ".", source = "", cost, columns } = {
     const most = `A network has at most ${MOST_POINTS - 1} places and the source.`;
     return { fault: `These are ${points.length} points. ${most}` };
   }
-  const { links, fault } = joined(found, found.judge), texts = whole === found ? [] : [...around, ...above];
+  const { links, fault } = joined(found, found.judge), texts = whole === found ? letter : [...around, ...above];
   if (fault) return { fault };
   const out = texts.map((text) => `“${text}”`);
-  if (rows !== block.rows) out.push(...titleOf(pasted, block));
+  if (rows !== block.rows && !letter.length) out.push(...titleOf(pasted, block));
   out.push(...left, ...found.units.map((unit) => `“${unit}”, the unit`));
   return { points, links, shape, left: out, told: [...block.notes, ...found.told], ...sourceOf(points, found, source) };
 }
@@ -107,8 +109,16 @@ function readOf(given, { mark, cost, columns }) {
   return found && { ...found, left: all("left", ...out), told: all("told", ...told), units, judge };
 }
 
-const NO_SHAPE = "This is no list of from, to and cost, and no square or triangle with names. Give each link a line: "
-  + "the two places, and its cost, with tabs between.";
+/** The rows of a block with two ends and a number each, if they are such, and what is left out around them. */
+function linksIn({ rows, loose }) {
+  const own = withEnds(rows), { rows: inner, left, odd } = withoutMail(rows);
+  const bare = left.length ? withEnds(inner) : inner;
+  const isLetter = own === rows && !loose && bare !== inner;
+  return isLetter ? { rows: bare, left } : { rows: own, left: [], odd: loose ?? odd };
+}
+
+const noShape = (odd) => `This is no list of from, to and cost, and no square or triangle with names${odd ? ": "
+  + `“${withEscapes(odd)}” isn’t read as a link` : ""}. Give each link a line, such as: Well - North: 12.`;
 /** The source: the point that has its name already, or a name that says so, or else the first. */
 function sourceOf(points, { isFirst }, named) {
   const lower = (text) => clean(text).toLowerCase();
@@ -177,7 +187,8 @@ function namedOf(given, judge) {
   const isHeading = rows[0][0] !== "" && rows[0].slice(1).every((text) => judge.isName(text) || !text)
     && rows[0].slice(1).some(Boolean);
   const lines = rows.slice(isHeading ? 1 : 0), points = lines.map(([name]) => name);
-  if (!points.every(judge.isName) || isHeading || arePairs(points)) return null;
+  const isLetter = points.some((name) => /[,;!?]$/.test(name)); // "Hello Martin,"
+  if (!points.every(judge.isName) || isHeading || isLetter || arePairs(points)) return null;
   const block = lines.map((row) => row.slice(1)), n = points.length;
   const found = halfOf(block, n, points, judge);
   return found && { ...found, left };

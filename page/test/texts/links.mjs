@@ -77,4 +77,19 @@ export const LINKS_AND_TRADES = [
     /“40 m, 30 m …” “1,240 EUR, 930 EUR …”/],
   ["network", "Works - A: 40 m, 1240 EUR\nWorks - B: 30 m, 930 EUR\nA - B: 10 m, 310 EUR",
     "Works|A|B|0-1|1240 EUR|0-2|930 EUR|1-2|310 EUR", /Left out: “40 m, 30 m …”/, "“1240 EUR, 930 EUR …”"],
+  // links in a mail
+  ["network", "Hello Martin,\n\nhere are the trench costs the engineer gave me, ex VAT:\n\n"
+    + "Exchange - Aldbury: 14,200 €\nExchange - Brenford: 17,350 €\nAldbury - Brenford: 6,900 €\n\nBest regards\nUte",
+  "Exchange|Aldbury|Brenford|0-1|14,200 €|0-2|17,350 €|1-2|6,900 €",
+  /Left out: “Hello Martin,”, “here are the trench costs .*, ex VAT:”, “Best regards”, “Ute”\./],
+  ["network", "Hi Ute,\nWorks to A 12\nWorks to B 9\nA to B 4\nTotal 25\nThanks\nMartin\nTel. 0151 123456", LINKED,
+    /“Tel\. 0151 123456”, “Total; 25”, a sum/],
+  ["network", "Hi,\n\nWorks - A: 12 €\nWorks - B: 9 €\nA - B: 4 €\n\nBest\nUte\nTel: 0151 123456",
+    /^Works\|A\|B\|0-1\|12 €/],
+  ["network", "Works - A: 12\nwe asked again\nWorks - B: 9\nA - B: 4", null,
+    /names: “we asked again” isn’t read as a link\. Give each link a line, such as: Well - North: 12\. Nothing/],
+  ["network", "Hi,\n\nWorks - A: 12\nWorks - B: 9\nA - B: not possible\n\nBest\nUte", null,
+    /“A - B: not possible” isn’t read as a link/],
+  ["network", "Works - A: 12\nWorks - B: 9\nA - B: 4\nC", null, /“C” isn’t read as a link/],
+  ["network", "Hi Tom,\n\nAnne-Marie 12\nJean-Luc 13\nPaul-Henri 14\n\nThanks\nUte", null, /This is no list/],
 ];
