@@ -69,8 +69,20 @@ async function carriedBy([id, before, how, after]) {
   session.typed = after;
   if (how !== "typed") session.moveRows(how === "moved" ? undefined : how);
   await read(session);
-  return { texts: session.texts.join(), todays: session.todays.join(), said: session.ownSaid };
+  return { texts: session.texts.join(), todays: session.todays.join(), said: session.ownSaid,
+    stays: session.ownStays.join(", ") };
 }
+
+/** A case, its cells before and after, and who still has the own amounts of before: the others' numbers changed. */
+const STAYING = [
+  ["estate", THREE, "moved", list("Ann 3, Bo 4, Cy 5, Di 6", { estate: "12" }), "Ann, Bo, Cy"],
+  ["estate", THREE, "moved", list("Bo 4, Ann 5, Di 6"), "Bo, Ann"],
+  ["estate", THREE, "moved", SORTED, ""], ["estate", THREE, "moved", list("Ann 3, Di 2, Bo 4, Cy 5"), ""],
+  ["estate", THREE, "typed", list("Ann 7, Bo 4, Cy 5"), ""], ["estate", THREE, 0, list("Bo 4, Cy 5"), ""],
+  ["estate", THREE, "moved", list("Di 2, Eve 4, Flo 7"), ""],
+  ["runway", THREE, "moved", list("Cy 8, Ann 3, Bo 4"), "Cy, Ann, Bo"],
+  ["network", ways("A", "B", "C"), "moved", ways("C", "A", "B"), "C, A, B"],
+];
 
 let faults = 0;
 function expect(what, found, wanted) {
@@ -85,6 +97,11 @@ for (const row of CARRIED) {
   expect(what, found.texts, texts);
   expect(`${what}, of today`, found.todays, texts);
   expect(`${what}, said`, found.said, said);
+}
+
+for (const row of STAYING) {
+  const [id, , how, after, stays] = row;
+  expect(`${id}: ${how}, ${JSON.stringify(after)}, who stays`, (await carriedBy(row)).stays, stays);
 }
 
 /** Kept rows, the rows now with what each pays, and what is said of the two. */

@@ -121,7 +121,7 @@ export class AnswerView {
       pinned: pinnedOf(session, rows), labelOfCell: (cell) => labelOfCell(cell, session), result,
       remark: filledLines(session, rows), source: sourceName(session.typed),
       coarse: session.typed.coarse, typed: this.typed, ask: session.askAbout(result),
-      said: session.ownSaid,
+      said: session.ownSaid, stays: session.ownStays,
     };
   }
 

@@ -11,6 +11,22 @@ export function placesIn(before, now) {
   return now.map((name) => left.get(name)?.shift() ?? -1);
 }
 
+/** The rows with what is known of each, `of`; as long as the cells aren't right, what was known of it before. */
+export function knownRows(rows, facts, before = []) {
+  const { amounts, alone, whole } = facts ?? {}, places = placesIn(before.map(keyOf), rows.map(keyOf));
+  return rows.map((row, r) => {
+    const [i] = row.players ?? [], old = before[places[r]];
+    return { ...row, of: facts ? `${amounts?.[i] ?? alone?.[i]} of ${whole}` : old?.of };
+  });
+}
+
+/** Who of the rows `now` still has an own amount of `own`, where it is another game: names. */
+export function staying({ rows, texts }, now) {
+  const places = placesIn(rows.map(keyOf), now.map(keyOf));
+  const isOther = now.some(({ of }, r) => of && rows[places[r]]?.of && rows[places[r]].of !== of);
+  return isOther ? now.filter((_, r) => texts[places[r]]).map(({ label }) => label) : [];
+}
+
 /** The amounts for the rows `now`, of `own`, {rows, texts, todays}: {texts, todays, gone}, `gone` in a sentence. Rows
  * that were only typed into stay where they are, whatever their names. */
 export function carried({ rows, texts, todays }, now, isTyped) {
@@ -31,10 +47,17 @@ export function withoutRow({ rows, texts, todays }, r) {
 
 const MOST_NAMED = 4;
 
+function namedFirst(labels) {
+  const names = labels.slice(0, MOST_NAMED), more = labels.length - names.length;
+  return listed(more ? [...names, plural(more, "more row")] : names);
+}
+
+/** What is said of those who still have amounts of another game. */
+export const stayingText = (labels) => `“Your proposal” still has the amounts of before for ${namedFirst(labels)}.`;
+
 function goneText(gone, isAll) {
   if (!gone.length) return "";
   if (isAll) return "No name here is in your own column, so its amounts are gone. Undo brings them back.";
-  const names = gone.slice(0, MOST_NAMED).map(({ label }) => label), more = gone.length - names.length;
-  const who = listed(more ? [...names, plural(more, "more row")] : names);
+  const who = namedFirst(gone.map(({ label }) => label));
   return `Gone from your own column, with the ${gone.length > 1 ? "rows" : "row"}: ${who}. Undo brings it back.`;
 }

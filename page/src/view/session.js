@@ -4,7 +4,7 @@ import { Rational } from "../exact/rational.js";
 import { calculated } from "./calculated.js";
 import { formatOf } from "./format.js";
 import { Helper } from "./helper.js";
-import { carried, withoutRow } from "./own-rows.js";
+import { carried, knownRows, staying, withoutRow } from "./own-rows.js";
 import { proposalOf } from "./proposal.js";
 import { askAll, judge } from "./questions.js";
 
@@ -44,7 +44,8 @@ export class Session {
     const { measure = "plain", texts = [], todays = null, pinned = null, doubt = "", file = null } = settings;
     const { places = kind.places ?? 2, mark, entry, marks, thousands, ownRows = null, isMoved = false } = settings;
     Object.assign(this, { kind, typed, measure, texts, todays, pinned, doubt, places, isTyped, ownSaid: "" });
-    Object.assign(this, { ownRows, isMoved }); // whether rows may stand elsewhere than those of the own amounts
+    // whether rows may stand elsewhere than those of the own amounts, and who still has amounts of another game
+    Object.assign(this, { ownRows, isMoved, isAnew: isMoved, ownStays: [] });
     this.wasPerHead = measure === "per-head"; // whether that was asked, by the case or by a person
     this.marks.open({ isFile, mark, entry, thousands, before: marks });
     Object.assign(this, { reading: null, result: null, judged: {}, proposal: proposalOf([], [], this.marks.entry) });
@@ -119,7 +120,7 @@ export class Session {
       if (this.file) this.file.made ??= reading.text;
       if (JSON.stringify(marks.spelling()) !== before) return void this.changed(0); // for the notes, too
       Object.assign(this, { reading, judged: {} });
-      this.carryOwn(reading.rows);
+      this.carryOwn(reading);
       this.on.read();
       if (reading.facts) await this.ask(about, { engine, checker }, isMine);
       else this.withoutProgram(reading);
@@ -169,9 +170,14 @@ export class Session {
   }
 
   /** The user's own amounts go with their rows. */
-  carryOwn(rows) {
+  carryOwn({ rows: read, facts }) {
     const { ownRows: before, texts, todays, isMoved } = this;
-    if (!rows?.length) return;
+    if (!read?.length) return;
+    const rows = knownRows(read, facts, before ?? []);
+    this.isAnew ||= isMoved;
+    const fresh = this.isAnew && facts && before ? staying({ rows: before, texts }, rows) : [];
+    this.ownStays = fresh.length ? fresh : this.ownStays.filter((name) => rows.some(({ label }) => label === name));
+    this.isAnew &&= !facts; // until the cells are right
     this.isMoved = false;
     this.takeOwn({ rows, ...(before ? carried({ rows: before, texts, todays }, rows, !isMoved) : { texts, todays }) });
   }
@@ -196,7 +202,7 @@ export class Session {
   setProposal(texts, said = "", what = "") {
     const own = textsOf(texts);
     if (!isSame(own, this.texts)) this.on.step(what || "Typing your division", !what);
-    Object.assign(this, { ownSaid: said, texts: own });
+    Object.assign(this, { ownSaid: said, ownStays: [], texts: own });
     this.judged = {};
     this.readProposal();
     this.on.answer("proposal");

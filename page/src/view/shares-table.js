@@ -6,10 +6,11 @@ import { plainPoints } from "../tell/rule-names.js";
 import { Namer } from "../tell/words.js";
 import { listed, plural } from "../game/words.js";
 import { againstOf } from "./comparison.js";
-import { breakable, columnHead, el } from "./dom.js";
+import { breakable, button, columnHead, el } from "./dom.js";
 import { labelOf, movedText, totalsOf, withSum } from "./format.js";
 import { subtitleOf } from "./meanings.js";
 import { pinnedNote, pinTools, sinceKept } from "./pinned.js";
+import { stayingText } from "./own-rows.js";
 import { ownInput, proposalSum } from "./proposal-cells.js";
 import { CALCULATED } from "./questions.js";
 import { airlineLines, besideLines, roundingLines, shareLines } from "./table-lines.js";
@@ -41,6 +42,8 @@ export function sharesTable(result, settings) {
   return el("div", {},
     pinned && pinnedNote(pinned, columns[0], rows, settings),
     settings.said && el("p", { class: "note own-said", role: "status" }, settings.said),
+    settings.stays?.length > 0 && el("p", { class: "note", role: "status" }, stayingText(settings.stays), " ",
+      button("Clear it", () => proposal.setAll([], "", "Clear your division"), { class: "quiet" })),
     el("div", { class: "scroll" }, el("table", { class: kinds.filter(Boolean).join(" "), style: roomOf(view) },
       headOf(view), el("tbody", {}, linesOf(rows).map((line) => (line.of ? sumRow(line, view) : shareRow(line, view))),
         (kept.get(columns[0].key)?.gone ?? []).map((one, k) => goneRow(one, k, view))),
