@@ -4,7 +4,9 @@ import { placesOf, readNumber } from "../src/exact/decimals.js";
 import { parseJson, writeJson } from "../src/exact/json.js";
 import { Rational } from "../src/exact/rational.js";
 import { runway } from "../src/cases/lists.js";
+import { network } from "../src/cases/matrices.js";
 import { packed, unpacked } from "../src/cases/tables.js";
+import { followUnused, isPaid, unusedOf, withUnused } from "../src/cases/unused-links.js";
 import { Game } from "../src/game/game.js";
 import { membersOf } from "../src/game/groups.js";
 import { missingText } from "../src/view/questions.js";
@@ -70,6 +72,44 @@ function tryNetwork(n) {
     const [i, j] = key.split("-").map(Number), least = leastCost(edges, [j], i);
     if (!links[key]) expect(`the way ${key} of ${told}`, text === "" ? Infinity : Number(text), least);
   }
+}
+
+/** What each group pays by a network without empty links: the least tree of it and the source, by trying all. */
+function treeCosts(n, links) {
+  return Array.from({ length: 2 ** n - 1 }, (_, k) => {
+    const group = [0, ...membersOf(k + 1).map((i) => i + 1)], edges = Object.entries(links).flatMap(([key, text]) => {
+      const ends = key.split("-").map(Number);
+      return ends.every((end) => group.includes(end)) && text ? [[...ends, Number(text)]] : [];
+    });
+    return leastCost(edges, group.slice(1));
+  });
+}
+
+/** Links that nobody uses: each group pays what it pays where the link doesn't exist, or costs more. A price to do
+ * without is paid by a group just where it changes what one pays. */
+function tryUnused(n) {
+  const links = someLinks(n), names = Array(n).fill(""), typed = { names, links }, keys = unusedOf(typed, ".");
+  const own = Object.keys(links).filter((key) => !links[key] && key.split("-").every((i) => i > 0 && links[`0-${i}`]));
+  const told = JSON.stringify(links);
+  expect(`unused of ${told}`, String(keys), String(own));
+  const [all, filled] = withUnused(typed, keys, "."), without = treeCosts(n, links).join();
+  expect(`groups of ${told}`, treeCosts(n, all).join(), without);
+  expect(`filled of ${told}`, Object.values(filled).every((how) => how === "unused"), true);
+  const dear = Object.fromEntries(keys.map((key) => [key, "99"]));
+  expect(`groups of ${told} with dear links`, treeCosts(n, { ...links, ...dear }).join(), without);
+  for (const key of keys) {
+    const price = draw(20), other = { ...links, [key]: String(price) };
+    const isChanged = treeCosts(n, other).join() !== without;
+    expect(`${key} at ${price} of ${told}`, isPaid({ links: other }, [key], "."), isChanged);
+  }
+  const state = { names, links: { ...all, "0-1": all["0-1"] && "25" }, filled };
+  followUnused(state, ".");
+  for (const key of keys) {
+    const wanted = Math.max(...key.split("-").map((end) => Number(state.links[`0-${end}`])));
+    expect(`${key} follows in ${told}`, Number(state.links[key]), wanted);
+  }
+  const whole = Object.values(all).every(Boolean) && network.read({ names, links: all }, ".");
+  if (whole) expect(`the document of ${told}`, new Game(whole.tree).n, n);
 }
 
 // ---- Splits
@@ -184,6 +224,7 @@ tryPowers(expect, draw);
 for (let k = 0; k < 40; k++) {
   tryRunway();
   tryNetwork(1 + (k % 4));
+  tryUnused(2 + (k % 3));
   tryComparison(2 + (k % 3), k % 2 ? "table" : "cost-table", k % 5 ? "plain" : "per-head");
   trySplits(2 + (k % 4), k % 2 === 0);
 }

@@ -8,11 +8,12 @@ export function detoursOf({ filled = {}, n, cost, nameOf, mark }) {
   const points = Array.from({ length: n + 1 }, (_, i) => i);
   const isWhole = points.every((i) => points.every((j) => i === j || cost(i, j)));
   if (!isWhole || !Object.values(filled).includes("way")) return [];
-  const found = [];
+  const isUnused = (ends) => filled[ends.sort((a, b) => a - b).join("-")] === "unused", found = [];
   for (const i of points) {
     for (const j of points.slice(i + 1)) {
       if (filled[`${i}-${j}`]) continue;
-      const by = points.filter((k) => k !== i && k !== j).map((k) => ({ k, sum: cost(i, k).plus(cost(k, j)) }));
+      const isOf = (k) => k !== i && k !== j && ![[i, k], [k, j]].some((ends) => isUnused(ends));
+      const by = points.filter(isOf).map((k) => ({ k, sum: cost(i, k).plus(cost(k, j)) }));
       const best = by.reduce((least, one) => (!least || one.sum.less(least.sum) ? one : least), null);
       if (!best?.sum.less(cost(i, j))) continue;
       found.push({

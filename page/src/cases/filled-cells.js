@@ -30,7 +30,7 @@ export const filledGroups = {
 export const filledLinks = {
   key: "links",
   isRight: ([i, j, how], n) => [i, j].every((end) => typeof end === "bigint") && i >= 0n && i < j && j <= n
-    && ["way", "number"].includes(how),
+    && ["way", "number", "unused"].includes(how),
   treeOf: ({ filled = {} }) => {
     const links = Object.entries(filled).map(([key, how]) => [...key.split("-").map(Number), how]);
     return links.length ? { links } : undefined;
@@ -39,11 +39,12 @@ export const filledLinks = {
 
   told(_, { names, filled }) {
     const kinds = Object.values(filled), all = (names.length * (names.length + 1)) / 2;
-    const ways = kinds.filter((how) => how === "way").length, numbers = kinds.length - ways;
+    const [ways, numbers, unused] = ["way", "number", "unused"].map((one) => kinds.filter((how) => how === one).length);
     if (!kinds.length) return null;
     const told = [
       ...(ways ? [`${ways} by the cheapest way through the others`] : []),
       ...(numbers ? [`${numbers} by what it costs to do without`] : []),
+      ...(unused ? [`${unused} that no group needs, as dear as the dearer link of its two places to the source`] : []),
     ];
     const count = kinds.length;
     return `Of the ${all} links ${count} can’t be built, and the page put a number for each: ${told.join(", ")}.`;

@@ -5,6 +5,7 @@ import { junctionsOf } from "../cases/junctions.js";
 import { areFactors, columnLabel, TIMES } from "../cases/link-costs.js";
 import { cellsOfNetwork, networkOf, takenText, withoutPlace, withSource } from "../cases/links.js";
 import { sourceName } from "../cases/matrices.js";
+import { followUnused } from "../cases/unused-links.js";
 import { withEscapes } from "../game/names.js";
 import { listed, plural } from "../game/words.js";
 import { cellInput, moveByKeys, pasteCells, removal } from "./cells.js";
@@ -48,6 +49,7 @@ class NetworkGrid {
 
   change(doIt, removed) {
     doIt();
+    followUnused(this.typed, this.mark());
     this.show();
     this.onChange(undefined, removed);
   }
@@ -138,15 +140,17 @@ class NetworkGrid {
     return input;
   }
 
-  /** Ways that were filled follow the links that are typed. */
+  /** Links that were filled follow those that are typed. */
   typedInto(key) {
     const { [key]: own, ...filled } = this.typed.filled ?? {};
     if (own) this.typed.filled = filled;
     this.help.show();
-    if (!Object.values(filled).includes("way")) return this.onChange();
+    const kinds = Object.values(filled), isWay = kinds.includes("way");
+    if (!isWay && !kinds.includes("unused")) return this.onChange();
     this.onChange(REFILL);
     clearTimeout(this.refilling);
-    this.refilling = setTimeout(() => this.help.again().then(() => this.onChange(0)), WAIT);
+    const again = () => (isWay ? this.help.again().then(() => this.onChange(0)) : this.change(() => 0));
+    this.refilling = setTimeout(again, WAIT);
     return undefined;
   }
 

@@ -1,8 +1,13 @@
 // Help for links that don't exist: each needs a number, and it decides much.
+import { isPaid, unusedApart, unusedOf, withUnused } from "../cases/unused-links.js";
 import { button, el, refill } from "./dom.js";
 
 const HINT = "Leave it empty, and say what a group that needs it would do. The answer depends on it.";
 const EACH = "It counts for each such link: a group that lacks two of them pays it twice. These links are marked.";
+const NOBODY = "Nobody uses it", OWN = "Both places have a link of their own to the source. ";
+const NOT_NEEDED = "No group needs it: both have a link of their own. It is marked, and has the cost of the dearer "
+  + "one.";
+const FREE = "No group pays that: each of these places has a link of its own that costs no more.";
 const REWARD = "A place that spares others such a link is rewarded for it: the more, the larger the number is.";
 
 /** Ways to fill what stands empty. `setLinks(links, filled)` takes the links, and which were filled, how; `asTable` a
@@ -16,13 +21,13 @@ export function noLinkHelp(typed, { mark, help, remember, setLinks, asTable }) {
       el("p", {}, told.join("; "))));
   const ask = (task, use) => async (more = {}) => {
     const { names, links, source } = typed, before = JSON.stringify(links);
-    const found = await help(task, { names: [...names], links: given(typed, task), source, mark: mark(), ...more });
+    const found = await help(task, { names: [...names], ...given(typed, task), source, mark: mark(), ...more });
     if (JSON.stringify(typed.links) !== before) return; // somebody types on
     if (found.fault) tell([found.fault]);
     else use(found);
   };
   const fill = ask("fillLinks", ({ links, ways, told, notes }) => {
-    setLinks(links, { ...numbersOf(typed), ...Object.fromEntries(ways.map((key) => [key, "way"])) });
+    setLinks(links, { ...withoutWays(typed), ...Object.fromEntries(ways.map((key) => [key, "way"])) });
     tell(notes, told);
     part.open = hasEmpty(typed);
   });
@@ -31,20 +36,38 @@ export function noLinkHelp(typed, { mark, help, remember, setLinks, asTable }) {
     return fill();
   };
   const again = () => fill({ only: Object.keys(typed.filled ?? {}).filter((key) => typed.filled[key] === "way") });
-  const fillWith = (number) => {
-    remember("Fill it in");
-    setLinks(...withNumber(typed, number));
-    tell([REWARD, EACH]);
+  const settings = { mark, remember, setLinks }, fillWith = (number) => tell(doWithout(typed, number, settings));
+  const fillUnused = () => tell(nobodyUses(typed, settings));
+  const makeTable = (nobody) => ask("costsOfNetwork", ({ typed: table, notes }) => asTable(table, notes))({ nobody });
+  const line = el("li", {}, el("b", {}, OWN), button(NOBODY, fillUnused));
+  const element = waysPart({ line, fillWays, makeTable, fillWith, said }), part = element.firstChild;
+  const isUnused = () => unusedOf(typed, mark()).length > 0, show = () => {
+    part.hidden = !hasEmpty(typed) && !Object.keys(typed.filled ?? {}).length;
+    line.hidden = !isUnused();
   };
-  const asked = ask("costsOfNetwork", ({ typed: table, notes }) => asTable(table, notes));
-  const makeTable = (nobody) => asked({ nobody });
-  const element = waysPart({ fillWays, makeTable, fillWith, said }), part = element.firstChild;
-  const show = () => { part.hidden = !hasEmpty(typed) && !Object.keys(typed.filled ?? {}).length; };
   show();
   return Object.assign(element, {
-    again, show, makeTable, choices: () => choicesOf({ part, fillWays, makeTable }),
+    again, show, makeTable,
+    choices: () => choicesOf({ part, fillUnused: isUnused() && fillUnused, fillWays, makeTable }),
     openIfEmpty: () => { part.open ||= hasEmpty(typed); },
   });
+}
+
+/** Fills the empty links with a price, and gives what is told of it. */
+function doWithout(typed, number, { mark, remember, setLinks }) {
+  remember("Fill it in");
+  setLinks(...withNumber(typed, number));
+  const { filled } = typed, keys = Object.keys(filled).filter((key) => filled[key] === "number");
+  return isPaid(typed, keys, mark()) ? [REWARD, EACH] : [FREE];
+}
+
+/** Fills the links that no group needs, and gives what is told of them. */
+function nobodyUses(typed, { mark, remember, setLinks }) {
+  const keys = unusedOf(typed, mark());
+  remember(NOBODY);
+  setLinks(...withUnused(typed, keys, mark()));
+  return [keys.length === 1 ? NOT_NEEDED : `No group needs these ${keys.length} links: both places of each have a link `
+    + "of their own. They are marked, and each has the cost of the dearer one."];
 }
 
 function hasEmpty({ names, links }) {
@@ -53,24 +76,25 @@ function hasEmpty({ names, links }) {
 }
 
 /** The same ways in short, for the place of the answer. */
-function choicesOf({ part, fillWays, makeTable }) {
+function choicesOf({ part, fillUnused, fillWays, makeTable }) {
   const price = () => {
     part.open = true;
     part.querySelector("input").focus();
   };
   return el("div", {}, el("p", {}, "Can’t some links be built? Say what a group that needs one would do:"),
-    el("p", { class: "tools" }, button("Build through the places of others", fillWays),
+    el("p", { class: "tools" }, fillUnused && button(NOBODY, fillUnused),
+      button("Build through the places of others", fillWays),
       button("The same, as a table of costs", () => makeTable()), button("Pay a price to do without", price)));
 }
 
-function waysPart({ fillWays, makeTable, fillWith, said }) {
+function waysPart({ line, fillWays, makeTable, fillWith, said }) {
   const amount = el("input", {
     type: "text", class: "number", "aria-label": "What it costs to do without a link", "data-cell": "without",
     inputmode: "decimal", autocomplete: "off", maxlength: 200,
   });
   return el("div", { class: "screen" }, el("details", { class: "inline no-link" },
     el("summary", {}, "A link that can’t be built"), el("p", { class: "hint" }, HINT),
-    el("ul", { class: "ways" },
+    el("ul", { class: "ways" }, line,
       el("li", {}, el("b", {}, "It may build through the places of others. "),
         button("Fill in the cheapest ways", fillWays),
         " That is right for one place. If detours of a group share a stretch, ",
@@ -81,13 +105,14 @@ function waysPart({ fillWays, makeTable, fillWith, said }) {
 }
 
 /** The links that were typed: ways are filled anew, and no table is made of any link that was filled. */
-function given({ links, filled = {} }, task) {
+function given(typed, task) {
+  const { links, unused } = unusedApart(typed), { filled = {} } = typed;
   const isOut = (key) => (task === "fillLinks" ? filled[key] === "way" : key in filled);
-  return Object.fromEntries(Object.entries(links).filter(([key]) => !isOut(key)));
+  return { links: Object.fromEntries(Object.entries(links).filter(([key]) => !isOut(key))), unused };
 }
 
-function numbersOf({ filled = {} }) {
-  return Object.fromEntries(Object.entries(filled).filter(([, how]) => how === "number"));
+function withoutWays({ filled = {} }) {
+  return Object.fromEntries(Object.entries(filled).filter(([, how]) => how !== "way"));
 }
 
 /** The links, those that are empty with a number, and which were filled. */

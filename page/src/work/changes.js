@@ -4,6 +4,7 @@ import { Rational } from "../exact/rational.js";
 import { caseNamed } from "../cases/cases.js";
 import { withoutPlace } from "../cases/links.js";
 import { network as networks } from "../cases/matrices.js";
+import { unusedApart } from "../cases/unused-links.js";
 import { Game } from "../game/game.js";
 import { maskOf, membersOf, without } from "../game/groups.js";
 import { plainNames } from "../tell/rule-names.js";
@@ -100,7 +101,7 @@ function networkWithout({ mark, ...typed }, who) {
   const isWay = (key) => typed.filled[key] === "way";
   const links = Object.fromEntries(Object.entries(typed.links).filter(([key]) => !isWay(key)));
   const rest = [...who].sort((i, j) => j - i).reduce(withoutPlace, { ...typed, links });
-  const { links: all = {} } = fillLinks({ ...rest, mark });
+  const { links: all = {} } = fillLinks({ ...rest, ...unusedApart(rest), mark });
   const { reading, tree } = networks.read({ ...rest, links: all }, mark);
   return reading.isRight() ? new Game(tree) : null;
 }

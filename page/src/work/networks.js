@@ -26,9 +26,9 @@ function placeName(names, i, source) {
   return i ? withEscapes(names[i - 1].trim()) || `Place ${i}` : sourceName({ source });
 }
 
-/** Fills each empty cell by the cheapest way over links that exist, or of them those with the keys `only`: {links,
- * ways, notes}, or {fault}. */
-export function fillLinks({ names, links, source, mark, only = null }) {
+/** Fills each empty cell by the cheapest way over links that exist, or of them those with the keys `only`, and not the
+ * `unused` ones, that keep their texts: {links, ways, notes}, or {fault}. */
+export function fillLinks({ names, links, unused = {}, source, mark, only = null }) {
   const { n, cost, fault } = linksOf({ names, links, mark });
   if (fault) return { fault };
   const ways = Array.from({ length: n + 1 }, (_, i) => Array.from({ length: n + 1 }, (_, j) => {
@@ -46,7 +46,7 @@ export function fillLinks({ names, links, source, mark, only = null }) {
   const told = [], lacking = [], made = [], values = [];
   for (let i = 0; i <= n; i++) {
     for (let j = i + 1; j <= n; j++) {
-      if (cost(i, j) || (only && !only.includes(`${i}-${j}`))) continue;
+      if (cost(i, j) || `${i}-${j}` in unused || (only && !only.includes(`${i}-${j}`))) continue;
       const which = `${placeName(names, i, source)} – ${placeName(names, j)}`;
       if (!ways[i][j]) lacking.push(which);
       else {
@@ -57,7 +57,8 @@ export function fillLinks({ names, links, source, mark, only = null }) {
     }
   }
   const texts = writtenAs(values, styleIn(links), mark), fresh = made.map((key, k) => [key, texts[k]]);
-  return { links: { ...links, ...Object.fromEntries(fresh) }, ways: made, told, notes: notesOf(told, lacking) };
+  const all = { ...links, ...unused, ...Object.fromEntries(fresh) };
+  return { links: all, ways: made, told, notes: notesOf(told, lacking) };
 }
 
 function notesOf(told, lacking) {
