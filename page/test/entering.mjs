@@ -155,7 +155,7 @@ const lists = [
   ["a thousand rows under a heading are told as games", "gains", async (page, expect) => {
     const rows = Array.from({ length: 1000 }, (_, k) => `${k + 1};0;0;0;4;5;6;${k + 9}`).join("\n");
     await useList(page, `id;v1;v2;v3;v12;v13;v23;v123\n${rows}`);
-    expect("told", await message(page), /1000 rows of 7 numbers, so 1000 games. One game at a time here: paste one row\./);
+    expect("told", await message(page), /1000 rows of 7 numbers, so 1000 games. One game at a time here: paste/);
     await useList(page, `v1;v2;v3;v12;v13;v23;v123\n${rows.replace(/^\d+;/gm, "")}`);
     expect("without their names", await message(page), /1000 rows of 7 numbers, so 1000 games/);
     expect("and nothing changed", await page.text(".lead"), /together 120.00/);

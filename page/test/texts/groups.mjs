@@ -7,9 +7,8 @@ const MARKED = "Section\tA\tB\tC\tCost\nRoad\tx\tx\tx\t480\nTo A\tx\t\t\t50\nTo 
 const OWN = "No, each line is a group with its own cost";
 const PARTS = "Part A: 480 (Kim, Lee)\nPart B: 150 (Kim)\nPart C: 90 (Lee)";
 
-const BAGS = (and) => `Group\tBags\tEach\tCost\nOak\t40\t24.50\t980\nMill\t25\t24.50\t612.50\nHill\t15\t24.50\t367.50\nOak${
-  and}Mill\t65\t22\t1430\nOak${and}Hill\t55\t22\t1210\nMill${and}Hill\t40\t24.50\t980\nAll three\t80\t22\t1760`;
-
+const BAGS = (and) => "Group\tBags\tEach\tCost\nOak\t40\t24.50\t980\nMill\t25\t24.50\t612.50\nHill\t15\t24.50\t367.50\n"
+  + `Oak${and}Mill\t65\t22\t1430\nOak${and}Hill\t55\t22\t1210\nMill${and}Hill\t40\t24.50\t980\nAll three\t80\t22\t1760`;
 const TOM = "Hi Margaret,\n\nI rang Harper Coaches again about the district tournament. A minibus for the Tigers "
   + "alone would be £480, for the Rovers alone £420 and for United alone £360. Tigers and Rovers together in one "
   + "coach: £640. Tigers and United: £600. Rovers and United: £560. If all three go together it is £780.\n\nCan you "
@@ -139,6 +138,6 @@ export const GROUPS = [
     return ["costs", BAGS(and), "Oak|Mill|Hill|980|612.50|1430|367.50|1210|980|1760", /“Bags” was left out/];
   }),
   ["costs", "Team\tMay\tJune\tJuly\nAnn\t1\t2\t3\nBo\t4\t5\t6", null, /Which column is the cost\? “May” “June” “July”/],
-  ["costs", "Case\tA\tB\tA and B\nFirst\t1\t2\t3\nLast\t4\t5\t6", null, /so 2 games\. One game at a time here: p/],
+  ["costs", "Case\tA\tB\tA and B\nFirst\t1\t2\t3\nLast\t4\t5\t6", null, /so 2 games\. One game at a time here: /],
   ["costs", "x,y,z\nr1,1,2,3\nr2,4,5,6", null, /so 2 games\./],
 ];
