@@ -13,7 +13,7 @@ const COUNTED = new RegExp(`(?:^|\\s)(${COUNT})(?=\\s|$)`, "iu");
 const WORDS = new RegExp("^(?:(?:(?:all|alle|tous|toutes|tutt[ie]|tod[oa]s|allemaal)"
   + `(?: of (?:them|us)| the| les| e| l[oa]s)?(?: (?:${COUNT}))?`
   + "|both(?: of them)?|beide|alle beide|allebei|ambos|entramb[ie])"
-  + `(?: (?:${WITH}))?|everybody|everyone|[Σ∑]|${WITH}|grand coalition|(?:the )?whole group)$`, "iu");
+  + `(?: (?:${WITH}))?|everybody|everyone|us all|[Σ∑]|${WITH}|grand coalition|(?:the )?whole group)$`, "iu");
 const PERHAPS = new RegExp(`^(?:(?:the|die|les?|i|los|las|de) )?(?:${COUNT})(?: of them)?(?: (?:${WITH}))?$`, "iu");
 const SHARED = new RegExp(`(?<!\\p{L})(?:${WITH}|joint|shared|common|combined|collective|everybody|everyone|both`
   + "|alle[nr]?|(?:gemeinsam|gesamt|sammel|gezamenlijk)\\p{L}*|tous|toutes|en commun|groupée?s?|tutti"

@@ -9,6 +9,7 @@ import { filledGroups } from "./filled-cells.js";
 import { FORM, headingText, pairsOf } from "./group-columns.js";
 import { inOtherWords, membersIn } from "./group-words.js";
 import { joinedMembers } from "./member-marks.js";
+import { AS_PARTS, isLedger } from "./ledger.js";
 import { rowsOf } from "./lists.js";
 import { oddsOf } from "./odds.js";
 import { fromPairs } from "./pair-squares.js";
@@ -24,6 +25,7 @@ import { headingOf, manyBelow, numbersIn, vectorOf } from "./vectors.js";
 
 const ADVICE = " Write a line for each group, its members and its number, such as “Tigers 480” and “Tigers + Rovers "
   + "640”.";
+export const AS_GROUPS = "No, each line is a group with its own cost";
 const SEVERAL_IN = /\d(?:[,;]| \/) .*\p{L}.* \S*\d\S*$/u; // several groups in a line
 const MOST_BY_NAME = 6; // above, the document lists numbers alone: it would be too long by names
 const MOST_PLAYERS = mostOf("table");
@@ -145,7 +147,8 @@ export function withoutPlayer(state, player) {
 export function tableOf(text, names = [], order = "size", mark = ".", said = {}) {
   const cells = cellsOf(text), block = blockOf(cells, { canBeNegative: true, words: true });
   const { rows, left } = unframed(block.rows), saved = answerFault(cells);
-  const ofParts = saved ? undefined : partsRead(cells, mark, said);
+  const others = () => tableOf(text, names, order, mark, { ...said, isParts: false });
+  const ofParts = saved ? undefined : partsRead(cells, mark, said, others);
   if (ofParts) return ofParts;
   const spoken = saved ? null : spokenGroups(text, said.isCost);
   if (spoken) return spokenTable(spoken, { ...said, mark, cells });
@@ -189,17 +192,39 @@ function spokenTable({ rows, lines, left, odd }, { isSpoken, ...said }) {
   return { ...read, remark: (out && ` ${out}`) + read.remark };
 }
 
+const LEDGER = `These lines say who paid, and not for sure who uses what. ${AS_PARTS}`;
+const isRefused = ({ fault, way, ways }) => Boolean(fault) && !way && !ways;
+
 /** What comes of parts with who uses each: {users} are asked about, until somebody said what they are (`isParts`, or
- * `isGroups`); nothing of another text. */
-function partsRead(cells, mark, { isCost, isParts, isGroups, column, by }) {
+ * `isGroups`); nothing of another text. What can't be read is told at once, with the ways on: as groups, or as another
+ * list, where `others()` reads it. */
+function partsRead(cells, mark, { isCost, isParts, isGroups, column, by }, others) {
   const elsewhere = isCost ? undefined : partsElsewhere(cells);
   if (!isCost) return elsewhere && { fault: elsewhere };
   const found = isParts === false ? null : usedParts(cells, { mark, column });
-  if (!found) return undefined;
-  if (isParts === undefined) return { users: found.names, isGroups: found.isGroups };
+  if (!found) return isParts === undefined && isLedger(cells) && isRefused(others()) ? { fault: LEDGER } : undefined;
+  const groups = isGroups || found.isGroups ? groupsOf(found, { mark, cells, isCost }) : undefined;
+  if (isGroups) return groups;
+  const made = partsMade(found, { mark, by }), isOfGroups = Boolean(groups && !groups.fault);
+  if (isParts) return made;
+  if (!made.fault) return { users: found.names, isGroups: isOfGroups };
+  const ways = [isOfGroups && [AS_GROUPS, { isParts: true, isGroups: true }],
+    !isRefused(others()) && ["They are no such parts", { isParts: false }]].filter(Boolean);
+  return { fault: made.fault, ways: ways.length ? ways : undefined };
+}
+
+/** The table of groups of parts, or what is wrong or asked; a doubt only where one of both readings is right. */
+function partsMade(found, { mark, by }) {
   if (found.fault || found.columns) return { fault: found.fault, columns: found.columns };
-  if (!isGroups) return tableOfParts(found, { mark, by });
-  const read = listOf(groupsOfParts(found), found.parts.map((_, k) => k + 1), { mark, cells, isCost });
+  const made = tableOfParts(found, { mark, by });
+  const both = made.doubt ? [".", ","].map((one) => tableOfParts(found, { mark, by: one })) : [];
+  return both.length && both.every(({ fault }) => fault) ? both[0] : made;
+}
+
+/** The lines of parts as groups, each with its own cost. */
+function groupsOf(found, said) {
+  if (found.fault || found.columns) return { fault: found.fault, columns: found.columns };
+  const read = listOf(groupsOfParts(found), found.parts.map((_, k) => k + 1), said);
   return read.state ? { ...read, remark: found.remark + read.remark } : read;
 }
 

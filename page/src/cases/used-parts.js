@@ -10,6 +10,7 @@ import { blockOf, isText } from "./block.js";
 import { leftText, unframed } from "./frames.js";
 import { pairsOf } from "./group-columns.js";
 import { NOBODY } from "./group-words.js";
+import { AS_PARTS, isPaying, paidIn, payersText, peopleOf, withoutDays } from "./ledger.js";
 import { IN, isMark } from "./member-marks.js";
 import { headingsOf } from "./pasting.js";
 import { parted, unitsText, withoutUnits } from "./units.js";
@@ -33,16 +34,19 @@ const USERS = new RegExp(`^(?:${BY}|who|wer|qui|wem|(?:used|needed|shared|served
 const FIRM = "(?:[Ss](?:ons?|öhne|ohn)|[Cc]o(?:mpany)?|[Cc]ie|[Pp]artners?|[Ff]ils|[Bb]ro(?:ther)?s|[Aa]ssociates)";
 const LIST = new RegExp("\\s*(?:[,/+]|(?:&|(?<!\\p{L})(?:and|und|et|y|e|en|sowie)(?!\\p{L}))"
   + `(?!\\s*${FIRM}(?!\\p{L})))\\s*`, "u"); // and no "Kim & Sons"
-const EXCEPT = /(?<!\p{L})(?:except|but|without|not|außer|ohne|sauf|nicht)(?!\p{L})/iu;
+const FOR = /^(?:for|für|pour)\s+/iu;
+const EXCEPT = /(?<!\p{L})(?:except|but|without|not|else|others?|rest|außer|ohne|sauf|nicht)(?!\p{L})/iu;
 const ALL = /^(?:(?:[Aa]ll|ALL|[Tt]ous|[Tt]outes)(?: (?:the |les )?\p{Ll}+)?|[Aa]lle(?: \p{L}+)?)$/u; // no "All Saints"
 
 const quoted = (name) => `“${withEscapes(name)}”`;
 const isAll = (text) => isAllWord(text) || ALL.test(text);
 
-/** The users in a cell; those between semicolons may have commas. */
+/** The users in a cell; those between semicolons may have commas. "for" may be before the first, or before each. */
 function usersIn(text) {
   const names = text.split(text.includes(";") ? /\s*;\s*/ : LIST).map((one) => one.trim());
-  return names.filter((name) => !NOBODY.test(name));
+  const [first, ...others] = names.filter((name) => !NOBODY.test(name));
+  const isEach = others.every((name) => FOR.test(name)), bare = (name) => name.replace(FOR, "");
+  return first === undefined ? [] : [bare(first), ...(isEach ? others.map(bare) : others)];
 }
 
 /** Whether lists are of users: some names several or all, and some name is in two of them or somebody `said` so. */
@@ -57,10 +61,11 @@ function areUsers(lists, said = false) {
  * the costs do. Or {fault}, or the {columns} of which one is the cost. Null for another text. */
 export function usedParts(pasted, { mark = ".", column } = {}) {
   if (pasted.length > MOST_PARTS || pasted.some(({ length }) => length > MOST_COLUMNS)) return null;
-  const found = besideCosts(pasted) ?? inColumn(pasted, mark) ?? byMarks(pasted);
+  const { rows: cells, told: days } = withoutDays(pasted);
+  const found = besideCosts(cells) ?? inColumn(cells, mark) ?? byMarks(cells);
   if (!found) return null;
   const { rows: bare, units = [], fault: several } = withoutUnits(found.rows, 1);
-  const pairs = pairsOf(bare, found.lines, { mark, column, cells: pasted }), { rows = [], lines } = pairs;
+  const pairs = pairsOf(bare, found.lines, { mark, column, cells }), { rows = [], lines } = pairs;
   const all = rows.map(([name, cost], k) => {
     return { name, cost, users: found.users.at(k - rows.length), line: `Line ${lines[k]}: ` };
   });
@@ -69,24 +74,36 @@ export function usedParts(pasted, { mark = ".", column } = {}) {
     return list.length > 0 && !isSumWord(below[k][0]);
   });
   const named = new Set(lists.flat().filter((one) => !isAll(one) && !EXCEPT.test(one))), names = [...named];
-  const told = [leftText(found.left), ...found.notes, unitsText(units)].filter(Boolean).map((words) => ` ${words}`);
+  const { payers = [] } = found;
+  const told = [days, payersText(payers), leftText(found.left), ...found.notes, unitsText(units)].filter(Boolean)
+    .map((words) => ` ${words}`);
   const isOwn = (name) => lists.some(([one, other]) => one === name && !other), kinds = lists.map((list) => {
     return [...list].sort().join("\n");
   });
   const isGroups = names.every(isOwn) && new Set(kinds).size === lists.length;
-  const fault = several ?? pairs.fault ?? faultOf(parts, names);
+  const fault = several ?? paidFault(found, names, cells) ?? pairs.fault ?? faultOf(parts, names);
   const remark = told.join("") + (pairs.told ?? "");
   return { ...found, parts, sums, names, remark, fault, columns: pairs.columns, isGroups };
 }
 
+/** Why lines that say who paid can't be taken: `taken` are those that were read so. */
+function paidFault({ taken = [], payers = [], users }, names, cells) {
+  const odd = cells.findIndex((row, k) => isPaying(row) && !taken.includes(k + 1));
+  if (odd >= 0) return `Line ${odd + 1} says who paid, in words that can’t be read for sure. ${AS_PARTS}`;
+  const other = users.some((list) => list.some(isAll)) && peopleOf(payers).find((one) => !names.includes(one));
+  return other ? `${quoted(other)} paid, and isn’t named as somebody who uses a part. Is that one of all? Write the `
+    + "names of all." : undefined;
+}
+
 /** Why parts can't be taken. */
 function faultOf(parts, names) {
-  const find = (is) => parts.find(is), isOdd = (one) => EXCEPT.test(one) || (isAll(one) && countIn(one) !== undefined
-    && countIn(one) !== names.length);
+  const find = (is) => parts.find(is), isOther = (one) => countIn(one) !== undefined && countIn(one) !== names.length;
+  const isOdd = (one) => EXCEPT.test(one) || FOR.test(one) || (isAll(one) && isOther(one));
   const nobody = find(({ users }) => !users?.length), free = find(({ cost }) => !/\d/.test(cost));
   const odd = find(({ users = [] }) => users.some(isOdd));
   if (nobody) return `${nobody.line}Nobody uses ${quoted(nobody.name)}. Write who does, or leave that line out.`;
-  if (free) return `${free.line}${quoted(free.name)} has no cost. Write it, or leave that line out.`;
+  if (free) return `${free.line}${quoted(free.name)} has no cost${/\d/.test(free.name)
+    ? ` apart from its name. ${AS_PARTS}` : ". Write it, or leave that line out."}`;
   if (odd) return `${odd.line}${quoted(odd.users.join(", "))} doesn’t say who uses it. Write their names.`;
   return names.length > MOST_USERS
     ? `These are ${names.length} users, and a table has at most ${MOST_USERS} players.` : undefined;
@@ -98,7 +115,7 @@ function besideCosts(pasted) {
     const whole = pasted.map((row, k) => ({ row, line: k + 1, tail: tailOf(row) }));
     const own = whole.filter(({ tail }) => tail), called = own.map(({ tail }) => tail.cells.slice(0, -1).join());
     const worded = own.some(({ row }) => row.some((text) => text.length <= MOST_LETTERS && WORDED.test(text)));
-    const isApart = new Set(called).size === called.length;
+    const paid = own.filter(({ tail }) => tail.payer), isApart = new Set(called).size === called.length;
     if (!areUsers(own.map(({ tail }) => tail.users)) || (tailOf === before && !isApart)) continue;
     const isOf = ({ row, tail, line }) => tail || (line > own[0].line && row.some((text) => /\d/.test(text)));
     const kept = whole.filter(isOf), left = whole.filter((one) => !isOf(one)).map(({ row }) => row.join(" ").trim());
@@ -107,17 +124,26 @@ function besideCosts(pasted) {
     if (loose) continue;
     return {
       rows, notes, left: left.filter(Boolean), users: lines.map((line) => kept[line - 1].tail?.users ?? []),
-      lines: lines.map((line) => kept[line - 1].line), isSure: worded || tailOf === behind, isSaid: worded,
+      lines: lines.map((line) => kept[line - 1].line), payers: paid.map(({ tail }) => tail.payer),
+      taken: paid.map(({ line }) => line), isSure: worded || tailOf === behind, isSaid: worded,
     };
   }
   return null;
 }
 
-/** The users behind a number, with the cells before them. */
+/** The users behind a number, with the cells before them; they may have cells of their own. */
 function behind(row) {
-  const last = row.findLastIndex(Boolean), text = row[last] ?? "";
-  const [, head, ...some] = (text.length <= MOST_LETTERS && BEHIND.exec(text)) || [], users = some.find(Boolean);
-  return users === undefined ? null : { cells: [...row.slice(0, last), head], users: usersIn(users) };
+  const numeric = row.map((text, c) => (/\d/.test(text) ? c : -1)).filter((c) => c >= 0).reverse();
+  return numeric.map((c) => tailIn(row.slice(0, c), row.slice(c).filter(Boolean))).find(Boolean) ?? null;
+}
+
+/** The users behind a number in the first of some texts, with the cells that are before it. */
+function tailIn(cells, texts) {
+  const text = texts.join(", "), paid = cells.some(Boolean) ? null : paidIn(text);
+  if (paid) return { ...paid, users: usersIn(paid.users) };
+  const [, head = "", ...some] = (text.length <= MOST_LETTERS && BEHIND.exec(text)) || [], users = some.find(Boolean);
+  const isOf = users !== undefined && head.length <= texts[0].length;
+  return isOf ? { cells: [...cells, head], users: usersIn(users) } : null;
 }
 
 /** The users between a name and its number, with both. */

@@ -1,5 +1,5 @@
 // What is asked and said of a list of groups that was read.
-import { groupLabel } from "../cases/tables.js";
+import { AS_GROUPS, groupLabel } from "../cases/tables.js";
 import { usersText } from "../cases/used-parts.js";
 import { quotedText, readNumber } from "../exact/decimals.js";
 import { withEscapes } from "../game/names.js";
@@ -41,7 +41,7 @@ function partsAsked({ users, isGroups }) {
   return [`Each line is a part with its cost and who uses it: ${usersText(users)}. Shall each group cost the parts `
     + "that somebody of it uses?",
   ["Yes, make the table of groups", { isParts: true }],
-  ...(isGroups ? [["No, each line is a group with its own cost", { isParts: true, isGroups: true }]] : []),
+  ...(isGroups ? [[AS_GROUPS, { isParts: true, isGroups: true }]] : []),
   ["No", { isParts: false }]];
 }
 

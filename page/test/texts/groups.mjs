@@ -9,6 +9,10 @@ const PARTS = "Part A: 480 (Kim, Lee)\nPart B: 150 (Kim)\nPart C: 90 (Lee)";
 
 const BAGS = (and) => "Group\tBags\tEach\tCost\nOak\t40\t24.50\t980\nMill\t25\t24.50\t612.50\nHill\t15\t24.50\t367.50\n"
   + `Oak${and}Mill\t65\t22\t1430\nOak${and}Hill\t55\t22\t1210\nMill${and}Hill\t40\t24.50\t980\nAll three\t80\t22\t1760`;
+const LEDGER = "12 Nov  Anna paid 84 for diesel, for Anna, Bo and Chris\n"
+  + "13 Nov  Bo paid 150 for the stall, for everyone\n15 Nov  Chris paid 36 for lunch, for Bo and Chris";
+const DIESEL = "Anna|Bo|Chris|234|270|270|270|270|270|270";
+
 const TOM = "Hi Margaret,\n\nI rang Harper Coaches again about the district tournament. A minibus for the Tigers "
   + "alone would be £480, for the Rovers alone £420 and for United alone £360. Tigers and Rovers together in one "
   + "coach: £640. Tigers and United: £600. Rovers and United: £560. If all three go together it is £780.\n\nCan you "
@@ -140,4 +144,25 @@ export const GROUPS = [
   ["costs", "Team\tMay\tJune\tJuly\nAnn\t1\t2\t3\nBo\t4\t5\t6", null, /Which column is the cost\? “May” “June” “July”/],
   ["costs", "Case\tA\tB\tA and B\nFirst\t1\t2\t3\nLast\t4\t5\t6", null, /so 2 games\. One game at a time here: /],
   ["costs", "x,y,z\nr1,1,2,3\nr2,4,5,6", null, /so 2 games\./],
+  // a ledger, and parts with the day before them and "for" behind
+  ["costs", LEDGER, null, /who uses it: “Anna”, “Bo” and “Chris”\. Shall/],
+  ["costs", LEDGER, DIESEL, /The days in front, “12 Nov” .* “Anna paid”, “Bo paid”, “Chris paid” were left out: /, YES],
+  ["costs", "1 Nov  diesel 84, for Anna, Bo and Chris\n2 Nov  stall 150, for all\n3 Nov  lunch 36, for Bo and Chris",
+    DIESEL, /days in front, “1 Nov” and so on, were/, YES],
+  ["costs", "diesel 84, for Anna, Bo and Chris\nus 150, for us all\nlunch 36, for Bo and Chris", DIESEL, /^/, YES],
+  ["costs", "diesel 84 for Anna, Bo and Chris\nhut 150 for everybody\nlunch 36 for Bo and for Chris", DIESEL, /^/, YES],
+  ["costs", "12 Nov diesel 84: Anna, Bo, Chris\n13 Nov stall 150: all\n15 Nov lunch 36: Bo, Chris", DIESEL, /days/, YES],
+  ["costs", "Date\tWhat\tCost\tFor\n12/11/2026\tdiesel\t84\tAnna, Bo\n13/11/2026\tstall\t150\tall",
+    "Anna|Bo|234|234|234", /“12\/11\/2026” and so on/, YES],
+  ["costs", "Anna paid 84 for diesel (Bo, Chris)\nstall 150, for Chris", "Bo|Chris|84|234|234", /“Anna paid” was/, YES],
+  ["costs", "Anna paid 84 for diesel, for all\nBo paid 40 for drinks, for Bo and Chris", null,
+    /“Anna” paid, and isn’t named as somebody who uses a part\. Is that one of all\? Write the names of all\./],
+  ["costs", "diesel 84 (paid by Anna), for Anna, Bo and Chris\nstall 150 (paid by Bo), for everyone", null,
+    /Line 1 says who paid, in words .* Write each as a line: diesel 84: Anna, Bo, Chris\./],
+  ["costs", "Anna paid 84 for diesel\nBo paid 150 for the stall", null, /not for sure who uses what\. Write/],
+  ["costs", "diesel 84, for Anna and the others\nstall 150 for Anna, Bo and Chris", null, /the others” doesn’t say who/],
+  ["costs", "12 Nov diesel 84, for Flat 1, Flat 2 and Flat 3\n13 Nov stall 150, for Flat 1 and Flat 2",
+    "Flat 1|Flat 2|Flat 3|234|234|234|84|234|234|234", /^/, YES],
+  ["costs", "Part\tCost\tUsed by\nRoad\t480\tAnn, Bo\nPond\t90\tnobody", "Road|Pond|480|90|", /“Used by” was left/,
+    "They are no such parts"],
 ];
