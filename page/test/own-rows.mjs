@@ -4,6 +4,7 @@ import { caseNamed } from "../src/cases/cases.js";
 import { withoutPlace } from "../src/cases/links.js";
 import { withoutPlayer } from "../src/cases/tables.js";
 import { formatOf } from "../src/view/format.js";
+import { outOfBounds } from "../src/view/own-bounds.js";
 import { pinnedOf, pinnedText } from "../src/view/pinned.js";
 import { Session } from "../src/view/session.js";
 import { Rational } from "../src/exact/rational.js";
@@ -84,6 +85,15 @@ const STAYING = [
   ["network", ways("A", "B", "C"), "moved", ways("C", "A", "B"), "C, A, B"],
 ];
 
+/** A game in which three claim, or cost alone, 3, 4 and 5, what an own division gives them, and what is said. */
+const BOUNDS = [
+  [{ kind: "bankruptcy" }, "4 5 0", "Ann and Bo get more than they claim."],
+  [{ kind: "bankruptcy" }, "3 5 5", "Bo gets more than it claims."],
+  [{ kind: "bankruptcy" }, "3 4 -1", "Cy gets less than nothing."], [{ kind: "bankruptcy" }, "3 4 5", ""],
+  [{ kind: "cost-table", costs: true }, "4 4 5", "Ann pays more than alone."],
+  [{ kind: "table", costs: false }, "9 -1 -2", "Bo and Cy get less than nothing."],
+];
+
 let faults = 0;
 function expect(what, found, wanted) {
   if (wanted instanceof RegExp ? wanted.test(found) : found === wanted) return;
@@ -102,6 +112,14 @@ for (const row of CARRIED) {
 for (const row of STAYING) {
   const [id, , how, after, stays] = row;
   expect(`${id}: ${how}, ${JSON.stringify(after)}, who stays`, (await carriedBy(row)).stays, stays);
+}
+
+const [amounts, threeRows] = [["3", "4", "5"].map(Rational.of), rowsOf("Ann, Bo, Cy").map(({ name }, i) => {
+  return { label: name, players: [i] };
+})];
+for (const [game, texts, wanted] of BOUNDS) {
+  const totals = texts.split(" ").map(Rational.of), whole = { amounts, own: amounts, ...game };
+  expect(`${game.kind}, ${texts}`, outOfBounds(whole, threeRows, totals), wanted);
 }
 
 /** Kept rows, the rows now with what each pays, and what is said of the two. */

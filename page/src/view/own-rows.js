@@ -47,7 +47,8 @@ export function withoutRow({ rows, texts, todays }, r) {
 
 const MOST_NAMED = 4;
 
-function namedFirst(labels) {
+/** Names in a sentence, of many the first. */
+export function namedFirst(labels) {
   const names = labels.slice(0, MOST_NAMED), more = labels.length - names.length;
   return listed(more ? [...names, plural(more, "more row")] : names);
 }

@@ -10,6 +10,7 @@ import { breakable, button, columnHead, el } from "./dom.js";
 import { labelOf, movedText, totalsOf, withSum } from "./format.js";
 import { subtitleOf } from "./meanings.js";
 import { pinnedNote, pinTools, sinceKept } from "./pinned.js";
+import { outOfBounds } from "./own-bounds.js";
 import { stayingText } from "./own-rows.js";
 import { ownInput, proposalSum } from "./proposal-cells.js";
 import { CALCULATED } from "./questions.js";
@@ -50,6 +51,7 @@ export function sharesTable(result, settings) {
       footOf(view))),
     proposal.told && el("p", { class: "hint" }, proposal.told),
     leavingLines(view),
+    proposal.canBe && outLine(outOfBounds(game, rows, proposal.totals)),
     proposal.shares && sameAs(columns, proposal.shares),
     isMoved(points, rows, format) && el("p", { class: "hint exact" }, "Rounded so that the shares add up."),
     pinned?.pin && el("div", { class: "tools" }, pinTools(pinned)));
@@ -84,6 +86,10 @@ export function roundingPart({ points }, { rows, format }) {
 /** Why there is no column of the prenucleolus. */
 export function sameText({ hasOneNucleolus, game }) {
   return hasOneNucleolus && `The prenucleolus${game.perHead ? " per head" : ""} is the same as the nucleolus here.`;
+}
+
+function outLine(text) {
+  return text && el("p", { class: "same-as" }, el("b", {}, "Your proposal"), ": ", el("span", { class: "bad" }, text));
 }
 
 /** Which division of the table a proposal is. */

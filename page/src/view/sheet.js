@@ -26,6 +26,7 @@ import { halves } from "./halves.js";
 import { countedText, filledLines, filledText, givenText } from "./filled.js";
 import { movedText, totalsOf, withSum } from "./format.js";
 import { labelOfCell } from "./cell-names.js";
+import { outOfBounds } from "./own-bounds.js";
 import { pinnedOf, pinnedText } from "./pinned.js";
 import { CALCULATED } from "./questions.js";
 import { contextOf, ownSum, sameText } from "./shares-table.js";
@@ -198,9 +199,9 @@ function todaysOf({ texts, values }, steps, game, format) {
 
 /** A line for each column that is judged. The first column has one if others are beside it, or if a group does better
  * by itself. Columns with the same verdict share a line. */
-function saidOfAll({ result, format, agreed }, { title, ...point }, others) {
-  const { game } = result, { verdict } = point;
-  const own = { title, said: saidOf(game, { verdict }, format) };
+function saidOfAll({ result, rows, format, agreed }, { title, ...point }, others) {
+  const { game } = result, { verdict, totals } = point;
+  const own = { title, said: saidOf(game, { verdict, totals }, rows, format) };
   const lines = others.length || agreed || verdict?.group ? [own, ...others] : [];
   const titles = (text) => lines.filter(({ said }) => said === text).map((one) => `“${one.title}”`).join(", ");
   const told = [...new Set(lines.map(({ said }) => said))].filter(Boolean).map((text) => `${titles(text)}: ${text}`);
@@ -219,13 +220,14 @@ function othersOf({ result, rows, format, withProposal, proposal, judged }, show
     const totals = point.totals ?? totalsOf(rows, point.shares), texts = format.column(totals, rows);
     const hasExact = !CALCULATED.includes(point.key) && totals.some((total) => !format.isExact(total));
     const exact = (r) => el("td", { class: "number exact" }, format.isExact(totals[r]) ? "" : fractionText(totals[r]));
-    const { title, name } = point, said = saidOf(game, point, format);
+    const { title, name } = point, said = saidOf(game, point, rows, format);
     return { title, name, texts, totals, exact: hasExact ? exact : null, said };
   });
 }
 
-/** Says whether a group does better by itself, and how a proposal compares with the solution. */
-function saidOf(game, { verdict, comparison }, { by, apart }) {
+/** Says whether a group does better by itself, of an own division (that has `totals`) whom it gives too much, and how a
+ * proposal compares with the solution. */
+function saidOf(game, { verdict, comparison, totals }, rows, { by, apart }) {
   const parts = [];
   if (verdict?.isCore) parts.push("no group does better by itself.");
   if (verdict?.group) {
@@ -236,13 +238,14 @@ function saidOf(game, { verdict, comparison }, { by, apart }) {
     const [sum, total] = apart(verdict.sum, verdict.total);
     parts.push(`it adds to ${sum} instead of ${total}.`);
   }
+  parts.push(outOfBounds(game, rows, totals));
   if (comparison && comparison.better !== "same") {
     const k = comparison.differs - comparison.first, [mine, theirs] = comparison.lists.map((list) => list[k]);
     parts.push(`If what each group could gain by leaving is listed, the greatest first, place ${comparison.differs} is `
       + `the first that differs: ${mine.excess} (${mine.group}) here, and ${theirs.excess} (${theirs.group}) by the `
       + "division above.");
   }
-  return parts.join(" ");
+  return parts.filter(Boolean).join(" ");
 }
 
 // ---- The picture
