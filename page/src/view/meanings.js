@@ -37,7 +37,7 @@ const MEANINGS = {
     + "together (Shapley and Shubik 1971).",
 };
 
-const MAY_LEAVE = "Some group may do better by itself."; // unless it is said of these shares
+const MAY_LEAVE = "By this rule it can happen that a group does better by itself";
 
 const PROPORTION = {
   bankruptcy: "In proportion: each gets the same part of its claim, as insolvency law commonly has it. The page itself "
@@ -101,13 +101,16 @@ function folded(title, texts) {
 }
 
 /** What a column means, in a sentence or two; undefined for one that has no rule. */
-export function meaningOf(key, { perHead, kind }) {
-  return key === "proportion" ? PROPORTION[kind] ?? PROPORTION.other : (perHead && PER_HEAD[key]) || MEANINGS[key];
+export function meaningOf(key, { perHead, kind, costs }) {
+  if (key === "proportion") return PROPORTION[kind] ?? PROPORTION.other;
+  const text = (perHead && PER_HEAD[key]) || MEANINGS[key];
+  return costs ? text?.replace("Each gets", "Each pays") : text;
 }
 
 export function meanings(points, hasHolds, game) {
-  const { perHead } = game, texts = points.map(({ key }) => {
-    return [meaningOf(key, game), key === "shapley" && MAY_LEAVE].filter(Boolean).join(" ");
+  const { perHead } = game, texts = points.map(({ key, verdict }) => {
+    const leave = key === "shapley" && `${MAY_LEAVE}${verdict?.isCore ? "; here none does" : ""}.`;
+    return [meaningOf(key, game), leave].filter(Boolean).join(" ");
   }).filter(Boolean);
   const holds = HOLDS + (perHead ? PER_HEAD_ISNT : PLAIN_IS_EVEN);
   return folded("What the columns and the questions mean", [...texts, GROUPS, ...(hasHolds ? [holds] : [])]);
