@@ -28,7 +28,7 @@ export const agreed = [
   ["what was agreed on stands on the sheet, and in the saved case", "gains", async (page, expect) => {
     await settle(page);
     expect("nothing yet", await chosen(page), "");
-    expect("so it is the nucleolus", await sheet(page), /Why: the nucleolus/);
+    expect("so it is the nucleolus", await sheet(page), /Why: fairest [^(]*\(the nucleolus\)/);
     expect("a rule", await choose(page, "shapley"), "shapley");
     const text = await sheet(page);
     expect("who agreed on what", text, /The parties agreed on: by what each adds \(Shapley shares\)\./);

@@ -56,7 +56,7 @@ export const casesTyped = [
     expect("a verdict", await page.text(".shares tfoot"), /Aer needing 10 \(2 uses\) could leave, by 6.00/);
     await page.run("dispatchEvent(new Event('beforeprint'))");
     const [reasons] = (await page.run("document.getElementById('sheet').textContent")).split("What is agreed");
-    expect("paper", reasons, /Why: the nucleolus[\s\S]*Aer needing 10 \(2 uses\) pay/);
+    expect("paper", reasons, /Why: fairest [^(]*\(the nucleolus\)[\s\S]*Aer needing 10 \(2 uses\) pay/);
     const all = await page.run("['answer', 'why'].map((id) => document.getElementById(id).textContent).join()");
     expect("made-up names", /Aer \d/.exec(all + reasons), null);
   }],

@@ -186,7 +186,7 @@ async function everything(page, expect) {
   const said = await page.run("document.getElementById('paper-head').textContent");
   expect("what is proved", said, /whoever made it, .* Only the nucleolus has one\. .*numbers given are right\.$/);
   const part = await page.run("document.querySelector('.paper-part').textContent");
-  expect("for which rule", part, /nothing is agreed on, the one page has the nucleolus\./);
+  expect("for which rule", part, /nothing is agreed on, the one page has “Fairest to those who gain least”\./);
   await page.look({ wide: 800, print: true });
   const shown = (selector) => page.run(`getComputedStyle(document.querySelector("${selector}")).display !== "none"`);
   expect("the sheet", await shown("#sheet"), false);

@@ -29,7 +29,7 @@ export const saying = [
     expect("no false sentence", /; the nucleolus is, wherever/.test(await page.text("#why .meanings")), false);
     expect("proposal", await page.text(".fill"), /fairest to those who gain least, per head, rounded/);
     const sheet = await sheetOf(page);
-    expect("paper", sheet, /Why: the nucleolus per head[\s\S]*one nucleolus per head \(Grotte 1970\)/);
+    expect("paper", sheet, /Why: fairest [^(]*, per head \(the nucleolus per head\)[\s\S]*one nucleolus per head \(Gr/);
     expect("not by another's name", /nucleolus(?![ -]per[ -]head)/i.test(sheet), false);
     expect("what a yes means", await page.run("document.querySelector('#evidence .meanings').textContent"),
       /shares are the nucleolus per head of/);

@@ -131,7 +131,7 @@ async function notice(page, expect) {
   await settle(page);
   const sheet = await page.run("dispatchEvent(new Event('beforeprint')); document.getElementById('sheet').textContent");
   expect("what changed", sheet, /Before[\s\S]*Change[\s\S]*Against the kept answer, by “Fairest[\s\S]*12 → 13/);
-  expect("begins with what each saves", sheet, /Why: the nucleolusAgainst going alone, Sales saves/);
+  expect("begins with what each saves", sheet, /Why: fairest [^(]*\(the nucleolus\)Against going alone, Sales saves/);
 }
 
 export const users = [

@@ -3,6 +3,7 @@ import { groupLabel } from "../cases/tables.js";
 import { countText } from "../exact/decimals.js";
 import { masksBySize } from "../game/groups.js";
 import { OWN_PROVED, provedText } from "../tell/proved.js";
+import { plainPoints, quoted } from "../tell/rule-names.js";
 import { agreedChoice } from "./agreed.js";
 import { button, el, refill } from "./dom.js";
 import { dayText, showSheet } from "./sheet.js";
@@ -46,9 +47,10 @@ export function paperPart(session, typed) {
     el("p", { class: "tools" },
       button("Print one page", printed("sheet"), { class: "main" }), button("Print everything", printed("all"))), said);
   element.showAgreed = () => {
-    const { line, rule } = session.result ?? {}, choice = agreedChoice(session, typed), hint = { class: "hint" };
-    refill(agreed, choice && line && el("p", hint, `As long as nothing is agreed on, the one page has the ${rule}.`),
-      choice);
+    const { line, game, points = [] } = session.result ?? {}, choice = agreedChoice(session, typed);
+    const [first] = choice && line ? plainPoints(points, game) : [];
+    refill(agreed, first && el("p", { class: "hint" }, "As long as nothing is agreed on, the one page has ",
+      `${quoted(first)}.`), choice);
   };
   return element;
 }

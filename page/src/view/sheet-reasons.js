@@ -57,10 +57,10 @@ export function reasonsOf({ result, pair, rows, format, ...view }) {
   const sentences = [...principle.sentences, ...(first ?? [])], isOne = next?.isLevel && levels > 1 && !behind.length;
   if (isOne) sentences.push(`This is the first of ${levels} levels: “Why” on the page has them all.`);
   const lacking = [...(first?.isCut && next.isLevel ? [next.title] : []), ...cut];
-  const isCore = points.find(({ key }) => key === answer)?.verdict?.isCore;
+  const { title, verdict } = points.find(({ key }) => key === answer) ?? points[0], isCore = verdict?.isCore;
   const saved = savingsText(game, points[0], rows, format);
-  return el("section", {}, el("h2", {}, `Why: the ${rule}`), saved && el("p", {}, saved),
-    el("p", {}, sentences.join(" ")),
+  return el("section", {}, el("h2", {}, `Why: ${title[0].toLowerCase()}${title.slice(1)} (the ${rule})`),
+    saved && el("p", {}, saved), el("p", {}, sentences.join(" ")),
     behind.length > 0 && el("ul", { class: "levels" }, behind.map((text) => el("li", {}, text))),
     el("p", {}, lacking.length > 0 && cutText(lacking), isCore && "By these shares no group does better by itself. ",
       `No other division meets the principle: there is exactly one ${rule} (${sourceOf(game.perHead)}).`),
