@@ -310,11 +310,13 @@ const PAIRS = [
   ["votes", MEMBERS, [GONE, SECOND], "", "Ada=12|Bo=9|Cy=7"], ["votes", MEMBERS, ["No, it counts"], SECOND],
   ["votes", MEMBERS, ["No, it counts", SECOND], ""], ["votes", CLAUSED, [GONE], SECOND],
   ["estate", OWED, [GONE], "Yes, 84,000", "Ann=20,500|Bo=30,250"], ["estate", OWED, ["Yes, 84,000"], GONE],
+  ["costs", "Road\t4,200\tAnn, Bo\nFork\t2,100\tAnn", ["Yes, make the table of groups", "4200"], "",
+    "Ann|Bo|6,300.00|4,200.00|6,300.00"],
   ["estate", OWED, ["20500, whole", GONE], "Yes, 84,000"], ["estate", OWED, ["20500, whole"], "Yes, 84,000"],
 ];
 for (const [id, text, answers, still, cells] of PAIRS) {
   const desk = new Desk(id, "."), buttonOf = (title) => desk.read().buttons.find((one) => one.textContent === title);
-  await desk.paste("rows.0.name", text);
+  await desk.paste(CELLS[id] ?? "rows.0.name", text);
   for (const one of answers) await settled(buttonOf(one)?.on.click({}));
   const isAny = desk.read().buttons.some(({ textContent }) => textContent === SECOND || textContent === GONE);
   if ((still ? buttonOf(still) : !isAny) && (cells === undefined || desk.cells() === cells)) continue;

@@ -19,6 +19,7 @@ const MOST_LETTERS = 600; // of a line
 const MOST_USERS = 16, MOST_PARTS = 500, MOST_COLUMNS = 40;
 const USED_BY = "(?:used|needed|shared|served) by|serves|users?:?|genutzt von|nutz(?:t|en|er):?|utilisée? par";
 const BY = `${USED_BY}|for|für|pour`;
+const MONEY_PLACES = 2; // they show a mark that somebody said
 const MONEY = "(?:[\\p{Sc}A-Z]{1,3}\\s?)?\\d"; // as a number begins
 const BEHIND = new RegExp(`^(.{0,300}?\\d[^()]{0,40}?)\\s*(?:[,;–—-]\\s*)?(?:\\((?:(?:${BY})\\s+)?([^()]{1,300})\\)`
   + `|(?:${BY})\\s+([^()]{1,300}?)|:\\s*([^()\\d:]{1,300}?))[.;,]?$`, "iu");
@@ -244,7 +245,7 @@ export function tableOfParts({ parts, sums, names, remark }, { mark: usual, by }
   });
   const out = sums.map(({ name }) => ` ${quoted(name)} was left out, as a sum of other lines.`).join("");
   return {
-    state: { names, numbers: ["", ...writtenAs(values, texts, mark)] },
+    state: { names, numbers: ["", ...writtenAs(values, texts, mark, by && MONEY_PLACES)] },
     remark: `${remark}${out} Made of ${plural(parts.length, "part")}: each group costs the parts that somebody of it `
       + "uses.",
   };

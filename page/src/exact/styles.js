@@ -9,8 +9,8 @@ const BLANKS = /\d([ \u00a0\u202f])\d{3}(?!\d)/;
 const common = (some) => (new Set(some).size === 1 ? some[0] : undefined);
 
 /** Values in the style of `texts`, numbers that `mark` reads; plain where they have none in common, or where somebody
- * might read them otherwise. */
-export function writtenAs(values, texts, mark) {
+ * might read them otherwise. With `least` decimals, which show the mark, they have those instead. */
+export function writtenAs(values, texts, mark, least) {
   const { by, read } = readTogether(texts, mark), plain = values.map((value) => typedText(value, by));
   const parts = texts.map((text) => PARTS.exec(text.trim()));
   if (!isMark(by) || !parts.every(Boolean) || read.some(({ fault }) => fault)) return plain;
@@ -21,7 +21,7 @@ export function writtenAs(values, texts, mark) {
   }));
   const spelling = { mark: by, thousands: thousands ?? "", grouped: Boolean(thousands), least: 3 };
   const written = values.map((value, k) => {
-    const places = placesOf(value), most = Math.max(places, all ?? (places > 0 ? longer : 0));
+    const places = placesOf(value), most = Math.max(places, least ?? all ?? (places > 0 ? longer : 0));
     const text = before + decimal(value, most, spelling).replace("−", "-") + behind;
     return places >= 0 && readNumber(text, by).value?.equals(value) ? text : plain[k];
   });
