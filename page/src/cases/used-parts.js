@@ -9,7 +9,7 @@ import { countIn, isAllWord } from "./all-together.js";
 import { blockOf, isText } from "./block.js";
 import { leftText, unframed } from "./frames.js";
 import { pairsOf } from "./group-columns.js";
-import { NOBODY } from "./group-words.js";
+import { joinedOf, membersIn, NOBODY } from "./group-words.js";
 import { AS_PARTS, isPaying, paidIn, payersText, peopleOf, withoutDays } from "./ledger.js";
 import { IN, isMark } from "./member-marks.js";
 import { headingsOf } from "./pasting.js";
@@ -35,6 +35,7 @@ const USERS = new RegExp(`^(?:${BY}|who|wer|qui|wem|(?:used|needed|shared|served
 const FIRM = "(?:[Ss](?:ons?|öhne|ohn)|[Cc]o(?:mpany)?|[Cc]ie|[Pp]artners?|[Ff]ils|[Bb]ro(?:ther)?s|[Aa]ssociates)";
 const LIST = new RegExp("\\s*(?:[,/+]|(?:&|(?<!\\p{L})(?:and|und|et|y|e|en|sowie)(?!\\p{L}))"
   + `(?!\\s*${FIRM}(?!\\p{L})))\\s*`, "u"); // and no "Kim & Sons"
+const SOMEBODY = /^(?:us|we|me|myself|him|her|them|(?:him|her|it)self|(?:our|them)selves|uns|mich|nous|moi)$/u;
 const FOR = /^(?:for|für|pour)\s+/iu;
 const EXCEPT = /(?<!\p{L})(?:except|but|without|not|else|others?|rest|außer|ohne|sauf|nicht)(?!\p{L})/iu;
 const ALL = /^(?:(?:[Aa]ll|ALL|[Tt]ous|[Tt]outes)(?: (?:the |les )?\p{Ll}+)?|[Aa]lle(?: \p{L}+)?)$/u; // no "All Saints"
@@ -60,9 +61,14 @@ function areUsers(lists, said = false) {
 /** The parts in pasted cells: {parts, names}, each with its name, cost, users and line; `sums` are lines of a sum. The
  * `remark` has what was left out; `isSaid` tells that words call them users, and `isSure` that these or brackets behind
  * the costs do. Or {fault}, or the {columns} of which one is the cost. Null for another text. */
-export function usedParts(pasted, { mark = ".", column } = {}) {
+export function usedParts(pasted, said) {
   if (pasted.length > MOST_PARTS || pasted.some(({ length }) => length > MOST_COLUMNS)) return null;
-  const { rows: cells, told: days } = withoutDays(pasted);
+  const { rows, told } = withoutDays(pasted), bare = partsIn(rows, said, told);
+  return told && (!bare || bare.fault) ? partsIn(pasted, said) ?? bare : bare; // "1 May Street"
+}
+
+/** The parts in cells, of which `days` are told to be left out. */
+function partsIn(cells, { mark = ".", column } = {}, days) {
   const found = besideCosts(cells) ?? inColumn(cells, mark) ?? byMarks(cells);
   if (!found) return null;
   const { rows: bare, units = [], fault: several } = withoutUnits(found.rows, 1);
@@ -71,6 +77,7 @@ export function usedParts(pasted, { mark = ".", column } = {}) {
     return { name, cost, users: found.users.at(k - rows.length), line: `Line ${lines[k]}: ` };
   });
   const parts = all.filter(({ name }) => !isSumWord(name)), sums = all.filter((part) => !parts.includes(part));
+  if (!found.isSaid && areGroups(parts.map(({ name }) => name))) return null;
   const below = found.rows.slice(-found.users.length), lists = found.users.filter((list, k) => {
     return list.length > 0 && !isSumWord(below[k][0]);
   });
@@ -87,6 +94,12 @@ export function usedParts(pasted, { mark = ".", column } = {}) {
   return { ...found, parts, sums, names, remark, fault, columns: pairs.columns, isGroups };
 }
 
+/** Whether some of the names are groups of others. */
+function areGroups(names) {
+  const all = new Set(names), isOf = (some = []) => some.length > 1 && some.every((one) => all.has(one));
+  return names.some((name) => isOf(membersIn(name)) || isOf(joinedOf(name, all)));
+}
+
 /** Why lines that say who paid can't be taken: `taken` are those that were read so. */
 function paidFault({ taken = [], payers = [], users }, names, cells) {
   const odd = cells.findIndex((row, k) => isPaying(row) && !taken.includes(k + 1));
@@ -99,10 +112,12 @@ function paidFault({ taken = [], payers = [], users }, names, cells) {
 /** Why parts can't be taken. */
 function faultOf(parts, names) {
   const find = (is) => parts.find(is), isOther = (one) => countIn(one) !== undefined && countIn(one) !== names.length;
-  const isOdd = (one) => EXCEPT.test(one) || FOR.test(one) || (isAll(one) && isOther(one));
+  const isOdd = (one) => [EXCEPT, FOR, SOMEBODY].some((words) => words.test(one)) || (isAll(one) && isOther(one));
   const nobody = find(({ users }) => !users?.length), free = find(({ cost }) => !/\d/.test(cost));
   const odd = find(({ users = [] }) => users.some(isOdd));
   if (nobody) return `${nobody.line}Nobody uses ${quoted(nobody.name)}. Write who does, or leave that line out.`;
+  const all = find(({ name }) => isAllWord(name));
+  if (all) return `${all.line}${quoted(all.name)} is no part, but all together. Leave that line out.`;
   if (free) return `${free.line}${quoted(free.name)} has no cost${/\d/.test(free.name)
     ? ` apart from its name. ${AS_PARTS}` : ". Write it, or leave that line out."}`;
   if (odd) return `${odd.line}${quoted(odd.users.join(", "))} doesn’t say who uses it. Write their names.`;

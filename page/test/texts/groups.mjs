@@ -165,4 +165,11 @@ export const GROUPS = [
     "Flat 1|Flat 2|Flat 3|234|234|234|84|234|234|234", /^/, YES],
   ["costs", "Part\tCost\tUsed by\nRoad\t480\tAnn, Bo\nPond\t90\tnobody", "Road|Pond|480|90|", /“Used by” was left/,
     "They are no such parts"],
+  ["costs", "Gas: 300 for Ann\nPower: 200 for Bo\nBoth: 400 for Ann and Bo", null, /“Both” is no part, but all/],
+  ["costs", "Ann: 300 for gas\nBo: 200 for gas and power\nAnn and Bo: 400 for gas", null, /is no number/],
+  ["costs", "Ann 300 for the bus\nBo 200 for the bus\nAnn + Bo 400 for the bus and lunch", null, /is no number/],
+  ["costs", "gas 84, for us\nhut 150, for Ann and Bo\nfood 30, for Ann", null, /“us” doesn’t say who uses it/],
+  ["costs", "Bo paid 84 for gas, for herself and Ann\nBo paid 15 for food, for Ann", null, /“herself, Ann” doesn’t/],
+  ["costs", "1 May Street: 480 (Ann, Bo)\n2 May Street: 150 (Ann)", "Ann|Bo|630|480|630", /parts: each/, YES],
+  ["costs", "Nov 1 480 (Ann, Bo)\nNov 2 150 (Ann)", "Ann|Bo|630|480|630", /parts: each/, YES],
 ];
