@@ -102,6 +102,13 @@ function toldGains(buyers, sellers, mark) {
   return shown(typed) === shown(tree.matrix) ? shown(tree.matrix) : `${shown(typed)} as texts`;
 }
 
+/** A market with the least that its sellers take: the gains don't change by it, and it is kept for the prices. */
+function toldLeast(least) {
+  const state = { buyers: ["Ann"], sellers: ["hut", "flat"], values: [["5", "8.5"]], least };
+  const { limits, reading } = market.read(state, ".");
+  return `${reading.isRight()} ${limits?.sellers.map(String) ?? "none"}`;
+}
+
 /** How many are read otherwise than they should be, each of which is printed. */
 export function faultsOfMarkets() {
   const found = [
@@ -109,6 +116,8 @@ export function faultsOfMarkets() {
     ...PRICES.map(([text, wanted, said]) => [text, toldPrices(text, said), wanted]),
     ...LISTED.map(([cell, text, wanted]) => [text, toldList(cell, text), wanted]),
     ...GAINS.map(([own, others, mark, wanted]) => [`${own}; ${others}`, toldGains(own, others, mark), wanted]),
+    ...[[["50", "40.5"], "true 50,81/2"], [["50", ""], "true none"], [["50"], "true none"], [undefined, "true none"]]
+      .map(([least, wanted]) => [`at least ${least}`, toldLeast(least), wanted]),
   ];
   const wrong = found.filter(([, own, wanted]) => !(wanted instanceof RegExp ? wanted.test(own) : wanted === own));
   for (const [text, own, wanted] of wrong) {

@@ -22,7 +22,8 @@ const TESTS = {
 
 const isNumberText = (text) => typeof text === "string" && /^-?\d{1,400}(\/[1-9]\d{0,400})?$/.test(text);
 
-const emptyOf = (kind, { limits }) => (limits && kind?.emptyLimits ? kind.emptyLimits() : kind?.empty() ?? "");
+const emptyOf = (kind, { limits, least }) => (limits && kind?.emptyLimits ? kind.emptyLimits()
+  : kind ? { ...kind.empty(), ...(least !== undefined && { least: [""] }) } : "");
 
 /** Whether cells have all that those of an empty case have, each of its form. */
 function isLike(model, one) {

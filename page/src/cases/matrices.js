@@ -93,8 +93,8 @@ export const market = {
   }),
   empty: () => ({ buyers: ["", ""], sellers: ["", ""], values: [["", ""], ["", ""]] }),
   emptyLimits: () => ({ ...market.empty(), limits: { buyers: ["", ""], sellers: ["", ""] } }),
-  mapNumbers: ({ values, limits, ...typed }, change) => ({
-    ...typed, values: values.map((row) => row.map(change)),
+  mapNumbers: ({ values, limits, least, ...typed }, change) => ({
+    ...typed, values: values.map((row) => row.map(change)), ...(least && { least: least.map(change) }),
     ...(limits && { limits: { buyers: limits.buyers.map(change), sellers: limits.sellers.map(change) } }),
   }),
 
@@ -104,10 +104,9 @@ export const market = {
       ...buyers.map((typed, i) => ({ typed, fallback: `Buyer ${i + 1}`, cell: `buyers.${i}` })),
       ...sellers.map((typed, j) => ({ typed, fallback: `Seller ${j + 1}`, cell: `sellers.${j}` })),
     ];
-    const names = reading.names(cells, "Trader"), limits = state.limits && readLimits(reading, state.limits);
-    const gains = limits ? gainsOf(limits) : buyers.map((_, i) => sellers.map((_, j) => {
-      return reading.number(`values.${i}.${j}`, state.values[i][j], "What they gain together");
-    }));
+    const names = reading.names(cells, "Trader"), isPrices = Boolean(state.limits);
+    const limits = isPrices ? readLimits(reading, state.limits) : readLeast(reading, state);
+    const gains = isPrices ? gainsOf(limits) : readGains(reading, state.values);
     reading.close();
     const matrix = gains.map((row) => row.map((gain) => gain?.toDocument() ?? 0n));
     if (gains.flat().every((gain) => gain?.isWhole())) reading.version &&= {}; // though the prices have decimals
@@ -126,6 +125,26 @@ export const market = {
   }),
 };
 
+/** The sellers' least prices that were taken off a table; null where one isn't known. */
+function readLeast(reading, { least = [], sellers }) {
+  if (least.length !== sellers.length || !least.every(Boolean)) return null;
+  return { sellers: least.map((typed, k) => reading.number(`least.${k}`, typed, LEAST, { canBeNegative: true })) };
+}
+
+/** The gains in the cells: a negative one counts as 0, which is told. */
+function readGains(reading, values) {
+  const below = [], gains = values.map((row, i) => row.map((typed, j) => {
+    const value = reading.number(`values.${i}.${j}`, typed, "What they gain together", { canBeNegative: true });
+    if (value?.isNegative()) below.push(`“${typed.trim()}”`);
+    return value && Rational.max([ZERO, value]);
+  }));
+  const more = below.length > MOST_TOLD ? " …" : "", some = below.slice(0, MOST_TOLD).join(", ");
+  const told = `A pair that would lose doesn’t trade. Taken as 0: ${withEscapes(some)}${more}.`;
+  if (below.length) reading.notes.push(told);
+  return gains;
+}
+
+const MOST_TOLD = 3;
 const MOST = "The most that a buyer would pay", LEAST = "The least that a seller would take";
 
 /** The limit prices in the cells; null for one that isn't read. */

@@ -47,7 +47,8 @@ export function withoutLine({ rows: [[, ...heads], ...below], at, side }) {
   return side === "sellers" ? kept : turned(kept);
 }
 
-/** The same, with what sellers take at least taken off what the buyers give: {rows}, or {fault} in words. */
+/** The same, with what sellers take at least taken off what the buyers give: {rows, least}, with that by the sellers'
+ * names, or {fault} in words. */
 export function takenOff(line, entry) {
   const { rows, at } = line, [[, ...heads], ...below] = rows, texts = below.flatMap((row) => row.slice(1));
   const [money, otherMoney] = new Set(texts.map(moneyIn).filter(Boolean));
@@ -64,5 +65,6 @@ export function takenOff(line, entry) {
   const gains = below.filter((_, r) => r + 1 !== at).map(([name, ...row]) => {
     return [name, ...row.map((text, c) => gain(text, c + 1))];
   });
-  return { rows: [["", ...heads], ...gains] };
+  const leastOf = (c) => (least[c + 1] ? typedText(least[c + 1], mark) : "");
+  return { rows: [["", ...heads], ...gains], least: new Map(heads.map((name, c) => [name, leastOf(c)])) };
 }

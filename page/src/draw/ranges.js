@@ -65,20 +65,23 @@ function partsTable(deals, format) {
   return tableOf("trades", heads, rows);
 }
 
-const MOST_IDLE = 4; // that the first sentence names
+const MOST_IDLE = 4, MOST_PRICES = 4; // that the first sentence names
 
 /** What is said of the parts, wherever they are. */
 const PRICE = "The price is the seller’s own value and, on top of it, the seller’s part of the gain.";
 const OF_LIMITS = "The price is the seller’s least and, on top of it, the seller’s part of the gain.";
 export const priceText = (deals) => (deals[0]?.least ? OF_LIMITS : PRICE);
 
-/** The price, if limit prices are known, and all trade at the same. */
+/** The price, if limit prices are known: of all who trade, or of each of a few. */
 function priceLead(deals, { show, apart }) {
   if (!deals[0]?.least) return "";
-  const [{ low, high }, ...others] = priced(deals);
+  const all = priced(deals), [{ low, high }, ...others] = all;
   const isOne = others.every((deal) => deal.low.equals(low) && deal.high.equals(high));
-  const text = low.equals(high) ? `is ${show(low)}` : `is from ${apart(low, high).join(" to ")}`;
-  return isOne ? ` The price ${text}${others.length ? ", the same for all" : ""}.` : "";
+  const text = ({ low: one, high: other }) => {
+    return one.equals(other) ? show(one) : `from ${apart(one, other).join(" to ")}`;
+  };
+  if (isOne) return ` The price is ${text(all[0])}${others.length ? ", the same for all" : ""}.`;
+  return deals.length > MOST_PRICES ? "" : ` The prices: ${all.map((deal) => `${deal.who} ${text(deal)}`).join("; ")}.`;
 }
 
 /** The first sentence, or none if nobody trades. */
@@ -99,10 +102,10 @@ export function idleOf(game, { pairs }) {
 /** `ties` is what is said of other pairs, and `solution` has the title that all read. */
 export function trades(game, matching, { solution, ties, wide, ...format }) {
   const deals = dealsOf(game, matching, solution), idle = idleOf(game, matching);
-  const said = tradesLead(deals, idle, matching.value, format);
+  const said = [tradesLead(deals, idle, matching.value, format), ties && el("p", { class: "hint" }, ties)];
   const table = [tradesTable(deals, format), el("p", { class: "hint" },
     `Together they gain ${format.show(Rational.of(matching.value))}; no other pairs gain more. `,
-    ties, " ", priceText(deals), " The ranges say how far each can go, not ",
+    priceText(deals), " The ranges say how far each can go, not ",
     "that each can be chosen by itself: one holds the others. Below its range a buyer would be outbid, or ",
     "the seller rather keep it; above it the seller would be undercut, or the buyer rather not buy.",
     idle.length > 0 && ` Without a trade: ${idle.join(", ")}.`)];

@@ -4,7 +4,7 @@ import { gainTexts, marketOf } from "../cases/matrices.js";
 import { priceLineOf, takenOff, withoutLine } from "../cases/price-line.js";
 import { partOf, pricesOf } from "../cases/prices.js";
 import { withEscapes } from "../game/names.js";
-import { plural } from "../game/words.js";
+import { listed, plural } from "../game/words.js";
 import { cellInput, moveByKeys, pasteCells, removal } from "./cells.js";
 import { askAgain, askIn, button, cellOf, el, refill, unask } from "./dom.js";
 import { askNames } from "./names-asked.js";
@@ -18,6 +18,7 @@ const NO_ROOM = "From this cell on there aren’t as many cells. Paste it into t
 const ONE_SIDE = "Here are limit prices of one side alone. Paste those of the other beside them or below.";
 const AS_PRICES = "A pair gains the buyer’s most less the seller’s least, or nothing if that is negative.";
 
+const NO_LEAST = "Leave these prices out";
 const AS_MARKET = "Give the sellers’ names above, and each buyer’s name before its row of gains.";
 const NAMED = { things: "traders", numbers: "numbers" };
 
@@ -34,8 +35,9 @@ class MarketGrid {
     this.traders = el("details", { class: "inline traders" }, el("summary", {}, "Add or remove traders"), this.tools);
     this.gains = el("div");
     this.none = el("p", { class: "tools" });
+    this.least = el("p", { class: "hint" });
     this.said = el("p", { class: "hint", role: "status" });
-    this.element = el("div", {}, this.holder, this.said, this.traders, this.gains, this.none);
+    this.element = el("div", {}, this.holder, this.said, this.traders, this.gains, this.none, this.least);
     this.element.more = el("p", { class: "tools" });
     this.element.tell = (reading) => refill(this.gains, typed.limits && gainsPart(typed, reading));
     moveByKeys(this.holder, (cell, step) => {
@@ -52,6 +54,7 @@ class MarketGrid {
     const { typed, kind } = this, isPrices = Boolean(typed.limits), word = isPrices ? "gains" : "limit prices";
     this.traders.hidden = isPrices;
     refill(this.element.more, button(`Enter ${word} instead`, () => this.turn(), { class: "quiet" }));
+    refill(this.least, !isPrices && this.leastText());
     if (!isPrices) return this.showMatrix();
     refill(this.none);
     return refill(this.holder, priceLists(typed, {
@@ -68,7 +71,10 @@ class MarketGrid {
     this.remember(limits ? "Enter gains" : "Enter limit prices");
     this.change(() => {
       if (!limits) return void (typed.limits = { buyers: blank(buyers), sellers: blank(sellers) });
-      if (Object.values(limits).flat().some((text) => text.trim())) typed.values = gainTexts(limits, this.mark());
+      if (Object.values(limits).flat().some((text) => text.trim())) {
+        typed.values = gainTexts(limits, this.mark());
+        delete typed.least;
+      }
       delete typed.limits;
     });
     refill(this.said);
@@ -85,7 +91,7 @@ class MarketGrid {
     const { typed } = this;
     this.remember(label);
     this.change(() => {
-      for (const list of [typed[side], typed.limits?.[side]]) list?.splice(k, 1);
+      for (const list of [typed[side], typed.limits?.[side], side === "sellers" && typed.least]) list?.splice?.(k, 1);
       if (side === "buyers") typed.values.splice(k, 1);
       else for (const row of typed.values) row.splice(k, 1);
     });
@@ -119,6 +125,7 @@ class MarketGrid {
     return this.take(fault, [...found.notes ?? [], said.told, told, kept], () => {
       delete this.typed.limits;
       this.fill(cell, found);
+      this.keepLeast(said.least);
     });
   }
 
@@ -138,6 +145,7 @@ class MarketGrid {
     const fault = names.length > most && `A side has at most ${most} traders.`;
     this.take(fault, [`Taken as the names of ${plural(names.length, side.slice(0, -1), side)}.`], () => {
       typed[side] = [...names];
+      delete typed.least;
       if (typed.limits) typed.limits[side] = names.map(() => "");
       else typed.values = [];
       this.resize(typed.buyers.length, typed.sellers.length);
@@ -154,14 +162,31 @@ class MarketGrid {
     this.change(doIt);
   }
 
+  /** Keeps what the sellers take at least, by their names, if that was taken off the numbers and all of it is known. */
+  keepLeast(least) {
+    const all = least && this.typed.sellers.map((name) => least.get(name) ?? "");
+    if (all?.every(Boolean) && new Set(this.typed.sellers).size === all.length) this.typed.least = all;
+  }
+
+  /** What the sellers take at least, where it is known of all: the prices of the answer begin there. */
+  leastText() {
+    const { least = [], sellers } = this.typed, isKnown = least.length === sellers.length && least.every(Boolean);
+    const all = least.map((text, j) => `${text} (${withEscapes(sellers[j]) || `seller ${j + 1}`})`), drop = () => {
+      this.remember(NO_LEAST);
+      this.change(() => delete this.typed.least);
+    };
+    return isKnown && [`The sellers take at least ${listed(all)}. With a seller’s part that is the price. `,
+      button(NO_LEAST, drop, { class: "quiet" })];
+  }
+
   /** Asks what the numbers beside a line of limit prices are. */
   askLine(line, use) {
     const name = `“${withEscapes(line.name)}”`, out = withoutLine(line), isLine = true;
     const way = (text, take) => [button(text, take, { class: "quiet" }), " "];
     const takeOff = () => {
-      const { rows, fault } = takenOff(line, this.mark());
+      const { rows, least, fault } = takenOff(line, this.mark());
       if (fault) return this.take(fault);
-      return use({ isLine, told: `A pair gains its number less “${line.name}”, or nothing.` }, rows);
+      return use({ isLine, least, told: `A pair gains its number less “${line.name}”, or nothing.` }, rows);
     };
     const leave = () => use({ isLine, told: `“${line.name}” was left out.` }, out);
     const [looks, ...ways] = line.side === "sellers"
@@ -187,6 +212,7 @@ class MarketGrid {
     const told = sides.map(([side, list]) => plural(list.length, side.slice(0, -1), side)).join(" and ");
     this.take(why, [`Taken as limit prices of ${told}.`, ...notes], () => {
       typed.limits ??= {};
+      delete typed.least;
       for (const [side, list] of sides) {
         typed[side] = list.map(({ name }) => name);
         typed.limits[side] = list.map(({ price }) => price);
@@ -244,13 +270,10 @@ class MarketGrid {
 
   /** Pairs without a number, where others have one, may be such as can't trade. */
   showNone() {
-    const all = this.typed.values.flat().map((text) => text.trim()), isMinus = (text) => /^[-−(]/.test(text);
-    const isOpen = all.some(isMinus) || (all.includes("") && all.some(Boolean)), isBelow = all.some(isMinus);
-    const title = `${isBelow ? "Pairs that are empty or negative" : "The empty pairs"} can’t trade: 0`;
-    const fill = () => this.change(() => {
+    const all = this.typed.values.flat().map((text) => text.trim()), isOpen = all.includes("") && all.some(Boolean);
+    const title = "The empty pairs can’t trade: 0", fill = () => this.change(() => {
       this.remember(title);
-      const isNone = (text) => !text.trim() || isMinus(text.trim());
-      this.typed.values = this.typed.values.map((row) => row.map((text) => (isNone(text) ? "0" : text)));
+      this.typed.values = this.typed.values.map((row) => row.map((text) => (text.trim() ? text : "0")));
     });
     if (this.none.textContent === (isOpen ? title : "")) return;
     refill(this.none, isOpen && button(title, fill, { class: "quiet" }));
@@ -282,6 +305,7 @@ class MarketGrid {
     const { typed } = this;
     typed.buyers = Array.from({ length: buyers }, (_, i) => typed.buyers[i] ?? "");
     typed.sellers = Array.from({ length: sellers }, (_, j) => typed.sellers[j] ?? "");
+    typed.least?.splice(sellers);
     typed.values = typed.buyers.map((_, i) => typed.sellers.map((_, j) => typed.values[i]?.[j] ?? ""));
     for (const side of typed.limits ? ["buyers", "sellers"] : []) {
       typed.limits[side] = typed[side].map((_, k) => typed.limits[side]?.[k] ?? "");
@@ -330,7 +354,7 @@ class MarketGrid {
   /** A block, with names before and above it or without. */
   fill(cell, found) {
     const { isAnew, top, left, sides, bottom, right } = this.placeOf(cell, found), { typed } = this;
-    if (isAnew) Object.assign(typed, { buyers: [], sellers: [], values: [], isMarked: undefined });
+    if (isAnew) Object.assign(typed, { buyers: [], sellers: [], values: [], least: undefined, isMarked: undefined });
     const least = isAnew ? 1 : 0;
     this.resize(Math.max(typed.buyers.length, bottom, least), Math.max(typed.sellers.length, right, least));
     sides.buyers?.forEach((name, k) => (typed.buyers[top + k] = name));

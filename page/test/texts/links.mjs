@@ -92,4 +92,8 @@ export const LINKS_AND_TRADES = [
     /“A - B: not possible” isn’t read as a link/],
   ["network", "Works - A: 12\nWorks - B: 9\nA - B: 4\nC", null, /“C” isn’t read as a link/],
   ["network", "Hi Tom,\n\nAnne-Marie 12\nJean-Luc 13\nPaul-Henri 14\n\nThanks\nUte", null, /This is no list/],
+  // a pair that would lose
+  ["market", "\thut\tflat\nAnn\t5\t-80\nBo\t8\t9", "hut|flat|Ann|Bo|5|-80|8|9",
+    /0 empty.*A pair that would lose doesn’t trade\. Taken as 0: “-80”\./],
+  ["market", "\thut\tflat\nAnn\t(5)\t-8\nBo\t-7\t-9", /^hut/, /Taken as 0: “\(5\)”, “-8”, “-7” …\./],
 ];
