@@ -195,7 +195,10 @@ function listen() {
   });
   let width = innerWidth;
   addEventListener("resize", () => {
-    if (innerWidth !== width && session.result) view.show();
+    if (innerWidth !== width && session.result) {
+      view.show();
+      for (const one of document.querySelectorAll("#answer .scroll")) one.scrollLeft = 0; // the first columns in sight
+    }
     width = innerWidth;
   });
   addEventListener("beforeprint", () => paper.before());
