@@ -4,7 +4,7 @@ import { withEscapes } from "../game/names.js";
 const MOST_LETTERS = 64, MOST_WORDS = 7, FEW_WORDS = 4; // in small letters, and of a name with a point behind
 const MOST_SHOWN = 60;
 const AMOUNT = new RegExp("\\p{Sc}|(?<!\\p{L})[A-Z]{3}\\s?\\d|\\d\\s?(?:[A-Z]{3}|%)(?!\\p{L})|\\d[.,'’]\\d{2,3}(?!\\d)"
-  + "|[:=]\\s*\\S{0,4}\\s?\\d", "u");
+  + "|[:=]\\s*\\S{0,4}\\s?\\d|\\s\\d+ (?:for|für|pour) ", "u");
 
 /** Whether a text may be a name. */
 export function isBareName(text) {

@@ -172,4 +172,6 @@ export const GROUPS = [
   ["costs", "Bo paid 84 for gas, for herself and Ann\nBo paid 15 for food, for Ann", null, /“herself, Ann” doesn’t/],
   ["costs", "1 May Street: 480 (Ann, Bo)\n2 May Street: 150 (Ann)", "Ann|Bo|630|480|630", /parts: each/, YES],
   ["costs", "Nov 1 480 (Ann, Bo)\nNov 2 150 (Ann)", "Ann|Bo|630|480|630", /parts: each/, YES],
+  ["market", "gas 84 for Ann and Bo\nhut 150 for everyone", null, /“gas 84 for Ann and Bo” is no name/],
+  ["estate", "gas 84 for Ann and Bo\nhut 150 for everyone", null, /can part “gas 84 for Ann and Bo” for sure/],
 ];
