@@ -13,7 +13,7 @@ const HEADS = [
 ];
 const LIKE_COST = [/\b(euros?|eur|usd|gbp|chf)\b/iu, // where no heading names a cost
   /weight|length|distance|value|gewicht|länge|longueur|valeur/iu];
-const YEAR = /^(19|20)\d\d$/, SENTENCE = /[:;,.!?]$/, MOST_LETTERS = 300;
+const YEAR = /^(19|20)\d\d$/, MOST_LETTERS = 300, MOST_ROWS = 1000;
 
 export const isNone = (text = "") => NONE.test(text.trim());
 export const isNameless = (text = "") => /^[-–—.]?$/.test(text.trim());
@@ -29,6 +29,19 @@ export function numbersApart(row) {
   return PAIR.test(ends) && numbers.length > 1 ? [ends, ...numbers] : row;
 }
 
+const endsOf = (text = "") => PAIR.exec(text.slice(0, MOST_LETTERS))?.slice(1).map(clean);
+const isOdd = ([one, other]) => one.includes(": ") || LONG.test(other) || /: \p{L}/u.test(other);
+const isLink = ([text, ...others]) => {
+  const ends = endsOf(text);
+  return Boolean(ends) && !isOdd(ends) && others.some((one) => one && !readNumber(one).fault);
+};
+
+/** Whether one of some ends is a place of the links among these rows, if there are any. */
+function nearIn(rows) {
+  const places = new Set(rows.filter(isLink).flatMap(([text]) => endsOf(text)).map((end) => end.replace(COSTS, "")));
+  return (ends) => !places.size || ends.some((end) => places.has(end));
+}
+
 /** Rows as "Alby-Brook" and 12, in a cell or two, as rows of two ends and a number, if all are such below a heading and
  * some place has several links: "Anne-Marie" and "Jean-Luc" are places. */
 export function withEnds(given) {
@@ -38,15 +51,13 @@ export function withEnds(given) {
   const last = rows.at(-1) ?? [], isSum = rows.length > 2 && isSumWord(last[0] ?? "") && !PAIR.test(last[0]);
   const ends = rows.map(([one]) => PAIR.exec(one)?.slice(1).map((end) => clean(end.replace(COSTS, ""))));
   const below = ends.slice(ends[0] ? 0 : 1, isSum ? -1 : undefined), all = below.flat();
-  const isWord = (text) => isText(text) && /^\p{L}/u.test(text), isOdd = ([one, other]) => {
-    return one.includes(": ") || LONG.test(other) || /: \p{L}/u.test(other);
-  };
+  const isWord = (text) => isText(text) && /^\p{L}/u.test(text), isNear = nearIn(rows);
+  const isLoose = ends.some((own, k) => own && k && !isLink(rows[k]) && !isNear(own));
   const isPlain = rows.slice(1).every(([, ...others]) => !others.some(isWord)), isPairs = below.every(Boolean);
-  if (!isPlain || !isPairs || below.length < 2 || below.some(isOdd) || new Set(all).size === all.length) return given;
+  const isShared = new Set(all).size < all.length; // some place has several links
+  if (!isPlain || !isPairs || below.length < 2 || below.some(isOdd) || isLoose || !isShared) return given;
   return rows.map(([one, ...others], k) => [...(ends[k] ?? (k ? [one, ""] : ["From", "To"])), ...others]);
 }
-
-const isLink = (row) => PAIR.test(row[0] ?? "") && row.slice(1).some((text) => text && !readNumber(text).fault);
 
 /** Rows of links as "Alby-Brook" and 12 without the lines of a mail around them: {rows, left, odd}. `left` are these
  * lines, and `odd` is the first other one that is no such link. A line that may be a link without its cost is no line
@@ -54,13 +65,13 @@ const isLink = (row) => PAIR.test(row[0] ?? "") && row.slice(1).some((text) => t
 export function withoutMail(rows) {
   const texts = rows.map((row) => row.filter(Boolean).join("; ")), own = rows.map(isLink), first = own.indexOf(true);
   const last = own.lastIndexOf(true), isLone = (row) => row.filter(Boolean).length < 2;
-  const isOpen = (r) => PAIR.test(texts[r].slice(0, MOST_LETTERS)) && !SENTENCE.test(texts[r]);
+  const isNear = nearIn(rows), isOpen = (r) => isNear(endsOf(texts[r]) ?? []);
   const isBeyond = (r) => (r < first ? isMail(texts.slice(r, first), false)
     : isMail(texts.slice(last + 1, r + 1), true));
   const isOut = (r) => (r < first || r > last) && isLone(rows[r]) && isBeyond(r) && !isOpen(r);
-  if (first < 0) return { rows, left: [] };
+  if (first < 0 || rows.length > MOST_ROWS) return { rows, left: [] };
   const out = rows.map((_, r) => isOut(r)), odd = texts.find((text, r) => {
-    return text && !own[r] && !out[r] && (r > first || isLone(rows[r]));
+    return text && !own[r] && !out[r] && (r > first ? !isSumWord(rows[r][0]) : isLone(rows[r]) || /\d/.test(texts[r]));
   });
   return { rows: rows.filter((_, r) => !out[r] && texts[r]), left: texts.filter((text, r) => text && out[r]), odd };
 }

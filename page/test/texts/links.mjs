@@ -96,4 +96,10 @@ export const LINKS_AND_TRADES = [
   ["market", "\thut\tflat\nAnn\t5\t-80\nBo\t8\t9", "hut|flat|Ann|Bo|5|-80|8|9",
     /0 empty.*A pair that would lose doesn’t trade\. Taken as 0: “-80”\./],
   ["market", "\thut\tflat\nAnn\t(5)\t-8\nBo\t-7\t-9", /^hut/, /Taken as 0: “\(5\)”, “-8”, “-7” …\./],
+  // what is beside links in a mail, and none of them
+  ["network", "Dear all,\nWorks - A: 12\nWorks - B: 9\nA - B: 4\nKind regards,\nDr. A. Smith - Waterworks", LINKED,
+    /Left out: “Dear all,”, “Kind regards,”, “Dr\. A\. Smith - Waterworks”\./],
+  ["network", "Works / A: 12\nWorks / B: 9\nA / B: 4\n\nAll prices net / ex VAT.", LINKED, /Left out: “All prices net/],
+  ["network", "Hi,\n\nWorks - A: ca. 12\nWorks - B: 9\nA - B: 4\n\nBest", null, /“Works - A: ca\.; 12” isn’t read/],
+  ["network", "Works - A: 12\nWorks - B: 9\nA - B: 4\n\nWorks - C", "Works|A|B|C|0-1|12|0-2|9|1-2|4"],
 ];
