@@ -326,7 +326,7 @@ for (const [...texts] of CLAIMS) {
 // what is said of a quota: of seats, of votes in per cent that aren't 100, and as long as cells can't be read
 const SEATS = ["17", "13", "9", "5", "4"], PER_CENT = ["33.4", "33.3", "18.4", "10", "5"];
 const QUOTAS = [
-  ["three of the five shareholders", ["1", "1", "1", "1", "1"], /of 5 votes, so at least 3/],
+  ["three of the five shareholders", ["1", "1", "1", "1", "1"], /: 3 of 5 votes\./],
   ["3 of 5", SEATS, /^The quota is no number: “3 of 5”\. Write a number of votes, or a part/],
   ...[["2/3 der Sitze", 32], ["Quorum: 2/3", 32], ["meer dan 2/3", 33], ["plus de la moitié", 25], ["0.75", 36],
     ["more than 0.5", 25]].map(([text, least]) => [text, SEATS, new RegExp(`of 48 votes, so at least ${least}\\.$`)]),

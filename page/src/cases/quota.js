@@ -96,7 +96,8 @@ export function leastOf(typed, votes, mark, all = Rational.sum(votes)) {
 /** What is needed of a ballot, of how many: "75 % of 320 votes, so at least 240", "12 of 17 votes". */
 export function neededText(typed, { votes, quota }, mark) {
   const [all, least] = [Rational.sum(votes), quota].map(shortText);
-  if (!leastOf(typed, votes, mark)) return `${least} of ${all} votes`;
+  const bare = bareQuota(typed).toLowerCase().replace(MORE, "").replace(LEAST, "");
+  if (!leastOf(typed, votes, mark) || SOME_OF.test(bare)) return `${least} of ${all} votes`;
   return `${withEscapes(bareQuota(typed))} of ${all} votes, so at least ${least}`;
 }
 
