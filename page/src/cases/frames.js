@@ -3,6 +3,7 @@ import { readNumber } from "../exact/decimals.js";
 import { withEscapes } from "../game/names.js";
 import { isLostPerson } from "./block.js";
 import { headingsOf } from "./pasting.js";
+import { parted } from "./units.js";
 
 const MOST_TOLD = 4;
 const MOST_LETTERS = 60;
@@ -10,9 +11,11 @@ const YEAR = /(?<!\d)(?:19|20)\d\d(?!\d)/g;
 const NOTE = /^([(*†]|sources?\b|notes?\b|remarks?\b|quellen?\b|hinweis|anmerkung|stand\b)/iu;
 
 const PARAGRAPH = /^(?:§|art(?:icle|ikel|\.)\s*\d)/iu;
-const TITLE = new RegExp("^(?:\\p{L}+\\s)?(?:claims|debts|creditors|forderungen|gläubiger|votes|seats|shares|stimmen"
-  + "|sitze|anteile|voix|sièges|parts|créances|créanciers|\\p{L}*verteilung|distribution|allocation|répartition)"
-  + "\\s*(?:\\([^()]{1,60}\\))?:?$", "iu");
+const LISTED = "claims|debts|creditors|forderungen|gläubiger|votes|seats|shares|stimmen|sitze|anteile|voix|sièges"
+  + "|parts|créances|créanciers|\\p{L}*verteilung|distribution|allocation|répartition";
+const TITLE = new RegExp(`^(?:\\p{L}+\\s)?(?:${LISTED})\\s*(?:\\([^()]{1,60}\\))?:?$`, "iu");
+const NUMBERED = new RegExp("^\\d{1,2}(?:\\.\\d{1,2}){0,2}[.)]?\\s(?:\\p{L}+\\s){0,3}"
+  + `(?:${LISTED})(?:\\s\\p{L}|:?$)`, "iu");
 
 const filledOf = (row) => row.filter(Boolean);
 const isBlank = (row) => !row.some(Boolean);
@@ -29,7 +32,8 @@ function isLone(row) {
 export function unframed(rows, text = "") {
   const whole = { rows, text, left: [] }, isOf = (row) => !isBlank(row) && !isLone(row);
   if (rows.filter((row) => filledOf(row).length > 1).length < 2) return whole;
-  const isRow = (row) => filledOf(row).some((one) => !readNumber(one).fault), begin = rows.findIndex(isRow);
+  const isAmount = (one, _, { length }) => !readNumber(one).fault || (length > 1 && parted(one) !== null);
+  const begin = rows.findIndex((row) => filledOf(row).some(isAmount));
   const isTitle = (row, k) => isLone(row) && isHeadline(filledOf(row)[0], k < begin);
   const titles = new Set(rows.filter(isTitle));
   if (titles.size) return withoutTitles(rows, text, titles);
@@ -48,7 +52,8 @@ export function unframed(rows, text = "") {
 }
 
 /** Whether a text alone in its row is a paragraph of statutes or, `isAbove` the rows, says what is listed: nobody. */
-const isHeadline = (text, isAbove) => PARAGRAPH.test(text) || (isAbove && TITLE.test(text));
+const isHeadline = (text, isAbove) => PARAGRAPH.test(text)
+  || (isAbove && [TITLE, NUMBERED].some((one) => one.test(text)));
 
 /** The same without titles, which are told with what else is left out. */
 function withoutTitles(rows, text, titles) {
