@@ -1,8 +1,10 @@
 // Reads what a person typed into the cells of a case, and keeps what is wrong, cell by cell.
 import { bytesOf } from "../game/words.js";
 import { lcm } from "../exact/rational.js";
-import { cellNumber, countText, moneyIn, shortText, thousandsIn } from "../exact/decimals.js";
-import { isMark, MARKS, onlyMark, otherMark } from "../exact/marks.js";
+import {
+  cellNumber, countText, isOfMoney, markOfThousands, moneyIn, shortText, thousandsIn,
+} from "../exact/decimals.js";
+import { DECIMALS, isMark, MARKS, onlyMark, otherMark } from "../exact/marks.js";
 import { LIMITS } from "../game/classes.js";
 import { isTime, UNKNOWN } from "./columns.js";
 import { remarksOf, withEscapes } from "../game/names.js";
@@ -38,8 +40,8 @@ export function byOneMark(read, mark) {
 
 export class Reading {
   /** `opened` are the names of a document in whose cells nothing was typed yet; `isUnnamed` says that it has none. */
-  constructor(mark, { opened = [], isUnnamed = false, beside } = {}) {
-    Object.assign(this, { mark, opened: new Set(opened), isUnnamed });
+  constructor(mark, { opened = [], isUnnamed = false, beside, amounts } = {}) {
+    Object.assign(this, { mark, opened: new Set(opened), isUnnamed, amounts });
     this.faults = []; // {cell, sentence}
     this.count = 0; // of faults
     this.empty = { count: 0, first: null }; // cells that are empty and may not be
@@ -47,6 +49,8 @@ export class Reading {
     this.thousands = new Set(); // signs between thousands
     this.shown = new Map(); // marks that stand in front of decimals beyond doubt, each with a text that shows it
     if (beside) this.shown.set(beside.mark, beside.text); // of a column that was pasted with these
+    this.ofThousands = new Set(); // marks before decimals by which some of those are in thousands
+    this.ofMoney = undefined; // the first of those that is an amount of money
     this.money = undefined; // which the first number names that names one
     this.asked = null; // a row that may be the sum of the others: {r, name}
     this.mixed = null; // a number that would have decimals, though it hardly looks so: {typed, proof, count, value}
@@ -98,6 +102,7 @@ export class Reading {
   number(cell, typed, what, { canBeNegative = false, isFilled = false, hint = "" } = {}) {
     const { value, fault, doubt, by } = this.known(typed);
     if (doubt && !isFilled) this.doubt(doubt, typed, value);
+    if (doubt && !isFilled && this.isAmount(typed)) this.ofMoney ??= typed;
     if (by && !this.shown.has(by)) this.shown.set(by, typed);
     if (fault === "is empty") return this.open(cell);
     if (DATE.test(typed)) return this.fault(cell, `${what} looks like a date: “${typed.trim()}”.`);
@@ -120,6 +125,18 @@ export class Reading {
     return value;
   }
 
+  /** Whether a number is money, by itself or by its column (`amounts` says so, or that these are rates). */
+  isAmount(typed) {
+    return this.amounts === "money" || (this.amounts !== "rates" && isOfMoney(typed));
+  }
+
+  /** The marks that stand before decimals, each with a text that shows it: beyond doubt, or else by an amount of money,
+   * unless the user said otherwise. */
+  proofs() {
+    const { shown, ofMoney, mark } = this, by = onlyMark(this.ofThousands);
+    return !shown.size && ofMoney && by && mark !== DECIMALS ? new Map([[by, ofMoney]]) : shown;
+  }
+
   /** A cell that is empty and may not be. */
   open(cell) {
     this.empty.count += 1;
@@ -131,6 +148,7 @@ export class Reading {
     const known = this.doubts.get(how) ?? { how, typed, value: String(value), count: 0 };
     this.doubts.set(how, known);
     known.count += 1;
+    this.ofThousands.add(markOfThousands(typed));
     if (/0\D*$/.test(typed)) known.isRound = true;
   }
 
@@ -145,7 +163,7 @@ export class Reading {
   /** Where numbers can be read both ways, as 1.200, and nothing shows which, it is asked, unless the user said it. */
   askOfUnsure(isMarked) {
     const [doubt] = this.doubts.values();
-    if (isMarked || !doubt || this.shown.size || this.either || !isMark(this.mark)) return;
+    if (isMarked || !doubt || this.proofs().size || this.either || !isMark(this.mark)) return;
     const ways = MARKS.map(([mark]) => [cellNumber(doubt.typed, mark).value, mark]);
     ways.sort(([one], [other]) => other.abs().compare(one.abs())); // the whole number first, be it negative
     const count = [...this.doubts.values()].reduce((all, one) => all + one.count, 0);
@@ -154,7 +172,7 @@ export class Reading {
 
   /** The one mark that all other numbers show; null where none does, or both stand there. */
   settles() {
-    return onlyMark(this.shown.keys());
+    return onlyMark(this.proofs().keys());
   }
 
   /** A whole number. One as 1.234 that would have decimals shows that its mark parts thousands; of one as 5.000, which

@@ -13,7 +13,7 @@ import { ledRows } from "./leaders.js";
 import { headingsOf, pastedText } from "./pasting.js";
 import { answerFault } from "./saved-tables.js";
 import { quotasOf, singleOf, singlesOf, withSingle } from "./single.js";
-import { unitsText, withoutUnits } from "./units.js";
+import { amountsBelow, unitsText, withoutUnits } from "./units.js";
 
 const MOST_NAME = 80, MOST_PROSE = 600; // letters
 const MOST_HEADS = 3; // words of two headings in a line
@@ -85,7 +85,8 @@ export function sheetOf(pasted, columns, { mark, single, usual, isFirst = true, 
     pastedText(rows, headings, targets, usual), unitsText(unitsOf(units, targets)),
     ...singlesText(singles, single, said), single?.tells?.(pasted)];
   const line = singles.number ? undefined : single?.lineOf?.(table.out);
-  return { rows: below, targets, headings, notes: notes.filter(Boolean), isGuess, line, ...beside,
+  const amounts = amountsBelow(headings?.[targets.findIndex((own) => own?.number && !own.short)]);
+  return { rows: below, targets, headings, notes: notes.filter(Boolean), isGuess, line, amounts, ...beside,
     number: singles.number?.text, other: singles.other?.text, isPercent: isOfHundred(title, headings, targets, units) };
 }
 

@@ -1,5 +1,5 @@
 // Units behind pasted numbers, as in "12 km": one that a column has throughout is left out, and told.
-import { readNumber } from "../exact/decimals.js";
+import { isOfMoney, moneyIn, readNumber, withoutMoney } from "../exact/decimals.js";
 import { isTime } from "./columns.js";
 
 const MOST_LETTERS = 80; // of a number with its unit
@@ -9,6 +9,12 @@ const PER = `\\s*/\\s*${WORD}|\\s+(?:per|pro|par|por|je|im|al|an?|p\\.) ?${WORD}
 const BEHIND = new RegExp(`^(.*\\d.*?)(${PER})$`, "u");
 const MONEY = "(?:\\p{Sc}|[A-Z]{3})", UNIT = `(?:[kKM]?\\p{Sc}|%|${WORD}(?: ?${MONEY})?)(?:${PER})?`;
 const WITH_UNIT = new RegExp(`^((?:${MONEY} ?)?[-−]?\\d[\\d.,'’\\s\u202f]*?)\\s*(${UNIT})$`, "u");
+const CODE = "(?:EUR|USD|GBP|CHF|JPY|CNY|INR|SEK|NOK|DKK|PLN|CZK|HUF|AUD|CAD|NZD|BRL|MXN|ZAR|TRY)";
+const IN_MONEY = new RegExp(`(?<![\\p{L}\\d'’])(?:${CODE}|\\p{Sc}|euros?|dollars?|francs?|franken)`
+  + "(?![\\p{L}\\d'’])", "u");
+const RATE = /(?<!\p{L})(?:per|pro|je|par|por|p\.|each) ?\p{L}|\/ ?\p{L}/iu;
+const SCALED = new RegExp("(?<!\\p{L})(?:[kKTM]?(?:\\p{Sc}|EUR)|in|x|×) ?(?:[kmTM]|bn|['’.,]?000)(?!\\p{L})"
+  + "|(?<!\\p{L})[kKTM](?:\\p{Sc}|EUR)|thousand|tausend|tsd|mio|mill?ion|mln|mrd|milliard", "iu");
 const OF_MANY = /^(k|[kKM]?\p{Sc}|tsd|tausend|thousand|mio|mill?ion(s|en)?|mln|mn|mrd|bn)\b\.?/iu;
 
 /** The number and the unit of a text, as "12 km" and "1200 EUR/year"; null for another text, and for one that is a
@@ -25,17 +31,34 @@ export function parted(text) {
 /** Rows without units: {rows, units}, or {fault} in words where the numbers of a column have several. The first `from`
  * columns are names. A number without a unit beside such with one may only be 0. */
 export function withoutUnits(rows, from = 0) {
-  const wide = rows.reduce((most, { length }) => Math.max(most, length), 0), found = new Map();
+  const wide = rows.reduce((most, { length }) => Math.max(most, length), 0), found = new Map(), signs = new Set();
   for (let c = from; c < wide; c++) {
     const texts = rows.map((row) => row[c] ?? "").filter(Boolean), own = texts.map(parted).filter(Boolean);
     const [unit, other] = new Set(own.map((one) => one.unit)), isBare = (text) => /[1-9]/.test(text) && !parted(text);
     const isNumber = (text) => !readNumber(text).fault, isMixed = texts.some((text) => isBare(text) && isNumber(text));
     if (!unit || isMixed || own.length * 2 < texts.length - 1) continue;
     if (other) return { fault: `The numbers have several units: “${unit}” and “${other}”. Give all in one.` };
-    found.set(c, unit);
+    const sign = moneyBeside(own.map(({ number }) => number));
+    if (sign) signs.add(c);
+    found.set(c, sign && /^\p{L}/u.test(unit) ? `${sign} ${unit}` : sign + unit);
   }
-  const bare = (text, c) => (found.has(c) ? parted(text ?? "")?.number ?? text : text);
+  const numberOf = (text) => parted(text ?? "")?.number ?? text;
+  const bare = (text, c) => (signs.has(c) ? withoutMoney(numberOf(text ?? "")) : found.has(c) ? numberOf(text) : text);
   return { rows: found.size ? rows.map((row) => row.map(bare)) : rows, units: [...new Set(found.values())], found };
+}
+
+/** The money of numbers with a unit behind, as "1.459 €/l", if some can be read both ways: as these needn't be in
+ * thousands, it goes with the unit. "" for none. */
+function moneyBeside(numbers) {
+  const [money, other] = new Set(numbers.map((text) => moneyIn(text) ?? "")), isOpen = (text) => readNumber(text).doubt;
+  const isAny = money && other === undefined && numbers.some((text) => isOpen(text) && isOfMoney(text));
+  return isAny ? numbers[0].replace(/[\d.,\s'’\u202f−-]/g, "") : "";
+}
+
+/** What a heading says of numbers below it: that they are "money", or "rates", as "€ per m", or in millions, of which
+ * nobody knows how many decimals they have. Undefined where it says nothing. */
+export function amountsBelow(head = "") {
+  return RATE.test(head) || SCALED.test(head) ? "rates" : IN_MONEY.test(head) ? "money" : undefined;
 }
 
 /** What is told of units behind numbers. */

@@ -56,7 +56,7 @@ export const votes = {
   read(state, mark) {
     const isDouble = state.secondQuota !== undefined;
     const rows = state.rows.map(({ name, votes }) => ({ name, votes }));
-    const { opened, isUnnamed, beside } = state, own = { rows, opened, isUnnamed, beside };
+    const { opened, isUnnamed, beside, amounts } = state, own = { rows, opened, isUnnamed, beside, amounts };
     const list = readList(own, mark, "votes", "The number of votes", "Voter"), { reading, names } = list;
     for (const ask of [askOfSum, askOfTwice]) ask(reading, state, isDouble ? ["votes", "second"] : ["votes"]);
     const ballots = [readBallot(reading, state.quota, "quota", "The quota", list, state)], [{ quota }] = ballots;

@@ -1,5 +1,5 @@
 // Decimals: those that people type, and those that are shown.
-import { BLANK, isMark, onlyMark, spoken } from "./marks.js";
+import { BLANK, isMark, onlyMark, otherMark, spoken } from "./marks.js";
 import { Rational } from "./rational.js";
 
 const HALF = new Rational(1n, 2n);
@@ -172,6 +172,17 @@ export function moneyIn(typed) {
   const [sign] = typed.trim().match(OF_MONEY) ?? [], name = sign?.replace(".", "");
   return SAME_MONEY[name] ?? name;
 }
+
+const BY_MARK = /\d([.,])\d{3}(?!\d)/, FINE = /[\ufdfc\u20bf]/; // rials of Oman have three decimals, bitcoins eight
+
+/** Whether a text that can be read both ways is an amount of money, as "£4,200", which has no three decimals. */
+export const isOfMoney = (typed) => Boolean(moneyIn(typed)) && !FINE.test(typed) && !/[*×+]/.test(typed);
+
+/** A number without the sign or code of its money. */
+export const withoutMoney = (typed) => typed.trim().replace(OF_MONEY, "").trim();
+
+/** The mark in front of decimals by which a text that can be read both ways is in thousands. */
+export const markOfThousands = (typed) => otherMark(BY_MARK.exec(typed)[1]);
 
 /** A decimal with a power of ten, as programs print it: 1e-05 is 0.00001. */
 function scientific(text) {

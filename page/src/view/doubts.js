@@ -12,7 +12,7 @@ const quoted = (typed) => `“${withEscapes(typed.trim())}”`;
 
 /** The notes for what was read; `setEntry(mark)` reads the case anew. No number is read in one of two ways in silence.
  * Those read with decimals come first: where others show otherwise, they are the odd ones. */
-export function doubtNotes({ doubts: found, entry, mark, shown }, { setEntry }) {
+export function doubtNotes({ doubts: found, entry, mark, shown, isByMoney }, { setEntry }) {
   const doubts = [...found].sort((one, other) => one.how.localeCompare(other.how));
   const [[, one] = [], [, two] = []] = shown, isClash = shown.length > 1;
   const clash = isClash && el("p", { class: "note" }, `In ${quoted(one)} and ${quoted(two)} the point and the comma `,
@@ -20,7 +20,8 @@ export function doubtNotes({ doubts: found, entry, mark, shown }, { setEntry }) 
   if (!doubts.length) return clash;
   const proof = isClash ? undefined : one, isChosen = !isMark(entry);
   const isOwn = doubts.some(({ typed }) => typed === proof);
-  const because = proof && (isOwn ? "it can only be whole, so " : `${quoted(proof)} shows that `);
+  const own = isByMoney ? "money has no three decimals, so " : "it can only be whole, so ";
+  const because = proof && (isOwn ? own : `${quoted(proof)} shows that `);
   const why = isChosen ? "as you chose" : `${because ?? ""}the ${nameOfMark(mark)} comes before decimals`;
   const read = listed(doubts.map((doubt) => readAs(doubt, mark, doubts.length)));
   const [{ count }] = doubts, isMany = doubts.length === 1 && count > 1;

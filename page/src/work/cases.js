@@ -61,9 +61,9 @@ function tooManyPerHead(rows, tree) {
  * otherwise, and which show the mark; `settled` is the one that they show, if it is one, and `thousands` the sign
  * between thousands. */
 function marksOf(reading) {
-  const { mark: entry, doubts, shown } = reading, settled = reading.settles(), thousands = onlyMark(reading.thousands);
-  const mark = isMark(entry) ? entry : settled ?? ".";
-  return { entry, mark, settled, thousands, doubts: [...doubts.values()], shown: [...shown.entries()] };
+  const { mark: entry, doubts } = reading, settled = reading.settles(), thousands = onlyMark(reading.thousands);
+  const mark = isMark(entry) ? entry : settled ?? ".", proofs = reading.proofs(), isByMoney = proofs !== reading.shown;
+  return { entry, mark, settled, thousands, doubts: [...doubts.values()], shown: [...proofs.entries()], isByMoney };
 }
 
 /** The rows of what was pasted. */

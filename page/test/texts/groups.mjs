@@ -174,4 +174,7 @@ export const GROUPS = [
   ["costs", "Nov 1 480 (Ann, Bo)\nNov 2 150 (Ann)", "Ann|Bo|630|480|630", /parts: each/, YES],
   ["market", "gas 84 for Ann and Bo\nhut 150 for everyone", null, /“gas 84 for Ann and Bo” is no name/],
   ["estate", "gas 84 for Ann and Bo\nhut 150 for everyone", null, /can part “gas 84 for Ann and Bo” for sure/],
+  // money has no three decimals
+  ["costs", "A\t€38,400\nB\t€12,000\nA+B\t€45,000", "A|B|€38,400|€12,000|€45,000", /^(?!.*can be read as)/],
+  ["costs", "A\t38,400\nB\t12,000\nA+B\t45,000", "A|B|38,400|12,000|45,000", /can be read as/],
 ];
