@@ -29,7 +29,8 @@ async function judged({ id, cell, text, mark, wanted }) {
     await desk.paste(cell, text);
     for (const k of path) await settled(desk.read().buttons[k].on.click({}));
     const { buttons, said, ...now } = desk.read();
-    if (buttons.length && path.length < MOST_ASKED) for (const k of buttons.keys()) await go([...path, k]);
+    const asked = [...buttons.keys()].filter((k) => buttons[k].textContent !== "Put it back"); // which is no question
+    if (asked.length && path.length < MOST_ASKED) for (const k of asked) await go([...path, k]);
     else ways.push({ said, found: foundAt(now) });
   };
   await go([]).catch((fault) => ways.push({ said: "", found: fault.stack }));

@@ -139,7 +139,8 @@ const TEXTS = [
   // persons who are numbers
   ["estate", "Flat 12\t120\nHouse 4a\t70", "Flat 12=120|House 4a=70"],
   ["estate", "4a\t70\n4b\t80\n12\t60", "4a=70|4b=80|12=60"],
-  ["estate", "#\tGläubiger\tForderung\tX\n1\tSum\t9\t\n2\t7\t5\tlate\n3\t8\t4\t", "Sum=9|7=5|8=4", /“#” was left out/],
+  ["estate", "#\tGläubiger\tForderung\tX\n1\tSum\t9\t\n2\t7\t5\tlate\n3\t8\t4\t", "7=5|8=4",
+    /“#” was left out.*“Sum”, 9, the sum of the others, was/],
   ["votes", "1\tEUR 10\n2\tEUR 7", null, /Which column is “Who votes”\? “1, 2 …”/],
   // a table of an answer, rows that stay, and lines without a group
   ["estate", ANSWER, null, OF_ANSWER], ["costs", ANSWER, null, OF_ANSWER], ["network", ANSWER, null, OF_ANSWER],
@@ -301,11 +302,15 @@ for (const [text, wanted, told = /^/, labels = ["Sales", "Ops", "Legal"]] of [..
 }
 
 /** Texts that lead to two questions or offers: those that are answered, and what then is offered or asked still. */
-const MEMBERS = "Member\tInhabitants\tVotes\nAda\t2400\t12\nBo\t1900\t9\nCy\t900\t7\nTotal\t5200\t28";
-const OWED = "Hi,\nthe estate comes to 84,000 after costs.\n\nAnn\t20,500\nBo\t30,250\nTotal\t50,750";
+const MEMBERS = "Member\tInhabitants\tVotes\nAda\t2400\t12\nBo\t1900\t9\nCy\t900\t7\nTotal\t5200\t29";
+const OWED = "Hi,\nthe estate comes to 84,000 after costs.\n\nAnn\t20,500\nBo\t30,250\nTotal\t50,800";
 const SECOND = "Use “Inhabitants” as second votes", GONE = "Yes, remove it", CLAUSED = `${MEMBERS}\n\nDecisions need `
   + "at least 15 votes.";
+const EXACT = MEMBERS.replace("29", "28"), BACK = "Put it back", EVEN = OWED.replace("800", "750");
 const PAIRS = [
+  ["votes", EXACT, [], BACK, "Ada=12|Bo=9|Cy=7"], ["votes", EXACT, [BACK], SECOND, "Ada=12|Bo=9|Cy=7|Total=28"],
+  ["votes", EXACT, [SECOND], BACK, "Ada=12|Bo=9|Cy=7"], ["estate", EVEN, ["Yes, 84,000"], BACK, "Ann=20,500|Bo=30,250"],
+  ["estate", EVEN, [BACK], "Yes, 84,000", "Ann=20,500|Bo=30,250|Total=50,750"],
   ["votes", MEMBERS, [GONE], SECOND, "Ada=12|Bo=9|Cy=7"], ["votes", MEMBERS, [SECOND], GONE],
   ["votes", MEMBERS, [GONE, SECOND], "", "Ada=12|Bo=9|Cy=7"], ["votes", MEMBERS, ["No, it counts"], SECOND],
   ["votes", MEMBERS, ["No, it counts", SECOND], ""], ["votes", CLAUSED, [GONE], SECOND],

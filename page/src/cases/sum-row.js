@@ -1,6 +1,8 @@
 // A row that is the sum of others comes with many sheets. It is nobody, and must not count before that is settled.
+import { MARKS } from "../exact/marks.js";
 import { Rational } from "../exact/rational.js";
 import { isSumWord } from "../game/names.js";
+import { byOneMark, Reading } from "./reading.js";
 
 // how the name of a sum of some rows may begin
 const PARTIAL = new RegExp("^((grand |sub)?[ -]?tota+l|sum\\b|(zwischen)?summe|gesamt|sous-total|somme|carried|"
@@ -37,6 +39,25 @@ export function askOfSum(reading, state, keys) {
   const said = isOff && keys.map((key) => offBy(reading, one.row[key] ?? "", others(one, key)));
   reading.asked = { r, name: nameOf(one), isLast: r === last.r, off: (said || []).find(Boolean) };
   return true;
+}
+
+/** Pasted rows without the one whose name is a word for a sum, if each number of it is that of two others or more:
+ * {rows, sum}, its cells by their keys, and its amount. Where numbers can be read both ways, it is so in both. */
+export function withoutSum({ rows, targets, amounts, beside }) {
+  const cells = rows.map((row) => Object.fromEntries(row.map((text, c) => [targets[c]?.key, text ?? ""])));
+  const sums = cells.filter(({ name = "" }) => isSumWord(name)), [own] = sums;
+  const others = cells.filter((one) => one !== own), keys = targets.filter((one) => one?.number).map(({ key }) => key);
+  const given = keys.filter((key) => own?.[key]);
+  const main = keys.find((key) => !["second", "count"].includes(key));
+  if (sums.length !== 1 || !own[main] || others.length < 2) return { rows };
+  const read = (by) => {
+    const reading = new Reading(by, { amounts, beside });
+    for (const key of given) for (const one of cells) if (one[key]) reading.number("", one[key], "");
+    const isSum = given.every((key) => isSumOf(reading, own[key], others.map((one) => one[key] || "0")));
+    return { reading, isSum };
+  };
+  const isSum = MARKS.every(([by]) => byOneMark(read, by).isSum);
+  return isSum ? { rows: rows.filter((_, k) => cells[k] !== own), sum: { row: own, amount: own[main] } } : { rows };
 }
 
 /** What a sum says and what the others add to, if all are numbers and these differ. */

@@ -4,6 +4,7 @@ import { isClause } from "../cases/clauses.js";
 import { partedInLine } from "../cases/in-line.js";
 import { SPOILT } from "../cases/pasting.js";
 import { isProse, sheetOf } from "../cases/sheets.js";
+import { withoutSum } from "../cases/sum-row.js";
 import { readNumber } from "../exact/decimals.js";
 import { withEscapes } from "../game/names.js";
 import { cellInput, moveByKeys, pasteCells, removal } from "./cells.js";
@@ -165,7 +166,7 @@ class ListGrid {
       mark: this.mark(), usual: columns.slice(first), isFirst: !first, ...said,
       single: single?.heads && { ...single, second: this.kind.second },
     });
-    return { sheet, first };
+    return { sheet: sheet.rows && !said.hasSum ? { ...sheet, ...withoutSum(sheet) } : sheet, first };
   }
 
   /** Offers what a text says beside its rows, until that is used or other rows come. */
@@ -279,7 +280,7 @@ class ListGrid {
   }
 
   /** A list with names that begins in the first row is the case; and nothing of the worked example stays beside it. */
-  take({ rows, targets, headings, notes, number, other, isGuess, isPercent, kept, beside }, at) {
+  take({ rows, targets, headings, notes, number, other, isGuess, isPercent, kept, beside, amounts }, at) {
     const { kind, typed } = this, isExample = this.isExample();
     const hasNames = targets.some((target) => target?.key === kind.columns[0].key), r = isExample && hasNames ? 0 : at;
     const isFree = (row) => targets.every((own) => !row[own?.key]?.trim()), isBlank = (row) => this.isBlank(row);
@@ -289,7 +290,7 @@ class ListGrid {
     const isOver = !isExample && !(isWhole && kept === "all") && typed.rows.some(isOther)
       && (isWhole ? `The rows before are gone (Undo).${this.stillText(number)}` : "The rows below stay as they were.");
     if (isWhole) this.leave(isExample);
-    Object.assign(typed, { isUnordered: isGuess, notTwice: false, beside, ...(kind.isVote && { isPercent }) });
+    Object.assign(typed, { isUnordered: isGuess, notTwice: false, beside, amounts, ...(kind.isVote && { isPercent }) });
     if (number) typed[kind.single.key] = number;
     if (other) typed[kind.second.single.key] = other;
     const filled = rows.map((row, k) => {

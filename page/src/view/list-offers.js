@@ -15,6 +15,8 @@ export function offersOf(grid, sheet, said, use) {
     grid.remember(single.title);
     typed[single.key] = line.amount;
     grid.say(`${told} ${line.amount} was taken as ${single.title.toLowerCase()}.`);
+    typed.offered = { ...typed.offered, told: grid.said.textContent };
+    grid.offerAgain();
     grid.showSingles();
     grid.onChange();
   };
@@ -26,7 +28,10 @@ export function offersOf(grid, sheet, said, use) {
     Object.assign(typed, { notSums, notTwice }); // the rows are the same
   };
   const isFilled = () => !isOpen() && (isOne() || typed[second.single.key].trim());
+  const { sum } = sheet, isOut = () => !typed.rows.some(({ name = "" }) => name.trim() === sum?.row.name);
   const parts = [
+    [isOut, sum && isOut() && [` “${withEscapes(sum.row.name)}”, ${sum.amount}, the sum of the others, was left out.`,
+      way("Put it back", () => putBack(grid, sum))]],
     [isOpen, line?.amount && isOpen() && [` Is ${line.amount} what there is to divide?`,
       way(`Yes, ${line.amount}`, give)]],
     [() => !isFilled(), line && second && [` ${quoted(line.text)} names ${quotaWord(line)}: type `,
@@ -37,6 +42,17 @@ export function offersOf(grid, sheet, said, use) {
   ].map(([isStill, part]) => ({ isStill, element: el("span", {}, part) }));
   grid.said.append(...parts.map(({ element }) => element));
   return parts;
+}
+
+/** Puts the row of a sum, which was left out, below the others: it counts. */
+function putBack(grid, { row }) {
+  const { typed } = grid, place = typed.rows.findLastIndex((one) => !grid.isBlank(one)) + 1;
+  grid.remember("Put it back");
+  typed.rows.splice(place, 0, { ...grid.blank(), ...row });
+  typed.notSums = [...(typed.notSums ?? []), row.name];
+  grid.show();
+  grid.showOffers();
+  grid.onChange();
 }
 
 /** Pasted rows without those that were taken out of the list since, if it is clear which they are. */

@@ -3,6 +3,10 @@ const COUNCIL = "Who\tVotes\tMembers\nAnn\t7\t2\nBo\t4\t1\nCy\t2\t2", NEEDED = `
 const CLAUSE = "Carried if at least 8 of the 13 council seats and at least 55 % of the inhabitants agree";
 const SEATS = "1. at least 8 of the 13 council seats: List A 5, List B 4\n"
   + "2. at least 55 % of the inhabitants: List A 5,200, List B 3,100";
+const DISTRICT = "5. Votes in the district council\nThe council adopts a decision with at least 27 of the 40 votes. "
+  + "The votes are:\n• Aldbury – 14 votes\n• Brenford – 11 votes\n• Carswell – 7 votes\n• Dunmere – 5 votes\n"
+  + "• Eastholm – 3 votes", DISTRICT_VOTES = "Aldbury=14|Brenford=11|Carswell=7|Dunmere=5|Eastholm=3";
+
 export const LISTS = [
   // titles within a table
   ["votes", "Partei\tSitze\nSitzverteilung (25 Sitze)\t\nListe A\t12\nListe B\t9", "Liste A=12|Liste B=9",
@@ -95,6 +99,34 @@ export const LISTS = [
   ["estate", "Bo (unsecured)\t120\nCy (non-secured)\t80\nDi, nicht gesichert\t8", /^Bo/, /^(?!.*stands? here)/],
   ["estate", "Finanzamt, Masseverbindlichkeit: 120\nBank, Absonderungsrecht: 80\nCy: 40", /Cy=40$/,
     /“Masseverbindlichkeit” and “Absonderungsrecht” stand here/],
+  // money has no three decimals
+  ["estate", "Ann\t38,400 €\nBo\t12,300 €", "Ann=38,400 €|Bo=12,300 €", /^(?!.*can be read as)/],
+  ["estate", "Ann\t£4,200\nBo\t3,100", "Ann=£4,200|Bo=3,100", /^(?!.*can be read as)/],
+  ["runway", "Aer\tCHF 1.250\t5.000\nBee\tCHF 3.500\t2", "Aer=CHF 1.250=5.000|Bee=CHF 3.500=2",
+    /^(?!.*can be read as)/],
+  ["estate", "Who\tBetrag in €\nAnn\t1.250\nBo\t1.399", "Ann=1.250|Bo=1.399", /^(?!.*can be read as)/],
+  ["estate", "Who\tClaim\nAnn\t1.250\nBo\t1.399", "Ann=1.250|Bo=1.399", /can be read as 1250 or/],
+  ["estate", "Who\tClaim (£m)\nAnn\t£1.250\nBo\t£1.399", "Ann=£1.250|Bo=£1.399", /can be read as 1250 or/],
+  ["estate", "Who\tPreis je Meter\nAnn\t€ 1.250\nBo\t€ 1.399", "Ann=€ 1.250|Bo=€ 1.399", /can be read as 1250 or/],
+  ["estate", "Ann\t1.459 €/l\nBo\t1.399 €/l", "Ann=1.459|Bo=1.399", /“€\/l” behind .*can be read as 1459 or/],
+  ["estate", "Ann\t£1.250 million\nBo\t£2.500 million", "Ann=1.250|Bo=2.500", /“£ million” behind .*can be read as/],
+  ["estate", "Ann\t1.250 €\nBo\t1,250 €", "Ann=1.250 €|Bo=1,250 €", /can be read as 1250 or/],
+  ["estate", "Ann\t1.250 €\nBo\t12.50 €", "Ann=1.250 €|Bo=12.50 €", /shows which mark.* 1250, whole/],
+  ["estate", "Ann\tKWD 1.250\nBo\tKWD 3.500", "Ann=KWD 1.250|Bo=KWD 3.500", /is no number/],
+  // the sum of the others
+  ["estate", "Ann\t900\nBo\t1200\nSumme\t2100", "Ann=900|Bo=1200", /“Summe”, 2100, the sum of the others, was left/],
+  ["estate", "Ann\t900\nBo\t1200\nSumme\t2100", "Ann=900|Bo=1200|Summe=2100", /^(?!.*It would count)/,
+    "Put it back"],
+  ["estate", "Ann\t900\nBo\t1200\nSumme\t2101", "Ann=900|Bo=1200|Summe=2101", /It says 2101, the others add to 2100/],
+  ["estate", "Ann\t900\nBo\t1.200\nTotal\t2.100", "Ann=900|Bo=1.200|Total=2.100", /Is it the sum of the others\?/],
+  ["estate", "Ann\t€900\nBo\t€1.200\nTotal\t€2.100", "Ann=€900|Bo=€1.200", /“Total”, €2.100, the sum of the others/],
+  ["estate", "Ann\t900\nBo\t1200\nHans\t2100", "Ann=900|Bo=1200|Hans=2100", /“Hans”. Is it the sum of the others\?/],
+  ["runway", "Ann\t900\t1\nBo\t1200\t3\nTogether\t2100\t5", "Ann=900=1|Bo=1200=3|Together=2100=5", /Is it the sum/],
+  ["votes", "Total Energies\t3\nAnn\t1\nBo\t2", "Total Energies=3|Ann=1|Bo=2"],
+  ["votes", "Ann\t5\nBo\t4\nSubtotal\t9\nTotal\t18", "Ann=5|Bo=4|Subtotal=9|Total=18", /Is it the sum of/],
+  // a numbered heading
+  ["votes", DISTRICT, DISTRICT_VOTES, /Left out, as these are no rows: “5\. Votes in the/],
+  ["votes", DISTRICT.replace(/\nThe.*/, ""), DISTRICT_VOTES, /Left out, as it is no row: “5\. Votes in the/],
 ];
 const MAYOR = "Ops 8,300, Sales 9,000 and Legal 7,250", OF_MAYOR = "9,000,8,300,7,250";
 export const DIVIDED = [
