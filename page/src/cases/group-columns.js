@@ -3,6 +3,7 @@ import { readNumber } from "../exact/decimals.js";
 import { withEscapes } from "../game/names.js";
 import { listed } from "../game/words.js";
 import { headingsOf } from "./pasting.js";
+import { amountsBelow } from "./units.js";
 
 const MOST_SHOWN = 120; // letters of a line that is quoted
 export const FORM = "Give each group a line: its members with + between them, then its number. Marks in columns need "
@@ -21,7 +22,7 @@ export function pairsOf(given, allLines, { mark, column, cells }) {
   const headings = headingsOf(all, 1, mark) ?? yearsOf(all), skip = headings ? 1 : 0, rows = all.slice(skip);
   const lines = allLines.slice(skip), long = rows.findIndex((row) => row.slice(2).some(Boolean));
   const told = headings ? headingText((cells[allLines[0] - 1] ?? headings).filter(Boolean).join("; ")) + joined : "";
-  if (long < 0) return { rows, lines, told };
+  if (long < 0) return { rows, lines, told, amounts: amountsBelow(headings?.[1]) };
   const isNumber = (text) => Boolean(text) && !readNumber(text, mark).fault;
   const shown = withEscapes(rows[long].join("; ")).slice(0, 60), line = `Line ${lines[long]}: `;
   const wide = all.reduce((most, { length }) => Math.max(most, length), 0);
@@ -42,7 +43,8 @@ export function pairsOf(given, allLines, { mark, column, cells }) {
   }
   const out = others.filter((c) => c !== at).map((c) => withEscapes(headings?.[c] ?? rows[0][c] ?? ""));
   const left = out.map((text) => ` “${text}”${headings ? "" : " …"} was left out.`).join("");
-  return { rows: rows.map((row) => [row[0], row[at] ?? ""]), lines, told: told + left };
+  const amounts = amountsBelow(headings?.[at]);
+  return { rows: rows.map((row) => [row[0], row[at] ?? ""]), lines, told: told + left, amounts };
 }
 
 /** Rows with one column for those that have one number between them in each row, as "Alone" and "Together". */

@@ -35,9 +35,9 @@ const MOST_LETTERS = 4000; // of a group with all its names
 const MOST_SHOWN = 60; // of a sentence that is quoted
 
 /** A table as it goes to a worker and back: one text is copied faster than 65,536. */
-export function packed({ names, numbers, opened, isUnnamed, filled }) {
+export function packed({ names, numbers, opened, isUnnamed, filled, amounts }) {
   const ofDocument = { ...(opened && { opened }), ...(isUnnamed && { isUnnamed }) }; // what is said of its names
-  const ofCells = filled?.length ? { filled } : {};
+  const ofCells = { ...(filled?.length && { filled }), ...(amounts && { amounts }) };
   return { names, numbers: Array.from(numbers, (text) => text ?? "").join("\n"), ...ofDocument, ...ofCells };
 }
 
@@ -290,7 +290,7 @@ function groupsFirst(rows) {
 
 /** A table of rows of a group and its number; `allLines` are the numbers of their lines. */
 function listOf(given, allLines, { mark, roles, column, cells, ...said }) {
-  const { rows, lines, told, fault, columns } = pairsOf(given, allLines, { mark, column, cells });
+  const { rows, lines, told, fault, columns, amounts } = pairsOf(given, allLines, { mark, column, cells });
   const lineOf = (k) => `Line ${lines[k]}: `;
   if (fault || columns) return { fault, columns };
   if (!rows.some(([, number = ""]) => /\d/.test(number))) {
@@ -312,7 +312,8 @@ function listOf(given, allLines, { mark, roles, column, cells, ...said }) {
   });
   const unknown = open.size ? ` A cell with ${listed([...open].map((text) => `“${text}”`))} is empty.` : "";
   const found = inOtherWords(read, roles), table = found.read ? placedList(found.read, said) : found;
-  return table.state ? { ...table, remark: told + found.told + unknown } : table;
+  const state = table.state && { ...table.state, ...(amounts && { amounts }) };
+  return state ? { ...table, state, remark: told + found.told + unknown } : table;
 }
 
 /** The table of lines of groups: {state}, or {fault} in words; with a `way` on if lines of players alone lack, until

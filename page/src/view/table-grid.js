@@ -360,7 +360,7 @@ class TableGrid {
     if (!state) return this.say(found.fault, " Nothing was taken.");
     close?.();
     this.remember(said.what ?? (close ? "Use this list" : "Paste"));
-    this.change({ ...unpacked(state), ...UNSAID });
+    this.change({ ...unpacked(state), ...UNSAID, amounts: state.amounts });
     const { names, numbers } = this.typed, lacking = this.order.filter((mask) => !numbers[mask]).length;
     const rest = lacking ? `; ${plural(lacking, "group has", "groups have")} no number` : "";
     return this.say(`Read${told ? { size: " by size", mask: " by masks" }[told.order] : ""}: `

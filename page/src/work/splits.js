@@ -15,9 +15,9 @@ const MOST_NAMED = 300; // groups that are named
  * holds it. What all together cost or gain is never filled: it is divided. Numbers are read as those of the case, so
  * nothing is filled while the user is asked how (unless that `isMarked`). */
 export function fillSplits({ typed, mark, costs, filled = [], how = "split", again = false, isMarked = true }) {
-  const { names, numbers: given } = unpacked(typed), old = new Set(filled), all = given.length - 1;
+  const { names, numbers: given, amounts } = unpacked(typed), old = new Set(filled), all = given.length - 1;
   const numbers = given.map((text, mask) => (old.has(mask) ? "" : text));
-  const { values, scale, by, thousands, fault } = scaledValues(numbers, mark, isMarked);
+  const { values, scale, by, thousands, fault } = scaledValues(numbers, mark, { isMarked, amounts });
   if (fault) return { fault };
   const best = bestSplits(how === "larger" ? heldByLarger(values).map(({ value }) => value) : values, costs);
   const fresh = [], hasWhole = values[all] !== null;
@@ -54,8 +54,8 @@ function abovesOf(values, fresh, { names, texts }) {
 
 /** What was typed as whole numbers over a scale, null where nothing was; `by` is the decimal mark by which all of it is
  * written. */
-function scaledValues(numbers, mark, isMarked) {
-  const { reading, values } = byOneMark((by) => valuesOf(numbers, by), mark);
+function scaledValues(numbers, mark, { isMarked, amounts }) {
+  const { reading, values } = byOneMark((by) => valuesOf(numbers, by, amounts), mark);
   if (reading.count) return { fault: "Mend the numbers that are marked first." };
   reading.askOfMixed(isMarked);
   reading.askOfUnsure(isMarked);
@@ -70,8 +70,8 @@ function scaledValues(numbers, mark, isMarked) {
   return { scale, values: whole, by: settled ?? mark, thousands: isClear ? sign : null };
 }
 
-function valuesOf(numbers, mark) {
-  const reading = new Reading(mark), settled = { canBeNegative: true };
+function valuesOf(numbers, mark, amounts) {
+  const reading = new Reading(mark, { amounts }), settled = { canBeNegative: true };
   const values = numbers.map((text, mask) => {
     return mask && text.trim() ? reading.number(`numbers.${mask}`, text, "The number", settled) : null;
   });

@@ -176,5 +176,9 @@ export const GROUPS = [
   ["estate", "gas 84 for Ann and Bo\nhut 150 for everyone", null, /can part “gas 84 for Ann and Bo” for sure/],
   // money has no three decimals
   ["costs", "A\t€38,400\nB\t€12,000\nA+B\t€45,000", "A|B|€38,400|€12,000|€45,000", /^(?!.*can be read as)/],
+  ["costs", "Group\tCost (EUR)\nA\t38,400\nB\t12,000\nA+B\t45,000", "A|B|38,400|12,000|45,000",
+    /^(?!.*can be read as)/],
+  ["gains", "Group\tGain in €m\nA\t€38,400\nB\t€12,000\nA+B\t€55,000", "A|B|€38,400|€12,000|€55,000",
+    /can be read as/],
   ["costs", "A\t38,400\nB\t12,000\nA+B\t45,000", "A|B|38,400|12,000|45,000", /can be read as/],
 ];
