@@ -137,12 +137,11 @@ async function sumOfOthers(page, expect) {
   await page.click("Clear all");
   await page.paste('[data-cell="rows.0.name"]', "Who\tClaim\nAda\t100\nBob\t200\nCem\t300\nSumme\t600");
   await page.type("estate", "300");
-  await noted(page, /The last row, “Summe”. Is it the sum of the others?/);
-  expect("no answer before", await page.run("document.getElementById('answer').hidden"), true);
-  await page.click("No, it counts");
+  await told(page, "#case .pasted", /“Summe”, 600, the sum of the others, was left out\. Put it back/);
+  await page.click("Put it back");
   await settle(page);
-  const told = await page.text("#case .faults");
-  expect("told", told, /Name 4 is “Summe”. Is it the sum[\s\S]*“Summe”, claims exactly what all rows above it/);
+  const remarks = await page.text("#case .faults");
+  expect("told", remarks, /Name 4 is “Summe”. Is it the sum[\s\S]*“Summe”, claims exactly what all rows above it/);
 }
 
 async function allOnPaper(page, expect) {

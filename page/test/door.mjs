@@ -224,17 +224,15 @@ const messy = [
     await told(page, "#case .pasted", /Nothing was taken yet\. Which column is “Needs alone”\?/);
     expect("nothing yet", await cells(page), /^Aer/);
     await page.click("“Cost (€)”");
-    await noted(page, /The last row, “Total”\. Is it the sum of the others\?/);
+    await told(page, "#case .pasted", /“Total”, € 3,600,000, the sum of the others, was left out\. Put it back/);
     expect("told", await page.text("#case .pasted"), /“Needed \(m\)” was left out/);
-    await page.click("Yes, remove it");
     await told(page, "#answer .lead", /E190 pays most, 1,300,954\.36/);
   }],
   ["door: a list of a court, with its estate", "estate", async (page, expect) => {
     await page.paste('[data-cell="rows.0.name"]', "Verfahren 4 IN 233/25\n\nRang\tGläubiger\tForderung\tQuote\n"
       + "§ 38\tCelle\t1.234,56\t?\n§ 38\tMüller & Co.\t12.500,00\t?\nSumme\t\t13.734,56\t\nMasse\t\t10.000,00\t\n\n"
       + "(ohne Zinsen)");
-    await noted(page, /The last row, “Summe”\. Is it the sum/);
-    await page.click("Yes, remove it");
+    await told(page, "#case .pasted", /“Summe”, 13\.734,56, the sum of the others, was left out/);
     await told(page, "#answer .lead", /Celle gets 617,28 and Müller & Co\. gets 9\.382,72/);
     await page.paste('[data-cell="rows.0.name"]', "§ 38\tCelle\t1.234,56\nX\tMüller & Co.\t12.500,00");
     await told(page, "#case .pasted", /3 cells, and here are .* Nothing was taken/);

@@ -11,6 +11,9 @@ const PARTIAL = new RegExp("^((grand |sub)?[ -]?tota+l|sum\\b|(zwischen)?summe|g
 const CARRIED = /^(carried|brought) (forward|over|down)|^(übertrag|vortrag|report)\b/iu;
 const ALL = /^([Σ∑]|all|alle|ensemble)$/iu;
 
+/** The name in a row: in a runway without airlines that of its type. */
+const nameIn = ({ name = "", type = "" }) => name.trim() || type.trim();
+
 export const isEmpty = (row) => Object.values(row).every((text) => !text.trim());
 
 /** Asks of a row that is named as a sum, of one whose numbers are the sums of all others, or of the last one, if it has
@@ -20,7 +23,7 @@ export const isEmpty = (row) => Object.values(row).every((text) => !text.trim())
 export function askOfSum(reading, state, keys) {
   const kept = state.rows.map((row, r) => ({ row, r })).filter(({ row }) => !isEmpty(row)), last = kept.at(-1);
   if (kept.length < 2) return false;
-  const nameOf = ({ row }) => row.name.trim() || (row.type ?? "").trim(), { notSums = [] } = state;
+  const nameOf = ({ row }) => nameIn(row), { notSums = [] } = state;
   const isPartial = (one, k) => PARTIAL.test(nameOf(one)) && isOfRowsAbove(reading, kept, k, keys);
   const others = (one, key) => kept.filter((other) => other !== one).map(({ row }) => row[key] ?? "");
   const isOfAll = (one) => keys.every((key) => isSumOf(reading, one.row[key] ?? "", others(one, key)));
@@ -42,10 +45,10 @@ export function askOfSum(reading, state, keys) {
 }
 
 /** Pasted rows without the one whose name is a word for a sum, if each number of it is that of two others or more:
- * {rows, sum}, its cells by their keys, and its amount. Where numbers can be read both ways, it is so in both. */
+ * {rows, sum}, its name, cells by their keys and amount. Where numbers can be read both ways, it is so in both. */
 export function withoutSum({ rows, targets, amounts, beside }) {
   const cells = rows.map((row) => Object.fromEntries(row.map((text, c) => [targets[c]?.key, text ?? ""])));
-  const sums = cells.filter(({ name = "" }) => isSumWord(name)), [own] = sums;
+  const sums = cells.filter((row) => isSumWord(nameIn(row))), [own] = sums;
   const others = cells.filter((one) => one !== own), keys = targets.filter((one) => one?.number).map(({ key }) => key);
   const given = keys.filter((key) => own?.[key]);
   const main = keys.find((key) => !["second", "count"].includes(key));
@@ -57,7 +60,8 @@ export function withoutSum({ rows, targets, amounts, beside }) {
     return { reading, isSum };
   };
   const isSum = MARKS.every(([by]) => byOneMark(read, by).isSum);
-  return isSum ? { rows: rows.filter((_, k) => cells[k] !== own), sum: { row: own, amount: own[main] } } : { rows };
+  const sum = { name: nameIn(own), row: own, amount: own[main] };
+  return isSum ? { rows: rows.filter((_, k) => cells[k] !== own), sum } : { rows };
 }
 
 /** What a sum says and what the others add to, if all are numbers and these differ. */

@@ -28,9 +28,9 @@ export function offersOf(grid, sheet, said, use) {
     Object.assign(typed, { notSums, notTwice }); // the rows are the same
   };
   const isFilled = () => !isOpen() && (isOne() || typed[second.single.key].trim());
-  const { sum } = sheet, isOut = () => !typed.rows.some(({ name = "" }) => name.trim() === sum?.row.name);
+  const { sum } = sheet, isOut = () => !typed.rows.some((row) => [row.name, row.type].includes(sum?.name));
   const parts = [
-    [isOut, sum && isOut() && [` “${withEscapes(sum.row.name)}”, ${sum.amount}, the sum of the others, was left out.`,
+    [isOut, sum && isOut() && [` “${withEscapes(sum.name)}”, ${sum.amount}, the sum of the others, was left out.`,
       way("Put it back", () => putBack(grid, sum))]],
     [isOpen, line?.amount && isOpen() && [` Is ${line.amount} what there is to divide?`,
       way(`Yes, ${line.amount}`, give)]],
@@ -45,11 +45,11 @@ export function offersOf(grid, sheet, said, use) {
 }
 
 /** Puts the row of a sum, which was left out, below the others: it counts. */
-function putBack(grid, { row }) {
+function putBack(grid, { name, row }) {
   const { typed } = grid, place = typed.rows.findLastIndex((one) => !grid.isBlank(one)) + 1;
   grid.remember("Put it back");
   typed.rows.splice(place, 0, { ...grid.blank(), ...row });
-  typed.notSums = [...(typed.notSums ?? []), row.name];
+  typed.notSums = [...(typed.notSums ?? []), name];
   grid.show();
   grid.showOffers();
   grid.onChange();
