@@ -1,5 +1,6 @@
 // Numbers and lists as people type them, or other programs give them: what they are read as.
-import { cellNumber, readNumber, thousandsIn, typedText } from "../src/exact/decimals.js";
+import { cellNumber, readNumber, shareTexts, thousandsIn, typedText } from "../src/exact/decimals.js";
+import { Marks, spoken } from "../src/exact/marks.js";
 import { estate, runway } from "../src/cases/lists.js";
 import { networkOf } from "../src/cases/links.js";
 import { cellsOf } from "../src/cases/pasting.js";
@@ -375,7 +376,22 @@ for (const [thousands, entry, wanted] of SAVED) {
   console.log(`a saved case with ${thousands} and ${entry} is opened as ${found}, and not ${wanted}`);
 }
 
-const tried = [FILLED, SAVED, CLAIMS, QUOTAS, sheets, CASES, WORKED, THOUSANDS, VALUES, LISTS, PASTED, NETWORKS,
+/** Shares in sentences: by themselves, and on the page, where decimals add up but where equal shares would differ. */
+const [THIRDS, EQUAL] = ["11900/3,8300/3,4700/3,700", "1/3,1/3,1/3"];
+const SHARES = [
+  [false, THIRDS, "3966.67 2766.67 1566.67 700"], [true, THIRDS, "3966.67 2766.67 1566.66 700"],
+  [true, EQUAL, "0.33 0.33 0.33"],
+];
+for (const [isPage, shares, wanted] of SHARES) {
+  if (isPage) new Marks(".");
+  const found = shareTexts(shares.split(",").map(Rational.of)).map((text) => text.split(" ")[0]).join(" ");
+  if (found === wanted) continue;
+  faults += 1;
+  console.log(`the shares ${shares} are told as ${found}, and not ${wanted}`);
+}
+spoken.addsUp = false;
+
+const tried = [SHARES, FILLED, SAVED, CLAIMS, QUOTAS, sheets, CASES, WORKED, THOUSANDS, VALUES, LISTS, PASTED, NETWORKS,
   MARKETS].reduce((sum, { length }) => sum + length, 0);
 faults += faultsOfMarkets();
 console.log(`${tried} numbers and lists as people type them, ${faults} faults`);

@@ -73,10 +73,10 @@ export function saidText(value, ...of) {
   return ([value, ...of].some(isRounded) ? "about " : "") + shortText(value);
 }
 
-/** The same; of a fraction the decimals come first, as they are what is read. */
-export function fullText(value) {
+/** The same; of a fraction the decimals, in `steps` of the last place, come first, as they are what is read. */
+export function fullText(value, steps = stepsOf(value, 2)) {
   const text = bareText(value);
-  return text.includes("/") ? `${decimal(value, 2, spoken)} (exactly ${text})${unitText()}` : saidText(value);
+  return text.includes("/") ? `${decimalOf(steps, 2, spoken)} (exactly ${text})${unitText()}` : saidText(value);
 }
 
 /** The shares of all as texts, and their sum: decimals of named places are rounded so that they add up. */
@@ -87,9 +87,13 @@ export function columnTexts(shares) {
   return all.map((step) => decimalOf(step, spoken.places, { least: 3, ...spoken }) + unitText());
 }
 
-/** The shares of all as sentences have them: those of a column, where places are named. */
+/** The shares of all as sentences have them: those of a column, where places are named. On the page decimals add up,
+ * too, but where equal shares would differ by it. */
 export function shareTexts(shares, textOf = fullText) {
-  return spoken.places === null ? shares.map((share) => textOf(share)) : columnTexts(shares).slice(0, -1);
+  if (spoken.places !== null) return columnTexts(shares).slice(0, -1);
+  const steps = spoken.addsUp ? roundedSteps(shares, 2) : [];
+  const isEven = new Set(shares.map(String)).size === new Set(shares.map((share, i) => `${share} ${steps[i]}`)).size;
+  return shares.map((share, i) => textOf(share, isEven ? steps[i] : undefined));
 }
 
 function bareText(value) {

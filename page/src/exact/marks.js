@@ -14,8 +14,8 @@ export const DECIMALS = POINT + COMMA;
 export const MARKS = Object.entries(NAMES);
 
 /** How numbers are spelled in sentences, as those of the answer are; each worker is told. Who asks Node may want so
- * many places of each, and a unit behind it. */
-export const spoken = { mark: POINT, thousands: BLANK, places: null, unit: "" };
+ * many places of each, and a unit behind it. On the page, `addsUp`, shares are rounded as in its table. */
+export const spoken = { mark: POINT, thousands: BLANK, places: null, unit: "", addsUp: false };
 
 /** Whether it is one of the two, and not a way to read numbers against both. */
 export const isMark = (text) => text === POINT || text === COMMA;
@@ -68,7 +68,7 @@ export class Marks {
   }
 
   speak() {
-    Object.assign(spoken, this.spelling());
+    Object.assign(spoken, this.spelling(), { addsUp: true });
   }
 
   /** The user chooses by which numbers are shown. */
