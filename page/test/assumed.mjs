@@ -189,6 +189,10 @@ export const assumed = [
     await page.click("Work it out", "document.querySelector('.other:has([data-cell=more])')");
     const found = ".other:has([data-cell=more]) .found";
     expect("more", await told(page, found, /It costs 25.15 more/), /“By what each adds”: all bear the same, as in/);
+    const exact = "[...document.querySelectorAll('.overrun small.exact')].map((one) => one.checkVisibility()).join()";
+    expect("fractions that nobody asked for", await page.run(exact), /^(false,?)+$/);
+    const means = await page.run("document.querySelector('#why .meanings').textContent");
+    expect("what the rule may do, and does", means, /Each pays what it[^;]*does better by itself(; here none does)?\./);
     expect("promised", await page.text(found), /equal part[\s\S]*Young, Okada and Hashimoto 1982[\s\S]*another/);
     await page.type("more", "-37,15");
     expect("old ones are dimmed", await page.run(`document.querySelector("${found}").className`), /stale/);
