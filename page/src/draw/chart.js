@@ -90,8 +90,8 @@ function bodyOf({ bars = [], spans = [], marks = [], ...row }, x, y) {
   ]);
   bars.forEach(({ key, value }, k) => {
     const [from, to] = [x(Math.min(value, 0)), x(Math.max(value, 0))];
-    const own = { class: "own", "data-point": key, x: from, width: Math.max(1, to - from), ...box(k) };
-    if (value) parts.push(el("rect", own));
+    const width = value ? Math.max(1, to - from) : 0; // a rectangle without a width isn't drawn
+    parts.push(el("rect", { class: "own", "data-point": key, x: from, width, ...box(k) }));
   });
   for (const { kind, value } of marks) {
     if (value === null) parts.push(el("text", { x: x(row.end), y: y + high / 2 + 5, "text-anchor": "end" }, "→"));
