@@ -34,6 +34,7 @@ export const agreed = [
     expect("who agreed on what", text, /The parties agreed on: by what each adds \(Shapley shares\)\./);
     expect("its shares", text, /singer gets 41\.67/);
     expect("what is proved", text, /These numbers have no certificate\./);
+    expect("what has to be the same", text, /its column “By what each adds” has to be the same/);
     expect("nothing of another rule", /nucleolus/.test(text), false);
     const file = await saved(page);
     expect("in the file", file, /"agreed":"shapley"/);
@@ -57,6 +58,8 @@ export const agreed = [
     const text = await sheet(page);
     expect("who agreed on what", text, /The parties agreed on: own division\..*Adler gets 666\.6\d/s);
     expect("once", /Your proposal/.test(text), false);
+    expect("how it can be checked", text, /choose “Type your own division”, and type these shares/);
+    expect("not by the answer", /has to be the same/.test(text), false);
     await page.type("proposal.0", "600");
     await settle(page);
     expect("another one isn’t", await chosen(page), "");
