@@ -102,7 +102,7 @@ export class Paper {
   /** What is proved of the answer. */
   proved() {
     const { line, rule, game, points = [], beyond } = this.session.result ?? {};
-    if (points.length) return el("p", { class: "hint" }, provedText(line && !game.ballots && rule, points.length > 1));
+    if (points.length) return el("p", { class: "hint" }, provedText(line && rule, points.length > 1));
     return beyond && el("p", { class: "hint" }, OWN_PROVED);
   }
 
