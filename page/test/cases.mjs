@@ -308,7 +308,7 @@ export const otherCases = [
     await settle(page);
     const made = await page.run("document.querySelector('.made pre').textContent");
     expect("a table", made, /"class":"table".*"worths":\[0,0,0,0,0,0,1,0,0,0,1,0,1,1,1\]/);
-    expect("columns", await page.text(".power thead"), /Votes\s+of all\s+Second votes\s+of all\s+Power/);
+    expect("columns", await page.text(".power thead"), /First votes\s+of all\s+Second votes\s+of all\s+Power/);
     expect("power", await page.text(".power tbody"), /A\s+40\s+40.0\s%\s+1\s+25.0\s%\s+25.0\s%/);
     const drawn = "document.querySelector('.powers svg')";
     const legend = /part of the first votespart of the second votes/;

@@ -163,8 +163,7 @@ export function power(game, shares, { mark, wide, kept }) {
       kept && el("td", { class: "number kept" }, kept[i] ? percent(kept[i]) : "–"),
       el("td", { class: "number main" }, percent(shares[i]), exact && el("small", { class: "exact" }, exact)));
   });
-  const own = isDouble ? ["Second votes", "of all"] : [];
-  const all = ["Voter", "Votes", "of all", ...own, ...(kept ? ["Kept"] : []), "Power"];
+  const all = ["Voter", ...voteHeads(game), ...(kept ? ["Kept"] : []), "Power"];
   const heads = all.filter((head) => hasParts || head !== "of all");
   const reaches = isDouble ? "reaches both quotas" : "reaches the quota";
   return el("div", {}, tableOf("power", heads, rows),
@@ -176,6 +175,10 @@ export function power(game, shares, { mark, wide, kept }) {
 }
 
 const MARKS = ["adds", "alone"]; // of the votes of the first ballot, and of the second
+
+/** What stands above the votes, and above the voters' parts of them. */
+export const voteHeads = ({ ballots }) => ballots.length > 1 ? ["First votes", "of all", "Second votes", "of all"]
+  : ["Votes", "of all"];
 
 /** The voters' parts of the votes, of each ballot. */
 export const partsOf = ({ ballots }) => ballots.map(({ votes }) => {

@@ -1,13 +1,15 @@
 // Votes on paper: who has most power, what is needed, the power of each, and what the agreed file has instead of votes.
 import { neededText } from "../cases/quota.js";
-import { partsOf, remarkOn, votesText } from "../draw/ranges.js";
-import { fractionText, percentText, shortText } from "../exact/decimals.js";
+import { partsOf, remarkOn, voteHeads, votesText } from "../draw/ranges.js";
+import { fractionText, percentText, shortText, stepsOf } from "../exact/decimals.js";
 import { Rational } from "../exact/rational.js";
 import { powerLead, powerOf } from "./answer.js";
 import { el } from "./dom.js";
 import { halves } from "./halves.js";
 
-const ONE = Rational.of(1);
+const ONE = Rational.of(1), HUNDRED = Rational.of(100), WHOLE = 1000n; // tenths of a per cent
+const ROUNDED = "Each percentage is rounded by itself, so those of a column may not add up to 100\u202f%.";
+const stepsOfPercent = (part) => stepsOf(part.times(HUNDRED), 1);
 
 /** What is needed, as typed and in votes. */
 export function neededHint({ typed, reading }, { ballots }) {
@@ -32,9 +34,10 @@ export function votesOn(view) {
   const sum = el("tr", { class: "sum" }, el("th", { scope: "row" }, "together"),
     ballots.map(({ votes }) => [number(votesText(Rational.sum(votes))), number(percent(ONE))]),
     number(percent(ONE), "strong"), el("td"));
-  const second = ballots.length > 1 ? ["Second votes", "of all"] : [];
+  const isOff = [...parts, shares].some((all) => all.map(stepsOfPercent).reduce((sum, one) => sum + one) !== WHOLE);
   return el("section", {}, powerLead(game, shares, format), neededHint(view, game),
-    halves(shares.length, ["Who votes", "Votes", "of all", ...second, "Power", "exactly"], line, sum));
+    halves(shares.length, ["Who votes", ...voteHeads(game), "Power", "exactly"], line, sum),
+    isOff && el("p", { class: "hint" }, ROUNDED));
 }
 
 /** What the agreed file has instead of these votes; "" where it has them. */
