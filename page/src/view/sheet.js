@@ -48,7 +48,7 @@ const LONG = 900; // characters of the reasons above which they are, too
 const MOST_DOCUMENT = 420; // characters of the game's document that are printed
 const MOST_ALONE = 900; // the same if there is no picture
 
-const AREA = "The dark area, if there is one, contains the divisions by which no group could do better by itself.";
+const AREA = "The grey area, if there is one, contains the divisions by which no group could do better by itself.";
 const OF_FILE = " This is the SHA-256 of the file. The box below contains the same numbers, as this page writes them.";
 const OF_TEXT = " This is the SHA-256 of the text in the box below, with a line end after it.";
 

@@ -51,7 +51,7 @@ function sentencesOf({ alone, holds }, two, { game, solution, format: { show, ap
   const per = perHead ? " per member" : "", verb = costs ? "pays" : "gets", has = costs ? "costs" : "has";
   const [first, second] = apart(s.abs(), t.abs());
   const gain = (size, value) => `${size}${per} ${value.isNegative() ? "lost" : "gained"}`;
-  const group = ({ group: members }) => namer.group(members).replace(/ together$/, "");
+  const group = ({ group: members }) => namer.group(members).replace(/^(.*) together$/, "the group of $1");
   const own = (share, value) => {
     const gained = costs ? value.minus(share) : share.minus(value);
     return `${show(value)}, and gains ${by(gained)} by joining`;
