@@ -15,7 +15,6 @@ const sheetOf = async (page) => {
 
 async function office(page, expect) {
   await page.paste('[data-cell="rows.0.name"]', SHARES);
-  await page.click("Yes, remove it");
   await page.type("quota", "75 %");
   await told(page, "#answer .lead", /Dr\. Hansen has most power, 46,7\s%/);
   await settle(page);
