@@ -50,7 +50,7 @@ export function planPicture(game, links, { show, wide, source = "Source" }) {
   const size = { width: Math.max(12 + deepest * step + label, ...sides), height: rows * ROW + 10 };
   const told = links.map(([end, player]) => {
     const [from, to] = [Number(end), Number(player)];
-    return `${names[to]} is joined to ${names[from]} and pays ${show(cost.get(to))}`;
+    return `${names[to]} is joined to ${names[from]} by a link of ${show(cost.get(to))}`;
   });
   return el("svg", {
     class: "picture", viewBox: `0 0 ${size.width} ${size.height}`, width: size.width, height: size.height, role: "img",
@@ -69,7 +69,8 @@ function placed(name, x, y, { isSource, isLeaf, isRising, price }) {
   ].filter(Boolean);
 }
 
+export const OWN_LINKS = "The cheapest network. The number at a place is its own link.";
+
 export function plan(game, links, settings) {
-  return figure("plan", "network", planPicture(game, links, settings),
-    "The cheapest network. The number at a place is its own link.");
+  return figure("plan", "network", planPicture(game, links, settings), OWN_LINKS);
 }

@@ -1,6 +1,6 @@
 // The tetrahedron of the divisions among four, with the core in it, as it is seen from some side.
 import { Rational, ZERO } from "../exact/rational.js";
-import { shortText } from "../exact/decimals.js";
+import { alignedTexts } from "../exact/decimals.js";
 import { el } from "./tree.js";
 import { coreOfFour } from "./core-of-four.js";
 import { figure } from "./figure.js";
@@ -70,10 +70,11 @@ function saidOf({ length }, { length: sides }) {
 function cornersTable(corners, game, sign) {
   if (!corners.length) return null;
   const cell = (text) => el("td", { class: "number" }, text);
+  const columns = game.shown.map((_, i) => alignedTexts(corners.map((x) => sign(x[i]))));
   return el("details", { class: "inline" }, el("summary", {}, "The corners of the core, exactly"),
     el("div", { class: "scroll" }, el("table", { class: "shares small" },
       el("thead", {}, el("tr", {}, game.shown.map((name) => el("th", { scope: "col", class: "number" }, name)))),
-      el("tbody", {}, corners.map((x) => el("tr", {}, x.map((share) => cell(shortText(sign(share))))))))));
+      el("tbody", {}, corners.map((_, r) => el("tr", {}, columns.map((texts) => cell(texts[r]))))))));
 }
 
 // ---- Turning

@@ -135,6 +135,13 @@ export function shortTexts(values) {
   return new Set(texts).size === kinds ? texts : apartTexts(values, 4);
 }
 
+/** The same of a column: with equally many decimals, where these write all of it. */
+export function alignedTexts(values) {
+  const places = values.map(placesOf), most = Math.max(...places);
+  if (spoken.places !== null || places.includes(-1)) return values.map(shortText);
+  return values.map((value) => decimal(value, most && Math.max(most, 2), spoken) + unitText());
+}
+
 /** How many decimals write a value exactly, to 4; -1 where these don't. */
 export function placesOf(value) {
   return [0n, 1n, 2n, 3n, 4n].findIndex((places) => 10n ** places % value.den === 0n);

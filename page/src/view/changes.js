@@ -4,15 +4,16 @@ import { fractionText } from "../exact/decimals.js";
 import { columnHead, el } from "./dom.js";
 import { movedText, signedSteps, totalsOf, withSum } from "./format.js";
 
-/** What a rule makes of it: the shares before and after, and the changes of what is shown, as texts. `shown` are the
- * steps that are shown of the shares before, if these are a part of a column. */
+/** What a rule makes of it: the shares before and after, and the changes of what is shown, as texts, and of the whole,
+ * in steps. `shown` are the steps that are shown of the shares before, if these are a part of a column. */
 export function changesOf({ title, before, after, leaving, ...rule }, rows, format, shown) {
   const [old, fresh] = [before, after].map((shares) => totalsOf(rows, shares.map(Rational.of)));
   const differences = fresh.map((value, r) => value.minus(old[r]));
   const isMoved = [old, fresh].some((totals) => format.isMoved(totals, rows));
   const steps = [shown ?? format.steps(old, rows), format.steps(fresh, rows)];
   const texts = [...steps.map((own) => format.texts(withSum(own))), signedSteps(steps[1], steps[0], format.text)];
-  return { ...rule, title, differences, leaving, isMoved, texts };
+  const [sumBefore, sumAfter] = steps.map((own) => withSum(own).at(-1));
+  return { ...rule, title, differences, leaving, isMoved, texts, whole: sumAfter - sumBefore };
 }
 
 /** `parts` are the heads of the three columns of each rule; `hasExact`: exact changes stand in small print. */
@@ -46,7 +47,7 @@ function leavingRow(columns, { by }) {
     ? el("span", { class: "bad" }, `Yes: ${found.who}, by ${by(Rational.of(found.by))}`)
     : el("span", { class: "good" }, "No"));
   return el("tfoot", {}, el("tr", { class: "verdict" },
-    el("th", { scope: "row" }, "Could a group do better by itself?"),
+    el("th", { scope: "row" }, "Could a group do better alone?"),
     columns.flatMap(({ leaving }) => {
       return [...leaving.map((found) => el("td", { class: "number" }, text(found))), el("td")];
     })));

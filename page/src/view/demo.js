@@ -43,8 +43,8 @@ export function demo({ helpers: { engine, checker }, spelling, onOpen }) {
   } });
   const start = () => work().catch(() => refill(seals)); // without the program the start has no example
   const element = el("section", { class: "demo panel", "aria-label": "An example" },
-    el("p", { class: "hint" }, "Three departments share a system. Alone they would pay 8, 7.50 and 6 (the pale bars), ",
-      "and two of them 10 or 10.25. All three together pay:"),
+    el("p", { class: "hint" }, "Three departments share a system. Alone they would pay 8, 7.50 and 6 (the whole ",
+      "bars), and two of them 10 or 10.25. All three together pay:"),
     el("label", { class: "move" }, sum, slider, el("span", { class: "away" }, "what all three pay together")),
     el("div", { class: "rows" }, rows.map(({ element: row }) => row)), seals,
     el("p", { class: "tools" }, el("button", { type: "button", class: "quiet", on: { click: () => onOpen(typed) } },

@@ -103,8 +103,8 @@ function overrunPart(view) {
     label: costs ? "It costs more by" : "They gain more by",
     placeholder: "37.15 or 10 %",
     hint: "An amount or a percentage. Only the whole changes; what each group could do by itself stays. (If that "
-      + "changes too, keep the answer to compare, and change the cells.) Who bears it depends on the rule, so a "
-      + "contract should name the rule beforehand.",
+      + `changes too, keep the answer to compare, and change the cells.) Who ${costs ? "bears" : "gets"} it depends on `
+      + "the rule, so a contract should name the rule beforehand.",
     show: (found) => overrunTable(found, view),
   }, view);
 }
@@ -131,7 +131,7 @@ function sizeOf(change, { by }) {
 function promises(columns, { costs }) {
   const even = columns.filter(isEven), perHead = columns.find((column) => column.perHead);
   return [
-    el("p", { class: "hint" }, "If only the whole changes, each bears an equal part of it by ",
+    el("p", { class: "hint" }, "If only the whole changes, each ", costs ? "bears" : "gets", " an equal part of it by ",
       listed(even.map(quoted)), ", in every case (Young, Okada and Hashimoto 1982). So by ",
       even.length > 1 ? "these" : "this", " nobody ",
       costs ? "pays less when the whole costs more. " : "gets less when all together gain more. ",
@@ -168,7 +168,8 @@ function overrunSentence(column, rows, change, game, format) {
   const isAlike = differences.every((value) => value.equals(differences[0]));
   const each = isExact(differences[0]) ? "" : ` (${fractionText(differences[0])})`;
   const where = isEven(column) ? ", as in every case" : " here";
-  if (isAlike) return `${name}: all bear the same${where}, ${show(differences[0])}${each} each.`;
+  const all = game.costs ? "all bear" : "all get";
+  if (isAlike) return `${name}: ${all} the same${where}, ${show(differences[0])}${each} each.`;
   const way = change.isNegative() ? "more" : "less";
   return `${name}: nobody ${verb} ${way} here.`;
 }

@@ -2,7 +2,7 @@
 import { sourceName } from "../cases/matrices.js";
 import { countText, fractionText } from "../exact/decimals.js";
 import { barsPicture } from "../draw/bars.js";
-import { planPicture } from "../draw/plan.js";
+import { OWN_LINKS, planPicture } from "../draw/plan.js";
 import {
   dealsOf, idleOf, powerDrawn, priceOf, pricesPicture, priceText, tradesLead, tradesTable,
 } from "../draw/ranges.js";
@@ -262,7 +262,7 @@ function pictureOf({ result, rows, format, ...session }) {
     return deals.length > 0 && few ? holder(pricesPicture(deals, priceOf(format), format.show, WIDE)) : null;
   }
   if (!solution) return null;
-  if (bird && few) return holder(planPicture(game, bird.tree, settings));
+  if (bird && few) return holder(planPicture(game, bird.tree, settings), OWN_LINKS);
   if (game.n === 3) return holder(trianglePicture(game, [solution], { ...settings, most: SMALL }).drawn, AREA);
   return few ? holder(barsPicture(game, rows, [solution], settings), filledLines(session, rows)) : null;
 }

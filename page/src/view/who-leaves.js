@@ -81,9 +81,10 @@ function sideParts(found, label, stay, view) {
   ];
 }
 
-/** What the one who leaves loses or gains by one rule, and the others together. */
+/** What the one who leaves loses or gains by one rule, and the others together: the numbers that the table shows. */
 function ofRule(column, { label, verb, alone, game, format: { text, by, places } }) {
-  const own = new Rational(column.own, 10n ** BigInt(places)), others = Rational.sum(column.differences);
+  const [own, shown] = [column.own, column.whole].map((steps) => new Rational(steps, 10n ** BigInt(places)));
+  const others = shown.isZero() ? Rational.sum(column.differences) : shown;
   const way = (value) => (value.isNegative() ? "less" : "more");
   const told = (value) => (value.isZero() ? "the same" : `${by(value.abs())} ${way(value)}`);
   const verbs = game.costs ? "pay" : "get";
