@@ -20,7 +20,7 @@ export function lineTable({ answer, shares: texts }, game, format) {
   return el("div", {}, el("p", {}, sentenceOf(answer, game, format)),
     el("div", { class: "scroll" }, el("table", { class: "shares small" }, el("thead", {}, head),
       el("tbody", {}, rows), el("tfoot", {}, all))),
-    format.isMoved(shares) && el("p", { class: "hint" }, `${MOVED} The fraction beside is exact.`));
+    format.isMoved(shares) && el("p", { class: "hint" }, `${MOVED} The fractions are exact.`));
 }
 
 function sentenceOf(answer, game, format) {
