@@ -225,7 +225,7 @@ async function leaving(page, expect) {
   await page.until("document.querySelector('.found table')");
   const found = await page.text(".found");
   expect("a percentage", found, /together\s+12.00\s+18.00\s+\+6.00/);
-  expect("who would leave", found, /Could a group do better by itself\?\s+No\s+Yes: /);
+  expect("who would leave", found, /Could a group do better alone\?\s+No\s+Yes: /);
 }
 
 export function checks(top) {

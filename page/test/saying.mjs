@@ -173,7 +173,7 @@ saying.push(
     await page.until("document.querySelector('.found table')");
     const found = await page.text(".found");
     expect("told", found, /no division satisfies all groups: by any rule some group would pay less by itself/);
-    expect("by each rule", found, /Could a group do better by itself\?\s+No\s+Yes: .*\s+(No|Yes: .*)\s+Yes: /);
+    expect("by each rule", found, /Could a group do better alone\?\s+No\s+Yes: .*\s+(No|Yes: .*)\s+Yes: /);
   }],
 
   ["the prenucleolus, where it is another than the nucleolus", "document", async (page, expect) => {

@@ -49,7 +49,7 @@ export function tetrahedron(game, points, { wide, view }) {
   const drawn = el("svg", {
     class: "picture turning", width: wide, role: "img",
     viewBox: `0 0 ${wide} ${highOf(wide) + legend.length * LINE + 8}`, tabindex: "0",
-    "aria-label": `Tetrahedron of the divisions, to be turned by the arrow keys. ${said}`,
+    "aria-label": `Tetrahedron of the divisions. The arrow keys turn it. ${said}`,
   }, partsOf(shapes, view));
   const worse = game.costs ? "pays more" : "gets less";
   const tree = el("div", {}, figure("triangle tetrahedron", "tetrahedron", drawn, `${said} The frame has all `
