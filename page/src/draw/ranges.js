@@ -72,6 +72,15 @@ const PRICE = "The price is the seller’s own value and, on top of it, the sell
 const OF_LIMITS = "The price is the seller’s least and, on top of it, the seller’s part of the gain.";
 export const priceText = (deals) => (deals[0]?.least ? OF_LIMITS : PRICE);
 
+/** The limit prices of all who may trade, as far as they are known; "" without any. */
+export function limitsText({ limits, shown, rows }, { show }) {
+  const side = (what, values, first) => {
+    return values ? `${what}: ${values.map((value, k) => `${shown[first + k]} ${show(value)}`).join("; ")}. ` : "";
+  };
+  const { buyers, sellers } = limits ?? {};
+  return side("Each buyer pays at most", buyers, 0) + side("Each seller takes at least", sellers, rows.length);
+}
+
 /** The price, if limit prices are known: of all who trade, or of each of a few. */
 function priceLead(deals, { show, apart }) {
   if (!deals[0]?.least) return "";

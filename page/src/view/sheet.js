@@ -4,7 +4,7 @@ import { countText, fractionText } from "../exact/decimals.js";
 import { barsPicture } from "../draw/bars.js";
 import { OWN_LINKS, planPicture } from "../draw/plan.js";
 import {
-  dealsOf, idleOf, powerDrawn, priceOf, pricesPicture, priceText, tradesLead, tradesTable,
+  dealsOf, idleOf, limitsText, powerDrawn, priceOf, pricesPicture, priceText, tradesLead, tradesTable,
 } from "../draw/ranges.js";
 import { trianglePicture } from "../draw/triangle.js";
 import { Rational } from "../exact/rational.js";
@@ -108,16 +108,20 @@ const mainOf = ({ result, agreed }) => agreed ?? solutionOf(result) ?? result.po
 /** All columns of rules on the sheet. */
 const shownPoints = (view) => (view.withProposal ? view.result.points : [mainOf(view)]);
 
+/** Who trades, at what prices, and by which limit prices. */
+function tradesOn({ game, matching, ...result }, format) {
+  const deals = dealsOf(game, matching, solutionOf(result));
+  return el("section", {}, tradesLead(deals, idleOf(game, matching), matching.value, format),
+    tradesTable(deals, format), el("p", { class: "hint" },
+      `${limitsText(game, format)}${priceText(deals)} ${tiesText(game, matching)}`));
+}
+
 function answerOf(view) {
   const { result, rows, format, unit, today, coarse, pinned, agreed } = view, { game } = result;
   if (game.ballots) return votesOn(view);
   const point = mainOf(view);
   if (!point) return null;
-  if (result.matching) {
-    const { matching } = result, deals = dealsOf(game, matching, solutionOf(result));
-    return el("section", {}, tradesLead(deals, idleOf(game, matching), matching.value, format),
-      tradesTable(deals, format), el("p", { class: "hint" }, `${priceText(deals)} ${tiesText(game, matching)}`));
-  }
+  if (result.matching) return tradesOn(result, format);
   const { title } = point, totals = totalsOf(rows, point.shares);
   const context = contextOf(game, rows, format), texts = format.column(totals, rows);
   const hasExact = totals.some((total) => !format.isExact(total)), who = game.costs ? "Who pays" : "Who gets";
