@@ -53,15 +53,21 @@ export function withoutSum({ rows, targets, amounts, beside }) {
   const given = keys.filter((key) => own?.[key]);
   const main = keys.find((key) => !["second", "count"].includes(key));
   if (sums.length !== 1 || !own[main] || others.length < 2) return { rows };
-  const read = (by) => {
-    const reading = new Reading(by, { amounts, beside });
-    for (const key of given) for (const one of cells) if (one[key]) reading.number("", one[key], "");
-    const isSum = given.every((key) => isSumOf(reading, own[key], others.map((one) => one[key] || "0")));
-    return { reading, isSum };
-  };
-  const isSum = MARKS.every(([by]) => byOneMark(read, by).isSum);
+  const isSum = isByEach(cells, given, { amounts, beside }, (reading) => given.every((key) => {
+    return isSumOf(reading, own[key], others.map((one) => one[key] || "0"));
+  }));
   const sum = { name: nameIn(own), row: own, amount: own[main] };
   return isSum ? { rows: rows.filter((_, k) => cells[k] !== own), sum } : { rows };
+}
+
+/** Whether something `is` so of pasted cells, by each way in which their numbers can be read. */
+export function isByEach(cells, keys, how, is) {
+  const read = (by) => {
+    const reading = new Reading(by, how);
+    for (const key of keys) for (const one of cells) if (one[key]) reading.number("", one[key], "");
+    return { reading, is: is(reading) };
+  };
+  return MARKS.every(([by]) => byOneMark(read, by).is);
 }
 
 /** What a sum says and what the others add to, if all are numbers and these differ. */
@@ -69,6 +75,12 @@ function offBy(reading, typed, others) {
   const [own, ...values] = [typed, ...others].map((text) => reading.known(text).value);
   const sum = values.every(Boolean) && Rational.sum(values);
   return own && sum && !own.equals(sum) ? [own, sum].map(String) : undefined;
+}
+
+/** Whether a row is named as a sum, and is that of two rows or more right above it. */
+export function isNamedSum(reading, kept, k, keys) {
+  const name = nameIn(kept[k].row);
+  return (PARTIAL.test(name) || isSumWord(name)) && isOfRowsAbove(reading, kept, k, keys);
 }
 
 /** Whether a number of a row is the sum of two or more rows right above it. */

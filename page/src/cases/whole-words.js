@@ -21,18 +21,21 @@ const PERHAPS = new RegExp("(?<!\\p{L})(?:available|(?:distribut|verfügbar|vorh
   + "(?!\\p{L})", "iu");
 const AMOUNT = /\p{Sc}?\s?\d(?:[\d.,'’\u00a0\u202f]*\d)?(?:\s?\p{Sc})?/gu;
 
+/** Whether a name may be that of the estate. */
+export const mayBeWhole = (name) => PERHAPS.test(name);
+
 /** Asks of the first and the last row, if its name may be that of the estate, unless somebody said that it is a claim
  * (`state.notWhole`). Another question comes first. */
 export function askOfWhole(reading, state) {
   const kept = state.rows.map((row, r) => ({ row, r })).filter(({ row }) => !isEmpty(row)), { notWhole = [] } = state;
-  const found = kept.length > 2 && [kept.at(-1), kept[0]].find(({ row }) => PERHAPS.test(row.name));
+  const found = kept.length > 2 && [kept.at(-1), kept[0]].find(({ row }) => mayBeWhole(row.name));
   if (!found || reading.asked || state.notSums === true || notWhole.includes(found.row.name.trim())) return;
   reading.asked = { r: found.r, name: found.row.name.trim(), amount: found.row.claim };
 }
 
 /** The one number of a line that may say what there is to divide: {text, amount}, or undefined. */
 export function wholeIn(texts) {
-  return texts.filter((text) => PERHAPS.test(text)).map((text) => {
+  return texts.filter(mayBeWhole).map((text) => {
     const [amount, other] = text.match(AMOUNT) ?? [];
     return !other && amount && !readNumber(amount).fault ? { text, amount: amount.trim() } : undefined;
   }).find(Boolean);

@@ -2,6 +2,7 @@
 import { NONE, UNKNOWN } from "../cases/columns.js";
 import { isClause } from "../cases/clauses.js";
 import { partedInLine } from "../cases/in-line.js";
+import { withoutLack } from "../cases/lack-row.js";
 import { SPOILT } from "../cases/pasting.js";
 import { isProse, sheetOf } from "../cases/sheets.js";
 import { withoutSum } from "../cases/sum-row.js";
@@ -166,7 +167,10 @@ class ListGrid {
       mark: this.mark(), usual: columns.slice(first), isFirst: !first, ...said,
       single: single?.heads && { ...single, second: this.kind.second },
     });
-    return { sheet: sheet.rows && !said.hasSum ? { ...sheet, ...withoutSum(sheet) } : sheet, first };
+    if (!sheet.rows) return { sheet, first };
+    const known = single && !this.isOpen(single.key) ? this.typed[single.key] : undefined;
+    const whole = withoutLack(sheet, known);
+    return { sheet: { ...whole, ...withoutSum(whole) }, first };
   }
 
   /** Offers what a text says beside its rows, until that is used or other rows come. */

@@ -28,10 +28,12 @@ export function offersOf(grid, sheet, said, use) {
     Object.assign(typed, { notSums, notTwice }); // the rows are the same
   };
   const isFilled = () => !isOpen() && (isOne() || typed[second.single.key].trim());
-  const { sum } = sheet, isOut = () => !typed.rows.some((row) => [row.name, row.type].includes(sum?.name));
+  const { sum, lack } = sheet, isOut = (one) => !typed.rows.some((row) => [row.name, row.type].includes(one?.name));
+  const out = (one, what) => [() => isOut(one), one && isOut(one) && [
+    ` “${withEscapes(one.name)}”, ${one.amount}, ${what}, was left out.`, way("Put it back", () => putBack(grid, one)),
+  ]];
   const parts = [
-    [isOut, sum && isOut() && [` “${withEscapes(sum.name)}”, ${sum.amount}, the sum of the others, was left out.`,
-      way("Put it back", () => putBack(grid, sum))]],
+    out(lack, "what the claims lack"), out(sum, "the sum of the others"),
     [isOpen, line?.amount && isOpen() && [` Is ${line.amount} what there is to divide?`,
       way(`Yes, ${line.amount}`, give)]],
     [() => !isFilled(), line && second && [` ${quoted(line.text)} names ${quotaWord(line)}: type `,
@@ -44,7 +46,7 @@ export function offersOf(grid, sheet, said, use) {
   return parts;
 }
 
-/** Puts the row of a sum, which was left out, below the others: it counts. */
+/** Puts a row that was left out below the others: it counts. */
 function putBack(grid, { name, row }) {
   const { typed } = grid, place = typed.rows.findLastIndex((one) => !grid.isBlank(one)) + 1;
   grid.remember("Put it back");

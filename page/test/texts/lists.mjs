@@ -6,6 +6,8 @@ const SEATS = "1. at least 8 of the 13 council seats: List A 5, List B 4\n"
 const DISTRICT = "5. Votes in the district council\nThe council adopts a decision with at least 27 of the 40 votes. "
   + "The votes are:\n• Aldbury – 14 votes\n• Brenford – 11 votes\n• Carswell – 7 votes\n• Dunmere – 5 votes\n"
   + "• Eastholm – 3 votes", DISTRICT_VOTES = "Aldbury=14|Brenford=11|Carswell=7|Dunmere=5|Eastholm=3";
+const FUNDS = "Tower roof fund\t£6,000.00\nOrgan fund\t£4,500.00\nChoir school\t£2,000.00\nAlmshouses\t£1,500.00";
+const IN_FUNDS = FUNDS.replace(/\t/g, "=").replace(/\n/g, "|"), PROMISED = `Promised\tAmount\n${FUNDS}\n`;
 
 export const LISTS = [
   // titles within a table
@@ -124,6 +126,21 @@ export const LISTS = [
   ["runway", "Ann\t900\t1\nBo\t1200\t3\nTogether\t2100\t5", "Ann=900=1|Bo=1200=3|Together=2100=5", /Is it the sum/],
   ["votes", "Total Energies\t3\nAnn\t1\nBo\t2", "Total Energies=3|Ann=1|Bo=2"],
   ["votes", "Ann\t5\nBo\t4\nSubtotal\t9\nTotal\t18", "Ann=5|Bo=4|Subtotal=9|Total=18", /Is it the sum of/],
+  // what the claims lack of the estate
+  ["estate", `${PROMISED}Total promised\t£14,000.00\nEstate after costs\t£9,150.00\nShort by\t£4,850.00`,
+    `${IN_FUNDS}|Total promised=£14,000.00|Estate after costs=£9,150.00`,
+    /“Short by”, £4,850\.00, what the claims lack, was left out\. Put it back/],
+  ["estate", `${PROMISED}Total\t£14,000.00\nAvailable\t£9,150.00\nShortfall\t-£4,850.00`, IN_FUNDS,
+    /“Shortfall”, -£4,850\.00, what the claims lack, .*“Total”, £14,000\.00, the sum of the others/],
+  ["estate", `Estate\t9150\n${FUNDS}\nFehlbetrag\t4850`, IN_FUNDS, /“Fehlbetrag”, 4850, what the claims lack/],
+  ["estate", `${FUNDS}\nTotal\t14000\nEstate\t9150\nTo find\t(£4,850)`, IN_FUNDS,
+    /“To find”, \(£4,850\), what the claims/],
+  ["estate", `Estate\t9150\n${FUNDS}\nShort by\t4850`, `${IN_FUNDS}|Short by=4850`, /1 empty|0 empty/, "Put it back"],
+  ["estate", `Estate\t9150\n${FUNDS}\nShort by\t4851`, `${IN_FUNDS}|Short by=4851`, /^(?!.*lack)/],
+  ["estate", `Estate\t9150\n${FUNDS}\nMr Short\t4850`, `${IN_FUNDS}|Mr Short=4850`, /^(?!.*lack)/],
+  ["estate", "Estate\t250\nAnn\t300\nBo\t50", "Ann=300|Bo=50", /^(?!.*lack)/],
+  ["estate", `Estate\t9150\n${FUNDS}\nTotal\t14000\n\t4850`, /=4850$/, /^(?!.*lack)/],
+  ["estate", `${FUNDS}\nShort by\t4850`, `${IN_FUNDS}|Short by=4850`, /^(?!.*lack)/],
   // a numbered heading
   ["votes", DISTRICT, DISTRICT_VOTES, /Left out, as these are no rows: “5\. Votes in the/],
   ["votes", DISTRICT.replace(/\nThe.*/, ""), DISTRICT_VOTES, /Left out, as it is no row: “5\. Votes in the/],
