@@ -75,8 +75,9 @@ export class Desk {
     const { rows, ...others } = this.typed, keys = this.kind.columns?.map(({ key }) => key) ?? [];
     const lines = rows?.map((row) => keys.map((key) => row[key] ?? "").filter((text, c) => text || c !== 1));
     const filled = lines?.filter((line) => line.some(Boolean)).map((line) => line.join("="));
-    const { source, names, numbers, links, buyers, sellers, values } = others;
-    const parts = [source, names, numbers?.slice(1), links && Object.entries(links), sellers, buyers, values];
+    const { source, names, numbers, links, buyers, sellers, values, limits } = others;
+    const trades = limits ? [limits.sellers, limits.buyers] : values;
+    const parts = [source, names, numbers?.slice(1), links && Object.entries(links), sellers, buyers, trades];
     return filled ? filled.join("|") : parts.filter(Boolean).flat(2).join("|");
   }
 }

@@ -24,6 +24,9 @@ const COUNT = /^(#|№|no|nr|num|id|ref|lp|pos|rank|rang)\.?$|\b(no|nr|id|ref)\.
 const WEAK = /^(max|min)\.?$/i; // may be a person
 const SIDE_HEAD = words("sides?|types?|roles?|b\\s*[/|]\\s*s|buy\\s*/\\s*sell|direction|seite|rolle|art|rôle|lado|tipo"
   + "|kind|position");
+const GIVES = /^(sells?|selling|offer(s|ing|ed)?|supply|supplies|has|gives?|bietet|verkauft|vend|biedt|verkoopt)$/iu;
+const TAKES = /^(buys?|buying|needs?|needed|want(s|ing|ed)?|demand|takes?|sucht|kauft|ach[eè]te|zoekt|koopt)$/iu;
+const MOST_KINDS = 3;
 const MARKED = /^(b|s)[ .:-]?\d+$|[([](b|s)[)\]]$/i;
 
 /** What a heading says: whose price or name it is, and whether it is a price. `isSoft` gives way to a side that the
@@ -39,7 +42,8 @@ export function kindOf(head) {
 
 /** Whether a cell of a column says that somebody buys, or sells. */
 export function sideOf(text) {
-  return /^b$/i.test(text) ? "buyers" : /^s$/i.test(text) ? "sellers" : kindOf(text).side;
+  if (/^b$/i.test(text) || TAKES.test(text)) return "buyers";
+  return /^s$/i.test(text) || GIVES.test(text) ? "sellers" : kindOf(text).side;
 }
 
 /** The same of a name, as “Buyer 1”, “Ann (seller)” or “B1”. */
@@ -58,14 +62,27 @@ export function fitOf(head, texts) {
   const isMoney = isWord && known.length > 0 && known.every((text) => text.length < 5 && moneyIn(text));
   const few = new Set(known.map((text) => text.toLowerCase())).size;
   const isSaid = known.every((text) => text.length < 16 && !/\d/.test(text) && sideOf(text));
-  const isSides = isWord && !isMoney && few > 1 && known.length > 2 && !kind.side
+  const isRole = known.length > 1 && known.every((text) => GIVES.test(text) || TAKES.test(text)); // below any heading
+  const isTold = few > 1 && known.length > 2 && !kind.side
     && (isSaid || (SIDE_HEAD.test(head) && (few === 2 || known.some((text) => sideOf(text)))));
+  const isSides = isWord && !isMoney && (isRole || isTold);
   const isName = !kind.isPrice && (Boolean(kind.side) || NAME.test(head));
   return {
-    head, texts, isNumbers, isMoney, isSides, isName, ...kind,
+    head, texts, isNumbers, isMoney, isName, ...kind, isSides, isBoth: kind.isBoth && !isRole,
+    isFew: isWord && !isMoney && few <= MOST_KINDS && few < known.length,
     isQuantity: isNumbers && !kind.isPrice && QUANTITY.test(head),
     isCount: isNumbers && !kind.isPrice && COUNT.test(head),
   };
+}
+
+/** The column of a few words that repeat, beside names of which none does and one or two columns of numbers, if no
+ * heading says whose they are: such words are no traders. */
+export function kindsAmong(columns) {
+  const words = columns.filter(({ isNumbers, isMoney }) => !isNumbers && !isMoney);
+  const numbers = columns.filter(({ isNumbers }) => isNumbers), [few] = words.filter(({ isFew }) => isFew);
+  const isName = ({ texts }) => new Set(texts.filter(Boolean)).size === texts.filter(Boolean).length;
+  const isOf = words.length === 2 && [1, 2].includes(numbers.length) && !columns.some(({ side }) => side);
+  return few && isOf && words.some((one) => one !== few && isName(one)) ? few : undefined;
 }
 
 /** The currency that a heading names, with the word for thousands before it. */

@@ -6,13 +6,14 @@ import { listed } from "../game/words.js";
 import { blockOf, isText, looseText } from "./block.js";
 import { UNKNOWN } from "./columns.js";
 import { leftText, unframed } from "./frames.js";
-import { fitOf, isUnit, kindOf, sideOf, sideOfName, SIDES } from "./price-heads.js";
+import { fitOf, isUnit, kindOf, kindsAmong, sideOf, sideOfName, SIDES } from "./price-heads.js";
 import { answerFault } from "./saved-tables.js";
 import { unitsText, withoutUnits } from "./units.js";
 
 const MOST_LETTERS = 60; // of a line that says whose prices come below it
 const ONE_EACH = "Each trader buys or sells one. Give each unit a row, as “Ann 1” and “Ann 2”, without this column.";
 const TWO_EACH = "Each trader has one price: a buyer the most to pay, or a seller the least to take.";
+const MANY_KINDS = "are more than two kinds. Write “buyer” or “seller” beside each trader.";
 const NO_LIST = "A list has a name and a limit price in each row, or one of the two.";
 const quoted = (text) => `“${withEscapes(text)}”`;
 const isNumber = (text = "") => text !== "" && !readNumber(text).fault;
@@ -35,8 +36,9 @@ export function pricesOf(pasted, said) {
 function sidesOf(lists, said) {
   const [one, other] = lists, name = (list) => listed(list.rows.map((row) => row.name || row.price).slice(0, 2));
   const more = (list) => (list.rows.length > 2 ? " …" : "");
-  if (!other && !one.side && !kindOf(one.head ?? "").isPrice) return null;
-  if (lists.every(({ side }) => side) || lists.length > 2) return { lists };
+  if (!other && !one.side && !one.label && !kindOf(one.head ?? "").isPrice) return null;
+  if (lists.every(({ side }) => side)) return { lists };
+  if (said && lists.length > 2) return { fault: `${listed(lists.map(({ label }) => quoted(label)))} ${MANY_KINDS}` };
   if (!said) return { asked: quoted(`${one.label ?? name(one)}${one.label ? "" : more(one)}`) };
   return { lists: lists.map((list, k) => ({ ...list, side: SIDES[(SIDES.indexOf(said) + k) % 2] })) };
 }
@@ -81,7 +83,7 @@ function inParts(pasted) {
     left.push(...notes);
     const wide = Math.max(0, ...rows.map(({ length }) => length)), isRow = heads.filter(Boolean).length > 1;
     const all = isRow ? [heads.slice(Math.max(0, heads.length - wide)), ...rows] : rows;
-    return { ...groupsIn(all, isRow ? undefined : []), side };
+    return { ...groupsIn(all, isRow ? undefined : [], true), side };
   }).filter(Boolean);
   const odd = lists.find(({ groups }) => groups?.length !== 1), { fault } = lists.find((one) => one.fault) ?? {};
   if (fault || odd) return fault ? { fault } : null;
@@ -145,10 +147,9 @@ function bySide(group, column, notes) {
     return { ...group, name: pick(name), price: pick(price), side: one, label };
   };
   if (column && !isKept) {
-    const [first, ...more] = new Set(used.map((k) => texts[k]));
-    if (more.length !== 1) return null;
-    return withLists([listOf((k) => texts[k] === first, undefined, first),
-      { ...listOf((k) => texts[k] !== first), out: [] }], notes);
+    const [first = "", ...more] = new Set(used.map((k) => texts[k])), known = more.length ? undefined : sideOf(first);
+    return withLists([listOf((k) => texts[k] === first, known, first),
+      ...more.map((text) => ({ ...listOf((k) => texts[k] === text, undefined, text), out: [] }))], notes);
   }
   const odd = used.find((k) => !own[k] && !isSumWord(name?.texts[k] ?? ""));
   if (isKept && odd !== undefined && column) {
@@ -165,13 +166,14 @@ function bySide(group, column, notes) {
 // ---- The columns
 
 /** The lists of rows, with headings or without (`[]`): {groups, out, sides}, or {fault}. A group has the columns of a
- * list: its name, if it has one, and its price. `sides` is a column that says who buys. */
-function groupsIn(rows, given) {
+ * list: its name, if it has one, and its price. `sides` is a column that says who buys; the rows of a part have one side. */
+function groupsIn(rows, given, isPart = false) {
   const { heads, below } = headsOf(rows, given), wide = Math.max(0, ...rows.map(({ length }) => length));
   const columns = Array.from({ length: wide }, (_, c) => fitOf(heads[c] ?? "", below.map((row) => row[c] ?? "")))
     .filter(({ texts, head }) => head || texts.some(Boolean));
   if (columns.some(({ isBoth }) => isBoth)) return {};
-  const sides = columns.find(({ isSides }) => isSides), own = columns.filter((one) => one !== sides);
+  const sides = columns.find(({ isSides }) => isSides) ?? (isPart ? undefined : kindsAmong(columns));
+  const own = columns.filter((one) => one !== sides);
   const money = own.filter(({ isMoney }) => isMoney), groups = [];
   const isOpen = (one) => one.isNumbers || one.texts.some(Boolean);
   for (const column of own.filter((one) => !money.includes(one) && isOpen(one))) {
