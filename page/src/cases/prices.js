@@ -166,7 +166,8 @@ function bySide(group, column, notes) {
 // ---- The columns
 
 /** The lists of rows, with headings or without (`[]`): {groups, out, sides}, or {fault}. A group has the columns of a
- * list: its name, if it has one, and its price. `sides` is a column that says who buys; the rows of a part have one side. */
+ * list: its name, if it has one, and its price. `sides` is a column that says who buys: none in rows of
+ * a part, as they have one side. */
 function groupsIn(rows, given, isPart = false) {
   const { heads, below } = headsOf(rows, given), wide = Math.max(0, ...rows.map(({ length }) => length));
   const columns = Array.from({ length: wide }, (_, c) => fitOf(heads[c] ?? "", below.map((row) => row[c] ?? "")))
