@@ -47,6 +47,27 @@ export const untaken = [
     expect("another case", await still(page), "");
   }],
 
+  ["the unit of money is that of the table that stands there", "estate", async (page, expect) => {
+    const unit = () => page.run(`document.querySelector('[data-cell="paper.unit"]').value`);
+    await page.paste('[data-cell="rows.0.name"]', "Ann\t120 €\nBo\t80 €");
+    await page.type("estate", "90");
+    await settle(page);
+    expect("of the first", await unit(), "€");
+    await page.paste('[data-cell="rows.0.name"]', "Cy\t120 CHF\nDi\t80 CHF");
+    await settle(page);
+    expect("of the second", await unit(), "CHF");
+    await page.click("Undo “Paste”");
+    await settle(page);
+    expect("of the first again", await unit(), "€");
+    await page.paste('[data-cell="rows.0.name"]', "Who\tA\tB\nAnn\t12 CHF\t3 CHF\nBo\t8 CHF\t2 CHF");
+    await page.click("Keep the table before");
+    expect("not of one that isn’t taken", await unit(), "€");
+    await page.paste('[data-cell="rows.0.name"]', "Dear Ann,\nit was 12 CHF\t and then more\t5 CHF");
+    await page.click("×", "document.querySelector('#case tbody')");
+    await settle(page);
+    expect("nor of a refused one", await unit(), "€");
+  }],
+
   ["a division that is refused is no step, nor is the same table once more", "estate", async (page, expect) => {
     await page.paste('[data-cell="proposal.0"]', "Zoe 4\nXaver 5");
     await told(page, "#answer .own-said", /No row is called “Zoe”\..* Nothing was taken\./);

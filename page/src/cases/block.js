@@ -182,7 +182,9 @@ function partedLines(rows, { canBeNegative, words: hasWords }) {
     const words = text.split(/\s+/), heads = isCounted ? words.slice(-wide) : words;
     return heads.length === wide ? heads : wide > 2 ? [text] : text.split(/\s+(?=\S+$)/);
   };
-  const isFrame = (r) => (r < first ? isMail(texts.slice(r, first), false) : isMail(texts.slice(last + 1, r + 1)));
+  const above = texts.findLastIndex((text, r) => r < first && isMail([text], false));
+  const below = texts.findIndex((text, r) => r > last && isMail([text]));
+  const isFrame = (r) => (r < first ? r <= above : below >= 0 && r >= below);
   const isOut = (r) => isFrame(r) || (r === 0 && isTitled);
   const other = (text, r) => (isHead(text, r) ? headOf(text) : isOut(r) ? [text] : [text.replace(/:$/, ""), ""]);
   const all = texts.map((text, r) => (parts[r] ? own(parts[r]) : other(text, r)));

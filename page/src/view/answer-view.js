@@ -139,7 +139,8 @@ export class AnswerView {
   showUntaken() {
     const { session } = this, untaken = untakenIn(at("case-body")), isExample = !session.isTyped;
     this.still = stillText(untaken, isExample);
-    refill(at("still"), stillParts(untaken, isExample));
+    if (untaken && !untaken.isAsked) this.pastedUnit = undefined;
+    refill(at("still"), stillParts(untaken, isExample, () => { this.pastedUnit = undefined; }));
     for (const id of ["answer", "parts"]) at(id).classList.toggle("still", Boolean(untaken));
     for (const id of ["answer-body", "parts"]) at(id).inert = Boolean(untaken);
     if (session.result) this.showPeek(session.result);
@@ -244,10 +245,17 @@ export class AnswerView {
     this.showPeek(this.session.result);
   }
 
-  /** What a pasted table says of the unit of its amounts; a single number says nothing. */
-  takeUnit(text) {
-    if (!/[\t\n;]/.test(text.trim()) || untakenIn(at("case-body"))?.isAsked === false) return; // nor one refused
-    Object.assign(this.typed, { pastedUnit: unitIn(text), isPastedOver: true });
+  /** The unit of the amounts of a pasted table waits until the table is taken; a single number says nothing of it. */
+  seeUnit(text) {
+    if (/[\t\n;]/.test(text.trim())) this.pastedUnit = unitIn(text);
+  }
+
+  /** The cells have changed: those of a table that was pasted have its unit, and what is typed drops the table. */
+  takeUnit(isTyped) {
+    const { pastedUnit } = this;
+    this.pastedUnit = undefined;
+    if (isTyped || pastedUnit === undefined) return;
+    Object.assign(this.typed, { pastedUnit, isPastedOver: true });
     this.shownPaper = null;
     if (at("paper-body").childElementCount) this.showPaper();
   }

@@ -66,6 +66,7 @@ function openCase(kind, typed, { past = new Steps(), notes = [], doubt = "", pap
     ...asked(kind), steps, notes: doubt ? [doubt, ...notes] : notes,
     onChange: (wait, { isTyped, removed }) => {
       isUnsaved = session.isTyped = true;
+      view.takeUnit(isTyped);
       if (isTyped) session.ownSaid = "";
       else session.moveRows(removed);
       session.changed(wait);
@@ -93,6 +94,7 @@ function reset(kind, next, what, how) {
   const { file, typed, ...same } = structuredClone(cellsNow()), { paper, places } = nowTyped();
   steps.add(what, how ? { file, typed, ...same } : { file, typed, ...same, paper, places });
   openCase(kind, next, { ...(how && { ...same, paper, places, isMoved: how !== "named" }), past: steps });
+  view.takeUnit(false);
 }
 
 /** What a case asks for: marks, workers, and itself as a file. */
@@ -118,7 +120,8 @@ function undo(kind, isRedo) {
   const { paper, places } = nowTyped(), { marks } = cellsNow();
   const cells = steps.go(isRedo, (old) => ({ ...structuredClone(cellsNow()), ...(old.paper && { paper, places }) }));
   const shown = marks.isChosen && !cells.paper ? { marks } : {}; // what was chosen under Options stays
-  openCase(kind, cells.typed, { paper, places, ...cells, ...shown, past: steps });
+  const then = { ...(cells.paper ?? paper), pastedUnit: cells.pastedUnit };
+  openCase(kind, cells.typed, { places, ...cells, ...shown, paper: then, past: steps });
 }
 
 /** The steps of a case whose cells are replaced; where nothing stood there but its worked example, it is none. */
@@ -146,7 +149,7 @@ function cellsNow() {
   const { typed, measure, texts, todays, pinned, doubt, file, isTyped, ownRows, isMoved, marks } = session;
   return {
     typed, measure, texts, todays, pinned, entry: marks.entry, doubt, file, isTyped, ownRows, isMoved,
-    marks: marks.kept(),
+    marks: marks.kept(), pastedUnit: view.typed.pastedUnit,
   };
 }
 
@@ -191,8 +194,8 @@ function listen() {
   watchParts();
   at("case").addEventListener("untaken", () => view.showUntaken());
   at("case").addEventListener("paste", ({ clipboardData }) => {
-    view.takeUnit(clipboardData?.getData("text/plain") ?? "");
-  });
+    view.seeUnit(clipboardData?.getData("text/plain") ?? "");
+  }, true);
   let width = innerWidth;
   addEventListener("resize", () => {
     if (innerWidth !== width && session.result) {

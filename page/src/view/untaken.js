@@ -24,9 +24,10 @@ export function stillText(untaken, isExample) {
     : `${of} Your text wasn’t taken: why is said beside the cells.`;
 }
 
-/** The same with a way back to the cells as they are. */
-export function stillParts(untaken, isExample) {
+/** The same with a way back to the cells as they are, of which `onKeep` is told. */
+export function stillParts(untaken, isExample, onKeep) {
   const back = () => {
+    onKeep();
     dropText(untaken.grid, true);
     untaken.grid.querySelector("input")?.focus();
   };
