@@ -47,7 +47,11 @@ export function askOfSum(reading, state, keys) {
 /** Pasted rows without the one whose name is a word for a sum, if each number of it is that of two others or more:
  * {rows, sum}, its name, cells by their keys and amount. Where numbers can be read both ways, it is so in both. */
 export function withoutSum({ rows, targets, amounts, beside }) {
-  const cells = rows.map((row) => Object.fromEntries(row.map((text, c) => [targets[c]?.key, text ?? ""])));
+  const cells = rows.map((row) => {
+    const own = Object.fromEntries(row.map((text, c) => [targets[c]?.key, text ?? ""]));
+    const beside = row.find((text, c) => !targets[c] && /\p{L}/u.test(text)) ?? ""; // a sum below a column left out
+    return nameIn(own) || own.name === undefined ? own : { ...own, name: beside };
+  });
   const sums = cells.filter((row) => isSumWord(nameIn(row))), [own] = sums;
   const others = cells.filter((one) => one !== own), keys = targets.filter((one) => one?.number).map(({ key }) => key);
   const given = keys.filter((key) => own?.[key]);
