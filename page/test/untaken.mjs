@@ -64,7 +64,6 @@ export const untaken = [
     expect("not of one that isn’t taken", await unit(), "€");
     await page.paste('[data-cell="rows.0.name"]', "Dear Ann,\nit was 12 CHF\t and then more\t5 CHF");
     await page.click("×", "document.querySelector('#case tbody')");
-    await settle(page);
     expect("nor of a refused one", await unit(), "€");
   }],
 
