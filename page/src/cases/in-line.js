@@ -74,6 +74,7 @@ export function linesByNumber(text, names) {
   return { text: own.join("\n"), left: [before].filter(Boolean) };
 }
 
+const UNIT_LINE = /[\r\n]+All amounts are in \S.{0,20}\.\s*$/; // below the page's own sentence, on paper
 const BETWEEN = /^(?:[\s,;.:/+&–-]|(?:and|und|et|e|y|en)(?=\s|$))+|[\s,;:–-]+$/gu;
 const AMOUNT = /(?:^|\s)\p{Sc}?\d[\d.,'’]*$/u; // behind a name
 
@@ -92,14 +93,14 @@ function placesOf(line, names) {
 /** A text in one line as lines of a name and its number, if each of the `names` is in it once, with one number beside:
  * {text, left}, `left` being the words around them, which name no other row. Null for another text. */
 export function linesByName(text, names) {
-  const line = text.trim().replace(/\s+/g, " ");
-  if (/[\r\n\t]/.test(text.trim()) || names.length < 2 || line.length > MOST_LETTERS) return null;
+  const own = text.replace(UNIT_LINE, "").trim(), line = own.replace(/\s+/g, " ");
+  if (/[\r\n\t]/.test(own) || names.length < 2 || line.length > MOST_LETTERS) return null;
   const found = placesOf(line, names), inOrder = found && [...found].sort((one, other) => one.from - other.from);
   if (!found) return null;
   const behind = line.slice(inOrder.at(-1).to), last = inOrder.length - 1;
   const [before, ...between] = inOrder.map(({ from }, k) => line.slice(inOrder[k - 1]?.to ?? 0, from));
   const isEnd = ({ to }, k) => ENDS.test(line.slice(to))
-    || (k === last ? HAS_WORDS.test(behind) : /^\s*[/+&]?\s*$/.test(between[k]));
+    || (k === last ? HAS_WORDS.test(behind) || /^:\s/.test(behind) : /^\s*[/+&]?\s*$/.test(between[k]));
   const bare = (words) => words.replace(BETWEEN, "");
   const isRow = (words) => AMOUNT.test(bare(words)) && !isSumWord(bare(words).replace(AMOUNT, ""));
   const isOdd = isRow(behind) || (!/:\s*$/.test(before) && isRow(before)) || between.some((words) => /\d/.test(words));

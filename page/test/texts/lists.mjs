@@ -147,6 +147,12 @@ export const LISTS = [
 ];
 const MAYOR = "Ops 8,300, Sales 9,000 and Legal 7,250", OF_MAYOR = "9,000,8,300,7,250";
 export const DIVIDED = [
+  ["Sales pays 960.00, Ops pays 580.00 and Legal pays 1,220.00: together 2,760.00.", "960.00,580.00,1,220.00",
+    /Left out: “together 2,760\.00\.?”/],
+  ["Sales pays 960.00, Ops pays 580.00 and Legal pays 1,220.00: together 2,760.00.\nAll amounts are in k EUR.\n",
+    "960.00,580.00,1,220.00", /together/],
+  ["Sales 4, Ops 5 and Legal 3: Marketing 300", "“3: Marketing 300” beside Legal is no amount. "
+    + "Write one amount beside each name, such as 12.50. Nothing was taken."],
   ["8,300 for Ops, 9,000 for Sales and 7,250 for Legal", OF_MAYOR, /Taken by name: Ops, Sales and Legal\.$/],
   ["We propose £9,000 to Sales; £8,300 to Ops.", "£9,000,£8,300,", /Left out: “We propose”/],
   ["9,000 for Sales\n8,300 for Ops\n7,250 for Legal", OF_MAYOR],
