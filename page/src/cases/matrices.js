@@ -169,12 +169,12 @@ export function gainTexts({ buyers, sellers }, mark) {
 const SIDE = (words) => new RegExp(`^(${words})(\\s*[\\\\/|].*)?$`, "iu"); // in the corner, alone or above the other
 const SELLER = SIDE("sellers?|verkäufer|vendeurs?|vendedor|verkoper");
 const BUYER = SIDE("buyers?|bidders?|käufer|bieter|acheteurs?|comprador|koper");
-const NO_MARKET = "This is no table of gains. Give the sellers’ names above, each buyer’s name before its row, and in "
-  + "it what the two gain together, as a number, or nothing. Lists of limit prices need headings: Buyer, Bid, Seller, "
-  + "Ask.";
+export const NO_MARKET = "This is no table of gains. Give the sellers’ names above, each buyer’s name before its row, "
+  + "and in it what the two gain together, as a number, or nothing. Lists of limit prices need headings: Buyer, Bid, "
+  + "Seller, Ask.";
 
 /** What a pasted block says of a market: {buyers, sellers, values, notes} with those of the three that are there, or
- * {names, notes}; or {fault} in words. */
+ * {names, notes}; or {fault} in words. `words` are the headings of columns without numbers that are left out. */
 export function marketOf(pasted) {
   const block = blockOf(pasted), { rows: framed, left } = unframed(block.rows);
   const saved = answerFault(pasted);
@@ -190,7 +190,8 @@ export function marketOf(pasted) {
   const notes = [leftText(left), ...block.notes, out.length > 0 && `Left out: ${out.join(", ")}.`, pairs && AS_PAIRS,
     unitsText(units), isTurned && !pairs && `“${corner}”: the rows are sellers.`].filter(Boolean);
   const isHeadless = !shape?.sellers && left.some((text) => text.split(/\s+/).length === wide - 1);
-  return shape && !isHeadless ? { ...shape, notes } : { fault: NO_MARKET };
+  const words = shape?.values && !pairs && texts.length ? texts : undefined;
+  return shape && !isHeadless ? { ...shape, words, notes } : { fault: NO_MARKET };
 }
 
 /** A table without columns that have only texts below their heading, as remarks: {rows, left}. */

@@ -1,6 +1,6 @@
 // The grid of a market: what each buyer gains with each seller, or two lists of limit prices that say it.
 import { notNames } from "../cases/bare-names.js";
-import { gainTexts, marketOf } from "../cases/matrices.js";
+import { gainTexts, marketOf, NO_MARKET } from "../cases/matrices.js";
 import { priceLineOf, takenOff, withoutLine } from "../cases/price-line.js";
 import { partOf, pricesOf } from "../cases/prices.js";
 import { withEscapes } from "../game/names.js";
@@ -100,8 +100,8 @@ class MarketGrid {
   // ---- What is pasted
 
   /** Takes limit prices or gains; `said` has what the user said: whose the first of two lists are (`side`), and whether
-   * names are of the traders here (`isSame`), or a line of limit prices was taken out of a table (`isLine`), of
-   * which something is `told`. */
+   * names are of the traders here (`isSame`), columns of words are left out (`isOut`), or a line of limit prices was
+   * taken out of a table (`isLine`), of which something is `told`. */
   pasted(cell, rows, said = {}) {
     const { limits } = this.typed, line = said.isLine === undefined ? priceLineOf(rows) : null;
     const use = (more, some = rows) => this.pasted(cell, some, { ...said, ...more });
@@ -120,6 +120,7 @@ class MarketGrid {
     }
     if (names && said.isSame === false) return this.takeNames(cell, names);
     if (part) return this.takePart(part);
+    if (found.words && !said.isOut) return this.askOut(found.words, () => use({ isOut: true }));
     const fault = found.fault ?? this.faultOf(cell, found), kept = !fault && this.keptText(cell, found);
     const told = names && `Taken as the names of ${plural(names.length, "trader")}.`;
     return this.take(fault, [...found.notes ?? [], said.told, told, kept], () => {
@@ -202,6 +203,14 @@ class MarketGrid {
     askIn(this.element, this.said, [`Nothing was taken yet. Whose limit prices are those of ${list}? `,
       way("Buyers: the most they’d pay", "buyers"), " ", way("Sellers: the least they’d take", "sellers"), " ",
       way("They are no limit prices", "none")]);
+  }
+
+  /** Asks whether a table with columns of words has what each pair gains. */
+  askOut(words, leave) {
+    const all = listed(words), have = words.length > 1 ? "have" : "has";
+    askIn(this.element, this.said, [`Nothing was taken yet. ${all} ${have} no numbers. Are the other columns what each `
+      + "buyer gains with each seller? ", button(`Yes: leave ${all} out`, leave, { class: "quiet" }), " ",
+    button("No, this is something else", () => this.take(NO_MARKET), { class: "quiet" })]);
   }
 
   /** Limit prices of both sides are the case; those of one take the place of its list. */

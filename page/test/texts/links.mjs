@@ -126,4 +126,13 @@ export const LINKS_AND_TRADES = [
     /“in”, “out” and “both” are more than two kinds\. Write “buyer” or/, "Sellers: the least they’d take"],
   ["market", "Dairy\tsells\t42\nFoundry\tsells\t55\nPool\tsells\t75", null, /prices of one side alone/],
   ["market", "Ann\thut\t5\nAnn\tflat\t9\nBo\thut\t8", "hut|flat|Ann|Bo|5|9|8|"],
+  // a column of words in a table of gains
+  ["market", "\tTown\thut\tflat\nAnn\tUlm\t5\t9\nBo\tBonn\t8\t9", null,
+    /Nothing was taken yet\. “Town” has no numbers\. Are the other columns what each buyer gains with each seller\?/],
+  ["market", "\tTown\thut\tflat\nAnn\tUlm\t5\t9\nBo\tBonn\t8\t9", "hut|flat|Ann|Bo|5|9|8|9", /^Left out: “Town”\./,
+    "Yes: leave “Town” out"],
+  ["market", "Buyer\thut\tflat\tDate\tBy\nAnn\t5\t9\t01.11.2026\tme\nBo\t8\t9\tMay\tyou", null,
+    /This is no table of gains\. .* Nothing was taken/, "No, this is something else"],
+  ["market", "Firm\tSector\tPrice\tHours\nKern\tmetal\t42\t20\nOst\twood\t60\t15\nHub\tIT\t50\t10", null,
+    /“Sector” has no numbers/],
 ];
