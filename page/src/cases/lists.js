@@ -3,6 +3,7 @@ import { Rational } from "../exact/rational.js";
 import { shortText, typedText } from "../exact/decimals.js";
 import { LIMITS, mostOf } from "../game/classes.js";
 import { shownName } from "../game/names.js";
+import { askBelowSum } from "./below-sum.js";
 import { labelsOf, landingsOf, rowsOfLandings } from "./landings.js";
 import { ranksText } from "./ranks.js";
 import { Reading } from "./reading.js";
@@ -161,7 +162,8 @@ export const estate = {
 
   read(state, mark) {
     const { reading, rows, names, named, values, cells } = readList(state, mark, "claim", "The claim", "Claimant");
-    if (!askOfSum(reading, state, ["claim"])) reading.notes.push(...sumRow(names, values));
+    const isAsked = askBelowSum(reading, state) || askOfSum(reading, state, ["claim"]);
+    if (!isAsked) reading.notes.push(...sumRow(names, values));
     askOfTwice(reading, state, ["claim"]);
     askOfWhole(reading, state);
     faultOfGroups(reading, state);

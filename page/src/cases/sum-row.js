@@ -36,12 +36,17 @@ export function askOfSum(reading, state, keys) {
   const isAsked = named.length > 0 || (!nameOf(last) && Boolean(state.isNamed)
     && keys.some((key) => isAbove(reading, last.row[key], others(last, key))));
   if (!isAsked) return false;
-  reading.notes = reading.notes.filter((note) => !note.includes("Is it the sum of the others?")); // it is asked instead
+  withoutSumNotes(reading);
   const one = named.at(-1) ?? last, { r } = one;
   const isOff = isSumWord(nameOf(one)) && !isPartial(one, kept.indexOf(one));
   const said = isOff && keys.map((key) => offBy(reading, one.row[key] ?? "", others(one, key)));
   reading.asked = { r, name: nameOf(one), isLast: r === last.r, off: (said || []).find(Boolean) };
   return true;
+}
+
+/** Takes back that a name may be that of a sum, where it is asked instead. */
+export function withoutSumNotes(reading) {
+  reading.notes = reading.notes.filter((note) => !note.includes("Is it the sum of the others?"));
 }
 
 /** Pasted rows without the one whose name is a word for a sum, if each number of it is that of two others or more:

@@ -37,16 +37,21 @@ function sumQuestion({ r, name, isLast, off }, typed, { onReset, onChange }) {
     name && button("No, it counts", keep, { class: "quiet" }));
 }
 
-/** Asks whether a row is what there is to divide, and no claim. */
-function wholeQuestion({ r, name, amount }, typed, { onReset, onChange }) {
+/** Asks whether a row is what there is to divide, and no claim. One that `isBelow` the sum may be neither; one of
+ * `isOther` name may only be a claim. */
+function wholeQuestion({ r, name, amount, isBelow, isOther }, typed, { onReset, onChange }) {
   const rows = typed.rows.filter((_, k) => k !== r), keep = () => {
     typed.notWhole = [...(typed.notWhole ?? []), name];
     onChange(0);
   };
   const take = () => onReset({ ...typed, estate: amount, rows }, "The estate", true);
-  const asked = `Is “${withEscapes(name)}”, ${withEscapes(amount)}, what there is to divide, and no claim? `;
-  return el("p", { class: "note asked" }, asked, button("Yes, it is the estate", take, { class: "quiet" }), " ",
-    button("No, a claim", keep, { class: "quiet" }));
+  const leave = () => onReset({ ...typed, rows }, "Leave it out", true);
+  const way = (title, use) => [button(title, use, { class: "quiet" }), " "];
+  const row = `“${withEscapes(name)}”, ${withEscapes(amount)},`;
+  const asked = isOther ? `${row} stands below the sum. Is it a claim, too? `
+    : `Is ${row} what there is to divide, and no claim? `;
+  return el("p", { class: "note asked" }, asked, !isOther && way("Yes, it is the estate", take),
+    way(isOther ? "Yes, a claim" : "No, a claim", keep), isBelow && way("No, leave it out", leave));
 }
 
 /** Asks what rows of one name are, or rows that are the same: `ways` are the rows that each answer makes. */

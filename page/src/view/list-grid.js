@@ -349,7 +349,7 @@ class ListGrid {
   leave(isExample) {
     const { typed, kind } = this, { key } = kind.single ?? {};
     Object.assign(typed, { rows: [], isPasted: true });
-    for (const said of ["notSums", "coarse", "isMarked", "isNamed", "offered"]) delete typed[said];
+    for (const said of ["notSums", "notWhole", "coarse", "isMarked", "isNamed", "offered"]) delete typed[said];
     if (isExample && key && typed[key] === kind.example()[key]) typed[key] = "";
   }
 
