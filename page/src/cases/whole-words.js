@@ -19,7 +19,8 @@ export const ESTATE = new RegExp("^(?:the |die |der |das |le |la |l['’]|net |t
 const PERHAPS = new RegExp("(?<!\\p{L})(?:available|(?:distribut|verfügbar|vorhanden|verteil)\\p{L}*|disponible"
   + "|beschikbaar|répartir|nachlass|\\p{L}*masse|estate|actif|cash|funds|proceeds|\\p{L}*erlös|vermögen|boedel)"
   + "(?!\\p{L})", "iu");
-const AMOUNT = /\p{Sc}?\s?\d(?:[\d.,'’\u00a0\u202f]*\d)?(?:\s?\p{Sc})?/gu;
+const SIGN = "(?:\\p{Sc}|(?<!\\p{L})[A-Z]{3}(?!\\p{L}))", DIGITS = "\\d(?:[\\d.,'’\\u00a0\\u202f]*\\d)?";
+const AMOUNT = new RegExp(`(?:${SIGN}\\s?)?${DIGITS}(?:\\s?${SIGN})?`, "gu"), MONEY = new RegExp(SIGN, "u");
 
 /** Whether a name may be that of the estate. */
 export const mayBeWhole = (name) => PERHAPS.test(name);
@@ -33,10 +34,13 @@ export function askOfWhole(reading, state) {
   reading.asked = { r: found.r, name: found.row.name.trim(), amount: found.row.claim };
 }
 
-/** The one number of a line that may say what there is to divide: {text, amount}, or undefined. */
+/** The one amount of a line that may say what there is to divide, {text, amount}, or undefined: of a line that speaks
+ * of it, the one of money or else the one number; of another, the one of money, if one line alone has such. */
 export function wholeIn(texts) {
-  return texts.filter(mayBeWhole).map((text) => {
-    const [amount, other] = text.match(AMOUNT) ?? [];
+  const found = texts.map((text) => {
+    const all = text.match(AMOUNT) ?? [], money = all.filter((one) => MONEY.test(one));
+    const [amount, other] = money.length || !mayBeWhole(text) ? money : all;
     return !other && amount && !readNumber(amount).fault ? { text, amount: amount.trim() } : undefined;
-  }).find(Boolean);
+  }).filter(Boolean);
+  return found.find(({ text }) => mayBeWhole(text)) ?? (found.length > 1 ? undefined : found[0]);
 }

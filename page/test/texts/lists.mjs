@@ -10,6 +10,11 @@ const FUNDS = "Tower roof fund\t£6,000.00\nOrgan fund\t£4,500.00\nChoir school
 const IN_FUNDS = FUNDS.replace(/\t/g, "=").replace(/\n/g, "|"), PROMISED = `Promised\tAmount\n${FUNDS}\n`;
 
 export const LISTS = [
+  ["estate", "Item 4 - Blocked grant\nThe funding body released EUR 186,000 of it. The partners have claimed:\n"
+    + "- Norden: EUR 96,500\n- Esk: EUR 72,000\n- Marle: EUR 5,400", "Norden=EUR 96,500|Esk=EUR 72,000|Marle=EUR 5,400",
+    /Is EUR 186,000 what there is to divide\?/],
+  ["estate", "7. Bequest of Mrs Penhallow. The estate, after costs, came to £9,150. In her letter she promised:\n"
+    + "- Tower roof £6,000\n- Organ £4,500", "Tower roof=£6,000|Organ=£4,500", /Is £9,150 what there is to divide\?/],
   // titles within a table
   ["votes", "Partei\tSitze\nSitzverteilung (25 Sitze)\t\nListe A\t12\nListe B\t9", "Liste A=12|Liste B=9",
     /Left out, as it is no row: “Sitzverteilung \(25 Sitze\)”\..*“Sitze” is “Votes”/],
