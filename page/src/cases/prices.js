@@ -50,8 +50,11 @@ function taken(lists) {
 
 function notesOf(lists) {
   const all = (key) => [...new Set(lists.flatMap((list) => list[key] ?? []))];
-  const [out, units, open] = ["out", "units", "open"].map(all);
-  return [out.length > 0 && `Left out: ${out.join(", ")}.`, unitsText(units),
+  const [out, amounts, units, open] = ["out", "amounts", "units", "open"].map(all);
+  const was = amounts.length > 1 ? "were" : "was";
+  return [out.length > 0 && `Left out: ${out.join(", ")}.`,
+    amounts.length > 0 && `${listed(amounts)} ${was} left out: each trader buys or sells one unit here.`,
+    unitsText(units),
     open.length > 0 && `A cell with ${listed(open.map(quoted))} is empty.`].filter(Boolean);
 }
 
@@ -192,9 +195,13 @@ function groupsIn(rows, given, isPart = false) {
   if (fault || isOdd) return isOdd ? {} : { fault };
   const kept = found.filter(Boolean), used = [...kept.flatMap(({ name, price }) => [name, price]), sides];
   const left = columns.filter((one) => !used.includes(one)), named = money.flatMap(({ texts }) => texts.map(moneyIn));
-  const out = left.map(({ head, texts }) => quoted(head || texts.find(Boolean) || ""));
-  return { groups: kept.map((one) => ({ ...one, money: named })), out, sides };
+  const told = (some) => some.map(({ head, texts }) => quoted(head || texts.find(Boolean) || ""));
+  const amounts = told(left.filter(isAmounts)), out = told(left.filter((one) => !isAmounts(one)));
+  return { groups: kept.map((one) => ({ ...one, money: named, amounts })), out, sides };
 }
+
+/** Whether a column may say how much each trader buys or sells: numbers that differ. */
+const isAmounts = ({ isNumbers, isCount, texts }) => isNumbers && !isCount && new Set(texts.filter(Boolean)).size > 1;
 
 /** The headings, of one row or two; in two the upper one says whose the columns below are. */
 function headsOf(rows, given) {
@@ -243,7 +250,7 @@ function listOf({ side, columns }) {
 
 /** Lists with their rows, units left out, and sums told: {lists, notes}, or {fault}. */
 function withLists(groups, notes) {
-  const lists = groups.map(({ name, price, side, label, head, out = [], money, isPriced }) => {
+  const lists = groups.map(({ name, price, side, label, head, out = [], money, amounts, isPriced }) => {
     const { rows: bare, units = [], fault } = withoutUnits(price.texts.map((text) => [text]));
     if (fault) return { fault };
     const all = bare.map(([text], k) => ({ name: name?.texts[k] ?? "", price: text }));
@@ -252,7 +259,7 @@ function withLists(groups, notes) {
     const open = rows.map((row) => row.price).filter((text) => UNKNOWN.test(text));
     const told = rows.map((row) => (UNKNOWN.test(row.price) ? { ...row, price: "" } : row));
     const left = [...out, ...new Set(sums.map((row) => `${quoted(row.name)}, a sum`))];
-    return { side, label, head, money, rows: told, units, open, out: left };
+    return { side, label, head, money, amounts, rows: told, units, open, out: left };
   });
   const { fault } = lists.find((list) => list.fault) ?? {};
   return fault ? { fault } : { lists: lists.filter(({ rows }) => rows.length), notes };

@@ -105,7 +105,8 @@ export const LINKS_AND_TRADES = [
   // a column that says who sells and who buys
   ["market", "Firm\tSells/Buys\tPrice per hour\tHours/month\nKern\tsells\t42 €\t20\nDruck\tsells\t55 €\t35\n"
     + "Ost\tsells\t60 €\t15\nLaser\tbuys\t75 €\t30\nHub\tbuys\t50 €\t10",
-  "Kern|Druck|Ost|Laser|Hub|42 €|55 €|60 €|75 €|50 €", /limit prices of 2 buyers and 3 sellers/],
+  "Kern|Druck|Ost|Laser|Hub|42 €|55 €|60 €|75 €|50 €",
+  /2 buyers and 3 sellers\. “Hours\/month” was left out: each trader buys or sells one unit here\./],
   ["market", "Kern\tsells\t42 €\nDruck\tsells\t55 €\nLaser\tbuys\t75 €", "Kern|Druck|Laser|42 €|55 €|75 €"],
   ["market", "Firm\tOffer/need\tEUR per MWh\nDairy\tOffer\t42\nFoundry\tOffer\t55\nPool\tNeed\t75\nHouse\tNeed\t64",
     "Dairy|Foundry|Pool|House|42|55|75|64"],
@@ -135,4 +136,7 @@ export const LINKS_AND_TRADES = [
     /This is no table of gains\. .* Nothing was taken/, "No, this is something else"],
   ["market", "Firm\tSector\tPrice\tHours\nKern\tmetal\t42\t20\nOst\twood\t60\t15\nHub\tIT\t50\t10", null,
     /“Sector” has no numbers/],
+  // numbers beside limit prices
+  ["market", "Buyer\tBid\tMWh\tSeller\tAsk\tDays\tTown\nAnn\t9\t20\tCy\t4\t7\tUlm\nBo\t8\t30\tDi\t5\t9\tBonn",
+    "Cy|Di|Ann|Bo|4|5|9|8", /Left out: “Town”\. “MWh” and “Days” were left out: each trader buys or sells one unit/],
 ];
