@@ -1,5 +1,6 @@
 // A table that was pasted into a list: what stands around it goes, and each of its columns finds the one it is for.
 import { readNumber } from "../exact/decimals.js";
+import { headsFirst } from "./above-heads.js";
 import { isBareName, notNames } from "./bare-names.js";
 import { blockOf, looseText, PAGES } from "./block.js";
 import { bracketVotes } from "./bracket-votes.js";
@@ -45,7 +46,9 @@ function tableIn(pasted, { single, isFirst }) {
   const odd = loose ?? (isFirst ? noName(parted, clauses.length > 0) : undefined);
   if (odd !== undefined || saved) return { fault: saved ?? lineText(odd) };
   if (isProse(given) || (given.length === 1 && PROSE.test(pasted[0].join(", ")))) return { fault: SENTENCE };
-  const { rows, left } = unframed(single ? withSingle(parted, single) : parted), out = [...around, ...left, ...clauses];
+  const said = single ? withSingle(parted, single) : parted, isEstate = single && !single.second && isFirst;
+  const { rows: headed, left: titles } = isEstate ? headsFirst(said) : { rows: said, left: [] };
+  const { rows, left } = unframed(headed), out = [...around, ...titles, ...left, ...clauses];
   return { given, rows, out, notes: [leftText([...out, ...pages]), isParted && IN_LINE, ...counted] };
 }
 

@@ -161,6 +161,16 @@ export const LISTS = [
     /“Di”, 4, stands below/, "No, leave it out"],
   ["estate", "Ann\t5\nBo\t4\nSubtotal\t9\nCy\t3", "Ann=5|Bo=4|Subtotal=9|Cy=3", /“Subtotal”\. Is it the sum/],
   ["estate", "Ann\t5\nBo\t4\nTotal Energies\t8\nCy\t3", "Ann=5|Bo=4|Total Energies=8|Cy=3", /^(?!.*sum)/],
+  // a title and the estate above the headings
+  ["estate", `Bequest of Mrs Penhallow\t\nEstate after costs\t£9,150.00\n\n${PROMISED}Short by\t£4,850.00`,
+    `Estate after costs=£9,150.00|${IN_FUNDS}`,
+    /beside: “Bequest of Mrs Penhallow”.*“Promised” is “Who claims”.*“Short by”.*Is “Estate after costs”, £9,150/],
+  ["estate", `Bequest of Mrs Penhallow\n\nEstate after costs\t£9,150.00\n\n${PROMISED}`,
+    `Estate after costs=£9,150.00|${IN_FUNDS}`, /beside: “Bequest of Mrs Penhallow”.*“Promised” is “Who claims”/],
+  ["estate", `Bequest of Mrs Penhallow\t\nEstate\t£9,150.00\n\n${PROMISED}`, IN_FUNDS,
+    /beside: “Bequest of Mrs Penhallow”.*“Promised” is.*“Estate”, £9,150\.00, was taken as the estate/],
+  ["estate", "Cash & Co\t100\n\nOthers\tAmount\nBo\t80\nCy\t20", "Cash & Co=100|Bo=80|Cy=20", /Is “Cash & Co”, 100/],
+  ["estate", "Di\t100\nCash\t5\n\nOthers\tAmount\nBo\t80", "Di=100|Cash=5|Others=Amount|Bo=80", /is no number/],
   // a numbered heading
   ["votes", DISTRICT, DISTRICT_VOTES, /Left out, as these are no rows: “5\. Votes in the/],
   ["votes", DISTRICT.replace(/\nThe.*/, ""), DISTRICT_VOTES, /Left out, as it is no row: “5\. Votes in the/],
