@@ -27,6 +27,10 @@ const SIDE_HEAD = words("sides?|types?|roles?|b\\s*[/|]\\s*s|buy\\s*/\\s*sell|di
 const GIVES = /^(sells?|selling|offer(s|ing|ed)?|supply|supplies|has|gives?|bietet|verkauft|vend|biedt|verkoopt)$/iu;
 const TAKES = /^(buys?|buying|needs?|needed|want(s|ing|ed)?|demand|takes?|sucht|kauft|ach[eè]te|zoekt|koopt)$/iu;
 const MOST_KINDS = 3;
+const WILL = "(?:will|would|can|could|wants? to|is ready to|is willing to)";
+const UNTIL = "(?:\\s(?:at|for|from|up|to|least|most|max|min|ab|für|zu|bis|à|pour|au|moins|plus|voor|vanaf|tot)\\.?)";
+const DEAL = new RegExp(`^(?!${WILL}\\s)(?<name>.{1,80}?),?\\s(?:(?:(?<sells>sells|verkauft|vend|verkoopt)|`
+  + `(?<buys>buys|kauft|ach[eè]te|koopt))${UNTIL}{0,3}|${WILL}\\s(?:(?<sell>sell)|(?<buy>buy))${UNTIL}{0,3})$`, "iu");
 const MARKED = /^(b|s)[ .:-]?\d+$|[([](b|s)[)\]]$/i;
 
 /** What a heading says: whose price or name it is, and whether it is a price. `isSoft` gives way to a side that the
@@ -46,8 +50,13 @@ export function sideOf(text) {
   return /^s$/i.test(text) || GIVES.test(text) ? "sellers" : kindOf(text).side;
 }
 
-/** The same of a name, as “Buyer 1”, “Ann (seller)” or “B1”. */
+/** A name without what it does, as “Dairy” of “Dairy sells at”. */
+export const nameOf = (text) => DEAL.exec(text)?.groups.name ?? text;
+
+/** The same of a name, as “Buyer 1”, “Ann (seller)” or “B1”, or of a name with what it does. */
 export function sideOfName(text) {
+  const { buys, buy, name } = DEAL.exec(text)?.groups ?? {};
+  if (name) return buys || buy ? "buyers" : "sellers";
   const letter = (MARKED.exec(text) ?? []).slice(1).find(Boolean), isBuyer = BUYS.test(text);
   if (letter) return sideOf(letter);
   return isBuyer === SELLS.test(text) ? undefined : isBuyer ? "buyers" : "sellers";
@@ -61,28 +70,32 @@ export function fitOf(head, texts) {
   const isNumbers = known.length ? !isWord : kind.isPrice; // nobody knows a price yet
   const isMoney = isWord && known.length > 0 && known.every((text) => text.length < 5 && moneyIn(text));
   const few = new Set(known.map((text) => text.toLowerCase())).size;
-  const isSaid = known.every((text) => text.length < 16 && !/\d/.test(text) && sideOf(text));
+  const isNames = few === known.length && known.every((text) => /\s/.test(text));
+  const isDeal = known.some((text) => nameOf(text) !== text);
+  const isSaid = !isDeal && known.every((text) => text.length < 16 && !/\d/.test(text) && sideOf(text));
   const isRole = known.length > 1 && known.every((text) => GIVES.test(text) || TAKES.test(text)); // below any heading
   const isTold = few > 1 && known.length > 2 && !kind.side
     && (isSaid || (SIDE_HEAD.test(head) && (few === 2 || known.some((text) => sideOf(text)))));
   const isSides = isWord && !isMoney && (isRole || isTold);
   const isName = !kind.isPrice && (Boolean(kind.side) || NAME.test(head));
   return {
-    head, texts, isNumbers, isMoney, isName, ...kind, isSides, isBoth: kind.isBoth && !isRole,
-    isFew: isWord && !isMoney && few <= MOST_KINDS && few < known.length,
+    head, texts, isNumbers, isMoney, isName, ...kind, isSides, isNames, isBoth: kind.isBoth && !isRole,
+    isFew: isWord && !isMoney && !isDeal && few <= MOST_KINDS && few < known.length,
     isQuantity: isNumbers && !kind.isPrice && QUANTITY.test(head),
     isCount: isNumbers && !kind.isPrice && COUNT.test(head),
   };
 }
 
-/** The column of a few words that repeat, beside names of which none does and one or two columns of numbers, if no
- * heading says whose they are: such words are no traders. */
-export function kindsAmong(columns) {
+/** The column that says who buys: by its words; or a few words that repeat, beside names of which none does and one or
+ * two columns of numbers, if no heading says whose they are and these aren't rows of one side (`isPart`). */
+export function sidesAmong(columns, isPart) {
   const words = columns.filter(({ isNumbers, isMoney }) => !isNumbers && !isMoney);
-  const numbers = columns.filter(({ isNumbers }) => isNumbers), [few] = words.filter(({ isFew }) => isFew);
+  const said = columns.find(({ isSides, isNames }) => isSides && !(isNames && words.length < 2));
+  const numbers = columns.filter(({ isNumbers }) => isNumbers), few = words.find(({ isFew }) => isFew);
   const isName = ({ texts }) => new Set(texts.filter(Boolean)).size === texts.filter(Boolean).length;
   const isOf = words.length === 2 && [1, 2].includes(numbers.length) && !columns.some(({ side }) => side);
-  return few && isOf && words.some((one) => one !== few && isName(one)) ? few : undefined;
+  if (said || isPart) return said;
+  return isOf && words.some((one) => one !== few && isName(one)) ? few : undefined;
 }
 
 /** The currency that a heading names, with the word for thousands before it. */

@@ -6,7 +6,7 @@ import { listed } from "../game/words.js";
 import { blockOf, isText, looseText } from "./block.js";
 import { UNKNOWN } from "./columns.js";
 import { leftText, unframed } from "./frames.js";
-import { fitOf, isUnit, kindOf, kindsAmong, sideOf, sideOfName, SIDES } from "./price-heads.js";
+import { fitOf, isUnit, kindOf, nameOf, sideOf, sideOfName, sidesAmong, SIDES } from "./price-heads.js";
 import { answerFault } from "./saved-tables.js";
 import { unitsText, withoutUnits } from "./units.js";
 
@@ -145,9 +145,10 @@ function bySide(group, column, notes) {
   const own = texts.map(column ? sideOf : sideOfName);
   const used = price.texts.map((text, k) => k).filter((k) => price.texts[k] || name?.texts[k]);
   const isKept = SIDES.every((one) => used.some((k) => own[k] === one));
+  const called = column ? name : name && { ...name, texts: name.texts.map(nameOf) };
   const listOf = (is, one, label) => {
     const pick = (one) => one && { ...one, texts: one.texts.filter((_, k) => used.includes(k) && is(k)) };
-    return { ...group, name: pick(name), price: pick(price), side: one, label };
+    return { ...group, name: pick(called), price: pick(price), side: one, label };
   };
   if (column && !isKept) {
     const [first = "", ...more] = new Set(used.map((k) => texts[k])), known = more.length ? undefined : sideOf(first);
@@ -176,8 +177,7 @@ function groupsIn(rows, given, isPart = false) {
   const columns = Array.from({ length: wide }, (_, c) => fitOf(heads[c] ?? "", below.map((row) => row[c] ?? "")))
     .filter(({ texts, head }) => head || texts.some(Boolean));
   if (columns.some(({ isBoth }) => isBoth)) return {};
-  const sides = columns.find(({ isSides }) => isSides) ?? (isPart ? undefined : kindsAmong(columns));
-  const own = columns.filter((one) => one !== sides);
+  const sides = sidesAmong(columns, isPart), own = columns.filter((one) => one !== sides);
   const money = own.filter(({ isMoney }) => isMoney), groups = [];
   const isOpen = (one) => one.isNumbers || one.texts.some(Boolean);
   for (const column of own.filter((one) => !money.includes(one) && isOpen(one))) {

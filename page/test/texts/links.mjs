@@ -139,4 +139,15 @@ export const LINKS_AND_TRADES = [
   // numbers beside limit prices
   ["market", "Buyer\tBid\tMWh\tSeller\tAsk\tDays\tTown\nAnn\t9\t20\tCy\t4\t7\tUlm\nBo\t8\t30\tDi\t5\t9\tBonn",
     "Cy|Di|Ann|Bo|4|5|9|8", /Left out: “Town”\. “MWh” and “Days” were left out: each trader buys or sells one unit/],
+  // what traders do, said behind their names
+  ["market", "Dairy sells at 42\nFoundry sells at 55\nPool buys up to 75\nGreenhouse buys up to 64",
+    "Dairy|Foundry|Pool|Greenhouse|42|55|75|64"],
+  ["market", "Dairy sells 42\nHut sells 43\nPool buys 50", "Dairy|Hut|Pool|42|43|50"],
+  ["market", "Best Buy will sell for at least 42 €\nPool would buy for up to 75 €", "Best Buy|Pool|42 €|75 €"],
+  ["market", "Molkerei verkauft ab 42\nBad kauft bis 75", "Molkerei|Bad|42|75"],
+  ["market", "Buyer A 42\nSeller B 40\nSeller C 41", "Seller B|Seller C|Buyer A|40|41|42"],
+  ["market", "Best Buy\t42\nSell Inc\t40", "Sell Inc|Best Buy|40|42"],
+  ["market", "Who\tWhat\tPrice\nA\tseller\t4\nB\tbuyer\t5\nC\tpurchaser\t6", "A|B|C|4|5|6"],
+  ["market", "Kern sells\tmetal\t42\nKern sells\twood\t43\nHub buys\tany\t50", "Kern|Kern|Hub|42|43|50",
+    /Left out: “metal”/],
 ];
