@@ -79,7 +79,7 @@ export function fitOf(head, texts) {
   const isSides = isWord && !isMoney && (isRole || isTold);
   const isName = !kind.isPrice && (Boolean(kind.side) || NAME.test(head));
   return {
-    head, texts, isNumbers, isMoney, isName, ...kind, isSides, isNames, isBoth: kind.isBoth && !isRole,
+    head, texts, isNumbers, isMoney, isName, ...kind, isSides, isRole, isNames, isBoth: kind.isBoth && !isRole,
     isFew: isWord && !isMoney && !isDeal && few <= MOST_KINDS && few < known.length,
     isQuantity: isNumbers && !kind.isPrice && QUANTITY.test(head),
     isCount: isNumbers && !kind.isPrice && COUNT.test(head),

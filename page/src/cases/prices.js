@@ -13,6 +13,7 @@ import { unitsText, withoutUnits } from "./units.js";
 const MOST_LETTERS = 60; // of a line that says whose prices come below it
 const ONE_EACH = "Each trader buys or sells one. Give each unit a row, as “Ann 1” and “Ann 2”, without this column.";
 const TWO_EACH = "Each trader has one price: a buyer the most to pay, or a seller the least to take.";
+const ONE_PRICE = "Several columns could be the limit price. Give one alone, or write “Price” above it.";
 const MANY_KINDS = "are more than two kinds. Write “buyer” or “seller” beside each trader.";
 const NO_LIST = "A list has a name and a limit price in each row, or one of the two.";
 const quoted = (text) => `“${withEscapes(text)}”`;
@@ -192,6 +193,7 @@ function groupsIn(rows, given, isPart = false) {
   }
   const all = merged(groups), found = all.map(listOf), { fault } = found.find((one) => one?.fault) ?? {};
   const isOdd = found.some((one, k) => one?.isOdd || (!one && all[k].side)); // as buyer, seller and their gain
+  if (isOdd && sides?.isRole) return { fault: ONE_PRICE };
   if (fault || isOdd) return isOdd ? {} : { fault };
   const kept = found.filter(Boolean), used = [...kept.flatMap(({ name, price }) => [name, price]), sides];
   const left = columns.filter((one) => !used.includes(one)), named = money.flatMap(({ texts }) => texts.map(moneyIn));

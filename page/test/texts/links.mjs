@@ -150,4 +150,6 @@ export const LINKS_AND_TRADES = [
   ["market", "Who\tWhat\tPrice\nA\tseller\t4\nB\tbuyer\t5\nC\tpurchaser\t6", "A|B|C|4|5|6"],
   ["market", "Kern sells\tmetal\t42\nKern sells\twood\t43\nHub buys\tany\t50", "Kern|Kern|Hub|42|43|50",
     /Left out: “metal”/],
+  ["market", "Kern\tsells\t42 €\t20\nDruck\tsells\t55 €\t35\nHub\tbuys\t75 €\t30", null,
+    /Several columns could be the limit price\. Give one alone, or write “Price” above it\. Nothing was taken/],
 ];
