@@ -280,7 +280,7 @@ export const otherCases = [
     expect("idle", await page.text("#answer-body"), /Without a trade: Cem/);
     await page.type("values.2.0", "7");
     const ties = /There are ties: with Cem – Seller 1 in the place of others, all gain as much together/;
-    await told(page, "#why", ties);
+    await told(page, "#answer", ties);
   }],
 
   ["a large market has prices alone", "market", async (page, expect) => {

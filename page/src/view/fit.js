@@ -2,7 +2,7 @@
 // of it is seen. What doesn't fit gets smaller letters, and then has to do without its picture.
 
 const WIDE = "176mm"; // of A4 between the margins
-const MOST = (264 * 96) / 25.4; // its height in pixels, with some to spare: paper breaks lines a little otherwise
+const MOST = (262 * 96) / 25.4; // its height in pixels, with some to spare: paper breaks lines a little otherwise
 const SIZES = ["tight", "closer", "tighter"]; // of letters, each smaller than the one before
 
 /** What stands in the styles for paper counts, and what stands there for narrow windows doesn't. */
