@@ -3,8 +3,9 @@ import { isObject, writeJson } from "../exact/json.js";
 import { DECIMALS, isMark, WHOLE } from "../exact/marks.js";
 import { caseNamed } from "./cases.js";
 import { coarseOf } from "./coarse.js";
+import { WORD } from "./is-case-file.js";
 
-const WORD = "coop-page", VERSION = 1n;
+const VERSION = 1n;
 const isText = (one) => typeof one === "string" && one.length <= 200;
 const isTexts = (one) => Array.isArray(one) && one.every(isText);
 
@@ -69,10 +70,6 @@ export function caseText({ kind, typed, text, texts, todays, places, mark, entry
 const textOfCells = (cells) => JSON.stringify(cells, (_, one) => {
   return Array.isArray(one) ? Array.from(one, (item) => item ?? "") : one;
 });
-
-export function isCaseFile(tree) {
-  return isObject(tree) && WORD in tree;
-}
 
 /** What is wrong with the form of a case: {sentence, place}; null where nothing is. */
 export function faultOfCase(tree) {

@@ -2,7 +2,7 @@
 import { Rational } from "../exact/rational.js";
 import { isObject, JsonFault, readJson, writeJson } from "../exact/json.js";
 import { factsOf } from "../game/facts.js";
-import { isCaseFile } from "../cases/case-file.js";
+import { isCaseFile } from "../cases/is-case-file.js";
 import { CLASSES, mostOf } from "../game/classes.js";
 import { Game } from "../game/game.js";
 import { remarksOf, withEscapes } from "../game/names.js";
