@@ -2,7 +2,7 @@
 // they were typed; and cells that make another document than that of the file are left out, and told.
 import { caseText } from "../src/cases/case-file.js";
 import { caseNamed, CASES } from "../src/cases/cases.js";
-import { unitOf, unitText } from "../src/view/unit.js";
+import { unitIn, unitOf, unitText } from "../src/view/unit.js";
 import { openText } from "../src/work/case-files.js";
 import { readCase } from "../src/work/cases.js";
 import { warmUp } from "../src/work/engine.js";
@@ -42,6 +42,12 @@ const HELD = {
   "limit prices": ["market", { buyers: ["Ann", "Ben"], sellers: ["Cem"], values: [["3.5"], ["1"]],
     limits: { buyers: ["10.50", "8 €"], sellers: ["7 €"] } }],
 };
+
+/** Pasted tables, and the unit that they show. */
+const SHOWN = [
+  ["Ann\t120 €\nBo\t80 €", "€"], ["Cost (€)\tGroup\n3\tA", "€"], ["Ann\t12 CHF\nBo\t8 €", ""],
+  ["EUR 1000\tWell\tNord\nWell\t\t420\nNord\t420\t", ""], ["120 €\tAnn\n80 €\tBo", "€"],
+];
 
 /** What is said of the unit on paper: that of a pasted table goes with it, and one that was typed stays. */
 const UNITS = [
@@ -116,6 +122,7 @@ for (const [text, from, to, wanted] of CHANGED) {
   const said = refusal ? `${refusal.sentence} Place: ${refusal.place}` : notes.join(" ");
   expect(`${from} as ${to}: ${said}`, wanted.test(said), true);
 }
+for (const [text, unit] of SHOWN) expect(`the unit in ${JSON.stringify(text)}`, unitIn(text), unit);
 for (const [typed, unit, said] of UNITS) {
   expect(`the unit of ${JSON.stringify(typed)}`, [unitOf(typed), said.test(unitText(typed))], [unit, true]);
 }

@@ -241,7 +241,7 @@ function listOf({ side, columns }) {
   }
   if (!isAlone && prices.length > 1 && side && prices.some(({ isWeak }) => !isWeak)) {
     return { fault: `${listed(prices.slice(0, 2).map(({ head }) => quoted(head)))} are both prices of the ${side}. `
-      + "Leave one out." };
+      + "Leave one out; or if each is what one trader says, head it by the name of that trader alone." };
   }
   const price = isAlone ? numbers[0] : prices.length === 1 ? prices[0] : undefined;
   if (!price) return { isOdd: true };

@@ -3,6 +3,7 @@ import { isOfMoney, moneyIn, readNumber, withoutMoney } from "../exact/decimals.
 import { isTime } from "./columns.js";
 
 const MOST_LETTERS = 80; // of a number with its unit
+const SHORT = 4; // letters of a unit that may be one more than a singular
 const WORD = "\\p{L}[\\p{L}.²³]{0,11}";
 const PER = `\\s*/\\s*${WORD}|\\s+(?:per|pro|par|por|je|im|al|an?|p\\.) ?${WORD}`
   + `|\\s+(?:\\p{L}+(?:ly|lich)|net|gross|netto|brutto|(?:incl|excl|inkl|exkl|zzgl|plus|ohne)\\.? ${WORD})`;
@@ -28,13 +29,21 @@ export function parted(text) {
   return number ? { number, unit: unit.trim().replace(/\s*\/\s*/, "/"), isSure } : null;
 }
 
+/** The units of some numbers, each once; of "vote" beside "votes" the second. */
+function unitsOf(own) {
+  const all = [...new Set(own.map(({ unit }) => unit))];
+  const isOne = (unit) => all.some((other) => other !== unit && other.startsWith(unit)
+    && /^(?:e?[sn]|er?)$/.test(other.slice(unit.length)));
+  return all.filter((unit) => unit.length < SHORT || !isOne(unit));
+}
+
 /** Rows without units: {rows, units}, or {fault} in words where the numbers of a column have several. The first `from`
  * columns are names. A number without a unit beside such with one may only be 0. */
 export function withoutUnits(rows, from = 0) {
   const wide = rows.reduce((most, { length }) => Math.max(most, length), 0), found = new Map(), signs = new Set();
   for (let c = from; c < wide; c++) {
     const texts = rows.map((row) => row[c] ?? "").filter(Boolean), own = texts.map(parted).filter(Boolean);
-    const [unit, other] = new Set(own.map((one) => one.unit)), isBare = (text) => /[1-9]/.test(text) && !parted(text);
+    const [unit, other] = unitsOf(own), isBare = (text) => /[1-9]/.test(text) && !parted(text);
     const isNumber = (text) => !readNumber(text).fault, isMixed = texts.some((text) => isBare(text) && isNumber(text));
     if (!unit || isMixed || own.length * 2 < texts.length - 1) continue;
     if (other) return { fault: `The numbers have several units: “${unit}” and “${other}”. Give all in one.` };

@@ -92,9 +92,9 @@ function alikeTexts({ rows, points }, { show }) {
     const left = rows[last].cost.minus(paid), parts = Rational.of(count + (isLast ? 0 : 1));
     if (!left.over(parts).equals(point.each[first])) return [];
     const cost = paid.isZero() ? show(left) : `(${show(rows[last].cost)} − ${show(paid)})`;
+    const from = paid.isZero() ? "" : `from ${rows[first].label} `, all = `All ${from}up to ${rows[last].label}`;
     if (own.length > 1) {
-      told.push(`All up to ${rows[last].label} pay alike: ${cost} / ${isLast ? count : `(${count} + 1)`} = `
-        + `${show(point.each[first])} a use.`);
+      told.push(`${all} pay alike: ${cost} / ${isLast ? count : `(${count} + 1)`} = ${show(point.each[first])} a use.`);
     }
     paid = paid.plus(point.each[first].times(Rational.of(count)));
     order.splice(0, own.length);

@@ -11,6 +11,9 @@ const way = (text, use) => [" ", button(text, use, { class: "quiet" })];
 export function offersOf(grid, sheet, said, use) {
   const { kind: { single, second }, typed } = grid, { line, spare = [], targets } = sheet;
   const isOpen = () => single && !typed[single.key].trim(), isOne = () => typed.secondQuota === undefined;
+  const digitsOf = (text) => text.replace(/\D/g, ""), isOther = () => {
+    return single && line?.amount && digitsOf(typed[single.key]) !== digitsOf(line.amount);
+  };
   const told = grid.said.textContent, give = () => {
     grid.remember(single.title);
     typed[single.key] = line.amount;
@@ -34,7 +37,7 @@ export function offersOf(grid, sheet, said, use) {
   ]];
   const parts = [
     out(lack, "what the claims lack"), out(sum, "the sum of the others"),
-    [isOpen, line?.amount && isOpen() && [` Is ${line.amount} what there is to divide?`,
+    [isOther, isOther() && [` Is ${line.amount} what there is to divide?`,
       way(`Yes, ${line.amount}`, give)]],
     [() => !isFilled(), line && second && [` ${quoted(line.text)} names ${quotaWord(line)}: type `,
       `${isSingle(line) ? "it" : "them"} above.`, takeQuotas(grid, line, sheet)]],

@@ -6,14 +6,18 @@ const IN_HEAD = new RegExp(`[(\\[]\\s*(?:in )?(${SIGN})\\s*[)\\]]|\\bin (${SIGN}
 const AMOUNT = "\\d[\\d.,'’\\s\\u202f]*";
 const BESIDE = new RegExp(`^[-−(]?${AMOUNT}(${SIGN})\\)?$|^(\\p{Sc}|[A-Z]{3})\\s?[-−]?${AMOUNT}$`, "u");
 
-/** The one unit that the cells of a pasted text show; "" if they show none, or several. */
+/** The one unit that the cells of a pasted text show; "" if they show none, or several. In the corner of a table
+ * "EUR 1000" is no amount. */
 export function unitIn(text) {
   const found = new Set();
-  for (const cell of text.split(/[\t\n\r;|]/)) {
-    const [, head, behind] = IN_HEAD.exec(cell.trim()) ?? [], [, after, before] = BESIDE.exec(cell.trim()) ?? [];
-    const unit = head ?? behind ?? after ?? before;
-    if (unit) found.add(unit.trim());
-  }
+  text.split(/[\n\r]+/).forEach((line, r) => {
+    const cells = line.split(/[\t;|]/).map((cell) => cell.trim()), isNamed = cells.some((cell) => /^\D+$/.test(cell));
+    cells.forEach((cell, c) => {
+      const [, head, behind] = IN_HEAD.exec(cell) ?? [], isCorner = r + c === 0 && isNamed;
+      const [, after, before] = (!isCorner && BESIDE.exec(cell)) || [], unit = head ?? behind ?? after ?? before;
+      if (unit) found.add(unit.trim());
+    });
+  });
   return found.size === 1 ? [...found][0] : "";
 }
 

@@ -10,6 +10,11 @@ const FUNDS = "Tower roof fund\t£6,000.00\nOrgan fund\t£4,500.00\nChoir school
 const IN_FUNDS = FUNDS.replace(/\t/g, "=").replace(/\n/g, "|"), PROMISED = `Promised\tAmount\n${FUNDS}\n`;
 
 export const LISTS = [
+  ["votes", "City – 5 votes\nTeachers – 3 votes\nStudents – 1 vote", "City=5|Teachers=3|Students=1", /“votes” behind/],
+  ["votes", "City\t5 votes\nStudents\t1 vote", "City=5|Students=1"],
+  ["estate", "Ann\t5 mil\nBo\t3 mile", null, /several units/],
+  ["estate", ["Estate\t500\nAnn\t300\nBo\t400", "Hi,\nthe fund stands at £650. Requests:\n\n- Cy: £900\n- Di: £800"],
+    "Cy=£900|Di=£800", /The estate is still 500\. Is £650 what there is to divide\?/],
   ["estate", "Item 4 - Blocked grant\nThe funding body released EUR 186,000 of it. The partners have claimed:\n"
     + "- Norden: EUR 96,500\n- Esk: EUR 72,000\n- Marle: EUR 5,400", "Norden=EUR 96,500|Esk=EUR 72,000|Marle=EUR 5,400",
     /Is EUR 186,000 what there is to divide\?/],
