@@ -15,8 +15,8 @@ export function marketGrid(kind, typed, settings) {
 }
 
 const NO_ROOM = "From this cell on there aren’t as many cells. Paste it into the first one, or with the names of all.";
-const ONE_SIDE = "Here are limit prices of one side alone. Paste those of the other beside them or below; or if a column "
-  + "is what one trader would pay, leave out the columns of words beside the names.";
+const ONE_SIDE = "Here are limit prices of one side alone. Paste those of the other beside them or below; or if a "
+  + "column is what one trader would pay, leave out the columns of words beside the names.";
 const AS_PRICES = "A pair gains the buyer’s most less the seller’s least, or nothing if that is negative.";
 
 const NO_LEAST = "Leave these prices out";
