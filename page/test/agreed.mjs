@@ -1,5 +1,5 @@
 // Scenarios: what the parties agreed on, on the sheet to sign, and in a saved case.
-import { settle } from "./harness.mjs";
+import { savedFile, settle } from "./harness.mjs";
 
 const sheet = async (page) => {
   await page.run("dispatchEvent(new Event('beforeprint'))");
@@ -14,15 +14,6 @@ const choose = (page, value) => page.run(`(() => {
   return one.value;
 })()`);
 const chosen = (page) => page.run(`document.querySelector('[data-cell="paper.agreed"]').value`);
-const saved = (page) => page.run(`(async () => {
-  const made = URL.createObjectURL;
-  let kept = null;
-  URL.createObjectURL = (blob) => (kept = blob, made.call(URL, blob));
-  HTMLAnchorElement.prototype.click = () => 0;
-  [...document.querySelectorAll("button")].find((one) => one.textContent === "Save the case").click();
-  URL.createObjectURL = made;
-  return kept.text();
-})()`);
 
 export const agreed = [
   ["what was agreed on stands on the sheet, and in the saved case", "gains", async (page, expect) => {
@@ -36,7 +27,7 @@ export const agreed = [
     expect("what is proved", text, /These numbers have no certificate\./);
     expect("what has to be the same", text, /its column “By what each adds” has to be the same/);
     expect("nothing of another rule", /nucleolus/.test(text), false);
-    const file = await saved(page);
+    const file = await savedFile(page, "Save the case");
     expect("in the file", file, /"agreed":"shapley"/);
     await page.type("numbers.7", "121");
     await settle(page);

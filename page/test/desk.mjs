@@ -1,6 +1,6 @@
 // Scenarios: what is seen first, the answer beside the cells, an answer that is kept to compare, networks as people
 // paste them, and remarks on numbers that can hardly be meant.
-import { noted, READY, settle, told } from "./harness.mjs";
+import { noted, READY, savedFile, settle, told } from "./harness.mjs";
 
 const top = (page, selector) => page.run(`document.querySelector('${selector}').getBoundingClientRect().top`);
 const fold = (page) => page.run("for (const part of document.querySelectorAll('.part')) part.open = false");
@@ -11,17 +11,6 @@ const SIX = Array.from({ length: 63 }, (_, k) => {
   return `${members.map((i) => `P${i + 1}`).join("+")}\t${members.length ** 2}`;
 }).join("\n");
 const GROUPS = ["A\t150", "B\t95", "C\t200", "A+B\t260", "A+C\t325", "B+C\t274", "A+B+C\t360"].join("\n");
-
-/** The text of what a button saves. */
-const savedFile = (page, title) => page.run(`(async () => {
-  const made = URL.createObjectURL;
-  let kept = null;
-  URL.createObjectURL = (blob) => (kept = blob, made.call(URL, blob));
-  HTMLAnchorElement.prototype.click = () => 0;
-  [...document.querySelectorAll("button")].find((one) => one.textContent === ${JSON.stringify(title)}).click();
-  URL.createObjectURL = made;
-  return kept.text();
-})()`);
 
 export const desk = [
   ["the answer stands beside the cells, and stays", "gains", async (page, expect) => {

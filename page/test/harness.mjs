@@ -126,3 +126,14 @@ export async function settle(page) {
 export function showExact(page) {
   return page.run(`document.querySelector('[data-cell="exact"]').click()`);
 }
+
+/** The text of what a button saves. */
+export const savedFile = (page, title) => page.run(`(async () => {
+  const made = URL.createObjectURL;
+  let kept = null;
+  URL.createObjectURL = (blob) => (kept = blob, made.call(URL, blob));
+  HTMLAnchorElement.prototype.click = () => 0;
+  [...document.querySelectorAll("button")].find((one) => one.textContent === ${JSON.stringify(title)}).click();
+  URL.createObjectURL = made;
+  return kept.text();
+})()`);
