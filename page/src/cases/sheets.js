@@ -13,6 +13,7 @@ import { partedInLine } from "./in-line.js";
 import { ledRows } from "./leaders.js";
 import { headingsOf, pastedText } from "./pasting.js";
 import { answerFault } from "./saved-tables.js";
+import { belowNumbers } from "./signs.js";
 import { quotasOf, singleOf, singlesOf, withSingle } from "./single.js";
 import { amountsBelow, unitsText, withoutUnits } from "./units.js";
 
@@ -26,6 +27,7 @@ const lineText = (text) => (/\d/.test(text) ? undefined : notNames([text], AS_RO
 const AS_ROWS = "Give each row a name, a tab and a number, and leave other lines out.";
 const PAGE = new RegExp(`^\\P{L}*(${PAGES}) ?\\d+(( ?/| \\p{L}+) ?\\d+)?\\P{L}*$`, "iu");
 
+const BEHIND = /\s*[:=]?\s*(?:\p{Sc}|[A-Z]{3})?\s?\d.*$/u; // an amount behind a name
 const SAID = /\p{L}\D{1,60}\d[\d.,'’]{0,20}[.,'’]\d{2,3}(?!\d)/gu; // a name and an amount
 
 /** Whether rows are one line, with two names and amounts. */
@@ -38,7 +40,10 @@ export function isProse([[text = "", more] = [], other]) {
 function tableIn(pasted, { single, isFirst }) {
   const whole = { rows: pasted, notes: [] }, saved = answerFault(pasted);
   const { rows: given, isParted } = isFirst ? partedInLine(pasted) : whole;
-  const { rows: paged, pages } = isFirst ? withoutPages(given) : { rows: pasted, pages: [] };
+  const isEstate = single && !single.second && isFirst;
+  const isKnown = (text) => single.heads.test(text.replace(BEHIND, "")); // taken as what there is
+  const { rows: numbered, pages } = isFirst ? withoutPages(given) : { rows: pasted, pages: [] };
+  const { rows: paged, above } = isEstate ? belowNumbers(numbered, isKnown) : { rows: numbered, above: [] };
   const { rows: plain, clauses } = single?.second && isFirst ? withoutClauses(paged) : { rows: paged, clauses: [] };
   if (clauses.length && !plain.some((row) => row.some(Boolean))) return { asked: { clause: single.lineOf(clauses) } };
   const { rows: led, left: around } = isFirst ? ledRows(plain) : { rows: plain, left: [] };
@@ -46,9 +51,9 @@ function tableIn(pasted, { single, isFirst }) {
   const odd = loose ?? (isFirst ? noName(parted, clauses.length > 0) : undefined);
   if (odd !== undefined || saved) return { fault: saved ?? lineText(odd) };
   if (isProse(given) || (given.length === 1 && PROSE.test(pasted[0].join(", ")))) return { fault: SENTENCE };
-  const said = single ? withSingle(parted, single) : parted, isEstate = single && !single.second && isFirst;
+  const said = single ? withSingle(parted, single) : parted;
   const { rows: headed, left: titles } = isEstate ? headsFirst(said) : { rows: said, left: [] };
-  const { rows, left } = unframed(headed), out = [...around, ...titles, ...left, ...clauses];
+  const { rows, left } = unframed(headed), out = [...above, ...around, ...titles, ...left, ...clauses];
   return { given, rows, out, notes: [leftText([...out, ...pages]), isParted && IN_LINE, ...counted] };
 }
 

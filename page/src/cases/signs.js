@@ -27,6 +27,17 @@ export function withoutSigns(all) {
   return { rows, isCounted, isSigned };
 }
 
+/** Rows of one text each without those with a number above a list with signs, as they have none: {rows, above}. Those
+ * that are `known` stay. */
+export function belowNumbers(all, known) {
+  const textOf = (row) => row.find(Boolean) ?? "", isSigned = (row) => LISTED.test(textOf(row));
+  const first = all.findIndex(isSigned), isRow = (row) => row.filter(Boolean).length < 2 && /\d/.test(textOf(row));
+  const isOut = (row, k) => k < first && isRow(row) && !known(textOf(row));
+  const isList = all.filter(isSigned).length > 1 && all.slice(first).every((row) => isSigned(row) || !isRow(row));
+  return isList ? { rows: all.filter((row, k) => !isOut(row, k)), above: all.filter(isOut).map(textOf) }
+    : { rows: all, above: [] };
+}
+
 /** Whether rows have two cells each: 1, 2, .. with a point or before a text that ends with a number, and that text. */
 function isCountedText(all) {
   const rows = all.filter((row) => row.some(Boolean)), isOf = ([number, text, other = ""], k) => {

@@ -10,6 +10,12 @@ const FUNDS = "Tower roof fund\t£6,000.00\nOrgan fund\t£4,500.00\nChoir school
 const IN_FUNDS = FUNDS.replace(/\t/g, "=").replace(/\n/g, "|"), PROMISED = `Promised\tAmount\n${FUNDS}\n`;
 
 export const LISTS = [
+  ["estate", "Flood relief fund: 50,000 EUR\nClaims received:\n- Huber: 12,500 EUR\n- Maier: 38,000 EUR",
+    "Huber=12,500 EUR|Maier=38,000 EUR", /“Flood relief fund: 50,000 EUR”.*Is 50,000 EUR what there is/],
+  ["estate", "Estate: 500 EUR\n- Ann: 300\n- Bo: 400", "Ann=300|Bo=400", /“Estate”, 500 EUR, was taken/],
+  ["estate", "Ann: 300\n- Bo: 400", "Ann=300|Bo=400"],
+  ["estate", "- Ann: 300\nBo: 400\n- Cy: 5", "Ann=300|Bo=400|Cy=5"],
+  ["estate", `Estate\t250\nAnn\t200\nBo\t150\nTotal\t350\nDi\t100`, /Di=100/, /“Di”, 100, stands below the sum/],
   ["votes", "City – 5 votes\nTeachers – 3 votes\nStudents – 1 vote", "City=5|Teachers=3|Students=1", /“votes” behind/],
   ["votes", "City\t5 votes\nStudents\t1 vote", "City=5|Students=1"],
   ["estate", "Ann\t5 mil\nBo\t3 mile", null, /several units/],
@@ -143,8 +149,8 @@ export const LISTS = [
   ["estate", `${PROMISED}Total\t£14,000.00\nAvailable\t£9,150.00\nShortfall\t-£4,850.00`, IN_FUNDS,
     /“Shortfall”, -£4,850\.00, what the claims lack, .*“Total”, £14,000\.00, the sum of the others/],
   ["estate", `Estate\t9150\n${FUNDS}\nFehlbetrag\t4850`, IN_FUNDS, /“Fehlbetrag”, 4850, what the claims lack/],
-  ["estate", `${FUNDS}\nTotal\t14000\nEstate\t9150\nTo find\t(£4,850)`, IN_FUNDS,
-    /“To find”, \(£4,850\), what the claims/],
+  ["estate", `${FUNDS}\nTotal\t14000\nEstate\t9150\nTo find\t(£4,850)`, /To find=/,
+    /“To find”, \(£4,850\), stands below the sum/],
   ["estate", `Estate\t9150\n${FUNDS}\nShort by\t4850`, `${IN_FUNDS}|Short by=4850`, /1 empty|0 empty/, "Put it back"],
   ["estate", `Estate\t9150\n${FUNDS}\nShort by\t4851`, `${IN_FUNDS}|Short by=4851`, /^(?!.*lack)/],
   ["estate", `Estate\t9150\n${FUNDS}\nMr Short\t4850`, `${IN_FUNDS}|Mr Short=4850`, /^(?!.*lack)/],
