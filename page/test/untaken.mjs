@@ -5,6 +5,8 @@ import { settle, told } from "./harness.mjs";
 const TWO = "Who\tA\tB\nAnn\t120\t30\nBo\t80\t20", TOO_FEW = "5\n6";
 const still = (page) => page.text("#still");
 const isLocked = (page) => page.run(`["answer-body", "parts"].every((id) => document.getElementById(id).inert)`);
+const MARKED = `[...document.querySelectorAll(".mend .marked input[type=text]")].map((one) => one.value).join()`;
+const NAMES = `[...document.querySelectorAll("#case [data-cell$='.name']")].map((one) => one.value).join(" ").trim()`;
 const lastStep = (page) => page.run(`document.querySelector("#case .bottom").textContent.match(/Undo “(.*?)”/)?.[1]`);
 
 export const untaken = [
@@ -65,6 +67,43 @@ export const untaken = [
     await page.paste('[data-cell="rows.0.name"]', "Dear Ann,\nit was 12 CHF\t and then more\t5 CHF");
     await page.click("×", "document.querySelector('#case tbody')");
     expect("nor of a refused one", await unit(), "€");
+  }],
+
+  ["a refused text is mended where it stands", "estate", async (page, expect) => {
+    await page.paste('[data-cell="rows.0.name"]', "Ann 300 €\nBo 200 €\nUnit 7 5\nCy 100 €");
+    await told(page, "#case .mend", /Your text: untick what is to be left out/);
+    expect("what nobody can part is marked", await page.run(MARKED), "Unit 7 5");
+    await page.run(`[...document.querySelectorAll(".mend tbody input[type=text]")].forEach((one) => {
+      one.value = one.value.replace("Ann", "Eva");
+      one.dispatchEvent(new Event("input", { bubbles: true }));
+    })`);
+    await page.click("Leave the marked row out");
+    expect("the others, as typed over", await page.run(NAMES), "Eva Bo Cy");
+    expect("it goes when it is taken", await page.text("#case .mend"), "");
+    expect("a step", await lastStep(page), "Paste");
+    await page.paste('[data-cell="rows.0.name"]', "Who\tA\tB\nTom\t120 €\t30 €\nUli\t80 €\t20 €\nVic\t9 €\t8 €");
+    await page.click("None of these? Change the text");
+    await page.run(`document.querySelector('.mend [aria-label="Take column 2"]').click()`);
+    await page.run(`document.querySelector('.mend [aria-label="Take row 3"]').click()`);
+    await page.click("Read it again");
+    expect("what is ticked", await page.run(NAMES), "Tom Vic");
+    await page.type("estate", "20");
+    await settle(page);
+    expect("with its unit", await page.run(`document.querySelector('[data-cell="paper.unit"]').value`), "€");
+  }],
+
+  ["a text of another case that was left open is mended, too", "network", async (page, expect) => {
+    await page.paste('[data-cell="names.0"]', "from\tto\tcost A\tcost B\nWorks\tX\t3\t4\nWorks\tY\t5\t6\nX\tY\t1\t2");
+    await told(page, "#case", /Which column is the cost\?/);
+    await page.run("location.hash = '#estate'");
+    await settle(page);
+    expect("not there", await page.text("#case .mend"), "");
+    await page.run("location.hash = '#network'");
+    await page.click("None of these? Change the text");
+    await page.run(`document.querySelector('.mend [aria-label="Take column 3"]').click()`);
+    await page.click("Read it again");
+    await settle(page);
+    expect("the other column", await page.run(`document.querySelector('[data-cell="links.0-1"]').value`), "4");
   }],
 
   ["a division that is refused is no step, nor is the same table once more", "estate", async (page, expect) => {

@@ -12,6 +12,7 @@ import { listGrid } from "./list-grid.js";
 import { marketGrid } from "./market-grid.js";
 import { networkGrid } from "./network-grid.js";
 import { numbered, shortened, withNames } from "../cases/mended-names.js";
+import { mendIn } from "./mending.js";
 import { markChanged } from "./pinned.js";
 import { tableGrid } from "./table-grid.js";
 import { Undoing } from "./undo.js";
@@ -33,6 +34,7 @@ export function casePanel(kind, typed, settings) {
   };
   const { onReset, notes = [] } = (settings = { ...settings, onChange });
   grid = GRIDS[kind.grid](kind, typed, { ...settings, remember: (what) => undo.remember(what) });
+  mendIn(grid);
   const faults = el("div", { class: "faults", role: "status" }), made = el("div", { class: "made" });
   const coarse = el("div"), legend = el("p", { class: "hint legend screen" });
   const element = el("div", { class: "case" },

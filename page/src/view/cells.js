@@ -50,20 +50,21 @@ export function moveByKeys(element, neighbour) {
 }
 
 /** What is pasted over several cells goes to `fill(cell, rows, text)`; a text for one cell is pasted as ever,
- * if it isn't several rows (`isSeveral`). A long one is read by `readCells`, beside the page. */
+ * if it isn't several rows (`isSeveral`). A long one is read by `readCells`, beside the page. So is a text that was
+ * mended since it wasn't taken (mending.js), to which each is told. */
 export function pasteCells(element, fill, readCells, isSeveral = () => false) {
-  element.addEventListener("paste", async (event) => {
+  const take = async (cell, text, rows) => {
+    element.dispatchEvent(new CustomEvent("pasted-text", { bubbles: true, detail: { cell, text } }));
+    fill(cell, rows ?? await readCells(text), text);
+  };
+  element.addEventListener("mended", ({ detail: { cell, text } }) => take(cell, text, cellsOf(text)));
+  element.addEventListener("paste", (event) => {
     const text = event.clipboardData?.getData("text/plain") ?? "", cell = event.target.dataset?.cell;
-    if (cell === undefined || cell === "find") return;
-    if (text.length > LONG) {
-      event.preventDefault();
-      fill(cell, await readCells(text), text);
-      return;
-    }
-    const rows = cellsOf(text);
-    if (rows.length < 2 && rows[0].length < 2 && !isSeveral(rows)) return;
+    if (cell === undefined || cell === "find") return undefined;
+    const rows = text.length > LONG ? undefined : cellsOf(text);
+    if (rows?.length === 1 && rows[0].length < 2 && !isSeveral(rows)) return undefined;
     event.preventDefault();
-    fill(cell, rows, text);
+    return take(cell, text, rows);
   });
 }
 

@@ -193,9 +193,9 @@ function listen() {
   watchAnswer();
   watchParts();
   at("case").addEventListener("untaken", () => view.showUntaken());
-  at("case").addEventListener("paste", ({ clipboardData }) => {
-    view.seeUnit(clipboardData?.getData("text/plain") ?? "");
-  }, true);
+  const seeUnit = (text) => view.seeUnit(text ?? "");
+  at("case").addEventListener("paste", ({ clipboardData: data }) => seeUnit(data?.getData("text/plain")), true);
+  at("case").addEventListener("mended", ({ detail }) => seeUnit(detail.text), true);
   let width = innerWidth;
   addEventListener("resize", () => {
     if (innerWidth !== width && session.result) {

@@ -347,6 +347,7 @@ class TableGrid {
 
   /** Takes a list, and then `close`s where it was pasted. */
   async takeList(text, order = "size", close = null, said = {}) {
+    if (close) this.element.dispatchEvent(new CustomEvent("pasted-text", { detail: null })); // it is mended in its box
     this.say("Reading the list …");
     const what = { text, names: this.ownNames(), order, said: { ...said, isCost: this.kind.isCost } };
     const found = await this.readList(what), { state, told, isOdd } = found;
