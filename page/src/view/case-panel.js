@@ -33,8 +33,7 @@ export function casePanel(kind, typed, settings) {
     change(wait, { isTyped: undo.changed(), removed });
   };
   const { onReset, notes = [] } = (settings = { ...settings, onChange });
-  grid = GRIDS[kind.grid](kind, typed, { ...settings, remember: (what) => undo.remember(what) });
-  mendIn(grid);
+  grid = mendIn(GRIDS[kind.grid](kind, typed, { ...settings, remember: (what) => undo.remember(what) }));
   const faults = el("div", { class: "faults", role: "status" }), made = el("div", { class: "made" });
   const coarse = el("div"), legend = el("p", { class: "hint legend screen" });
   const element = el("div", { class: "case" },

@@ -9,7 +9,7 @@ const QUOTED = /“([^”…]{3,200})”/gu; // what a sentence quotes
 
 const pasted = new WeakMap(); // by what is typed of a case: {cell, text}, null for what wasn’t pasted
 
-/** Shows in a grid, below what is said of a pasted text, that text itself as long as it isn't taken. The grid tells
+/** A grid that shows, below what is said of a pasted text, that text itself as long as it isn't taken. The grid tells
  * what is pasted by "pasted-text", and takes it anew by "mended". */
 export function mendIn(grid) {
   const said = grid.querySelector(':scope > [role="status"]'), place = el("div", { class: "mend screen" });
@@ -27,6 +27,7 @@ export function mendIn(grid) {
   grid.addEventListener("pasted-text", ({ detail }) => pasted.set(grid.typed, detail));
   grid.addEventListener("untaken", () => queueMicrotask(show)); // what is said of it comes right behind
   show();
+  return grid;
 }
 
 const widthOf = (rows) => rows.reduce((most, { length }) => Math.max(most, length), 0);
