@@ -26,14 +26,16 @@ const KEYS = { player: "Alt+Delete in a name removes the player.", row: "Alt+Del
 /** `settings` are {mark, setEntry, notes, onReset, steps, snapshot, onUndo} and what the grids need. */
 export function casePanel(kind, typed, settings) {
   const sample = sampleLine(kind, typed, settings), change = settings.onChange, undo = new Undoing(settings);
-  let grid = null; // while it is made, it may change cells
+  let grid = null, mend = null; // while they are made, cells may change
   const onChange = (wait, removed) => {
     refill(sample);
     if (grid) dropText(grid);
     change(wait, { isTyped: undo.changed(), removed });
+    mend?.();
   };
   const { onReset, notes = [] } = (settings = { ...settings, onChange });
-  grid = mendIn(GRIDS[kind.grid](kind, typed, { ...settings, remember: (what) => undo.remember(what) }));
+  grid = GRIDS[kind.grid](kind, typed, { ...settings, remember: (what) => undo.remember(what) });
+  mend = mendIn(grid, settings);
   const faults = el("div", { class: "faults", role: "status" }), made = el("div", { class: "made" });
   const coarse = el("div"), legend = el("p", { class: "hint legend screen" });
   const element = el("div", { class: "case" },
@@ -54,15 +56,20 @@ export function casePanel(kind, typed, settings) {
       emptyCells(reading, kind, grid), faultList(reading, grid), nameHelp(reading, typed, settings),
       oddList(reading.odds ?? [], grid, () => onReset(lowered(typed, reading.odds), "Lower the links", true)),
       reading.isTooFine && finenessHelp(settings));
-    const isBeyond = reading.beyond?.points && !reading.text; // more landings than a document has
-    refill(made, reading.text && documentOf(kind, reading.text, typed, settings),
-      isBeyond && landingsList(typed, reading.beyond, writtenBy(reading)));
+    refill(made, madeOf(reading, kind, typed, settings));
   }
 
   return {
     element, tell, made, undo, goTo: (cell) => goTo(grid, cell), choices: () => grid.choices?.(),
     setTips: (tips) => showDeciding(grid, legend, tips),
   };
+}
+
+/** The document that a case makes, or the list of more landings than a document has. */
+function madeOf(reading, kind, typed, settings) {
+  const { text, beyond } = reading;
+  if (text) return documentOf(kind, text, typed, settings);
+  return beyond?.points && landingsList(typed, beyond, writtenBy(reading));
 }
 
 /** Marks the numbers on which the answer rests, and says what the mark means. */

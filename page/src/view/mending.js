@@ -1,33 +1,52 @@
-// The text that was pasted, as long as it is asked about or was refused: rows and columns that are in the way can be
-// left out right there, and cells typed over. Then it is read again, so nobody has to go back to where it came from.
+// The text that was pasted: rows and columns that are in the way can be left out right there, and cells typed over.
+// Then it is read again, so nobody has to go back to where it came from. It stands open where a text was refused, and
+// folded where it is asked about, or was taken and nothing was changed since.
 import { cellsOf } from "../cases/pasting.js";
 import { button, cellOf, el, refill } from "./dom.js";
 
 const MOST_ROWS = 60, MOST_COLUMNS = 12, MOST_LETTERS = 20000; // of a text that is shown
 const MOST_WIDE = 60; // letters that a cell shows at most
 const QUOTED = /“([^”…]{3,200})”/gu; // what a sentence quotes
+const TAKING = "Paste"; // the step by which a grid takes a text
+const TITLES = { asks: "None of these? Change your text", taken: "Not as you meant it? Change your text" };
 
-const pasted = new WeakMap(); // by what is typed of a case: {cell, text}, null for what wasn’t pasted
+const pasted = new WeakMap(); // by what is typed of a case: {cell, text, last} with the last step before
 
-/** A grid that shows, below what is said of a pasted text, that text itself as long as it isn't taken. The grid tells
+/** Shows the text that was pasted into a grid, below what is said of it, and gives what shows it anew. The grid tells
  * what is pasted by "pasted-text", and takes it anew by "mended". */
-export function mendIn(grid) {
+export function mendIn(grid, { steps, onUndo }) {
   const said = grid.querySelector(':scope > [role="status"]'), place = el("div", { class: "mend screen" });
+  const lastStep = () => steps.past.at(-1);
+  const stateOf = ({ step }) => ["asks", "refused"].find((state) => grid.classList.contains(state))
+    ?? (step && step === lastStep() && "taken");
   const show = () => {
-    const [isAsked, isRefused] = ["asks", "refused"].map((state) => grid.classList.contains(state));
-    const { cell, text = "" } = pasted.get(grid.typed) ?? {}, rows = text.length > MOST_LETTERS ? [] : cellsOf(text);
-    const isFit = rows.length <= MOST_ROWS && widthOf(rows) <= MOST_COLUMNS && rows.flat().some(Boolean);
-    const read = (own) => (cellOf(grid, cell) ?? grid.querySelector("[data-cell]")).dispatchEvent(
-      new CustomEvent("mended", { bubbles: true, detail: { cell, text: own } }));
-    const shown = (isAsked || isRefused) && isFit && new Mending(rows, isRefused ? said.textContent : "", read).element;
-    const title = "None of these? Change the text that you pasted";
-    refill(place, shown && (isRefused ? shown : el("details", {}, el("summary", {}, title), shown)));
+    const kept = pasted.get(grid.typed), rows = kept && kept.text.length <= MOST_LETTERS ? cellsOf(kept.text) : [];
+    const state = kept && stateOf(kept), isFit = rows.length <= MOST_ROWS && widthOf(rows) <= MOST_COLUMNS;
+    const read = (text) => {
+      if (state === "taken") onUndo(false); // it was read as something else
+      pasteAgain(kept.cell, text);
+    };
+    const quoting = state === "refused" ? said.textContent : "";
+    const shown = state && isFit && rows.flat().some(Boolean) && new Mending(rows, quoting, read).element;
+    refill(place, shown && (quoting ? shown : el("details", {}, el("summary", {}, TITLES[state]), shown)));
   };
   said.after(place);
-  grid.addEventListener("pasted-text", ({ detail }) => pasted.set(grid.typed, detail));
-  grid.addEventListener("untaken", () => queueMicrotask(show)); // what is said of it comes right behind
+  grid.addEventListener("pasted-text", ({ detail }) => {
+    pasted.set(grid.typed, detail && { ...detail, last: lastStep() });
+  });
+  grid.addEventListener("untaken", () => queueMicrotask(() => { // what is said of it, and its step, come right behind
+    const kept = pasted.get(grid.typed), step = lastStep();
+    if (kept && step !== kept.last && step?.what === TAKING) kept.step ??= step;
+    show();
+  }));
   show();
-  return grid;
+  return show;
+}
+
+/** Has the grid of the case take a text anew, at a cell or, where that is gone, at the first one. */
+function pasteAgain(cell, text) {
+  const body = document.getElementById("case-body"), target = cellOf(body, cell) ?? cellOf(body, "rows.0.name");
+  target.dispatchEvent(new CustomEvent("mended", { bubbles: true, detail: { cell, text } }));
 }
 
 const widthOf = (rows) => rows.reduce((most, { length }) => Math.max(most, length), 0);
