@@ -43,9 +43,10 @@ export function mendIn(grid, { steps, onUndo }) {
   return show;
 }
 
-/** Has the grid of the case take a text anew, at a cell or, where that is gone, at the first one. */
+/** Has the grid of the case take a text anew, at a cell; another one, if that is on another page of a long table. */
 function pasteAgain(cell, text) {
-  const body = document.getElementById("case-body"), target = cellOf(body, cell) ?? cellOf(body, "rows.0.name");
+  const body = document.getElementById("case-body");
+  const target = cellOf(body, cell) ?? body.querySelector("tbody [data-cell], .groups [data-cell]");
   target.dispatchEvent(new CustomEvent("mended", { bubbles: true, detail: { cell, text } }));
 }
 
