@@ -20,8 +20,9 @@ export function mendIn(grid, { steps, onUndo }) {
   const stateOf = ({ step }) => ["asks", "refused"].find((state) => grid.classList.contains(state))
     ?? (step && step === lastStep() && "taken");
   const show = () => {
-    const kept = pasted.get(grid.typed), rows = kept && kept.text.length <= MOST_LETTERS ? cellsOf(kept.text) : [];
-    const state = kept && stateOf(kept), isFit = rows.length <= MOST_ROWS && widthOf(rows) <= MOST_COLUMNS;
+    const kept = pasted.get(grid.typed), state = kept && stateOf(kept);
+    const rows = state && kept.text.length <= MOST_LETTERS ? cellsOf(kept.text) : [];
+    const isFit = rows.length <= MOST_ROWS && widthOf(rows) <= MOST_COLUMNS;
     const read = (text) => {
       if (state === "taken") onUndo(false); // it was read as something else
       pasteAgain(kept.cell, text);
