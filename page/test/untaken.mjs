@@ -115,6 +115,24 @@ export const untaken = [
     expect("the other column", await page.run(`document.querySelector('[data-cell="links.0-1"]').value`), "4");
   }],
 
+  ["a table that is pasted beside all fields, or over the estate, is taken", "estate", async (page, expect) => {
+    const estate = () => page.run(`document.querySelector('[data-cell="estate"]').value`);
+    await page.paste("body", "Ann\t120\nBo\t80");
+    expect("beside", await page.run(NAMES), "Ann Bo");
+    expect("without an estate", await estate(), "");
+    await page.paste('[data-cell="estate"]', "Who\tClaim\nTom\t120\nUli\t80\nEstate\t100");
+    expect("over it", await page.run(NAMES), "Tom Uli");
+    expect("with it", await estate(), "100");
+    await page.paste("body", "word");
+    expect("a word is none", await page.run(NAMES), "Tom Uli");
+  }],
+
+  ["a table of groups that is pasted beside all fields", "gains", async (page, expect) => {
+    await page.paste("#case-title", "Ann\t12\nBo\t8\nAnn + Bo\t30");
+    await told(page, "#case", /Read: 2 players, 3 groups\./);
+    expect("its last player", await page.run(`document.querySelector("[data-cell='names.1']").value`), "Bo");
+  }],
+
   ["a division that is refused is no step, nor is the same table once more", "estate", async (page, expect) => {
     await page.paste('[data-cell="proposal.0"]', "Zoe 4\nXaver 5");
     await told(page, "#answer .own-said", /No row is called “Zoe”\..* Nothing was taken\./);

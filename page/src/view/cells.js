@@ -49,20 +49,21 @@ export function moveByKeys(element, neighbour) {
   });
 }
 
-/** What is pasted over several cells goes to `fill(cell, rows, text)`; a text for one cell is pasted as ever,
- * if it isn't several rows (`isSeveral`). A long one is read by `readCells`, beside the page. So is a text that was
- * mended since it wasn't taken (mending.js), to which each is told. */
+/** What is pasted over several cells goes to `fill(cell, rows, text)`; a text for one cell is pasted as ever, if it isn't
+ * several rows (`isSeveral`). A long one is read by `readCells`, beside the page. So is a text that comes by "take-text".
+ * Each is told by "pasted-text". */
 export function pasteCells(element, fill, readCells, isSeveral = () => false) {
+  const rowsOf = (text) => (text.length > LONG ? undefined : cellsOf(text));
   const take = async (cell, text, rows) => {
     element.dispatchEvent(new CustomEvent("pasted-text", { bubbles: true, detail: { cell, text } }));
     fill(cell, rows ?? await readCells(text), text);
   };
-  element.addEventListener("mended", ({ detail: { cell, text } }) => take(cell, text, cellsOf(text)));
+  element.addEventListener("take-text", ({ detail: { cell, text } }) => take(cell, text, rowsOf(text)));
   element.addEventListener("paste", (event) => {
     const text = event.clipboardData?.getData("text/plain") ?? "", cell = event.target.dataset?.cell;
     if (cell === undefined || cell === "find") return undefined;
-    const rows = text.length > LONG ? undefined : cellsOf(text);
-    if (rows?.length === 1 && rows[0].length < 2 && !isSeveral(rows)) return undefined;
+    const rows = rowsOf(text);
+    if (rows?.length === 1 && rows[0].length < 2 && !isSeveral(rows, cell)) return undefined;
     event.preventDefault();
     return take(cell, text, rows);
   });

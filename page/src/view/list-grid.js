@@ -13,6 +13,7 @@ import { askAgain, askIn, button, el, refill, unask } from "./dom.js";
 import { askBroken, askClause, askPair, offersOf, withoutGone } from "./list-offers.js";
 import { askNames } from "./names-asked.js";
 
+const ROWS = "rows."; // what the cells of the list are called by
 const NAMED = { things: "names", numbers: "numbers" };
 
 export function listGrid(kind, typed, settings) {
@@ -33,8 +34,11 @@ class ListGrid {
       const [, r, key] = cell.split(".");
       return `rows.${Number(r) + step}.${key}`;
     });
-    const isSeveral = (rows) => partedInLine(rows).isParted || isProse(rows) || (kind.isVote && rows.some(isClause));
-    pasteCells(table, (cell, rows) => this.fill(cell, rows), readCells, isSeveral);
+    const isSeveral = (rows, cell) => cell.startsWith(ROWS)
+      && (partedInLine(rows).isParted || isProse(rows) || (kind.isVote && rows.some(isClause)));
+    const first = `${ROWS}0.${this.keys[0]}`; // of what is pasted over the estate or a quota
+    const fill = (cell, rows) => this.fill(cell.startsWith(ROWS) ? cell : first, rows);
+    pasteCells(this.element, fill, readCells, isSeveral);
     this.showSingles();
     this.show();
     if (!askAgain(this, typed)) this.offerAgain();

@@ -10,6 +10,7 @@ import { Documents } from "./documents.js";
 import { el, measureByCanvas, refill } from "./dom.js";
 import { unpackWorkers } from "./helper.js";
 import { marginsOf, tipOf } from "./margins-part.js";
+import { takeText } from "./mending.js";
 import { Paper } from "./paper.js";
 import { changedCells, keptTree, pinOfTree } from "./pinned.js";
 import { Session } from "./session.js";
@@ -168,6 +169,15 @@ function show(name) {
 
 // ---- What happens to the page as a whole
 
+/** A table that is pasted beside all fields is for the case that is shown. */
+function takeBeside(event) {
+  const { target, clipboardData, defaultPrevented } = event, text = clipboardData?.getData("text/plain").trim() ?? "";
+  const isBeside = document.body.dataset.view === "case" && !target.closest?.("input, textarea, select");
+  if (defaultPrevented || !isBeside || !/[\t\n;,]/.test(text)) return;
+  event.preventDefault();
+  takeText(text);
+}
+
 /** What nobody has foreseen is told in a sentence, and what was typed stays. */
 function tellUnforeseen() {
   const tell = (event) => {
@@ -195,7 +205,8 @@ function listen() {
   at("case").addEventListener("untaken", () => view.showUntaken());
   const seeUnit = (text) => view.seeUnit(text ?? "");
   at("case").addEventListener("paste", ({ clipboardData: data }) => seeUnit(data?.getData("text/plain")), true);
-  at("case").addEventListener("mended", ({ detail }) => seeUnit(detail.text), true);
+  at("case").addEventListener("take-text", ({ detail }) => seeUnit(detail.text), true);
+  addEventListener("paste", takeBeside);
   let width = innerWidth;
   addEventListener("resize", () => {
     if (innerWidth !== width && session.result) {

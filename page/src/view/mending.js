@@ -13,7 +13,7 @@ const TITLES = { asks: "None of these? Change your text", taken: "Not as you mea
 const pasted = new WeakMap(); // by what is typed of a case: {cell, text, last} with the last step before
 
 /** Shows the text that was pasted into a grid, below what is said of it, and gives what shows it anew. The grid tells
- * what is pasted by "pasted-text", and takes it anew by "mended". */
+ * what is pasted by "pasted-text", and takes one by "take-text". */
 export function mendIn(grid, { steps, onUndo }) {
   const said = grid.querySelector(':scope > [role="status"]'), place = el("div", { class: "mend screen" });
   const lastStep = () => steps.past.at(-1);
@@ -25,7 +25,7 @@ export function mendIn(grid, { steps, onUndo }) {
     const isFit = rows.length <= MOST_ROWS && widthOf(rows) <= MOST_COLUMNS;
     const read = (text) => {
       if (state === "taken") onUndo(false); // it was read as something else
-      pasteAgain(kept.cell, text);
+      takeText(text, kept.cell);
     };
     const quoting = state === "refused" ? said.textContent : "";
     const shown = state && isFit && rows.flat().some(Boolean) && new Mending(rows, quoting, read).element;
@@ -44,11 +44,14 @@ export function mendIn(grid, { steps, onUndo }) {
   return show;
 }
 
-/** Has the grid of the case take a text anew, at a cell; another one, if that is on another page of a long table. */
-function pasteAgain(cell, text) {
-  const body = document.getElementById("case-body");
-  const target = cellOf(body, cell) ?? body.querySelector("tbody [data-cell], .groups [data-cell]");
-  target.dispatchEvent(new CustomEvent("mended", { bubbles: true, detail: { cell, text } }));
+/** Has the case take a text as if it were pasted into a cell: the first one for a table, if none is said, or that is on
+ * another page of a long table. */
+export function takeText(text, cell) {
+  const body = document.getElementById("case-body"), named = cell === undefined ? null : cellOf(body, cell);
+  const target = named ?? body.querySelector('[data-cell^="names."], .grid tbody [data-cell]');
+  target.dispatchEvent(new CustomEvent("take-text", {
+    bubbles: true, detail: { cell: cell ?? target.dataset.cell, text },
+  }));
 }
 
 const widthOf = (rows) => rows.reduce((most, { length }) => Math.max(most, length), 0);
