@@ -49,9 +49,9 @@ export function moveByKeys(element, neighbour) {
   });
 }
 
-/** What is pasted over several cells goes to `fill(cell, rows, text)`; a text for one cell is pasted as ever, if it isn't
- * several rows (`isSeveral`). A long one is read by `readCells`, beside the page. So is a text that comes by "take-text".
- * Each is told by "pasted-text". */
+/** What is pasted over several cells goes to `fill(cell, rows, text)`; a text for one cell is pasted as ever, if it
+ * isn't several rows (`isSeveral`). A long one is read by `readCells`, beside the page. So is a text that comes by
+ * "take-text". Each is told by "pasted-text". */
 export function pasteCells(element, fill, readCells, isSeveral = () => false) {
   const rowsOf = (text) => (text.length > LONG ? undefined : cellsOf(text));
   const take = async (cell, text, rows) => {
