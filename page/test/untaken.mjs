@@ -115,6 +115,21 @@ export const untaken = [
     expect("the other column", await page.run(`document.querySelector('[data-cell="links.0-1"]').value`), "4");
   }],
 
+  ["a refused text is read in another case", "market", async (page, expect) => {
+    await page.paste('[data-cell="buyers.0"]', "Fork\t24\tAnn, Bo\nWell\t30\tAnn\nGate\t12\tBo, Cy");
+    await told(page, "#case .mend", /or read it as/);
+    await page.run(`(() => {
+      const list = document.querySelector(".mend select");
+      list.value = "costs";
+      list.dispatchEvent(new Event("change", { bubbles: true }));
+    })()`);
+    await told(page, "#case", /Each line is a part with its cost and who uses it/);
+    expect("there", await page.text("#case-title"), "Costs of each group");
+    await page.run("location.hash = '#market'");
+    await settle(page);
+    expect("and no more where it was", await page.text("#case .mend"), "");
+  }],
+
   ["a table that is pasted beside all fields, or over the estate, is taken", "estate", async (page, expect) => {
     const estate = () => page.run(`document.querySelector('[data-cell="estate"]').value`);
     await page.paste("body", "Ann\t120\nBo\t80");

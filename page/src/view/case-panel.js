@@ -23,7 +23,8 @@ const DECIDES = "The answer rests on these numbers. How far off the others may b
 const GRIDS = { list: listGrid, market: marketGrid, network: networkGrid, table: tableGrid };
 const KEYS = { player: "Alt+Delete in a name removes the player.", row: "Alt+Delete in a row removes it." };
 
-/** `settings` are {mark, setEntry, notes, onReset, steps, snapshot, onUndo} and what the grids need. */
+/** `settings` are {mark, setEntry, notes, onReset, steps, snapshot, onUndo, onCase} and what the grids
+ * need. */
 export function casePanel(kind, typed, settings) {
   const sample = sampleLine(kind, typed, settings), change = settings.onChange, undo = new Undoing(settings);
   let grid = null, mend = null; // while they are made, cells may change
@@ -35,7 +36,7 @@ export function casePanel(kind, typed, settings) {
   };
   const { onReset, notes = [] } = (settings = { ...settings, onChange });
   grid = GRIDS[kind.grid](kind, typed, { ...settings, remember: (what) => undo.remember(what) });
-  mend = mendIn(grid, settings);
+  mend = mendIn(grid, kind, settings);
   const faults = el("div", { class: "faults", role: "status" }), made = el("div", { class: "made" });
   const coarse = el("div"), legend = el("p", { class: "hint legend screen" });
   const element = el("div", { class: "case" },

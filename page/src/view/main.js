@@ -74,7 +74,7 @@ function openCase(kind, typed, { past = new Steps(), notes = [], doubt = "", pap
     },
     onWide: (isWide) => at("desk").classList.toggle("wide", isWide),
     onReset: (next, what, how) => reset(kind, next, what, how),
-    onUndo: (isRedo) => undo(kind, isRedo),
+    onUndo: (isRedo) => undo(kind, isRedo), onCase: show,
     snapshot: () => structuredClone(cellsNow()),
     coarsen: (how) => coarsen(kind, how),
     asTable: (table, said) => {

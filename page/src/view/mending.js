@@ -1,8 +1,10 @@
 // The text that was pasted: rows and columns that are in the way can be left out right there, and cells typed over.
-// Then it is read again, so nobody has to go back to where it came from. It stands open where a text was refused, and
-// folded where it is asked about, or was taken and nothing was changed since.
+// Then it is read again, here or in another case, so nobody has to go back to where it came from. It stands open where
+// a text was refused, and folded where it is asked about, or was taken and nothing was changed since.
+import { CASES } from "../cases/cases.js";
 import { cellsOf } from "../cases/pasting.js";
 import { button, cellOf, el, refill } from "./dom.js";
+import { dropText } from "./untaken.js";
 
 const MOST_ROWS = 60, MOST_COLUMNS = 12, MOST_LETTERS = 20000; // of a text that is shown
 const MOST_WIDE = 60; // letters that a cell shows at most
@@ -12,9 +14,9 @@ const TITLES = { asks: "None of these? Change your text", taken: "Not as you mea
 
 const pasted = new WeakMap(); // by what is typed of a case: {cell, text, last} with the last step before
 
-/** Shows the text that was pasted into a grid, below what is said of it, and gives what shows it anew. The grid tells
- * what is pasted by "pasted-text", and takes one by "take-text". */
-export function mendIn(grid, { steps, onUndo }) {
+/** Shows the text that was pasted into the grid of a case, below what is said of it, and gives what shows it anew. The
+ * grid tells what is pasted by "pasted-text", and takes one by "take-text". */
+export function mendIn(grid, kind, { steps, onUndo, onCase }) {
   const said = grid.querySelector(':scope > [role="status"]'), place = el("div", { class: "mend screen" });
   const lastStep = () => steps.past.at(-1);
   const stateOf = ({ step }) => ["asks", "refused"].find((state) => grid.classList.contains(state))
@@ -23,12 +25,14 @@ export function mendIn(grid, { steps, onUndo }) {
     const kept = pasted.get(grid.typed), state = kept && stateOf(kept);
     const rows = state && kept.text.length <= MOST_LETTERS ? cellsOf(kept.text) : [];
     const isFit = rows.length <= MOST_ROWS && widthOf(rows) <= MOST_COLUMNS;
-    const read = (text) => {
+    const read = (text, id) => {
       if (state === "taken") onUndo(false); // it was read as something else
-      takeText(text, kept.cell);
+      if (id) dropText(grid, true);
+      if (id) onCase(id);
+      takeText(text, id ? undefined : kept.cell);
     };
     const quoting = state === "refused" ? said.textContent : "";
-    const shown = state && isFit && rows.flat().some(Boolean) && new Mending(rows, quoting, read).element;
+    const shown = state && isFit && rows.flat().some(Boolean) && new Mending(rows, kind, quoting, read).element;
     refill(place, shown && (quoting ? shown : el("details", {}, el("summary", {}, TITLES[state]), shown)));
   };
   said.after(place);
@@ -44,8 +48,8 @@ export function mendIn(grid, { steps, onUndo }) {
   return show;
 }
 
-/** Has the case take a text as if it were pasted into a cell: the first one for a table, if none is said, or that is on
- * another page of a long table. */
+/** Has the case take a text as if it were pasted into a cell: the first one for a table, if none is said, or if that is
+ * on another page of a long table. */
 export function takeText(text, cell) {
   const body = document.getElementById("case-body"), named = cell === undefined ? null : cellOf(body, cell);
   const target = named ?? body.querySelector('[data-cell^="names."], .grid tbody [data-cell]');
@@ -57,8 +61,8 @@ export function takeText(text, cell) {
 const widthOf = (rows) => rows.reduce((most, { length }) => Math.max(most, length), 0);
 
 class Mending {
-  /** Rows that the sentence `said` quotes are marked; `read(text)` reads what is left. */
-  constructor(rows, said, read) {
+  /** Rows that the sentence `said` quotes are marked; `read(text, id)` reads what is left, also in another case. */
+  constructor(rows, kind, said, read) {
     this.wide = widthOf(rows);
     this.rows = rows.map((row) => ({ cells: Array.from({ length: this.wide }, (_, c) => row[c] ?? ""), isIn: true }));
     this.columns = Array(this.wide).fill(true);
@@ -72,7 +76,8 @@ class Mending {
     };
     this.element = el("form", { on: { submit } },
       el("p", { class: "tools" }, "Your text: untick what is to be left out, or type over it. Then ",
-        button("Read it again", undefined, { type: "submit", class: "main" }), this.leaving(read)),
+        button("Read it again", undefined, { type: "submit", class: "main" }), this.leaving(read),
+        this.elsewhere(kind, read)),
       el("div", { class: "scroll" }, el("table", { class: "grid" }, this.wide > 1 && this.head(), this.body)));
     this.show();
   }
@@ -90,6 +95,13 @@ class Mending {
       read(this.text());
     };
     return row && !other && this.rows.length > 2 && [" or ", button("Leave the marked row out", leave)];
+  }
+
+  /** The other cases, for a text that belongs to one of them. */
+  elsewhere(kind, read) {
+    const choose = ({ target }) => read(this.text(), target.value);
+    return el("label", {}, " or read it as ", el("select", { on: { change: choose } }, el("option", {}, "another case"),
+      CASES.filter((other) => other !== kind).map(({ id, title }) => el("option", { value: id }, title))));
   }
 
   tick(label, isIn, onTick) {
