@@ -40,7 +40,7 @@ export const casesTyped = [
     expect("lead", await page.text(".lead"), "Aer pays 45.83 for 6 uses and Bee pays 14.17: together 60.00.");
     for (const [r, text] of ["30", "30", "0", "0"].entries()) await page.type(`proposal.${r}`, text);
     await settle(page);
-    const verdict = /all uses that need at most 40.00 could leave, by 20.00/;
+    const verdict = /all uses that need at most 40.00 would do better by themselves, by 20.00/;
     expect("a group by what it needs", await page.text(".shares tfoot"), verdict);
   }],
 
@@ -53,7 +53,7 @@ export const casesTyped = [
     await page.until("document.querySelector('.comparison')");
     expect("table", await page.text(".shares tbody"), /Aer needing 10\s+2 uses[\s\S]*Aer needing 30\s+2 uses/);
     expect("reasons", await page.text("#why"), /Aer needing 10 \(2 uses\) pay/);
-    expect("a verdict", await page.text(".shares tfoot"), /Aer needing 10 \(2 uses\) could leave, by 6.00/);
+    expect("a verdict", await page.text(".shares tfoot"), /Aer needing 10 \(2 uses\) would do better by .*, by 6.00/);
     await page.run("dispatchEvent(new Event('beforeprint'))");
     const [reasons] = (await page.run("document.getElementById('sheet').textContent")).split("What is agreed");
     expect("paper", reasons, /Why: fairest [^(]*\(the nucleolus\)[\s\S]*Aer needing 10 \(2 uses\) pay/);
@@ -136,7 +136,7 @@ export const tables = [
     expect("in the core", await page.text(verdict), /No/);
     await typeAll(page, { "proposal.0": "9", "proposal.2": "1" });
     await settle(page);
-    expect("blocked", await page.text(verdict), /(Sales|Sales and Ops) could leave, by 1.00/);
+    expect("blocked", await page.text(verdict), /(Sales|Sales and Ops) would do better .*, by 1.00/);
     await page.until("document.querySelector('.comparison')");
     await page.click("Your proposal beside “Fairest to those who gain least”");
     expect("compared", await page.text(".comparison"), /At place 1 of 6 they differ[\s\S]*treats that group worse/);

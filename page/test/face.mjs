@@ -16,7 +16,7 @@ const answers = [
     await page.type("numbers.7", "90"); // less than the pairs want
     await told(page, seals, /A group would do better alone: \w+ and \w+, by \d/);
     expect("in red", await page.run("document.querySelector('#answer .seal').className"), "seal bad");
-    expect("and a line", await page.text("#answer .leaving"), /Fairest to those who gain least: .* could leave/);
+    expect("and a line", await page.text("#answer .leaving"), /Fairest to those who gain least: .* would do better/);
   }],
   ["face: a checker’s no is no seal of two", "costs", async (page, expect) => {
     await page.run(`(() => {
@@ -92,7 +92,7 @@ const rules = [
     expect("nobody leaves", await page.text("#answer .leaving"), "");
     await page.type("numbers.7", "15"); // what pairs cost binds more
     await settle(page);
-    await told(page, "#answer .leaving", /In proportion to costs alone: Sales and \w+ could leave, by \d\.\d\d/);
+    await told(page, "#answer .leaving", /In proportion to costs alone: Sales and \w+ would do better by/);
     expect("in the picture", await page.text("#answer .bars, #answer figure"), /The agencies’ rule/);
     const calculated = /page itself calculates “In proportion” and “The agencies’ rule”/;
     expect("in the evidence", await page.text("#evidence"), calculated);

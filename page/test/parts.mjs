@@ -53,7 +53,7 @@ async function drawnOnce(page, expect) {
   expect("the evidence: it, other divisions, two checkers", evidence <= 4, true);
   await page.click("equal parts");
   await page.until(READY);
-  await told(page, ".shares tfoot .verdict .proposed", /^No|could leave/);
+  await told(page, ".shares tfoot .verdict .proposed", /^No|would do better/);
   const after = await drawnOf(page);
   expect("a proposal changes no evidence", after["evidence-body"], evidence);
   expect("but the answer", after["answer-body"] > body, true);

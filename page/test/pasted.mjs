@@ -259,7 +259,8 @@ async function outcome(of, text, answer) {
   const [id, cell = CELLS[id] ?? "rows.0.name"] = of.split(" ");
   const desk = new Desk(id, "."), before = desk.cells(), all = [text].flat(), first = CELLS[id] ?? "rows.0.name";
   for (const one of all) await desk.paste(one === all.at(-1) ? cell : first, one);
-  if (answer) await settled(desk.read().buttons.find((one) => one.textContent === answer)?.on.click({}));
+  const buttonOf = (title) => desk.read().buttons.find((one) => one.textContent === title);
+  for (const one of [answer ?? []].flat()) await settled(await buttonOf(one)?.on.click({}));
   const { reading: { faults, empty, notes }, said, asked } = desk.read(), cells = desk.cells();
   const wrong = faults.map(({ sentence }) => sentence).join(" ");
   const told = [said, asked, wrong, `${empty.count} empty`, ...notes].join(" | ");

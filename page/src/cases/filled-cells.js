@@ -1,6 +1,9 @@
 // What of a case the page filled in by itself: as a file has it, and in a sentence. A kind of cases names one of these.
 import { maskOf, membersOf } from "../game/groups.js";
 
+/** The button by which players without a number alone get 0. */
+export const NOTHING = "Alone they gain nothing: 0";
+
 /** Groups of a table, by their masks; `how` says by which other groups. */
 export const filledGroups = {
   key: "groups",

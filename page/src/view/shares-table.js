@@ -282,7 +282,8 @@ function verdictText(game, verdict, { show, by }) {
 /** Who could do better alone, and by how much. */
 function leavingText(game, { group, excess }, { show, by }) {
   const who = needingAtMost(game, group, show) ?? new Namer(game).group(group).replace(/ (alone|together)$/, "");
-  return el("span", { class: "bad" }, `${who} could leave, by ${by(excess)}`);
+  const alone = group.length > 1 ? "by themselves" : "alone";
+  return el("span", { class: "bad" }, `${who} would do better ${alone}, by ${by(excess)}`);
 }
 
 /** Of a runway the groups of all landings up to an amount, as a sentence names them; null for other groups. */

@@ -2,6 +2,7 @@
 import { isBareName } from "../cases/bare-names.js";
 import { blockOf, isNumbers } from "../cases/block.js";
 import { isSentence } from "../cases/spoken-groups.js";
+import { NOTHING } from "../cases/filled-cells.js";
 import { groupLabel, packed, unpacked, withoutPlayer, withPlayer } from "../cases/tables.js";
 import { masksBySize, membersOf } from "../game/groups.js";
 import { countText } from "../exact/decimals.js";
@@ -13,6 +14,7 @@ import { plural } from "../game/words.js";
 import { listAsked, namedGroups, placeOf } from "./lists-asked.js";
 import { askNames } from "./names-asked.js";
 import { pasteBox } from "./paste-box.js";
+import { showWays } from "./ways-to-fill.js";
 
 const NAMED = { things: "players", numbers: "numbers" };
 const MOST_WHOLE = 6; // players whose groups are all shown
@@ -25,9 +27,6 @@ const SEVERAL = "A cell takes one number, and these lines have several, so nothi
   + "numbers, or lines of a group and its number.";
 const OTHER = "These aren’t as many numbers as groups from this cell on. Nothing was taken. Paste those of all groups "
   + "into the first cell, or lines of a group and its number.";
-const FILLS_OF_COSTS = "The first is right if such a group would go in parts, each by a cost that is known. The second "
-  + "is right if it could also take the works of a larger group.";
-const FILLS_OF_GAINS = "That is right if such a group could do no more together than in parts.";
 const SIZES = ["", "Alone", "Two together", "Three together", "Four together", "Five together", "Six together"];
 
 /** `readList({text, names, order})` reads a pasted list, beside the page; `remember(what)` offers to undo it. */
@@ -241,19 +240,25 @@ class TableGrid {
 
   /** Ways to fill what is empty, as long as some group is, or was before the page filled it. */
   showFills() {
-    const { isCost } = this.kind, { numbers, filled = [] } = this.typed;
-    const isEmpty = this.order.some((mask) => !(numbers[mask] ?? "").trim());
-    const asked = isEmpty ? "Nobody knows some of these numbers?" : filled.length ? "Fill them another way?" : "";
-    if (this.fills.dataset.asked === asked) return;
-    this.fills.dataset.asked = asked;
-    refill(this.fills, asked && el("p", { class: "tools" },
-      el("span", { class: "hint" }, asked),
-      button(`Fill the empty ones by the ${isCost ? "cheapest" : "best"} split`, () => this.fillBy("split"), {
-        class: "quiet", title: "Each group without a number takes that of its best split into groups that have one",
-      }),
-      isCost && button("Fill them no dearer than a larger group", () => this.fillBy("larger"), {
-        class: "quiet", title: "The cheapest of the splits of a group, and of the larger groups that hold it",
-      }), el("span", { class: "hint" }, isCost ? FILLS_OF_COSTS : FILLS_OF_GAINS)));
+    const { kind, typed } = this, lone = this.emptyLone();
+    const isEmpty = this.order.some((mask) => !(typed.numbers[mask] ?? "").trim());
+    const ways = { isEmpty, isLone: lone.length > 0, isFilled: typed.filled?.length > 0, isCost: kind.isCost };
+    showWays(this.fills, ways, { fillBy: (how) => this.fillBy(how), gainNothing: () => this.gainNothing() });
+  }
+
+  /** The players without a number alone. */
+  emptyLone() {
+    if (this.typed.names.length < 2) return [];
+    return this.typed.names.map((_, i) => 1 << i).filter((mask) => !(this.typed.numbers[mask] ?? "").trim());
+  }
+
+  /** Players without a number alone gain 0, as the user says. */
+  gainNothing() {
+    this.remember(NOTHING);
+    for (const mask of this.emptyLone()) this.typed.numbers[mask] = "0";
+    this.showGroups();
+    this.say();
+    return this.typed.filled?.length ? this.fillSplits(true) : this.onChange();
   }
 
   fillBy(how) {

@@ -3,6 +3,7 @@ import { lcm, Rational } from "../exact/rational.js";
 import { groupedText } from "../exact/decimals.js";
 import { isMark, onlyMark } from "../exact/marks.js";
 import { withEscapes } from "../game/names.js";
+import { NOTHING } from "../cases/filled-cells.js";
 import { byOneMark, Reading } from "../cases/reading.js";
 import { groupLabel, packed, unpacked } from "../cases/tables.js";
 import { plural } from "../game/words.js";
@@ -29,7 +30,8 @@ export function fillSplits({ typed, mark, costs, filled = [], how = "split", aga
   });
   const lacking = texts.filter((text, mask) => mask && mask !== all && !text.trim()).length;
   const above = abovesOf(values, fresh, { names, texts });
-  const notes = notesOf({ count: fresh.length, lacking, hasWhole, above: above.length, costs, how });
+  const lone = names.filter((_, i) => !texts[1 << i].trim() && all > 1).length;
+  const notes = notesOf({ count: fresh.length, lacking, lone, hasWhole, above: above.length, costs, how });
   return { state: packed({ names, numbers: texts }), filled: fresh, notes, above };
 }
 
@@ -94,7 +96,7 @@ function bestSplits(values, costs) {
   return best;
 }
 
-function notesOf({ count, lacking, hasWhole, above, costs, how }) {
+function notesOf({ count, lacking, lone, hasWhole, above, costs, how }) {
   if (!count && !lacking && hasWhole) return ["No group is empty."];
   const split = costs ? "cheapest split" : "best split", notes = [], isLarger = how === "larger";
   const [cost, less] = costs ? ["cost", "less"] : ["gain", "more"];
@@ -111,6 +113,7 @@ function notesOf({ count, lacking, hasWhole, above, costs, how }) {
   }
   const still = plural(lacking, "group is", "groups are");
   if (lacking) notes.push(`${still} still empty: no groups with a number make ${lacking > 1 ? "them" : "it"} up.`);
+  if (lone) notes.push(`Type what each player ${cost}s alone${costs ? "" : `, or press “${NOTHING}”`}.`);
   if (!hasWhole) notes.push(`What all together ${cost} has to be typed: it is what is divided, so it isn’t filled.`);
   return notes;
 }

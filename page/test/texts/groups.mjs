@@ -17,7 +17,11 @@ const TOM = "Hi Margaret,\n\nI rang Harper Coaches again about the district tour
   + "alone would be £480, for the Rovers alone £420 and for United alone £360. Tigers and Rovers together in one "
   + "coach: £640. Tigers and United: £600. Rovers and United: £560. If all three go together it is £780.\n\nCan you "
   + "work out who pays what?\n\nBest wishes\nTom";
+const ZERO = "Alone they gain nothing: 0";
 export const GROUPS = [
+  // players of gains whose line has no number
+  ["gains", "A\t-\nB\t-\nA+B\t5", "A|B|0|0|5", /0 empty/, ZERO],
+  ["costs", "A\t-\nB\t-\nA+B\t5", "A|B|||5", /2 empty/, ZERO],
   // groups in the sentences of a mail
   ["costs", TOM, null, /^Nothing was taken yet\. Read as: Tigers £480; Rovers £420; .*Rovers \+ United £780\. Is it/],
   ["costs", TOM, "Tigers|Rovers|United|£480|£420|£640|£360|£600|£560|£780",
