@@ -363,14 +363,6 @@ for (const [typed, mark, wanted] of FILLED) {
   faults += 1;
   console.log(`${typed} is filled as ${JSON.stringify(found)}, and not by ${wanted}`);
 }
-// of a player without a number alone it is told what to do
-for (const [costs, wanted] of [[true, /Type what each player costs alone\.$/], [false, /gains alone, or press “Alone/]]) {
-  const typed = { names: ["A", "B"], numbers: ["", "", "2", "9"].join("\n") };
-  const told = fillSplits({ typed, mark: ".", costs }).notes.join(" ");
-  if (wanted.test(told)) continue;
-  faults += 1;
-  console.log(`of an empty player alone is told: ${told}`);
-}
 const SAVED = [
   [",", ".", "4,250,000;1,400,000;650.5"], [".", ",", "4.250.000;1.400.000;650,5"],
   [undefined, ".", "4250000;1400000;650.5"], [",", ".", "3390;1,400,000;650.5"],

@@ -6,6 +6,7 @@ import { unitIn, unitOf, unitText } from "../src/view/unit.js";
 import { openText } from "../src/work/case-files.js";
 import { readCase } from "../src/work/cases.js";
 import { warmUp } from "../src/work/engine.js";
+import { fillSplits } from "../src/work/splits.js";
 import { codeOf } from "./page-worker.mjs";
 
 const TOWNS = ["Ashford", "Brook", "Carlow", "Denby", "Elmton"], VOTES = ["12", "9", "7", "3", "1"];
@@ -125,6 +126,13 @@ for (const [text, from, to, wanted] of CHANGED) {
 for (const [text, unit] of SHOWN) expect(`the unit in ${JSON.stringify(text)}`, unitIn(text), unit);
 for (const [typed, unit, said] of UNITS) {
   expect(`the unit of ${JSON.stringify(typed)}`, [unitOf(typed), said.test(unitText(typed))], [unit, true]);
+}
+
+/** What is told of players without a number alone, when the rest is filled. */
+for (const [costs, said] of [[true, /Type what each player costs alone\.$/], [false, /gains alone, or press “Alone/]]) {
+  const typed = { names: ["A", "B"], numbers: ["", "", "2", "9"].join("\n") };
+  const told = fillSplits({ typed, mark: ".", costs }).notes.join(" ");
+  expect(`of an empty player alone is told: ${told}`, said.test(told), true);
 }
 console.log(`${tried} parts of cases saved and opened again, ${faults} faults`);
 process.exit(faults || !tried ? 1 : 0);
