@@ -3,6 +3,9 @@
 import { Rational, ZERO } from "../exact/rational.js";
 import { decimal, fullText, isRounded, saidText, shareTexts, shortText } from "../exact/decimals.js";
 import { spoken } from "../exact/marks.js";
+import { listed, plural } from "../game/words.js";
+
+const MOST_NAMED = 6; // claims of which it is said by name who gets more than in proportion
 
 /** The rule as {title, sentences, items}; null if the class has none. */
 export function ruleOf(game, shares, namer) {
@@ -124,7 +127,7 @@ function estateRule(game, shares, namer) {
     const left = isLacking ? ` ${saidText(claim)} less ${saidText(parts[i])} is ${short[i]}.` : "";
     return { label: `${namer.names[i]} gets ${texts[i]}.`, text: `${halfOf}${cut}.${left}` };
   });
-  const last = inProportion(game, shares, isLacking, isCut);
+  const last = inProportion(game, shares, namer.names);
   return { title: "The rule (the Talmud’s; Aumann and Maschler 1985)", sentences, items, last };
 }
 
@@ -139,13 +142,16 @@ function greatestText(parts, isCapped, t, amount) {
   return [`${those} ${saidText(halves)} of the ${saidText(amount)}. ${rest}`];
 }
 
-/** Compares the rule with the division in proportion: who gets more by which; "" if the two are the same. */
-function inProportion({ single, amounts }, shares, isLacking, isCut) {
-  const part = single.over(Rational.sum(amounts));
-  if (amounts.every((claim, i) => claim.times(part).equals(shares[i]))) return "";
+/** Compares the rule with the division in proportion; "" if the two are the same. */
+function inProportion({ single, amounts }, shares, names) {
+  const part = single.over(Rational.sum(amounts)), others = amounts.map((claim) => claim.times(part));
+  const [more, less] = [[others, shares], [shares, others]].map(([low, high]) => {
+    return names.filter((_, i) => low[i].less(high[i]));
+  });
+  if (!more.length) return "";
+  const told = (some) => (names.length > MOST_NAMED ? plural(some.length, "claim") : listed(some));
   const percent = `${decimal(part.times(Rational.of(100)), 2, spoken)}\u202f%`;
-  const [more, less] = isLacking ? ["larger", "smaller"] : ["smaller", "larger"];
-  const who = isLacking && isCut ? "" : ` By this rule the ${more} claims get more, and the ${less} ones less.`;
-  return `In proportion to the claims, each would get ${percent} of its claim.${who} A court may be bound to another `
+  return `In proportion to the claims, each would get ${percent} of its claim. By the Talmud’s rule ${told(more)} `
+    + `${more.length > 1 ? "get" : "gets"} more than that, and ${told(less)} less. A court may be bound to another `
     + "rule: insolvency law commonly divides in proportion.";
 }
