@@ -233,7 +233,7 @@ function reasons(document, shares) {
 expect("where the most comes from", reasons(agreed, ["50", "75", "75"]),
   /at most 75\. Half is no more than that for one claim: 50 of the 200\. The rest is 150, in 2 equal parts of 75\./);
 expect("not in proportion", reasons(agreed, ["50", "75", "75"]),
-  /each would get 33.33\u202f% of its claim\. By the Talmud’s rule Adler and Brandt get more than that, and Chopra less\./);
+  /get 33.33\u202f% of its claim\. By the Talmud’s rule Adler and Brandt get more than that, and Chopra less\./);
 expect("only the largest gets more", reasons('{"game":{"class":"bankruptcy","estate":54,"claims":[12,31,44,5],'
   + '"names":["A","B","C","D"]}}', ["6", "65/4", "117/4", "5/2"]), /rule C gets more than that, and A, B and D less\./);
 expect("of many", reasons(`{"game":{"class":"bankruptcy","estate":35,"claims":[${Array(7).fill(10)}, 20]}}`,
