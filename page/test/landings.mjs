@@ -238,6 +238,39 @@ const beyond = [
     await page.until("!document.querySelector('.pinned')");
   }],
 
+  ["above 64 landings: what one use pays is seen, and a column is agreed on", "runway", async (page, expect) => {
+    await pasted(page, "Type\tLandings\tCost\nFokker\t42\t65899\nViscount\t9555\t76725\nTrident\t288\t95200.5");
+    await told(page, "#answer-body", /These are 9885 uses/);
+    const seen = "[...document.querySelectorAll('.beyond .each')].filter((one) => one.checkVisibility()).length";
+    expect("of each, by each rule", await page.run(seen), 6);
+    expect("beside what is folded", await page.text(".beyond tbody"), /9555 × 7.77\s+exact/);
+    expect("in the file", await saved(page, "Save the table (CSV)"), /\r\nOne use of,needs,.*\r\nFokker,65899.00,7.99,6.67/);
+    await page.click("On paper");
+    const both = /Who paysUses.*Fairest to those.*By what each adds.*How it was found/;
+    expect("both on paper", await sheetOf(page), both);
+    await page.send("Emulation.setEmulatedMedia", { media: "print" });
+    const wide = "[...document.querySelectorAll('#sheet thead [data-point]')].every((one) => one.clientHeight < 60)";
+    expect("heads of some lines", await page.run(wide), true);
+    const beside = "(([each]) => each.offsetTop - each.parentElement.offsetTop < 8)"
+      + "(document.querySelectorAll('#sheet tbody .each'))";
+    expect("in one line", await page.run(beside), true);
+    await page.send("Emulation.setEmulatedMedia", { media: "" });
+    await page.run("dispatchEvent(new Event('afterprint'))");
+    await page.run(`(() => {
+      const list = document.querySelector('[data-cell="paper.agreed"]');
+      list.value = "shapley";
+      list.dispatchEvent(new Event("change"));
+    })()`);
+    const agreed = /The parties agreed on: by what each adds \(Shapley shares\)\.Viscount pays most/;
+    expect("agreed on", await sheetOf(page), agreed);
+    expect("it alone", /Fairest to those/.test(await sheetOf(page)), false);
+    await page.run("dispatchEvent(new Event('afterprint'))");
+    await page.type("rows.0.count", "43");
+    await told(page, "#answer-body", /These are 9886 uses/);
+    expect("by these numbers alone", /agreed on/.test(await sheetOf(page)), false);
+    await page.run("dispatchEvent(new Event('afterprint'))");
+  }],
+
   ["Shapley shares above 32 landings", "runway", async (page, expect) => {
     await page.type("rows.0.count", "30");
     await settle(page);

@@ -1,6 +1,7 @@
 // What the parties agreed on, as they say it for the sheet to sign: one of the columns, or nothing yet.
 import { Rational } from "../exact/rational.js";
 import { plainPoints } from "../tell/rule-names.js";
+import { COSTS } from "./beyond.js";
 import { el } from "./dom.js";
 
 const OWN = "proposal";
@@ -9,7 +10,8 @@ const CHANGED = "The numbers have changed since something was agreed on, so the 
 
 /** The columns that can be agreed on; an own division where it adds to the whole. */
 function columnsOf({ result, proposal }) {
-  const { game, points = [] } = result ?? {};
+  const { game, points = [], beyond } = result ?? {};
+  if (!game && beyond?.isAll) return plainPoints(beyond.points, COSTS);
   if (!game || game.ballots || game.isMarket()) return [];
   const { totals, shares, verdict } = proposal, isWhole = totals && Rational.sum(totals).equals(game.whole());
   const own = { key: OWN, title: "Own division", totals, shares, verdict };
@@ -18,12 +20,16 @@ function columnsOf({ result, proposal }) {
 
 /** By what numbers something was agreed on: by others it is another division. */
 function numbersOf({ result, proposal }, key) {
-  return key === OWN ? `${result.text}\n${proposal.totals}` : result.text;
+  const { text = listText(result?.beyond) } = result ?? {};
+  return key === OWN ? `${text}\n${proposal.totals}` : text;
 }
+
+/** The numbers of a list that no document holds. */
+const listText = (beyond) => beyond?.isAll && String(beyond.rows.map(({ label, cost, count }) => [label, cost, count]));
 
 /** The column that was agreed on, of these numbers; null for none. */
 export function agreedColumn(session, { agreed }) {
-  if (!agreed || !session.result?.text) return null;
+  if (!agreed || !numbersOf(session, "")) return null;
   agreed.of ??= numbersOf(session, agreed.key); // of a saved case
   const isSame = agreed.of === numbersOf(session, agreed.key);
   return (isSame && columnsOf(session).find(({ key }) => key === agreed.key)) || null;

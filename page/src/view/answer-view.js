@@ -229,6 +229,7 @@ export class AnswerView {
     const view = this.viewOf(this.session.result);
     refill(at("answer-body"), beyond.game ? beyondPower(beyond, view) : beyondParts(beyond, view));
     this.showPaper();
+    this.showAgreed();
     this.showLinks();
     this.say();
   }

@@ -40,7 +40,8 @@ function beyondNotice(beyond) {
     el("details", { class: "inline" }, el("summary", {}, "Why the formula is right"), el("p", {}, laws)));
 }
 
-const COSTS = { costs: true, kind: "airport" }; // as of a game
+/** What these runways are as a game. */
+export const COSTS = { costs: true, kind: "airport" };
 
 /** A number rounded to so many decimals. */
 function roundedTo(value, places) {
@@ -53,7 +54,7 @@ export function beyondParts(beyond, { format, today, pinned, labelOfCell, said }
   const { isAll, rows, points } = beyond;
   const plain = format.plain(), named = plainPoints(points, COSTS), tables = () => [
     shareLines(rows, named, plain, isAll ? besideLines(rows, named, { today, pinned, game: COSTS }, plain) : []),
-    airlineLines(rows, named, plain), typeLines(rows, named, plain), roundingLines(points, plain)];
+    airlineLines(rows, named, plain), typeLines(rows, named, plain, true), roundingLines(points, plain)];
   return el("div", { class: "beyond" }, isAll && leadOf(beyond, format),
     el("h3", {}, isAll ? "Above 64 uses" : "Shapley shares above 32 uses"),
     beyondNotice(beyond),
@@ -160,12 +161,19 @@ function sumRow({ sum, of }, { rows, columns, format, values, own, isKept }) {
     }));
 }
 
+/** The columns of the one page: of what was agreed on that alone, or first. */
+function shownPoints(points, agreed, isAll) {
+  const own = points.filter(({ key }) => key === agreed?.key), others = points.filter((point) => !own.includes(point));
+  return own.length && !isAll ? own : [...own, ...others];
+}
+
 /** The same on the one page; what one landing pays stands there by its type, where each has one. */
-export function beyondSheet(beyond, { format, unit, today, pinned, labelOfCell, sign }) {
+export function beyondSheet(whole, { format, unit, today, pinned, labelOfCell, sign, agreed, withProposal }) {
+  const beyond = { ...whole, points: shownPoints(whole.points, agreed, withProposal) };
   const { rows, points } = beyond, named = plainPoints(points, COSTS);
   const shown = today.texts?.some(Boolean) ? today : {};
   const own = (_, r) => shown.values[r] && format.show(shown.values[r]);
-  const kind = `shares dense${rows.every(({ type }) => type) ? " whole" : ""}`;
+  const kind = `shares dense fees${rows.every(({ type }) => type) ? " whole" : ""}`;
   return [
     el("section", {}, leadOf(beyond, format),
       unit && el("p", { class: "hint" }, `All amounts are in ${unit}.`),

@@ -168,13 +168,15 @@ function goneRow({ label }, g, view) {
   ]);
 }
 
+/** A share, and below it what is told of it: of several what one of them pays, and the fraction, folded if it is long. */
 export function shareCell(text, share, count, format, change, kind = "number") {
   const fraction = !format.isExact(share) && fractionText(share);
-  const exact = count > 1 ? `${count} × ${format.show(share)}${fraction ? ` (${fraction})` : ""}` : fraction;
   const isLong = fraction && fraction.replace(/\D/g, "").length > MOST_DIGITS;
-  return el("td", { class: kind }, text, change, exact && (isLong
-    ? el("details", { class: "inline exact" }, el("summary", {}, "exact"), el("small", {}, exact))
-    : el("small", { class: "exact" }, exact)));
+  const short = !isLong && fraction, each = count > 1 && `${count} × ${format.show(share)}`;
+  return el("td", { class: kind }, text, change,
+    each && el("small", { class: "exact each" }, each, short && el("span", { class: "fraction" }, ` (${short})`)),
+    short && !each && el("small", { class: "exact" }, short),
+    isLong && el("details", { class: "inline exact" }, el("summary", {}, "exact"), el("small", {}, fraction)));
 }
 
 /** How much more it is than today, where that was typed. */

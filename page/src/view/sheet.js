@@ -68,8 +68,7 @@ function fillSheet(sheet, session, typed) {
   const { heading, withProposal } = typed, unit = session.kind.isVote ? "" : unitOf(typed), { coarse } = session.typed;
   const pinned = pinnedOf(session, rows);
   const labelOf = (cell) => labelOfCell(cell, session);
-  const points = isBeyond ? [] : plainPoints(result.points, result.game);
-  const chosen = isBeyond ? null : agreedColumn(session, typed);
+  const points = isBeyond ? [] : plainPoints(result.points, result.game), chosen = agreedColumn(session, typed);
   const agreed = points.find(({ key }) => key === chosen?.key) ?? chosen;
   const view = { ...session, heading, unit, withProposal, rows, format, today, coarse, pinned, labelOfCell: labelOf,
     result: { ...result, points }, agreed };
@@ -77,20 +76,21 @@ function fillSheet(sheet, session, typed) {
   const reasons = reasonsOf(view), isLong = rows.length > MANY_ROWS || (reasons && reasons.textContent.length > LONG);
   const isTight = isLong || Boolean(withProposal || agreed || coarse || pinned.pin || result.core?.collection);
   sheet.className = isTight ? "tight" : "";
-  return refill(sheet, headOf(view), notices(result, format, coarse),
-    agreed && el("p", { class: "agreed" }, el("b", {}, agreedText(agreed))), answerOf(view), pictureOf(view), reasons,
-    agreedOf(view), checkOf(view));
+  return refill(sheet, headOf(view), notices(result, format, coarse), agreedLine(view), answerOf(view),
+    pictureOf(view), reasons, agreedOf(view), checkOf(view));
 }
 
 /** What the page calculates by itself. */
 function beyondOn(sheet, view) {
   const { result: { beyond } } = view;
   sheet.className = "tight";
-  refill(sheet, headOf(view), beyond.game
+  refill(sheet, headOf(view), agreedLine(view), beyond.game
     ? [neededHint(view, beyond.game), beyondPower(beyond, { ...view, wide: WIDE, isPaper: true }),
       el("p", { class: "hint" }, OWN_PROVED)]
     : beyondSheet(beyond, { ...view, sign: signing(beyond.rows) }));
 }
+
+const agreedLine = ({ agreed }) => agreed && el("p", { class: "agreed" }, el("b", {}, agreedText(agreed)));
 
 function headOf({ heading, kind }) {
   return el("header", {}, el("h1", {}, heading?.trim() || kind.title), el("p", { class: "hint day" }, dayText()));

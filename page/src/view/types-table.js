@@ -16,11 +16,11 @@ function typesOf(rows) {
   });
 }
 
-/** As lines of cells; `points` are {title, each}, with the share of a landing of each row. */
-export function typeLines(rows, points, { show }) {
-  const types = typesOf(rows).map(({ label, r }) => {
-    return [label, show(rows[r].cost), ...points.map(({ each }) => show(each[r]))];
-  });
+/** As lines of cells; `points` are {title, each}, with the share of a landing of each row. Where no row has a type and
+ * `isOfRows`, a row is one. */
+export function typeLines(rows, points, { show }, isOfRows = false) {
+  const found = typesOf(rows), all = !found.length && isOfRows ? rows.map(({ label }, r) => ({ label, r })) : found;
+  const types = all.map(({ label, r }) => [label, show(rows[r].cost), ...points.map(({ each }) => show(each[r]))]);
   return types.length ? [["One use of", "needs", ...points.map(({ title }) => title)], ...types] : [];
 }
 
