@@ -53,8 +53,9 @@ export function sumBeside(read) {
 
 /** Lines that may be all together: {lines, players}, and who then are the players. They say so, or how many they are;
  * or one stands behind all groups, or is left where each other group is there. */
-function mayBeAll(read, roles) {
-  const lone = read.filter(isLone), inside = new Set(read.flatMap((line) => (isLone(line) ? [] : line.members)));
+function mayBeAll(read, roles, more) {
+  const lone = read.filter(isLone), groups = read.flatMap((line) => (isLone(line) ? [] : line.members));
+  const inside = new Set([...groups, ...more]);
   const names = [...new Set([...lone.map(textOf), ...inside])], n = names.length - 1;
   const free = lone.filter((line) => !inside.has(textOf(line)) && roles[textOf(line)] !== "player");
   const isNamed = (text) => isAllWord(text) || isSumWord(text)
@@ -71,9 +72,9 @@ function mayBeAll(read, roles) {
 
 /** Puts all players into the place of a line for all together, and gives the lines to be left `out`; or what is `asked`
  * of a line, with all `players`: whether it is they (`isSum`: or only a sum; `hasAll`: they have a line). `roles` has
- * what was said of lines by their texts: "all", "player" or "out". */
-export function wholeOf(read, roles = {}) {
-  const { lines, players } = mayBeAll(read, roles), n = players.length;
+ * what was said of lines by their texts: "all", "player" or "out"; `more` are players whom no such line names. */
+export function wholeOf(read, roles = {}, more = []) {
+  const { lines, players } = mayBeAll(read, roles, more), n = players.length;
   if (n < 2) return { out: [] };
   const others = read.filter((line) => isLone(line) && !lines.includes(line)), roleOf = (line) => roles[textOf(line)];
   const isSum = (line) => SUMMED.test(textOf(line)) && isSumOf(line.number, others);

@@ -3,6 +3,7 @@
 import { readNumber } from "../exact/decimals.js";
 import { withEscapes } from "../game/names.js";
 import { isLone, sumBeside, wholeOf, WITH } from "./all-together.js";
+import { fullNames, parted, withAllBut, withoutSome } from "./short-groups.js";
 
 const MOST_TOLD = 4; // groups in other words that are named
 export const NOBODY = /^(∅|none|nobody|no ?one|empty( set)?|niemand|personne|[-–—]|0|)$/i;
@@ -32,31 +33,44 @@ export function membersIn(group) {
 }
 
 /** Finds groups that are written without +, as "North & South" where both have a line, or "All", and leaves out that of
- * nobody: {read, told}, or {fault}, or what is {asked} of a line that may be all together. `roles` has what was said of
- * such lines. Lines are {members, number, line}, which is changed. */
-export function inOtherWords(all, roles) {
+ * nobody: {read, told}, or {fault}, which may have `ways` on, or what is {asked} of a line that may be all together.
+ * `roles` has what was said of such lines, `isRun` whether names side by side are a group. Lines are {members, number,
+ * line}, which is changed. */
+export function inOtherWords(all, { roles, isRun } = {}) {
   const used = new Set(all.flatMap(({ members }) => (members.length > 1 ? members : [])));
   const alone = all.filter((line) => isLone(line) && !used.has(line.members[0]));
   const nobody = alone.filter(({ members: [one] }) => NOBODY.test(one));
   const odd = nobody.find(({ number }) => /[1-9]/.test(number));
   if (odd) return { fault: `${odd.line}Here is a number without a group. Write its members before it.` };
   const each = alone.find(({ members: [one] }) => EACH.test(one));
-  const given = all.filter((line) => !nobody.includes(line) && line !== each);
-  const words = withoutAlone(given, used), alike = namedAlike(given);
+  const some = all.filter((line) => !nobody.includes(line) && line !== each);
+  const { rest: given, lacking } = withoutSome(some, partsOf);
+  const words = withoutAlone(given, used), alike = namedAlike(given) + fullNames(given, partsLike);
   for (const line of andGroups(given, used)) Object.assign(line, { members: line.parts, words: line.members[0] });
   const spare = sumBeside(given), read = given.filter((line) => line !== spare);
-  const { out = [], ...asked } = wholeOf(read, roles);
+  const { words: runs = [], ...question } = parted(read.filter((line) => roleOf(line, roles) === undefined), isRun);
+  if (question.fault) return question;
+  const { out = [], ...asked } = wholeOf(read, roles, lacking.flatMap(({ lacks }) => lacks));
   if (asked.asked) return asked;
-  const kept = read.filter((line) => !out.includes(line));
+  const kept = withAllBut(read.filter((line) => !out.includes(line)), lacking);
   const { read: full, told: ofEach = "", fault: clash } = each ? withEach(kept, each) : { read: kept };
   if (clash) return { fault: clash };
-  const groups = kept.map((line) => line.words).filter(Boolean), be = groups.length > 1 ? "are groups" : "is a group";
-  const ofSum = spare ? ` “${withEscapes(spare.members[0])}” was left out, as a sum of other lines.` : "";
-  const ofOut = out.map(({ members: [one] }) => ` “${withEscapes(one)}” was left out.`).join("");
-  const told = alike + ofSum + ofOut + (groups.length ? ` ${quoted(groups)} ${be}.` : "") + (words.length
-    ? ` ${quoted(words)} beside the names was left out.` : "") + ofEach;
+  const told = alike + leftOut(spare, out) + ofGroups([...kept.map((line) => line.words).filter(Boolean), ...runs])
+    + (words.length ? ` ${quoted(words)} beside the names was left out.` : "") + ofEach;
   return { read: full, told: told + (nobody.length ? " The group of nobody was left out." : "") };
 }
+
+const roleOf = ({ members: [one] }, roles = {}) => roles[one];
+
+/** What is told of a sum that is left out, and of lines that somebody said to leave out. */
+function leftOut(spare, out) {
+  const ofSum = spare ? ` “${withEscapes(spare.members[0])}” was left out, as a sum of other lines.` : "";
+  return ofSum + out.map(({ members: [one] }) => ` “${withEscapes(one)}” was left out.`).join("");
+}
+
+/** What is told of texts that were read as groups. */
+const ofGroups = (texts) => (texts.length > 0
+  ? ` ${quoted(texts)} ${texts.length > 1 ? "are groups" : "is a group"}.` : "");
 
 /** The one of the names that a part of a group has but for the size of its letters, or for words that stand beside the
  * `first` part, as in "Flats 1 + 2", or behind all, as in "Ann + Bo together"; undefined if none has, or several. */

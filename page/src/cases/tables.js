@@ -18,7 +18,9 @@ import { leftText, unframed } from "./frames.js";
 import { cellsOf } from "./pasting.js";
 import { Reading } from "./reading.js";
 import { answerFault } from "./saved-tables.js";
+import { areAllGroups } from "./short-groups.js";
 import { isSentence, spokenGroups } from "./spoken-groups.js";
+import { textbookRows } from "./textbook.js";
 import { unitsText, withoutUnits } from "./units.js";
 import { groupsOfParts, partsElsewhere, tableOfParts, usedParts } from "./used-parts.js";
 import { headingOf, manyBelow, numbersIn, vectorOf } from "./vectors.js";
@@ -145,12 +147,12 @@ export function withoutPlayer(state, player) {
  * all: then it is read again with what was said of it (`roles`). A {fault} may have a `way` on, a title and what then
  * is said (`isZeroAlone`, `isSparse`). `told` says how it was read, `remark` what was left out. */
 export function tableOf(text, names = [], order = "size", mark = ".", said = {}) {
-  const cells = cellsOf(text), block = blockOf(cells, { canBeNegative: true, words: true });
-  const { rows, left } = unframed(block.rows), saved = answerFault(cells);
+  const book = textbookRows(text), cells = book?.rows ?? cellsOf(text), saved = answerFault(cells);
+  const block = blockOf(cells, { canBeNegative: true, words: true }), framed = unframed(block.rows), { rows } = framed;
   const others = () => tableOf(text, names, order, mark, { ...said, isParts: false });
-  const ofParts = saved ? undefined : partsRead(cells, mark, said, others);
+  const ofParts = saved || book ? undefined : partsRead(cells, mark, said, others);
   if (ofParts) return ofParts;
-  const spoken = saved ? null : spokenGroups(text, said.isCost);
+  const spoken = saved || book ? null : spokenGroups(text, said.isCost);
   if (spoken) return spokenTable(spoken, { ...said, mark, cells });
   if (block.loose || saved) return { fault: saved ?? looseFault(block.loose) };
   const kept = rows.filter((row) => row.some(Boolean));
@@ -161,15 +163,19 @@ export function tableOf(text, names = [], order = "size", mark = ".", said = {})
   if (found.state || found.isAll) return found;
   const { rows: bare, units = [], fault = found.many } = withoutUnits(joined, 1);
   if (fault || !kept.length) return { fault: fault || "There is nothing in this list." };
-  const told = [leftText(left), ...block.notes, marked.told, unitsText(units)].filter(Boolean)
+  const told = [leftText(book?.left ?? framed.left), ...block.notes, marked.told, unitsText(units)].filter(Boolean)
     .map((words) => ` ${words}`).join("");
   const plain = told && !isList ? vectorIn(bare.map((row) => row.join("\t")).join("\n"), names, order, mark) : {};
-  const places = new Map(block.rows.map((row, k) => [row, block.lines[k]])), all = kept.map((row) => places.get(row));
+  const lineOf = (k) => book?.lines[block.lines[k] - 1] ?? block.lines[k];
+  const places = new Map(block.rows.map((row, k) => [row, lineOf(k)])), all = kept.map((row) => places.get(row));
   const lines = marked.from?.map((k) => all[k]) ?? all;
   const isVector = plain.state || plain.isAll || plain.many, more = { mark, cells, ...said };
   const read = isVector ? { ...plain, fault: plain.fault ?? plain.many } : listOf(bare, lines, more);
   return read.state ? { ...read, remark: told + read.remark } : read;
 }
+
+/** Whether one line may be of several groups, and nothing for one cell. */
+export const hasGroups = (text) => isSentence(text) || textbookRows(text) !== null;
 
 /** Why a line of which nobody can part the name from the number isn't taken. */
 const looseFault = (line) => looseText(line) + (/\d/.test(line) && !isSentence(line) ? "" : ADVICE);
@@ -247,7 +253,7 @@ const SEVERAL = "These lines have several numbers. Give lines of a group and its
 function isGroups(rows) {
   const isGroup = ([group]) => /^[{([]?\d+(\W{1,3}\d+)*[)}\]]?$/.test(group);
   const isAll = rows.length > 2 && rows.every((row) => row.length === 2 && isGroup(row));
-  return isAll && rows.some(([group]) => /\D/.test(group));
+  return isAll && (rows.some(([group]) => /\D/.test(group)) || areAllGroups(rows.map(([group]) => group)));
 }
 
 /** A table of numbers alone, as other programs have it. */
@@ -311,7 +317,8 @@ function listOf(given, allLines, { mark, roles, column, cells, ...said }) {
     return { members: membersIn(group), number: UNKNOWN.test(number) ? "" : number, line: lineOf(r) };
   });
   const unknown = open.size ? ` A cell with ${listed([...open].map((text) => `“${text}”`))} is empty.` : "";
-  const found = inOtherWords(read, roles), table = found.read ? placedList(found.read, said) : found;
+  const found = inOtherWords(read, { roles, isRun: said.isRun });
+  const table = found.read ? placedList(found.read, said) : found;
   const state = table.state && { ...table.state, ...(amounts && { amounts }) };
   return state ? { ...table, state, remark: told + found.told + unknown } : table;
 }

@@ -1,9 +1,8 @@
 // The grid of a table: the players, and a cell for each group, by size. Of many groups a page is shown at a time.
 import { isBareName } from "../cases/bare-names.js";
 import { blockOf, isNumbers } from "../cases/block.js";
-import { isSentence } from "../cases/spoken-groups.js";
 import { NOTHING } from "../cases/filled-cells.js";
-import { groupLabel, packed, unpacked, withoutPlayer, withPlayer } from "../cases/tables.js";
+import { groupLabel, hasGroups, packed, unpacked, withoutPlayer, withPlayer } from "../cases/tables.js";
 import { masksBySize, membersOf } from "../game/groups.js";
 import { countText } from "../exact/decimals.js";
 import { withEscapes } from "../game/names.js";
@@ -50,7 +49,7 @@ class TableGrid {
     this.element.addEventListener("show-cell", ({ detail }) => this.showCell(detail));
     removeByKey(players);
     moveByKeys(list, (cell, step) => `numbers.${this.order[this.placeOf(cell) + step]}`);
-    const isSeveral = ([[text]]) => isSentence(text);
+    const isSeveral = ([[text]]) => hasGroups(text);
     pasteCells(list, (cell, rows, text) => this.paste(cell, rows, text), readCells, isSeveral);
     pasteCells(players, (cell, rows, text) => this.pasteNames(cell, rows, text), readCells, isSeveral);
     this.show();

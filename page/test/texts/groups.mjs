@@ -17,8 +17,33 @@ const TOM = "Hi Margaret,\n\nI rang Harper Coaches again about the district tour
   + "alone would be £480, for the Rovers alone £420 and for United alone £360. Tigers and Rovers together in one "
   + "coach: £640. Tigers and United: £600. Rovers and United: £560. If all three go together it is £780.\n\nCan you "
   + "work out who pays what?\n\nBest wishes\nTom";
-const ZERO = "Alone they gain nothing: 0";
+const ZERO = "Alone they gain nothing: 0", DONE = "A|B|C|1|2|8|3|9|10|20";
+const SEVEN = ([a, b, c, ab, ac, bc, abc]) => `${a}\t1\n${b}\t2\n${c}\t3\n${ab}\t8\n${ac}\t9\n${bc}\t10\n${abc}\t20`;
+const OAKS = "Red Oak|Green Mill|Hill|1|2|8|3|9|10|20";
 export const GROUPS = [
+  // members side by side
+  ["costs", SEVEN(["A", "B", "C", "AB", "AC", "BC", "ABC"]), DONE, /3 players, 7 groups\. “AB”, .* “ABC” are groups/],
+  ["costs", SEVEN([1, 2, 3, 12, 13, 23, 123]), "1|2|3|1|2|8|3|9|10|20", /“12”, “13”, “23”, “123” are groups/],
+  ["costs", "v(1)=1\nv(2)=2\nv(12)=3", "1|2|1|2|3", /“12” is a group/],
+  ["costs", `Cost\n${SEVEN(["A", "B", "C", "A B", "A C", "B C", "A B C"])}`, DONE, /“A B C” are groups/],
+  ["costs", SEVEN(["A", "B", "C", "A-B", "A-C", "B-C", "A-B-C"]), DONE, /“A-B-C” are groups/],
+  ["gains", "A 1\nB 2\nC 3\nD 1\nAB 9\nABCD 12", null, /Are “AB”, “ABCD” groups, of the players whose names stand/],
+  ["gains", "A 1\nB 2\nC 3\nAB 8\nABC 20", "A|B|C|1|2|8|3|||20", /“AB”, “ABC” are groups/, "Yes, groups"],
+  ["gains", "A 1\nB 2\nC 3\nAB 8", /^A\|B\|C\|AB\|1\|2\|\|3\|\|\|\|8/, /4 players/, "No, one player"],
+  ["gains", "AB 8\nAC 9\nBC 10\nABC 20", "A|B|C|0|0|8|0|9|10|20", /are groups/, "Each of them gains 0 alone"],
+  // worths as textbooks write them
+  ["costs", "c(∅) = 0, c(1) = 1,5, c(2) = 2,5 and c(12) = 3,5.", "1|2|1,5|2,5|3,5", /“12” is a group/],
+  ["gains", "v(A) = v(B) = v(C) = 0; v(AB) = 8; v(AC) = 9; v(BC) = 10; v(ABC) = 20", "A|B|C|0|0|8|0|9|10|20"],
+  ["gains", "Gloves\n{1}: 0, {2}: 0, {3}: 0\n{1,2}: 8\n{1,3}: 9\n{2,3}: 10\n{1,2,3}: 20", "1|2|3|0|0|8|0|9|10|20",
+    /Left out, as no number stands beside: “Gloves”/],
+  ["gains", "v(i) = 0 for all i\nv(AB) = 8\nv(AC) = 9\nv(BC) = 10\nv(ABC) = 20", "A|B|C|0|0|8|0|9|10|20", /“alone”/],
+  ["gains", "v(1)=5 v(2)=7 v(1,2)=20 EUR", "1|2|5|7|20 EUR"],
+  // members by a part of their names, and groups by those who lack
+  ["costs", SEVEN(["Red Oak", "Green Mill", "Hill", "RO+GM", "RO+H", "GM+H", "RO+GM+H"]), OAKS, /“GM” is “Green Mill”/],
+  ["costs", SEVEN(["Red Oak", "Green Mill", "Hill", "Oak, Mill", "Oak, Hill", "Mill, Hill", "all"]), OAKS, /“Oak” is/],
+  ["costs", "Ann\t1\nAnna\t2\nAn + Bo\t3\nBo\t3", null, /no line for “An” alone/],
+  ["costs", SEVEN(["A", "B", "C", "without C", "without B", "without A", "all"]), DONE, /“without C”, .* are groups/],
+  ["gains", "alle ohne A\t10\nall but B\t9\nsans C\t8\nall\t20\nalone\t0", /^[ABC|]+\|0\|0\|/, /3 players, 7 groups/],
   // players of gains whose line has no number
   ["gains", "A\t-\nB\t-\nA+B\t5", "A|B|0|0|5", /0 empty/, ZERO],
   ["costs", "A\t-\nB\t-\nA+B\t5", "A|B|||5", /2 empty/, ZERO],
