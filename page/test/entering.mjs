@@ -320,7 +320,7 @@ const fills = [
     await page.until(`document.querySelector('[data-cell="links.2-3"]').value === "9004"`);
     await settle(page);
     expect("told", await page.text("#answer-body"), /Of the 6 links 3 can’t be built[\s\S]*3 by the cheapest way/);
-    await page.click("make a table of costs of it");
+    await page.click("Make a table of costs");
     await page.until("location.hash === '#costs'");
     await settle(page);
     expect("of real links alone", await value(page, "numbers.6"), "9009");

@@ -17,8 +17,9 @@ const REWARD = "A place that spares others such a link is rewarded for it: the m
 export function noLinkHelp(typed, { mark, help, remember, setLinks, asTable }) {
   const said = el("div", { "aria-live": "polite" });
   const tell = (notes, told = []) => refill(said, notes.map((note) => el("p", { class: "note" }, note)),
-    told.length > 0 && el("details", { class: "named" }, el("summary", {}, "Which links"),
-      el("p", {}, told.join("; "))));
+    told.length > 0 && [el("p", { class: "tools" }, "In a table of costs it counts once: ",
+      button("Make a table of costs", () => makeTable(), { class: "quiet" })),
+    el("details", { class: "named" }, el("summary", {}, "Which links"), el("p", {}, told.join("; ")))]);
   const ask = (task, use) => async (more = {}) => {
     const { names, links, source } = typed, before = JSON.stringify(links);
     const found = await help(task, { names: [...names], ...given(typed, task), source, mark: mark(), ...more });

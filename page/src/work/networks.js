@@ -66,7 +66,7 @@ function notesOf(told, lacking) {
   if (told.length) {
     notes.push(`${plural(told.length, "link was", "links were")} filled by the cheapest way through the others. `
       + "They are marked, and follow when another number changes. If several detours of a group share a stretch, the "
-      + "stretch counts more than once, and the place that it leads through is rewarded. Then make a table of costs.");
+      + "stretch counts more than once, and the place that it leads through is rewarded.");
   }
   if (lacking.length) notes.push(`No way leads there: ${lacking.join("; ")}.`);
   return notes.length ? notes : ["No link is empty."];
