@@ -207,7 +207,7 @@ const TEXTS = [
   ["network", [LINKS, "North\nSouth"], LINKED, /Nothing was taken yet\. These are names alone\. Do the costs here/],
   ["network", [LINKS, "North\nSouth"], "Works|North|South|0-1|12|0-2|9|1-2|4", /the names of 2/, SAME],
   ["network", [LINKS, "North\nSouth"], "North|South", /names of 2/, "No, these are other places: empty the costs"],
-  ["market", MINUTES, null, /is no name, .* row of gains\. Nothing was taken/],
+  ["market", MINUTES, null, /is no name, .* row of gains; .* Nothing was taken/],
   ["market", [TRADES, "Cy\nDi"], "hut|flat|Ann|Bo|5|9|8|9", /These are names alone\. Do the numbers here/],
   ["market", [TRADES, "Cy\nDi"], "hut|flat|Cy|Di|5|9|8|9", /names of 2 traders/, SAME],
   ["market", [TRADES, "Cy\nDi"], "hut|flat|Cy|Di||||", /2 buyers/, "No, these are other traders: empty the numbers"],

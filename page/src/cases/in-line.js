@@ -27,7 +27,7 @@ function itemsOf(line) {
 }
 
 /** The same of what stands behind a colon: {items, said}, `said` being the words before it. */
-function saidItemsOf(line) {
+export function saidItemsOf(line) {
   const items = itemsOf(line), ways = items ? [] : SAID.map((one) => one.exec(line) ?? []);
   const found = ways.map(([, said, rest]) => ({ items: rest ? itemsOf(rest) : null, said }));
   return found.find((one) => one.items) ?? { items };

@@ -5,11 +5,17 @@ import { isMail, isText } from "./block.js";
 import { columnLabel, costText } from "./link-costs.js";
 import { isSpoilt } from "./pasting.js";
 
-const NONE = /^([-–—.x×∞]|n\/?a|#n\/?a|#?nv|none|null|inf|infinity|kein(e|er)?|aucun(e)?)?$/i; // no such link
+const NONE = new RegExp("^([-–—.x×∞]|n/?a|#n/?a|#?nv|none|null|inf|infinity|kein(e|er)?|aucun(e)?|no|no (link|way|road"
+  + "|connection)|(not|im)[ -]?(possible|feasible)|(nicht|un)[ -]?möglich|keine verbindung|(pas|im)[ -]?possible"
+  + "|niet mogelijk|(no|im)[ -]?posible)?$", "iu"); // no such link
+const PLACES = (words) => `node ?${words}|point ?${words}|end ?${words}|place ?${words}`;
 const HEADS = [
-  /^(from|von|van|desde|de|start|begin|source|node ?1|point ?1|end ?1|place ?1|a|i|tail)(?!\p{L})/iu,
-  /^(to|nach|naar|hasta|bis|à|vers|target|node ?2|point ?2|end ?2|place ?2|b|j|head)(?!\p{L})/iu,
-  /cost|price|amount|kosten|preis|betrag|co[uû]t|prix|montant|\p{Sc}/iu,
+  new RegExp("^(from|von|van|desde|de|da|od|från|fra|start|begin|origen?|origine|d[eé]part|source|a|i|tail"
+    + `|${PLACES("1")})(?!\\p{L})`, "iu"),
+  new RegExp("^(to|nach|naar|hasta|bis|à|vers|do|till|til|destin\\p{L}*|arriv[eé]e|target|b|j|head"
+    + `|${PLACES("2")})(?!\\p{L})`, "iu"),
+  new RegExp("cost|price|amount|kosten|kostnad|koszt|custo|preis|pri[js]s?(?!\\p{L})|precio|prezzo|betrag|bedrag"
+    + "|co[uû]t|prix|montant|\\p{Sc}", "iu"),
 ];
 const LIKE_COST = [/\b(euros?|eur|usd|gbp|chf)\b/iu, // where no heading names a cost
   /weight|length|distance|value|gewicht|länge|longueur|valeur/iu];
@@ -18,9 +24,11 @@ const YEAR = /^(19|20)\d\d$/, MOST_LETTERS = 300, MOST_ROWS = 1000;
 export const isNone = (text = "") => NONE.test(text.trim());
 export const isNameless = (text = "") => /^[-–—.]?$/.test(text.trim());
 export const clean = (text) => text.normalize("NFC").trim();
-const PAIR = /^(?:[Ff]rom (?=.* to ))?(.{1,99}?)(?: (?:to|[-–—/]) |\s?(?:[–—→]|->)\s?|(?<=\S)-(?=\S))(.{1,99})$/u;
+const FROM = "(?:(?:(?:[Tt]he |[Aa] )?(?:[Ll]ink|[Pp]ipe|[Cc]able|[Rr]oad|[Ll]ine) )?[Ff]rom (?=.* to ))?";
+const PAIR = new RegExp(`^${FROM}(.{1,99}?)(?: (?:to|[-–—/]) |\\s?(?:[–—→]|->)\\s?|(?<=\\S)-(?=\\S))(.{1,99})$`, "u");
 const SIGN = /\S\s*([–—→]|->)\s*\S|\S (-|to) \S/u; // between the ends of a link, and not within a name
-const COSTS = /\s+(costs?|kostet|coûte)$/iu, LONG = /\s\d[\d.,]*\s?(k?m|met(re|er)s?|ft|yd)$/iu; // behind an end
+const COSTS = /,?(?:\s(?:it|that|this|would|will)){0,2}\s(?:costs?|is|kostet(?: es)?|coûte|cuesta|kost(?: het)?)$/iu;
+const LONG = /\s\d[\d.,]*\s?(k?m|met(re|er)s?|ft|yd)$/iu; // behind an end
 
 /** A row as "Alby - Brook: 40 m, 1,240 EUR", in a cell or two, with a cell for each number. */
 export function numbersApart(row) {

@@ -36,6 +36,10 @@ const SOURCE = new RegExp("\\b(source|reservoir|plant|water ?works?|works|supply
   + "(sub|power|pump(ing)?) ?station|station|well|spring|tank|tower|server|exchange|head ?end|quelle|[a-zäöü]*werk|"
   + "zentrale|speicher|pumpwerk|réservoir|centrale|usine|château d’eau|château d'eau)\\b", "iu");
 
+const SAYS_SOURCE = new RegExp("(?<!\\p{L})(source|origin|starts? (at|in|from)|quelle|ausgangspunkt|origine|origen"
+  + "|bron)(?!\\p{L})", "iu");
+const MOST_SAID = 200; // letters of a sentence about the source
+
 /** Tells numbers, names and missing links apart, by a decimal mark. */
 function judgeOf(mark) {
   const isNumber = (text = "") => text !== "" && !cellNumber(text, mark).fault;
@@ -82,7 +86,14 @@ export function networkOf(pasted, { mark = ".", source = "", cost, columns } = {
   const out = texts.map((text) => `“${text}”`);
   if (rows !== block.rows && !letter.length) out.push(...titleOf(pasted, block));
   out.push(...left, ...found.units.map((unit) => `“${unit}”, the unit`));
-  return { points, links, shape, left: out, told: [...block.notes, ...found.told], ...sourceOf(points, found, source) };
+  return { points, links, shape, left: out, told: [...block.notes, ...found.told, ...wordsOf(found)],
+    ...sourceOf(points, found, { named: source, texts }) };
+}
+
+/** What is told of words that say that there is no link. */
+function wordsOf({ entries }) {
+  const words = new Set(entries.map(([, , text]) => text).filter((text) => isNone(text) && /\p{L}{3}/u.test(text)));
+  return words.size ? [`No link: ${[...words].map((text) => `“${withEscapes(text)}”`).join(", ")}.`] : [];
 }
 
 /** A cell with a number and something beside it, as "ca. 12", in a column of numbers. */
@@ -119,14 +130,26 @@ function linksIn({ rows, loose }) {
 
 const noShape = (odd) => `This is no list of from, to and cost, and no square or triangle with names${odd ? ": "
   + `“${withEscapes(odd)}” isn’t read as a link` : ""}. Give each link a line, such as: Well - North: 12.`;
-/** The source: the point that has its name already, or a name that says so, or else the first. */
-function sourceOf(points, { isFirst }, named) {
+/** The source: the point that has its name already, or that a sentence beside the links (`texts`) says to be it, or a
+ * name that says so, or else the first. */
+function sourceOf(points, { isFirst }, { named, texts }) {
   const lower = (text) => clean(text).toLowerCase();
-  const own = points.findIndex((name) => name && lower(name) === lower(named));
-  if (own >= 0) return { source: own, isSure: true };
+  const own = points.findIndex((name) => name && lower(name) === lower(named)), spoken = saidSource(points, texts);
+  if (own >= 0 || spoken >= 0) return { source: own >= 0 ? own : spoken, isSure: true };
   const saying = points.map((name, i) => (SOURCE.test(name) ? i : -1)).filter((i) => i >= 0);
   if (saying.length === 1) return { source: saying[0], isSure: true };
   return { source: 0, isSure: Boolean(isFirst) };
+}
+
+/** The one point that is named in a sentence about a source, as “Source is Ann.”; -1 where none is, or several. */
+function saidSource(points, texts) {
+  const about = texts.filter((text) => text.length <= MOST_SAID && SAYS_SOURCE.test(text)).map((text) => {
+    return ` ${text.toLowerCase().replace(/[^\p{L}\d]+/gu, " ")} `;
+  });
+  const bare = (name) => name.toLowerCase().replace(/[^\p{L}\d]+/gu, " ").trim();
+  const found = points.map((name, i) => (bare(name) && about.some((text) => text.includes(` ${bare(name)} `)) ? i : -1))
+    .filter((i) => i >= 0);
+  return found.length === 1 ? found[0] : -1;
 }
 
 // ---- One number for each link

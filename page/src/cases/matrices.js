@@ -10,8 +10,10 @@ import { leftText, unframed } from "./frames.js";
 import { withEnds } from "./link-list.js";
 import { rowsOf } from "./lists.js";
 import { detoursOf } from "./detours.js";
+import { GOODS } from "./price-heads.js";
 import { Reading } from "./reading.js";
 import { answerFault } from "./saved-tables.js";
+import { withoutTexts } from "./trader-heads.js";
 import { unitsText, withoutUnits } from "./units.js";
 
 export const network = {
@@ -174,32 +176,26 @@ export const NO_MARKET = "This is no table of gains. Give the sellers’ names a
   + "Seller, Ask.";
 
 /** What a pasted block says of a market: {buyers, sellers, values, notes} with those of the three that are there, or
- * {names, notes}; or {fault} in words. `words` are the headings of columns without numbers that are left out. */
-export function marketOf(pasted) {
+ * {names, notes}; or {fault} in words. `words` are the headings of columns without numbers that are left out, and
+ * `isPairs` says that it is a list of pairs. Where buyers stand above (`isAbove`), the rows are sellers. */
+export function marketOf(pasted, isAbove = false) {
   const block = blockOf(pasted), { rows: framed, left } = unframed(block.rows);
   const saved = answerFault(pasted);
   if (saved) return { fault: saved };
   const { rows: given, units = [], fault } = withoutUnits(framed.filter((row) => row.some(Boolean)), 1);
   if (fault || block.loose) return { fault: fault ?? NO_MARKET };
-  const { rows: bare, left: sums } = withoutSums(given), [[corner = ""]] = bare, isTurned = SELLER.test(corner);
+  const { rows: bare, left: sums } = withoutSums(given), [[corner = ""]] = bare;
+  const isSaid = SELLER.test(corner) || GOODS.test(corner);
   const wide = bare.reduce((most, { length }) => Math.max(most, length), 0);
   const whole = bare.map((row) => Array.from({ length: wide }, (_, c) => row[c] ?? ""));
-  const { rows: even, left: texts } = withoutTexts(whole), pairs = pairsOf(bare);
+  const { rows: even, left: texts } = withoutTexts(whole), pairs = pairsOf(bare), isTurned = isAbove || isSaid;
   const shape = pairs ?? shapeOf(isTurned ? even[0].map((_, c) => even.map((row) => row[c])) : even);
   const out = [...sums, ...(pairs ? [] : texts)];
   const notes = [leftText(left), ...block.notes, out.length > 0 && `Left out: ${out.join(", ")}.`, pairs && AS_PAIRS,
-    unitsText(units), isTurned && !pairs && `“${corner}”: the rows are sellers.`].filter(Boolean);
+    unitsText(units), isSaid && !pairs && `“${corner}”: the rows are sellers.`].filter(Boolean);
   const isHeadless = !shape?.sellers && left.some((text) => text.split(/\s+/).length === wide - 1);
   const words = shape?.values && !pairs && texts.length ? texts : undefined;
-  return shape && !isHeadless ? { ...shape, words, notes } : { fault: NO_MARKET };
-}
-
-/** A table without columns that have only texts below their heading, as remarks: {rows, left}. */
-function withoutTexts([heads, ...below]) {
-  const isOut = heads.map((head, c) => c > 0 && isText(head) && below.some((row) => row[c])
-    && below.every((row) => row[c] === "" || !isValue(row[c])));
-  const left = heads.filter((_, c) => isOut[c]).map((head) => `“${withEscapes(head)}”`);
-  return { rows: [heads, ...below].map((row) => row.filter((_, c) => !isOut[c])), left };
+  return shape && !isHeadless ? { ...shape, words, notes, isPairs: Boolean(pairs) } : { fault: NO_MARKET };
 }
 
 const AS_PAIRS = "Taken as a list of buyer, seller and what they gain together.";
@@ -225,7 +221,7 @@ function shapeOf(rows) {
   const values = (some) => some.map((row) => row.map((text) => (UNKNOWN.test(text) ? "" : text)));
   if (rows.flat().every(isName) && (!below.length || !above.length)) return { names: rows.flat() };
   const isCorner = /^[^\p{L}\d]*$/u.test(corner) || BUYER.test(corner) || SELLER.test(corner)
-    || [...above, ...names].every(isName);
+    || GOODS.test(corner) || [...above, ...names].every(isName);
   if (above.length && isCorner && [...above, ...names].every(Boolean) && hasValues(others.slice(1))) {
     return { sellers: above, buyers: names, values: values(others.slice(1)) };
   }

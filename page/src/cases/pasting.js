@@ -13,16 +13,18 @@ export const isSpoilt = (text) => SPOILT.test(text) || ABOUT.test(text);
 const QUOTED = /(?<=^|[\t;,\n])"(?:[^"\t]|"")*"(?=[\t;,\n]|$)/g; // a cell in quotes, which may have lines of its own
 
 /** Of a spreadsheet (tabs), a file with semicolons or commas, a table with bars, or one with columns by blanks. Quotes
- * may surround a cell. A comma parts cells only where there is no tab and no semicolon. */
+ * may surround a cell. A comma parts cells only where there is no tab and no semicolon, and maybe in a table alone. */
 export function cellsOf(pasted) {
   const text = pasted.replace(/\r\n?/g, "\n").replace(QUOTED, (cell) => cell.replace(/(?<=.)\s*\n\s*/gs, " "));
   const lines = text.split("\n");
   while (lines.length > 1 && !lines.at(-1).trim()) lines.pop(); // empty lines, and no cell of the last one
   const by = hasBars(lines) ? "|" : text.includes("\t") ? "\t" : text.includes(";") ? ";" : hasCommaColumns(lines) ? ","
     : "\t";
-  const rows = lines.map((line) => splitLine(line, by).map((cell) => cell.trim()));
+  const isOf = by === "\t" && !text.includes(by) ? commaTable(lines) : () => false;
+  const rows = lines.map((line, k) => splitLine(line, isOf(k) ? "," : by).map((cell) => cell.trim()));
   if (by === "|") return rowsOfBars(lines, rows);
-  return (by === "\t" && !text.includes(by) && byPlaces(lines)) || rows;
+  const isOpen = by === "\t" && !text.includes(by) && !lines.some((_, k) => isOf(k));
+  return (isOpen && (byPlaces(lines) || byBlanks(lines))) || rows;
 }
 
 /** Whether a bar is at both ends of each line, or as many with blanks around within each. */
@@ -57,6 +59,24 @@ function hasCommaColumns(lines) {
   return lines.every((line) => line.includes(",") && !isOf(line)) && !lines.every(isWithin);
 }
 
+/** Which lines, by their places, are a table with commas below a title or above notes: the only ones without an empty
+ * line between, headings and rows of as many cells, three or more. */
+function commaTable(lines) {
+  const runs = [], isHead = (line) => !/\d|,\s|,,|,$/.test(line) && /\p{L}/u.test(line);
+  lines.forEach((line, k) => {
+    if (!line.includes(",")) return;
+    if (runs.at(-1)?.to === k - 1) runs.at(-1).to = k;
+    else runs.push({ from: k, to: k });
+  });
+  const isTable = ({ from, to }) => {
+    const [heads, ...below] = lines.slice(from, to + 1), wide = splitLine(heads, ",").length;
+    return wide > 2 && below.length > 0 && isHead(heads)
+      && below.every((line) => splitLine(line, ",").length === wide && /\d/.test(line));
+  };
+  const [found, other] = runs.filter(isTable), isWhole = found?.from === 0 && found.to === lines.length - 1;
+  return found && !other && !isWhole ? (k) => k >= found.from && k <= found.to : () => false;
+}
+
 /** Columns by blanks, as a PDF has them, parted where no line has a letter; lines without two blanks are texts of their
  * own. Null where there are no such. */
 function byPlaces(lines) {
@@ -67,6 +87,22 @@ function byPlaces(lines) {
   const cut = (line) => starts.map((start, c) => line.slice(c ? start : 0, starts[c + 1]).trim());
   const isCut = starts.length > 1 && table.every((line) => cut(line).every((cell) => !/\s{2}/.test(cell)));
   return isCut && lines.map((line) => (isTable(line) ? cut(line) : [line.trim()]));
+}
+
+const MOST_BLANKS = 60000; // letters of a table that blanks part
+const COUNTED = /^[-–−]?\d+(?:[.,]\d+)?$|^(?:[-–x]|inf)$/i, OF_THOUSANDS = /^\d{1,3}(?:\s\d{3})+$/;
+
+/** The cells of a table of numbers that single blanks part, as programs print it: as many in each line, three or more,
+ * below a line of as many words or none. Null for other lines, and where the blanks may part thousands. */
+function byBlanks(lines) {
+  const kept = lines.map((line) => line.trim()).filter(Boolean);
+  if (kept.length < 2 || kept.join("").length > MOST_BLANKS) return null;
+  const rows = kept.map((line) => line.split(/\s+/)), wide = rows[0].length, isNumbers = (row) => row.every((text) => {
+    return COUNTED.test(text);
+  });
+  const isHead = rows[0].every((text) => /^\p{L}[^\d,:;]*$/u.test(text)), below = rows.slice(isHead ? 1 : 0);
+  const isTable = wide > 2 && below.length > 1 && rows.every((row) => row.length === wide) && below.every(isNumbers);
+  return isTable && !kept.slice(-below.length).every((line) => OF_THOUSANDS.test(line)) ? rows : null;
 }
 
 function splitLine(line, by) {

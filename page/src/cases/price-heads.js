@@ -18,6 +18,14 @@ const RESERVE = words("reserves?|reservation"); // of a seller, unless it is sai
 const PRICE = new RegExp("price|preis|pri[xj]|precio|limit|valu|worth|wert|valeur|valor|amount|betrag|montant|\\p{Sc}|"
   + "bereitschaft", "iu");
 const NAME = words("names?|traders?|who|persons?|participants?|players?|nom|nombre|wer|händler");
+/** A word above or before what a buyer would pay, beside a name. */
+export const BUYS_AT = "bids?|offers?|gebote?|offres?|ofertas?|pujas?|bod|bud";
+/** A corner that says what stands before the rows: sellers, or what they sell. */
+export const GOODS = new RegExp("^(sellers?|items?|things?|lots?|objects?|goods?|products?|property|properties|plots?"
+  + "|parcels?|flats?|apartments?|houses?|rooms?|horses?|cows?|cars?|boats?|paintings?|verkäufer|parzellen?"
+  + "|grundstücke?|wohnung(en)?|haus|häuser|zimmer|pferde?|objekte?|ware|artikel|vendeurs?|lotes?|parcelles?"
+  + "|terrains?|appartements?|maisons?|chevaux|cheval|biens?|vendedor|parcelas?|pisos?|casas?|caballos?|verkoper"
+  + "|percelen|perceel|kavels?|woning(en)?|huis|huizen|paard(en)?|tomter?)$", "iu");
 const QUANTITY = words("quantit\\p{L}*|qty|units?|pieces?|pcs|size|volumes?|lots?|shares|menge|stück\\p{L}*|anzahl"
   + "|cantidad|aantal|how many|count|number( of \\p{L}+)?");
 const COUNT = /^(#|№|no|nr|num|id|ref|lp|pos|rank|rang)\.?$|\b(no|nr|id|ref)\.?$/iu;
@@ -29,8 +37,11 @@ const TAKES = /^(buys?|buying|needs?|needed|want(s|ing|ed)?|demand|takes?|sucht|
 const MOST_KINDS = 3;
 const WILL = "(?:will|would|can|could|wants? to|is ready to|is willing to)";
 const UNTIL = "(?:\\s(?:at|for|from|up|to|least|most|max|min|ab|für|zu|bis|à|pour|au|moins|plus|voor|vanaf|tot)\\.?)";
-const DEAL = new RegExp(`^(?!${WILL}\\s)(?<name>.{1,80}?),?\\s(?:(?:(?<sells>sells|verkauft|vend|verkoopt)|`
-  + `(?<buys>buys|kauft|ach[eè]te|koopt))${UNTIL}{0,3}|${WILL}\\s(?:(?<sell>sell)|(?<buy>buy))${UNTIL}{0,3})$`, "iu");
+const LEAST = "(?:wants?|takes?|asks?|accepts?|verlangt|demande|vraagt)"
+  + "(?=\\s(?:at least|mindestens|au moins|minstens)$)";
+const DEAL = new RegExp(`^(?!${WILL}\\s)(?<name>.{1,80}?),?\\s(?:(?:(?<sells>sells|verkauft|vend|verkoopt|${LEAST})|`
+  + `(?<buys>buys|kauft|ach[eè]te|koopt|pays|zahlt|paie|betaalt|bids|bietet))${UNTIL}{0,3}|`
+  + `${WILL}\\s(?:(?<sell>sell|${LEAST})|(?<buy>buy|pay|bid))${UNTIL}{0,3})$`, "iu");
 const MARKED = /^(b|s)[ .:-]?\d+$|[([](b|s)[)\]]$/i;
 
 /** What a heading says: whose price or name it is, and whether it is a price. `isSoft` gives way to a side that the
@@ -62,6 +73,9 @@ export function sideOfName(text) {
   return isBuyer === SELLS.test(text) ? undefined : isBuyer ? "buyers" : "sellers";
 }
 
+/** Whether a heading says that the numbers below count the rows. */
+export const isCount = (head) => COUNT.test(head);
+
 /** A column with its heading and its texts, and what it may be. */
 export function fitOf(head, texts) {
   const filled = texts.filter(Boolean), known = filled.filter((text) => !UNKNOWN.test(text));
@@ -82,7 +96,7 @@ export function fitOf(head, texts) {
     head, texts, isNumbers, isMoney, isName, ...kind, isSides, isRole, isNames, isBoth: kind.isBoth && !isRole,
     isFew: isWord && !isMoney && !isDeal && few <= MOST_KINDS && few < known.length,
     isQuantity: isNumbers && !kind.isPrice && QUANTITY.test(head),
-    isCount: isNumbers && !kind.isPrice && COUNT.test(head),
+    isCount: isNumbers && !kind.isPrice && isCount(head),
   };
 }
 

@@ -6,11 +6,13 @@ import { listed } from "../game/words.js";
 import { blockOf, isText, looseText } from "./block.js";
 import { UNKNOWN } from "./columns.js";
 import { leftText, unframed } from "./frames.js";
+import { saidItemsOf } from "./in-line.js";
 import { fitOf, isUnit, kindOf, nameOf, sideOf, sideOfName, sidesAmong, SIDES } from "./price-heads.js";
 import { answerFault } from "./saved-tables.js";
 import { unitsText, withoutUnits } from "./units.js";
 
 const MOST_LETTERS = 60; // of a line that says whose prices come below it
+const MOST_LISTED = 40, MOST_LINE = 2000; // rows and letters of lists that stand in a line each
 const ONE_EACH = "Each trader buys or sells one. Give each unit a row, as “Ann 1” and “Ann 2”, without this column.";
 const TWO_EACH = "Each trader has one price: a buyer the most to pay, or a seller the least to take.";
 const ONE_PRICE = "Several columns could be the limit price. Give one alone, or write “Price” above it.";
@@ -23,8 +25,9 @@ const isBlank = (row) => !row.some(Boolean);
 /** What a pasted block says of limit prices: {buyers, sellers, notes}, lists of {name, price}, of which one isn't there
  * if the block has only the other's; or {fault}; or {asked}, in words, whose prices the first of two lists are: then it
  * is read again with what was `said`, "buyers" or "sellers". Null if these are no limit prices, or somebody said so. */
-export function pricesOf(pasted, said) {
-  if (said === "none" || answerFault(pasted)) return null;
+export function pricesOf(given, said) {
+  if (said === "none" || answerFault(given)) return null;
+  const pasted = inLines(given);
   const found = inParts(pasted) ?? inColumns(pasted) ?? byBlankLine(pasted);
   if (!found || found.fault) return found;
   const { lists, notes } = found, money = moneyFault(lists);
@@ -93,6 +96,17 @@ function inParts(pasted) {
   if (fault || odd) return fault ? { fault } : null;
   const notes = [leftText(left.filter(Boolean)), ...block.notes].filter(Boolean);
   return withLists(lists.map(({ groups: [group], side, out }) => ({ ...group, side, out })), notes);
+}
+
+/** Rows with a row for each trader of a line as “Buyers: Ann 12, Bo 10”, where there is one of each side. */
+function inLines(rows) {
+  const own = rows.length > MOST_LISTED ? [] : rows.map((row) => {
+    const { items, said = "" } = saidItemsOf(row.filter(Boolean).join(", ").slice(0, MOST_LINE));
+    const side = sideLine([said]);
+    return items && said && side ? { side, some: [[said], ...items] } : null;
+  });
+  const isBoth = SIDES.every((side) => own.some((one) => one?.side === side));
+  return isBoth ? rows.flatMap((row, k) => own[k]?.some ?? [row]) : rows;
 }
 
 /** Of a line without a number that speaks of one side alone, which. */

@@ -81,16 +81,22 @@ export function limitsText({ limits, shown, rows }, { show }) {
   return side("Each buyer pays at most", buyers, 0) + side("Each seller takes at least", sellers, rows.length);
 }
 
-/** The price, if limit prices are known: of all who trade, or of each of a few. */
+/** The price, if limit prices are known, and that of the rule that all read: of all who trade, or of each of a few. */
 function priceLead(deals, { show, apart }) {
   if (!deals[0]?.least) return "";
-  const all = priced(deals), [{ low, high }, ...others] = all;
-  const isOne = others.every((deal) => deal.low.equals(low) && deal.high.equals(high));
+  const all = priced(deals), [{ low, high, fair, rule }, ...others] = all, isSame = (one, other) => {
+    return one === other || one.equals(other);
+  };
+  const isOne = others.every((deal) => isSame(deal.low, low) && isSame(deal.high, high) && isSame(deal.fair, fair));
+  const isOpen = Boolean(fair) && all.some((deal) => !isSame(deal.low, deal.high));
   const text = ({ low: one, high: other }) => {
     return one.equals(other) ? show(one) : `from ${apart(one, other).join(" to ")}`;
   };
-  if (isOne) return ` The price is ${text(all[0])}${others.length ? ", the same for all" : ""}.`;
-  return deals.length > MOST_PRICES ? "" : ` The prices: ${all.map((deal) => `${deal.who} ${text(deal)}`).join("; ")}.`;
+  const own = isOpen ? `, and by “${rule}” ${show(fair)}` : "";
+  if (isOne) return ` The price is ${text(all[0])}${own}${others.length ? ", the same for all" : ""}.`;
+  const each = (deal) => `${deal.who} ${text(deal)}${isOpen ? ` (${show(deal.fair)})` : ""}`;
+  const told = isOpen ? `, in brackets by “${rule}”` : "";
+  return deals.length > MOST_PRICES ? "" : ` The prices${told}: ${all.map(each).join("; ")}.`;
 }
 
 /** The first sentence, or none if nobody trades. */

@@ -46,7 +46,7 @@ function partsAsked({ users, isGroups }) {
 }
 
 /** What is asked of a number that can be read in two ways, where it has to be known, and the answers. */
-function markAsked({ doubt }) {
+export function markAsked({ doubt }) {
   const texts = [",", "."].map((mark) => quotedText(readNumber(doubt, mark).value, mark)).reverse();
   return [`“${withEscapes(doubt)}” can be read as ${texts[0]} or as ${texts[1]}. Which is meant?`,
     ...texts.map((text, k) => [text, { by: [".", ","][k] }])];

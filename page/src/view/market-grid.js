@@ -1,12 +1,15 @@
 // The grid of a market: what each buyer gains with each seller, or two lists of limit prices that say it.
 import { notNames } from "../cases/bare-names.js";
-import { gainTexts, marketOf, NO_MARKET } from "../cases/matrices.js";
-import { priceLineOf, takenOff, withoutLine } from "../cases/price-line.js";
+import { gainTexts, marketOf } from "../cases/matrices.js";
+import { priceLineOf } from "../cases/price-line.js";
 import { partOf, pricesOf } from "../cases/prices.js";
+import { withoutBids } from "../cases/trader-heads.js";
+import { wishesOf } from "../cases/wishes.js";
 import { withEscapes } from "../game/names.js";
 import { listed, plural } from "../game/words.js";
 import { cellInput, moveByKeys, pasteCells, removal } from "./cells.js";
-import { askAgain, askIn, button, cellOf, el, refill, unask } from "./dom.js";
+import { askAgain, button, cellOf, el, refill, unask } from "./dom.js";
+import { askLine, askOut, askWhose, askWishes } from "./market-asked.js";
 import { askNames } from "./names-asked.js";
 import { gainsPart, priceLists } from "./price-lists.js";
 
@@ -20,12 +23,19 @@ const ONE_SIDE = "Here are limit prices of one side alone. Paste those of the ot
 const AS_PRICES = "A pair gains the buyer’s most less the seller’s least, or nothing if that is negative.";
 
 const NO_LEAST = "Leave these prices out";
-const AS_MARKET = "Give the sellers’ names above, and each buyer’s name before its row of gains.";
+const AS_MARKET = "Give the sellers’ names above, and each buyer’s name before its row of gains; or limit prices in "
+  + "lines, such as “Ann buys at 12” and “Bo sells at 8”.";
 const NAMED = { things: "traders", numbers: "numbers" };
 
 /** The names of rows of one list, if they have no prices. */
 const namesIn = ({ rows = [] }) => {
   return rows.length > 0 && rows.every(({ name, price }) => name && !price) ? rows.map(({ name }) => name) : undefined;
+};
+
+/** Whether some trader has several prices of one side alone: these are of pairs. */
+const isTwice = (prices) => {
+  const [list, other] = [prices?.buyers, prices?.sellers].filter(Boolean);
+  return Boolean(list) && !other && new Set(list.map(({ name }) => name)).size < list.length;
 };
 
 class MarketGrid {
@@ -103,16 +113,20 @@ class MarketGrid {
   /** Takes limit prices or gains; `said` has what the user said: whose the first of two lists are (`side`), and whether
    * names are of the traders here (`isSame`), columns of words are left out (`isOut`), or a line of limit prices was
    * taken out of a table (`isLine`), of which something is `told`. */
-  pasted(cell, rows, said = {}) {
-    const { limits } = this.typed, line = said.isLine === undefined ? priceLineOf(rows) : null;
-    const use = (more, some = rows) => this.pasted(cell, some, { ...said, ...more });
+  pasted(cell, given, said = {}) {
+    const { rows, told: bids, isAbove } = withoutBids(given), { limits } = this.typed;
+    const line = said.isLine === undefined ? priceLineOf(rows) : null;
+    const use = (more, some = given) => this.pasted(cell, some, { ...said, ...more });
     unask(this.element);
-    this.element.again = (grid) => grid.pasted(cell, rows, said);
-    if (line) return this.askLine(line, use);
-    const prices = said.isLine ? null : pricesOf(rows, said.side);
-    if (prices?.asked) return this.askWhose(prices.asked, (side) => use({ side }));
+    this.element.again = (grid) => grid.pasted(cell, given, said);
+    if (line) return askLine(this, { ...line, bids }, use);
+    const wishes = said.isLine === undefined ? wishesOf(rows) : null;
+    if (wishes) return askWishes(this, wishes, use);
+    const found = marketOf(rows, isAbove), all = said.isLine ? null : pricesOf(rows, said.side);
+    const prices = found.isPairs && isTwice(all) ? null : all;
+    if (prices?.asked) return askWhose(this, prices.asked, (side) => use({ side }));
     if (prices) return this.takePrices(prices);
-    const found = marketOf(rows), isGains = !limits || (found.buyers && found.sellers && found.values);
+    const isGains = !limits || (found.buyers && found.sellers && found.values);
     const part = isGains ? null : partOf(cell, rows), names = part ? namesIn(part) : found.names;
     const odd = names && notNames(names, AS_MARKET);
     if (odd) return this.take(odd);
@@ -121,10 +135,10 @@ class MarketGrid {
     }
     if (names && said.isSame === false) return this.takeNames(cell, names);
     if (part) return this.takePart(part);
-    if (found.words && !said.isOut) return this.askOut(found.words, () => use({ isOut: true }));
+    if (found.words && !said.isOut) return askOut(this, found.words, () => use({ isOut: true }));
     const fault = found.fault ?? this.faultOf(cell, found), kept = !fault && this.keptText(cell, found);
     const told = names && `Taken as the names of ${plural(names.length, "trader")}.`;
-    return this.take(fault, [...found.notes ?? [], said.told, told, kept], () => {
+    return this.take(fault, [bids, ...found.notes ?? [], said.told, told, kept], () => {
       delete this.typed.limits;
       this.fill(cell, found);
       this.keepLeast(said.least);
@@ -179,39 +193,6 @@ class MarketGrid {
     };
     return isKnown && [`The sellers take at least ${listed(all)}. With a seller’s part that is the price. `,
       button(NO_LEAST, drop, { class: "quiet" })];
-  }
-
-  /** Asks what the numbers beside a line of limit prices are. */
-  askLine(line, use) {
-    const name = `“${withEscapes(line.name)}”`, out = withoutLine(line), isLine = true;
-    const way = (text, take) => [button(text, take, { class: "quiet" }), " "];
-    const takeOff = () => {
-      const { rows, least, fault } = takenOff(line, this.mark());
-      if (fault) return this.take(fault);
-      return use({ isLine, least, told: `A pair gains its number less “${line.name}”, or nothing.` }, rows);
-    };
-    const leave = () => use({ isLine, told: `“${line.name}” was left out.` }, out);
-    const [looks, ...ways] = line.side === "sellers"
-      ? ["the least that sellers take. What are the other numbers?",
-        way(`What a buyer would pay: take ${name} off`, takeOff), way(`What a pair gains: leave ${name} out`, leave)]
-      : ["the most that a buyer can pay, and there is no place for it here.", way(`Leave ${name} out`, leave)];
-    askIn(this.element, this.said, [`Nothing was taken yet. ${name} looks like ${looks} `, ways,
-      way(`${name} is no such price`, () => use({ isLine: false }))]);
-  }
-
-  askWhose(list, use) {
-    const way = (text, side) => button(text, () => use(side), { class: "quiet" });
-    askIn(this.element, this.said, [`Nothing was taken yet. Whose limit prices are those of ${list}? `,
-      way("Buyers: the most they’d pay", "buyers"), " ", way("Sellers: the least they’d take", "sellers"), " ",
-      way("They are no limit prices", "none")]);
-  }
-
-  /** Asks whether a table with columns of words has what each pair gains. */
-  askOut(words, leave) {
-    const all = listed(words), have = words.length > 1 ? "have" : "has";
-    askIn(this.element, this.said, [`Nothing was taken yet. ${all} ${have} no numbers. Are the other columns what each `
-      + "buyer gains with each seller? ", button(`Yes: leave ${all} out`, leave, { class: "quiet" }), " ",
-    button("No, this is something else", () => this.take(NO_MARKET), { class: "quiet" })]);
   }
 
   /** Limit prices of both sides are the case; those of one take the place of its list. */
