@@ -148,6 +148,17 @@ export const untaken = [
     expect("its last player", await page.run(`document.querySelector("[data-cell='names.1']").value`), "Bo");
   }],
 
+  ["gains that are pasted among costs go to their case by a button", "costs", async (page, expect) => {
+    await page.paste('[data-cell="names.0"]', "Who\tSavings\nTom\t0\nUli\t0\nTom + Uli\t9");
+    await told(page, "#case", /“Savings” says gains, and this case is of costs/);
+    await page.click("Gains: take them to “Gains of each group”");
+    await told(page, "#case", /Read: 2 players, 3 groups\./);
+    expect("there", await page.text("#case-title"), "Gains of each group");
+    await page.run("location.hash = '#costs'");
+    await settle(page);
+    expect("not where it was", await page.run(`document.querySelector("[data-cell='names.0']").value`), "Sales");
+  }],
+
   ["a division that is refused is no step, nor is the same table once more", "estate", async (page, expect) => {
     await page.paste('[data-cell="proposal.0"]', "Zoe 4\nXaver 5");
     await told(page, "#answer .own-said", /No row is called “Zoe”\..* Nothing was taken\./);

@@ -2,6 +2,7 @@
 import { readNumber } from "../exact/decimals.js";
 import { withEscapes } from "../game/names.js";
 import { listed } from "../game/words.js";
+import { isOtherKind } from "./other-case.js";
 import { headingsOf } from "./pasting.js";
 import { amountsBelow } from "./units.js";
 
@@ -12,23 +13,26 @@ const WORTH = new RegExp("cost|gain|worth|value|saving|amount|price|profit|koste
   + "|co[uû]t|valeur|montant|\\bv ?\\(s\\)|\\b(eur|usd|gbp|chf)\\b|\\p{Sc}", "iu");
 
 const PER = /\b(?:per|je|pro|par|por|unit|each)\b|einzel|stück|unitaire|\/ ?\p{L}/iu; // a price for each
-const isWorth = (heading = "") => WORTH.test(heading) && !PER.test(heading);
+const isWorth = (heading = "", isCost = undefined) => WORTH.test(heading) && !PER.test(heading)
+  && (isCost === undefined || !isOtherKind(heading, isCost));
 
-/** Rows of a group and its number, of such as may have headings and further columns: {rows, lines, told}. Of several
- * columns of numbers the one `column` is taken; {columns} with their titles if nobody said which; {fault} where no
+/** Rows of a group and its number, of such as may have headings and further columns: {rows, lines, told, title}, this
+ * that of the numbers. Of several columns of numbers the one `column` is taken; {columns} with their titles if nobody
+ * said which; {fault} where no
  * headings say what the others are. `lines` are the numbers of the lines of the text. */
-export function pairsOf(given, allLines, { mark, column, cells }) {
+export function pairsOf(given, allLines, { mark, column, cells, isCost }) {
   const { rows: all, told: joined } = asOneColumn(given, mark);
   const headings = headingsOf(all, 1, mark) ?? yearsOf(all), skip = headings ? 1 : 0, rows = all.slice(skip);
   const lines = allLines.slice(skip), long = rows.findIndex((row) => row.slice(2).some(Boolean));
   const told = headings ? headingText((cells[allLines[0] - 1] ?? headings).filter(Boolean).join("; ")) + joined : "";
-  if (long < 0) return { rows, lines, told, amounts: amountsBelow(headings?.[1]) };
+  if (long < 0) return { rows, lines, told, title: headings?.[1], amounts: amountsBelow(headings?.[1]) };
   const isNumber = (text) => Boolean(text) && !readNumber(text, mark).fault;
   const shown = withEscapes(rows[long].join("; ")).slice(0, 60), line = `Line ${lines[long]}: `;
   const wide = all.reduce((most, { length }) => Math.max(most, length), 0);
   const others = Array.from({ length: wide - 1 }, (_, k) => k + 1);
   const numeric = others.filter((c) => rows.some((row) => isNumber(row[c]))), meant = (c) => isWorth(headings?.[c]);
-  const several = numeric.filter(meant).length === 1 ? numeric.filter(meant) : numeric, at = column ?? several[0];
+  const fit = [meant, (c) => isWorth(headings?.[c], Boolean(isCost))].map((is) => numeric.filter(is));
+  const several = fit.find(({ length }) => length === 1) ?? numeric, at = column ?? several[0];
   const isNamed = rows.every(([group]) => !isNumber(group)), isPlain = others.every((c) => numeric.includes(c));
   if (several.length > 1 && column === undefined && isNamed && (headings || isPlain)) {
     const textOf = (c) => headings?.[c] || `${rows.slice(0, 2).map((row) => row[c]).join(", ")} …`;
@@ -43,8 +47,8 @@ export function pairsOf(given, allLines, { mark, column, cells }) {
   }
   const out = others.filter((c) => c !== at).map((c) => withEscapes(headings?.[c] ?? rows[0][c] ?? ""));
   const left = out.map((text) => ` “${text}”${headings ? "" : " …"} was left out.`).join("");
-  const amounts = amountsBelow(headings?.[at]);
-  return { rows: rows.map((row) => [row[0], row[at] ?? ""]), lines, told: told + left, amounts };
+  const title = headings?.[at], amounts = amountsBelow(title);
+  return { rows: rows.map((row) => [row[0], row[at] ?? ""]), lines, told: told + left, title, amounts };
 }
 
 /** Rows with one column for those that have one number between them in each row, as "Alone" and "Together". */

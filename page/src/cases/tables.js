@@ -16,6 +16,7 @@ import { fromPairs } from "./pair-squares.js";
 import { UNKNOWN } from "./columns.js";
 import { leftText, unframed } from "./frames.js";
 import { cellsOf } from "./pasting.js";
+import { otherCase, TABLES, takenTo } from "./other-case.js";
 import { Reading } from "./reading.js";
 import { answerFault } from "./saved-tables.js";
 import { areAllGroups } from "./short-groups.js";
@@ -102,7 +103,7 @@ function tableCase(settings) {
 export const costs = tableCase({
   id: "costs",
   classes: ["cost-table"],
-  title: "Costs of each group",
+  title: TABLES.costs,
   teaser: "Partners share a cost. What would each group spend without the others?",
   what: "The cost",
   isCost: true,
@@ -113,7 +114,7 @@ export const costs = tableCase({
 export const gains = tableCase({
   id: "gains",
   classes: ["table"],
-  title: "Gains of each group",
+  title: TABLES.gains,
   teaser: "Partners earn or save together. What could each group do without the others?",
   what: "The gain",
   help: "What could each group gain by itself?",
@@ -169,13 +170,14 @@ export function tableOf(text, names = [], order = "size", mark = ".", said = {})
   const lineOf = (k) => book?.lines[block.lines[k] - 1] ?? block.lines[k];
   const places = new Map(block.rows.map((row, k) => [row, lineOf(k)])), all = kept.map((row) => places.get(row));
   const lines = marked.from?.map((k) => all[k]) ?? all;
-  const isVector = plain.state || plain.isAll || plain.many, more = { mark, cells, ...said };
+  const isVector = plain.state || plain.isAll || plain.many;
+  const more = { mark, cells, titles: (book?.left ?? framed.left).slice(0, 1), ...said };
   const read = isVector ? { ...plain, fault: plain.fault ?? plain.many } : listOf(bare, lines, more);
   return read.state ? { ...read, remark: told + read.remark } : read;
 }
 
 /** Whether one line may be of several groups, and nothing for one cell. */
-export const hasGroups = (text) => isSentence(text) || textbookRows(text) !== null;
+export const hasGroups = ([[text]]) => isSentence(text) || textbookRows(text) !== null;
 
 /** Why a line of which nobody can part the name from the number isn't taken. */
 const looseFault = (line) => looseText(line) + (/\d/.test(line) && !isSentence(line) ? "" : ADVICE);
@@ -206,7 +208,7 @@ const isRefused = ({ fault, way, ways }) => Boolean(fault) && !way && !ways;
  * list, where `others()` reads it. */
 function partsRead(cells, mark, { isCost, isParts, isGroups, column, by }, others) {
   const elsewhere = isCost ? undefined : partsElsewhere(cells);
-  if (!isCost) return elsewhere && { fault: elsewhere };
+  if (!isCost) return elsewhere && { fault: elsewhere, way: takenTo("costs") };
   const found = isParts === false ? null : usedParts(cells, { mark, column });
   if (!found) return isParts === undefined && isLedger(cells) && isRefused(others()) ? { fault: LEDGER } : undefined;
   const groups = isGroups || found.isGroups ? groupsOf(found, { mark, cells, isCost }) : undefined;
@@ -295,10 +297,12 @@ function groupsFirst(rows) {
 }
 
 /** A table of rows of a group and its number; `allLines` are the numbers of their lines. */
-function listOf(given, allLines, { mark, roles, column, cells, ...said }) {
-  const { rows, lines, told, fault, columns, amounts } = pairsOf(given, allLines, { mark, column, cells });
-  const lineOf = (k) => `Line ${lines[k]}: `;
+function listOf(given, allLines, { mark, roles, column, cells, titles = [], ...said }) {
+  const pairs = pairsOf(given, allLines, { mark, column, cells, isCost: said.isCost });
+  const { rows, lines, told, fault, columns, amounts } = pairs, lineOf = (k) => `Line ${lines[k]}: `;
   if (fault || columns) return { fault, columns };
+  const other = said.isHere ? undefined : otherCase([pairs.title, ...titles], said.isCost);
+  if (other) return other;
   if (!rows.some(([, number = ""]) => /\d/.test(number))) {
     const texts = rows.map(([group, number]) => withEscapes((number || group).slice(0, 40)));
     const k = Math.max(0, texts.findIndex((text) => readNumber(text).fault));

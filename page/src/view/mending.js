@@ -27,9 +27,8 @@ export function mendIn(grid, kind, { steps, onUndo, onCase }) {
     const isFit = rows.length <= MOST_ROWS && widthOf(rows) <= MOST_COLUMNS;
     const read = (text, id) => {
       if (state === "taken") onUndo(false); // it was read as something else
-      if (id) dropText(grid, true);
-      if (id) onCase(id);
-      takeText(text, id ? undefined : kept.cell);
+      if (id) readIn(id, text, { grid, onCase });
+      else takeText(text, kept.cell);
     };
     const quoting = state === "refused" ? said.textContent : "";
     const shown = state && isFit && rows.flat().some(Boolean) && new Mending(rows, kind, quoting, read).element;
@@ -46,6 +45,13 @@ export function mendIn(grid, kind, { steps, onUndo, onCase }) {
   }));
   show();
   return show;
+}
+
+/** Has another case take a text that isn’t taken in this one. */
+export function readIn(id, text, { grid, onCase }) {
+  dropText(grid, true);
+  onCase(id);
+  takeText(text);
 }
 
 /** Has the case take a text as if it were pasted into a cell: the first one for a table, if none is said, or if that is

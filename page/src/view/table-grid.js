@@ -11,6 +11,7 @@ import { askAgain, askIn, button, cellOf, copy, el, refill, unask } from "./dom.
 import { numbersIn } from "../cases/vectors.js";
 import { plural } from "../game/words.js";
 import { listAsked, namedGroups, placeOf } from "./lists-asked.js";
+import { readIn } from "./mending.js";
 import { askNames } from "./names-asked.js";
 import { pasteBox } from "./paste-box.js";
 import { showWays } from "./ways-to-fill.js";
@@ -20,8 +21,7 @@ const MOST_WHOLE = 6; // players whose groups are all shown
 const [PAGE, LONG] = [42, 30]; // groups of more players that are shown at a time; letters that need the whole width
 const ASKED = "First say how the numbers are read: it is asked below.";
 const UNSAID = { opened: undefined, isUnnamed: false, filled: undefined, coarse: undefined, isMarked: undefined };
-const WAIT = 150; // milliseconds between the last key and filling anew
-const REFILL = 60000; // the question waits for what is filled anew
+const [WAIT, REFILL] = [150, 60000]; // milliseconds: from the last key to filling anew, for which the question waits
 const SEVERAL = "A cell takes one number, and these lines have several, so nothing was pasted. Give a column of "
   + "numbers, or lines of a group and its number.";
 const OTHER = "These aren’t as many numbers as groups from this cell on. Nothing was taken. Paste those of all groups "
@@ -34,8 +34,9 @@ export function tableGrid(kind, typed, settings) {
 }
 
 class TableGrid {
-  constructor(kind, typed, { onChange, readList, readCells, help, mark, remember }) {
-    Object.assign(this, { kind, typed, onChange, readList, help, mark, remember });
+  constructor(kind, typed, { readCells, ...settings }) {
+    const { onChange, onCase, readList, help, mark, remember } = settings;
+    Object.assign(this, { kind, typed, onChange, onCase, readList, help, mark, remember });
     const [players, pages, list, fills, tools] = ["players", "pages", "groups", "fills", "tools"].map((name) => {
       return el("div", { class: name });
     });
@@ -49,9 +50,8 @@ class TableGrid {
     this.element.addEventListener("show-cell", ({ detail }) => this.showCell(detail));
     removeByKey(players);
     moveByKeys(list, (cell, step) => `numbers.${this.order[this.placeOf(cell) + step]}`);
-    const isSeveral = ([[text]]) => hasGroups(text);
-    pasteCells(list, (cell, rows, text) => this.paste(cell, rows, text), readCells, isSeveral);
-    pasteCells(players, (cell, rows, text) => this.pasteNames(cell, rows, text), readCells, isSeveral);
+    pasteCells(list, (cell, rows, text) => this.paste(cell, rows, text), readCells, hasGroups);
+    pasteCells(players, (cell, rows, text) => this.pasteNames(cell, rows, text), readCells, hasGroups);
     this.show();
     if (!askAgain(this, typed)) this.tellFilled();
   }
@@ -356,7 +356,8 @@ class TableGrid {
     const what = { text, names: this.ownNames(), order, said: { ...said, isCost: this.kind.isCost } };
     const found = await this.readList(what), { state, told, isOdd } = found;
     this.element.again = (grid) => grid.takeList(text, order, null, said);
-    const use = (more) => () => this.takeList(text, order, close, { ...said, ...more });
+    const use = (more) => () => (more.goTo ? readIn(more.goTo, text, { grid: this.element, onCase: this.onCase })
+      : this.takeList(text, order, close, { ...said, ...more }));
     const asks = listAsked(found, this.kind, said);
     if (asks) {
       const [asked, ...answers] = asks, way = ([title, more]) => [button(title, use(more), { class: "quiet" }), " "];

@@ -31,6 +31,13 @@ export const GROUPS = [
   ["gains", "A 1\nB 2\nC 3\nAB 8\nABC 20", "A|B|C|1|2|8|3|||20", /“AB”, “ABC” are groups/, "Yes, groups"],
   ["gains", "A 1\nB 2\nC 3\nAB 8", /^A\|B\|C\|AB\|1\|2\|\|3\|\|\|\|8/, /4 players/, "No, one player"],
   ["gains", "AB 8\nAC 9\nBC 10\nABC 20", "A|B|C|0|0|8|0|9|10|20", /are groups/, "Each of them gains 0 alone"],
+  // gains in the case of costs, and costs in that of gains
+  ["costs", "Who\tSavings\nA\t0\nB\t0\nA+B\t9", null, /“Savings” says gains, .* to “Gains of each group” Costs: take/],
+  ["costs", "Who\tSavings\nA\t0\nB\t0\nA+B\t9", "A|B|0|0|9", /3 groups/, "Costs: take them here"],
+  ["gains", "Offers for a van, 2027\nA\t5\nB\t5\nA+B\t9", null, /“Offers for a van, 2027” says costs, and this case/],
+  ["gains", "Who\tCost savings\nA\t0\nB\t0\nA+B\t9", "A|B|0|0|9"],
+  ["costs", "Who\tKosten\tErsparnis\nA\t5\t–\nB\t6\t–\nA+B\t9\t2", "A|B|5|6|9", /“Ersparnis” was left out/],
+  ["gains", PARTS, null, /makes a table .* Take it to “Costs of each group”/],
   // worths as textbooks write them
   ["costs", "c(∅) = 0, c(1) = 1,5, c(2) = 2,5 and c(12) = 3,5.", "1|2|1,5|2,5|3,5", /“12” is a group/],
   ["gains", "v(A) = v(B) = v(C) = 0; v(AB) = 8; v(AC) = 9; v(BC) = 10; v(ABC) = 20", "A|B|C|0|0|8|0|9|10|20"],
