@@ -42,6 +42,10 @@ const answers = [
     await page.choose("measure", "per-head");
     await settle(page);
     expect("beside the heading", await page.run("document.querySelector('#answer-measure select').value"), "per-head");
+    await page.click("If one leaves");
+    await page.choose("leaves", "Sales");
+    const said = /^[^“]*“Fairest to those who gain least, per head”: Sales pays[\s\S]*“Fairest to [\w ]+”: Sales pays/;
+    await told(page, ".leaves .found", said);
   }],
   ["face: the parts stand there once", "costs", async (page, expect) => {
     await page.run("for (const part of document.querySelectorAll('.part')) part.open = false");

@@ -97,6 +97,48 @@ const narrow = CASES.filter((id) => id !== "votes").map((id) => [`phone width: n
     expect("letters below 12 pixels", await page.run(small), "");
   }, { wide: 390, high: 844 }]);
 
+// ---- Numbers as people have them
+
+const pasted = async (page, cell, rows) => {
+  await page.paste(`[data-cell="${cell}"]`, rows.map((row) => row.join("\t")).join("\n"));
+  await page.until("[...document.querySelectorAll('#case input')].some(({ value }) => /EUR/.test(value))");
+  await settle(page);
+};
+const LINKS = [["From", "To", "Cost"], ...["Source – Alby", "Source – Brook", "Source – Carle", "Source – Dent",
+  "Alby – Brook", "Alby – Carle", "Alby – Dent", "Brook – Carle", "Brook – Dent", "Carle – Dent"].map((link, k) => {
+  return [...link.split(" – "), `${[13, 18, 24, 14, 11, 13, 18, 16, 12, 15][k]},250.00 EUR`];
+})];
+const USERS = [["User", "Type", "Cost", "Uses"], ["North", "B1", "24,000.00 EUR", 3],
+  ["South", "C2", "118,500.00 EUR", 2]];
+const SUMS = ["A", "B", "C", "A+B", "A+C", "B+C", "A+B+C"].map((group) => [group, `${20 + group.length},000.00 EUR`]);
+const CUT = "(one) => one.scrollWidth > one.clientWidth + 1";
+const cutCells = (page) => page.run(`[...document.querySelectorAll("#case input")].filter(${CUT})
+  .map(({ value }) => value).join("; ")`);
+
+const amounts = [["network", "names.0", LINKS], ["runway", "rows.0.name", USERS], ["costs", "numbers.1", SUMS]];
+const whole = amounts.map(([id, cell, rows]) => [`nothing is cut off of amounts with cents and a unit: ${id}`, id,
+  async (page, expect) => {
+    await pasted(page, cell, rows);
+    expect("in the cells", await cutCells(page), "");
+    await page.click("equal parts");
+    await settle(page);
+    const tables = await page.run(`[...document.querySelectorAll("#answer-body .scroll")].filter(${CUT}).length`);
+    expect("of the answer", tables, 0);
+  }]);
+
+/** Letters of the sums are as those above them, so that they don't touch; whole sentences stand below the table. */
+async function belowOnPhone(page, expect) {
+  await page.type("proposal.0", "12");
+  await page.type("proposal.1", "0");
+  await page.type("proposal.2", "0");
+  await settle(page);
+  await told(page, "#answer .leaving", /Your proposal: Sales could leave, by 4\.00/);
+  expect("in the cell", await page.text(".shares .verdict .proposed"), "Yes");
+  const sizes = "[...new Set([...document.querySelectorAll('.shares :is(tbody, .sum) td:not(.main)')].map((one) => "
+    + "getComputedStyle(one).fontSize))].join()";
+  expect("size of letters", await page.run(sizes), "14px");
+}
+
 const papers = CASES.map((id) => [`one page on paper: ${id}`, id, async (page, expect) => {
   // paper doesn't wait: all has to stand there as soon as the browser begins to print
   const begun = "dispatchEvent(new Event('beforeprint')); document.getElementById('sheet').textContent";
@@ -234,7 +276,8 @@ async function savedPicture(page, expect) {
 }
 
 export const looks = [
-  ...phones, ...narrow, ...papers,
+  ...phones, ...narrow, ...papers, ...whole,
+  ["phone width: who could leave stands below the table", "costs", belowOnPhone, { wide: 390, high: 844 }],
   ["64 claims on one page", "estate", longPaper],
   ["one page on paper: eight with other columns", "gains", withColumns],
   ["one page on paper: what takes more is told before", "runway", whatDoesNotFit],

@@ -9,6 +9,7 @@ import { labelOfCell } from "./cell-names.js";
 import { pictureButtons } from "./save-picture.js";
 import { button, cellOf, copy, el, refill } from "./dom.js";
 import { evidenceParts } from "./evidence.js";
+import { fitAcross } from "./fit-across.js";
 import { countedText, filledLines, filledText, isFilled } from "./filled.js";
 import { otherAmounts } from "./other-amounts.js";
 import { ownDivision } from "./own-division.js";
@@ -95,6 +96,12 @@ export class AnswerView {
       links: () => this.showLinks(), agreed: () => this.showAgreed(),
     };
     for (const part of result.refusal ? ["settings", "body"] : some ?? Object.keys(parts)) parts[part]();
+    this.fit();
+  }
+
+  /** Tables as wide as their place is now, which has no width while another view is shown. */
+  fit() {
+    for (const id of ["case-body", "answer-body"]) fitAcross(at(id));
   }
 
   showSettings(result) {
@@ -228,6 +235,7 @@ export class AnswerView {
     refill(at("answer-measure"));
     const view = this.viewOf(this.session.result);
     refill(at("answer-body"), beyond.game ? beyondPower(beyond, view) : beyondParts(beyond, view));
+    this.fit();
     this.showPaper();
     this.showAgreed();
     this.showLinks();
@@ -304,6 +312,7 @@ export class AnswerView {
     return checkbox("exact", "Exact fractions, and the field’s names", this.isExact, (isOn) => {
       this.isExact = isOn;
       at("answer").classList.toggle("exact-on", isOn);
+      this.fit();
     });
   }
 

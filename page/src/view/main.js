@@ -35,6 +35,7 @@ const session = new Session({
     view.showFiles(panel.made);
     view.showWaiting(session.reading, panel);
     verify.beside(session.reading.text ?? null);
+    view.fit();
   },
   answer: (came) => {
     view.show(came);
@@ -165,6 +166,7 @@ function show(name) {
   if (name === "verify") verify.fromCase(isOwn ? { ...reading, title: session.kind.title, isTyped } : null);
   if (kind && session.kind !== kind) openCase(kind, kept.get(kind)?.typed ?? kind.example(), kept.get(kind));
   else showView(name);
+  view.fit();
 }
 
 // ---- What happens to the page as a whole

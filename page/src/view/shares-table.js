@@ -64,12 +64,15 @@ function roomOf({ rows, proposal, today }) {
   return `--name: ${Math.min(MOST_NAME, longest(rows.map(({ label }) => label)))}ch; --own-digits: ${own}`;
 }
 
-/** By which columns a group could do better alone, a line each. */
-function leavingLines({ game, columns, format }) {
-  const blocked = columns.filter(({ verdict }) => verdict?.group);
-  return blocked.length > 0 && el("ul", { class: "leaving screen" }, blocked.map(({ title, note, verdict }) => {
-    return el("li", {}, el("b", {}, [title, note].filter(Boolean).join(" ")), ": ", leavingText(game, verdict, format));
-  }));
+/** By which columns a group could do better alone, a line each; the table itself says it beside a proposal, where its
+ * cells have room for a sentence. */
+function leavingLines({ game, columns, format, proposal: { verdict }, isNarrow }) {
+  const own = isNarrow ? [{ title: "Your proposal", verdict }] : [];
+  const blocked = [...columns, ...own].filter((one) => one.verdict?.group);
+  const lines = blocked.map(({ title, note, verdict: found }) => {
+    return el("li", {}, el("b", {}, [title, note].filter(Boolean).join(" ")), ": ", leavingText(game, found, format));
+  });
+  return lines.length > 0 && el("ul", { class: `leaving screen ${isNarrow ? "narrow" : ""}` }, lines);
 }
 
 function isMoved(points, rows, format) {
@@ -238,7 +241,7 @@ function footOf(view) {
       proposal.shares ? told(own) : "–"), against && !isLong && el("td"),
   ]);
   return el("tfoot", {}, sum,
-    isJudged && asked("Could a group do better alone?", (one) => verdictText(game, one.verdict, format), proposal));
+    isJudged && asked("Could a group do better alone?", (one) => verdictText(game, one.verdict, view), proposal));
 }
 
 /** Whether one player has a stronger hold on another, a line for each division; null if nothing is known of it. */
@@ -272,13 +275,13 @@ export function contextOf(game, rows, { show, column }) {
   return of(game.own, game.costs ? "Costs alone" : "Worth alone");
 }
 
-function verdictText(game, verdict, { show, by }) {
+function verdictText(game, verdict, { format, isNarrow }) {
   if (verdict === undefined) return "…";
   if (verdict === null) return "not said";
   if (verdict.refusal) return verdict.refusal.sentence;
   if (verdict.isCore) return el("span", { class: "good" }, "No");
   if (verdict.sum) return el("span", { class: "bad" }, "doesn’t add up");
-  return leavingText(game, verdict, { show, by });
+  return isNarrow ? el("span", { class: "bad" }, "Yes") : leavingText(game, verdict, format);
 }
 
 /** Who could do better alone, and by how much. */

@@ -12,9 +12,9 @@ const HINT = "By the one way a group costs its cheapest split into groups that h
 
 /** What is asked of the two ways to fill; null for a case in which nothing was filled. */
 export function fillsAsked({ kind, typed, result }, mark) {
-  const { filled, how } = typed;
-  if (!kind.isCost || !filled?.length || result.game.n > MOST_PLAYERS) return null;
-  return { id: kind.id, typed: packed(typed), mark, filled, how };
+  const { filled, how } = typed, { n, perHead } = result.game ?? {};
+  if (!kind.isCost || !filled?.length || n > MOST_PLAYERS) return null;
+  return { id: kind.id, typed: packed(typed), mark, filled, how, perHead };
 }
 
 /** How much the shares of those who stay depend on it, in a sentence. */

@@ -38,12 +38,14 @@ export function isStable(side) {
   return answer("core", writeJson({ game: treeOf(side) })).status === 0;
 }
 
-/** By each rule the shares of both games, and which group does better by itself. */
-export function byEachRule(sides) {
+/** By each rule the shares of both games, and which group does better by itself; first by that of an answer per head,
+ * where it `isPerHead`. */
+export function byEachRule(sides, isPerHead = false) {
   const isPrenucleolus = sides.some((side) => solutionOf(treeOf(side)).key === "prenucleolus");
-  const rules = [[isPrenucleolus ? "prenucleolus" : "nucleolus"], ["shapley"]];
+  const own = isPrenucleolus ? "prenucleolus" : "nucleolus", rules = [[own], ["shapley"]];
   const isSmall = sides.every(({ n }) => n <= MOST_PER_HEAD);
-  if (isSmall) rules.push(["prenucleolus", true]);
+  if (isPerHead) rules.unshift([own, true]);
+  else if (isSmall) rules.push(["prenucleolus", true]);
   return rules.map(([key, perHead = false]) => {
     const measure = perHead ? { excess: "per-head" } : {};
     const [before, after] = sides.map((side) => solutionOf({ ...treeOf(side), ...measure }, key).shares);
@@ -107,7 +109,7 @@ function networkWithout({ mark, ...typed }, who) {
 }
 
 function leaving(game, amounts, { who, stay, small }) {
-  const rules = byEachRule([sideOf(game, amounts), small]).map(({ before, ...rule }) => {
+  const rules = byEachRule([sideOf(game, amounts), small], game.perHead).map(({ before, ...rule }) => {
     return { ...rule, all: before, before: stay.map((i) => before[i]) };
   });
   const rest = String(small.amounts.at(-1));
@@ -124,9 +126,9 @@ function gamesByFills({ id, typed, mark, filled, how = "split" }) {
 }
 
 /** The shares by each rule of both of these games; of those who stay alone where `who` leave. */
-export function compareFills({ who, ...what }) {
+export function compareFills({ who, perHead, ...what }) {
   const games = gamesByFills(what), sides = games?.map((game) => {
     return who ? restOf(game, without(game.n, who)) : sideOf(game, amountsOf(game));
   });
-  return games && { how: what.how ?? "split", rules: byEachRule(sides) };
+  return games && { how: what.how ?? "split", rules: byEachRule(sides, perHead) };
 }
