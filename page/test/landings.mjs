@@ -244,7 +244,8 @@ const beyond = [
     const seen = "[...document.querySelectorAll('.beyond .each')].filter((one) => one.checkVisibility()).length";
     expect("of each, by each rule", await page.run(seen), 6);
     expect("beside what is folded", await page.text(".beyond tbody"), /9555 × 7.77\s+exact/);
-    expect("in the file", await saved(page, "Save the table (CSV)"), /\r\nOne use of,needs,.*\r\nFokker,65899.00,7.99,6.67/);
+    const file = await saved(page, "Save the table (CSV)");
+    expect("in the file", file, /\r\nOne use of,needs,.*\r\nFokker,65899.00,7.99,6.67/);
     await page.click("On paper");
     const both = /Who paysUses.*Fairest to those.*By what each adds.*How it was found/;
     expect("both on paper", await sheetOf(page), both);

@@ -107,7 +107,8 @@ class Fit {
   words() {
     const isType = ({ optional }) => optional, [column] = this.free(({ wide }) => wide);
     const words = this.open(({ isNumbers, isWords }) => isWords && !isNumbers);
-    const at = this.open(({ isNumbers }) => isNumbers);
+    const hasTypes = this.targets.some((own) => own && isType(own)), isNot = ({ head = "" }) => column?.not?.test(head);
+    const at = this.open((one) => one.isNumbers && !(hasTypes && isNot(one)));
     const isMore = at.length > this.free(({ number }) => number).length, isRemark = isMore && !words[0]?.isFull;
     const first = at.find(({ isCount }) => !isCount) ?? at[0];
     if (column && this.headings && isRemark && words.length === 1) return { column, at: [first, ...words] };
@@ -115,7 +116,7 @@ class Fit {
     this.give(column ? words.slice(0, 1) : [], [column]);
     this.give(this.headings ? [] : words.filter((one) => this.isOpen(one) && one.isFull), this.free(isType));
     if (!column || words.length || !at.length) return null;
-    const isClear = this.headings && at.length === 1 && !this.free(({ number }) => number).length;
+    const isClear = this.headings && at.length === 1 && !hasTypes && !this.free(({ number }) => number).length;
     const plain = at.filter(({ c }) => !this.units.has(c)); // a name has no unit
     if (!isClear) return { column, at: plain.length ? plain : at, canNone: true };
     this.give(at, [column]);

@@ -25,11 +25,15 @@ const CLAIM = new RegExp("claim(?!ant)|admitted|allowed\\b|(?:filed|lodged)(?! ?
 const MOST_LANDINGS = mostOf("airport"), MOST_CLAIMS = mostOf("bankruptcy"), MOST_NAME = LIMITS["bytes of a name"];
 
 const HOW_FAR = new RegExp("floor|stor(e?y|ies)|\\blevels?\\b(?! of)|etage|étage|stock|geschoss|\\bk?m\\b|met(re|er)|"
-  + "length|depth|distance|until", "iu"); // no count of uses
+  + "length|depth|distance|until|mtow|weight|gewicht|sections?\\b|abschnitt|tronçon", "iu"); // no count of uses
+// of costs that each come on top of those before
+const STEPS = new RegExp("(?:this|each|the|per|every) (?:section|stage|step|stretch|segment|floor|storey)|increment"
+  + "|additional|\\bextra|marginal|on top|zusätzlich|mehrkosten|mehrpreis|aufpreis|(?:dieser?|diesen|je|pro|des) "
+  + "(?:abschnitts?|etage|stufe|stock)|supplément|incrément|(?:ce|par|du) tronçon|adicional", "iu");
 
 export const runway = {
   id: "runway",
-  refusal: partsElsewhere,
+  refusal: (pasted) => partsElsewhere(pasted) ?? usesBehind(pasted),
   classes: ["airport"],
   title: "A runway",
   teaser: "Each user needs a part of it. It costs what the most demanding user needs.",
@@ -39,15 +43,17 @@ export const runway = {
   columns: [
     {
       key: "name", title: "User", wide: true, placeholder: "User",
-      heads: heads("airline|carrier|company|name|owner|tenant|users?\\b|nutzer|gesellschaft|eigentümer|compagnie|"
-        + "transporteur|propriét|usager|utilisat"),
+      heads: heads("airline|carrier|company|name|owner|tenant|users?\\b|nutzer|gesellschaft|eigentümer|mieter|"
+        + "compagnie|transporteur|propriét|usager|utilisat|locataire|inquilin|usuari"),
+      not: HOW_FAR,
     },
     { key: "type", title: "Type", optional: true, heads: heads("typ|aircraft|flugzeug|muster|avion|appareil") },
-    { key: "cost", title: "Needs alone", number: true, heads: COST },
+    { key: "cost", title: "Needs alone", number: true, heads: COST, steps: STEPS },
     {
       key: "count", title: "Uses", number: true, short: true, fallback: "1",
       heads: heads("landings|flights|movements|trips|\\b(uses|times)\\b|number|count|how (many|often)|landungen|flüge|"
-        + "fahrten|nutzungen|anzahl|häufig|wie oft|atterri|vols|passages|mouvements|utilisations|nombre|combien"),
+        + "fahrten|nutzungen|anzahl|häufig|wie oft|atterri|vols|passages|mouvements|utilisations|nombre|combien|"
+        + "aterriz|atterragg|pouso|vuelos|viajes|voli\\b|usos|número|numero"),
       not: HOW_FAR,
     },
   ],
@@ -70,6 +76,7 @@ export const runway = {
     faultOfGroups(reading, state);
     askOfTwice(reading, state);
     askOfOrder(reading, state);
+    askOfSteps(reading, state, mark);
     reading.askOfEither(state);
     const all = kept.reduce((sum, { count }) => sum + count, 0);
     if (!kept.length && reading.isRight()) reading.open("rows.0.cost");
@@ -113,6 +120,27 @@ function askOfOrder(reading, state) {
   if (kept.length < 2 || !(isOdd || Rational.max(costs).less(Rational.min(counts)))) return;
   const [{ cost, count, name = "", type = "" }] = kept;
   reading.swap = { cost, count, name: shownName(name.trim() || type.trim() || "the first row") };
+  reading.isOpen = true;
+}
+
+const COUNT_BEHIND = /\d\D{0,20}\((\d[\d.,'’]{0,12} ?(?:[x×/]|\p{L})[^()]{0,30})\)[.;,]?$/u;
+
+/** Why uses in brackets behind the costs can’t be taken: they would be lost. Undefined for another text. */
+function usesBehind(pasted) {
+  const found = pasted.map((row) => COUNT_BEHIND.exec((row.find(Boolean) ?? "").slice(-100))?.[1]).filter(Boolean);
+  return found.length > 1 && pasted.every((row) => row.filter(Boolean).length < 2)
+    ? `“${shownName(found[0])}” stands behind a cost, and looks like uses. Give each line the user, the cost and the `
+      + "number of uses, with a tab or a semicolon between them." : undefined;
+}
+
+/** Costs below a heading that says that they come on top of those above, as “Cost of this section”, are no costs of all
+ * that one use needs: it is asked, with the sums. */
+function askOfSteps(reading, state, mark) {
+  const kept = state.rows.filter((row) => !isEmpty(row));
+  const values = kept.map(({ cost = "" }) => reading.known(cost).value);
+  if (!state.steps || kept.length < 2 || !values.every(Boolean)) return;
+  const sums = values.map((_, r) => typedText(Rational.sum(values.slice(0, r + 1)), mark));
+  reading.steps = { head: state.steps, sums, name: shownName(kept[1].name?.trim() || kept[1].type?.trim() || "row 2") };
   reading.isOpen = true;
 }
 

@@ -86,7 +86,10 @@ function byPlaces(lines) {
   for (let k = 0; k < wide; k++) if (!isFree(k) && (!starts.length || (isFree(k - 1) && isFree(k - 2)))) starts.push(k);
   const cut = (line) => starts.map((start, c) => line.slice(c ? start : 0, starts[c + 1]).trim());
   const isCut = starts.length > 1 && table.every((line) => cut(line).every((cell) => !/\s{2}/.test(cell)));
-  return isCut && lines.map((line) => (isTable(line) ? cut(line) : [line.trim()]));
+  const byGaps = (line) => line.trim().split(/\s{2,}/), [head = ""] = table, count = byGaps(head).length;
+  const isEven = table.length > 1 && !/\d/.test(head) && table.every((line) => byGaps(line).length === count);
+  const cells = isCut ? cut : isEven && byGaps; // by places, or a cell for each heading
+  return Boolean(cells) && lines.map((line) => (isTable(line) ? cells(line) : [line.trim()]));
 }
 
 const MOST_BLANKS = 60000; // letters of a table that blanks part

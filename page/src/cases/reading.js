@@ -184,7 +184,7 @@ export class Reading {
     if (doubt && !this.either) this.either = eitherOf(typed);
     const shown = doubt ? this.markOfWhole(typed, isWhole) : by;
     if (shown && !this.shown.has(shown)) this.shown.set(shown, typed);
-    if (!isWhole) return this.fault(cell, `${what} is a whole number.`);
+    if (!isWhole) return this.fault(cell, `${what} is a whole number.${value ? "" : hintOf(typed)}`);
     const number = value.toNumber();
     if (number >= low && number <= high) return number;
     return this.fault(cell, `${what} is from ${low} to ${countText(high)}.`);

@@ -93,8 +93,9 @@ export function sheetOf(pasted, columns, { mark, single, usual, isFirst = true, 
     pastedText(rows, headings, targets, usual), unitsText(unitsOf(units, targets)),
     ...singlesText(singles, single, said), single?.tells?.(pasted)];
   const line = singles.number ? undefined : single?.lineOf?.(table.out);
-  const amounts = amountsBelow(headings?.[targets.findIndex((own) => own?.number && !own.short)]);
-  return { rows: below, targets, headings, notes: notes.filter(Boolean), isGuess, line, amounts, ...beside,
+  const head = headings?.[targets.findIndex((own) => own?.number && !own.short)], amounts = amountsBelow(head);
+  const asks = { isUnordered: isGuess, steps: targets.some((own) => own?.steps?.test(head ?? "")) ? head : undefined };
+  return { rows: below, targets, headings, notes: notes.filter(Boolean), asks, line, amounts, ...beside,
     number: singles.number?.text, other: singles.other?.text, isPercent: isOfHundred(title, headings, targets, units) };
 }
 

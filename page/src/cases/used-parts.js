@@ -37,6 +37,7 @@ const LIST = new RegExp("\\s*(?:[,/+]|(?:&|(?<!\\p{L})(?:and|und|et|y|e|en|sowie
   + `(?!\\s*${FIRM}(?!\\p{L})))\\s*`, "u"); // and no "Kim & Sons"
 const SOMEBODY = /^(?:us|we|me|myself|him|her|them|(?:him|her|it)self|(?:our|them)selves|uns|mich|nous|moi)$/u;
 const FOR = /^(?:for|für|pour)\s+/iu;
+const COUNTED = /^\d[\d.,'’]*(?:\s?[x×]|$)/u; // no name: how often
 const EXCEPT = /(?<!\p{L})(?:except|but|without|not|else|others?|rest|außer|ohne|sauf|nicht)(?!\p{L})/iu;
 const ALL = /^(?:(?:[Aa]ll|ALL|[Tt]ous|[Tt]outes)(?: (?:the |les )?\p{Ll}+)?|[Aa]lle(?: \p{L}+)?)$/u; // no "All Saints"
 
@@ -53,6 +54,7 @@ function usersIn(text) {
 
 /** Whether lists are of users: some names several or all, and some name is in two of them or somebody `said` so. */
 function areUsers(lists, said = false) {
+  if (lists.length && lists.every(([one = ""]) => COUNTED.test(one))) return false; // "120/yr"
   const all = lists.flat().filter((one) => !isAll(one)), hasAll = lists.some((list) => list.some(isAll));
   const hasSeveral = hasAll || lists.some(({ length }) => length > 1);
   return hasSeveral && (said || (lists.length > 1 && (hasAll || new Set(all).size < all.length)));

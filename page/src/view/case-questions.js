@@ -8,10 +8,10 @@ import { doubtNotes } from "./doubts.js";
 
 /** What has to be settled before there is an answer, and how numbers were read. */
 export function questions(reading, typed, settings) {
-  const { asked, swap, perHead, mixed, unsure, part, rest, either } = reading;
+  const { asked, swap, steps, perHead, mixed, unsure, part, rest, either } = reading;
   return [
     asked && (asked.ways ? twiceQuestion : asked.amount ? wholeQuestion : sumQuestion)(asked, typed, settings),
-    swap && swapQuestion(swap, typed, settings),
+    swap && swapQuestion(swap, typed, settings), steps && stepsQuestion(steps, typed, settings),
     perHead && perHeadQuestion(perHead, settings), mixed && mixedQuestion(mixed, reading, settings),
     rest ? restQuestion(rest, typed, reading, settings) : part && partQuestion(part, typed, settings),
     unsure && unsureQuestion(unsure, reading, settings),
@@ -81,6 +81,21 @@ function swapQuestion({ count, cost, name }, typed, { onReset, onChange }) {
     `Are ${shown(count)} the uses of ${name}, and does one need ${shown(cost)}? `,
     button("No, swap the columns", swapped, { class: "quiet" }), " ",
     button("Yes, so it is", keep, { class: "quiet" }));
+}
+
+/** Asks whether costs come on top of those above: until that is settled there is no answer. */
+function stepsQuestion({ head, sums, name }, typed, { onReset, onChange }) {
+  const left = [...sums], isRow = ({ cost = "" }) => cost.trim();
+  const rows = typed.rows.map((row) => (isRow(row) ? { ...row, cost: left.shift() } : row));
+  const added = () => onReset({ ...typed, rows, steps: undefined, offered: undefined }, "Add the costs above", true);
+  const keep = () => {
+    typed.steps = undefined;
+    onChange(0);
+  };
+  return el("p", { class: "note asked" },
+    `Do the costs below “${withEscapes(head)}” each come on top of those above? Then ${withEscapes(name)} needs `
+    + `${sums[1]} alone. `, button("Yes, add those above", added, { class: "quiet" }), " ",
+    button("No, each is all that one use needs", keep, { class: "quiet" }));
 }
 
 /** Per head is another rule, so nobody gets other shares without a word. */

@@ -288,7 +288,7 @@ class ListGrid {
   }
 
   /** A list with names that begins in the first row is the case; and nothing of the worked example stays beside it. */
-  take({ rows, targets, headings, notes, number, other, isGuess, isPercent, kept, beside, amounts }, at) {
+  take({ rows, targets, headings, notes, number, other, asks, isPercent, kept, beside, amounts }, at) {
     const { kind, typed } = this, isExample = this.isExample();
     const hasNames = targets.some((target) => target?.key === kind.columns[0].key), r = isExample && hasNames ? 0 : at;
     const isFree = (row) => targets.every((own) => !row[own?.key]?.trim()), isBlank = (row) => this.isBlank(row);
@@ -298,7 +298,7 @@ class ListGrid {
     const isOver = !isExample && !(isWhole && kept === "all") && typed.rows.some(isOther)
       && (isWhole ? `The rows before are gone (Undo).${this.stillText(number)}` : "The rows below stay as they were.");
     if (isWhole) this.leave(isExample);
-    Object.assign(typed, { isUnordered: isGuess, notTwice: false, beside, amounts, ...(kind.isVote && { isPercent }) });
+    Object.assign(typed, { ...asks, notTwice: false, beside, amounts, ...(kind.isVote && { isPercent }) });
     if (number) typed[kind.single.key] = number;
     if (other) typed[kind.second.single.key] = other;
     const filled = rows.map((row, k) => {

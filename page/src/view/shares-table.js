@@ -171,7 +171,7 @@ function goneRow({ label }, g, view) {
   ]);
 }
 
-/** A share, and below it what is told of it: of several what one of them pays, and the fraction, folded if it is long. */
+/** A share, and below it what is told of it: of several what one pays, and the fraction, folded if it is long. */
 export function shareCell(text, share, count, format, change, kind = "number") {
   const fraction = !format.isExact(share) && fractionText(share);
   const isLong = fraction && fraction.replace(/\D/g, "").length > MOST_DIGITS;

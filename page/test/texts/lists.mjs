@@ -8,6 +8,7 @@ const DISTRICT = "5. Votes in the district council\nThe council adopts a decisio
   + "• Eastholm – 3 votes", DISTRICT_VOTES = "Aldbury=14|Brenford=11|Carswell=7|Dunmere=5|Eastholm=3";
 const FUNDS = "Tower roof fund\t£6,000.00\nOrgan fund\t£4,500.00\nChoir school\t£2,000.00\nAlmshouses\t£1,500.00";
 const IN_FUNDS = FUNDS.replace(/\t/g, "=").replace(/\n/g, "|"), PROMISED = `Promised\tAmount\n${FUNDS}\n`;
+const SECTIONS = "Section\tFarm at the end\tCost of this section\n1\tMill\t240\n2\tOak\t260\n3\tTop\t530";
 
 export const LISTS = [
   ["estate", "Flood relief fund: 50,000 EUR\nClaims received:\n- Huber: 12,500 EUR\n- Maier: 38,000 EUR",
@@ -69,6 +70,24 @@ export const LISTS = [
   ["runway", "Plot\tHow often\tCost\nMill\t4\t100\nFarm\t2\t200", "Mill=100=4|Farm=200=2", /“How often” is “Uses”/],
   ["runway", "Household\tPersons\tFloor\tCost\nA\t3\t1\t100\nB\t2\t2\t200", null,
     /Which column is “Uses”\? “Persons” None/],
+  // users of a runway: what stands around and beside them, and costs that come on top of each other
+  ["runway", "Runway costs 2024\nType,Landings,Cost\nDash 8,42,65899\n\"Viscount, old\",9555,76725\nTrident,288,95200",
+    "=Dash 8=65899=42|=Viscount, old=76725=9555|=Trident=95200=288", /Left out, .*“Runway costs 2024”/],
+  ["runway", "Floor  Tenant        Cost\nGround  Bakery        0\n1st     Dr. Moreau    8000",
+    "Bakery=0=1|Dr. Moreau=8000=1", /“Floor” was left out/],
+  ["runway", "Aircraft\tRunway length (m)\tMovements\tCost\nATR 72\t1,290\t3,400\t9.5\nB777\t3,050\t410\t24.1",
+    "=ATR 72=9.5=3,400|=B777=24.1=410", /“Runway length \(m\)” was left out/],
+  ["runway", "Flight\tAircraft\tLandings\tCost\n4711\tA320\t34\t9.5\n815\tB777\t41\t24.1", null,
+    /Which column is “User”\? “Flight” None/],
+  ["runway", "Avión\tCoste\tAterrizajes\nATR\t1200\t14\nB7\t1850\t98", "ATR=1200=14|B7=1850=98"],
+  ["runway", "Etage\tMieter\tKosten bis hier\nEG\tMüller\t80\n1. OG\tSchmidt\t140", "Müller=80=1|Schmidt=140=1"],
+  ["runway", "Type\tCost\tLandings\nA\t12\t350\nB\t24\t120/yr", /120\/yr/,
+    /whole number\. Write the number alone, without/],
+  ["runway", "Cessna: 50,000 (120/yr)\nDash 8: 90,000 (2 x a week)", null, /“120\/yr” stands behind a cost, and looks/],
+  ["runway", SECTIONS, "Mill=240=1|Oak=260=1|Top=530=1",
+    /Do the costs below “Cost of this section” each come on top of those above\? Then Oak needs 500 alone/],
+  ["runway", SECTIONS, "Mill=240=1|Oak=500=1|Top=1030=1", /^(?!.*on top)/, "Yes, add those above"],
+  ["runway", SECTIONS, "Mill=240=1|Oak=260=1|Top=530=1", /^(?!.*on top)/, "No, each is all that one use needs"],
   ["estate", "The club owes: Ann 120, Bo 80 and Cy 40", "Ann=120|Bo=80|Cy=40",
     /no number stands beside: “The club owes”.*parted between them/],
   ["estate", "Mayor: Ann 120, Bo 80\nCy 40", null, /nobody can part “Mayor: Ann 120, Bo 80”/],
