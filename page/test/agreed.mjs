@@ -41,6 +41,17 @@ export const agreed = [
     expect("opened again", await chosen(page), "shapley");
   }],
 
+  ["the prices that were agreed on stand on the sheet", "market", async (page, expect) => {
+    await settle(page);
+    const ways = "[...document.querySelector('[data-cell=\"paper.agreed\"]').options].map(({ value }) => value).join()";
+    expect("what prices bring about", await page.run(ways), ",nucleolus,buyers,sellers");
+    await choose(page, "buyers");
+    const text = await sheet(page);
+    expect("who agreed on what", text, /The parties agreed on: best for buyers\./);
+    expect("their prices", text, /Best for buyers: the seller’sthe buyer’sAnn – flat8\.00[\d.\s]*to\s[\d.]*6\.002\.00/);
+    expect("what has to be the same", text, /its column “Best for buyers” has to be the same/);
+  }],
+
   ["an own division that was agreed on stands on the sheet", "estate", async (page, expect) => {
     await settle(page);
     await page.click("equal parts");

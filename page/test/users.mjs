@@ -44,6 +44,10 @@ async function heir(page, expect) {
   expect("the estate in the headline", other,
     /the game in the line, an estate of 100.00\. But that isn’t the game of your/);
   expect("and both", other, /the estate: the line has 100, your case 90/i);
+  await page.click("Leave my case out");
+  await told(page, "#verify .answers", /nucleolus of the game in the line.* See that it is the game/);
+  await page.click("The game of my case, “An estate or a bankruptcy”");
+  await told(page, "#verify .answers", /The page put the game of your case, “An estate or a bankruptcy”, beside this/);
   const own = await checked(page, lineOf("nucleolus", estateOf(90)));
   expect("his own", own, /^Yes: these shares are the nucleolus of the game of your case, an estate of 90.00/);
   await page.run("history.back()");
@@ -52,6 +56,10 @@ async function heir(page, expect) {
   await settle(page);
   await page.click("Check an answer");
   expect("it follows", await page.run(`${places}[1].value`), /"estate":95/);
+  await page.click("Open the game of this line");
+  await told(page, "#case .case", /What stood here before is replaced: “Undo” brings it back\./);
+  await page.click("Undo “Open a document”");
+  await page.until(`document.querySelector('[data-cell="estate"]').value === "95"`);
 }
 
 const LINKS = [["From", "To", "Cost"], ["Well", "Ash", 10], ["Ash", "Birch", 2], ["Well", "Cedar", 10],

@@ -1,5 +1,5 @@
 // What the parties agreed on, as they say it for the sheet to sign: one of the columns, or nothing yet.
-import { Rational } from "../exact/rational.js";
+import { Rational, ZERO } from "../exact/rational.js";
 import { plainPoints } from "../tell/rule-names.js";
 import { COSTS } from "./beyond.js";
 import { el } from "./dom.js";
@@ -12,10 +12,22 @@ const CHANGED = "The numbers have changed since something was agreed on, so the 
 function columnsOf({ result, proposal }) {
   const { game, points = [], beyond } = result ?? {};
   if (!game && beyond?.isAll) return plainPoints(beyond.points, COSTS);
-  if (!game || game.ballots || game.isMarket()) return [];
+  if (!game || game.ballots || (game.isMarket() && !result.matching)) return [];
   const { totals, shares, verdict } = proposal, isWhole = totals && Rational.sum(totals).equals(game.whole());
   const own = { key: OWN, title: "Own division", totals, shares, verdict };
-  return [...plainPoints(points, game), ...(isWhole ? [own] : [])];
+  const columns = [...plainPoints(points, game), ...(isWhole ? [own] : [])];
+  return game.isMarket() ? columns.filter((column) => isByPrices(result, column)) : columns;
+}
+
+/** Whether prices bring these shares about: each pair that trades parts its gain, and nobody else has any. */
+function isByPrices({ game, matching }, { shares }) {
+  const pairs = matching.pairs.map((pair) => pair.map((player) => Number(player) - 1)), parts = [...shares];
+  const isParted = pairs.every(([buyer, seller]) => {
+    const sum = parts[buyer].plus(parts[seller]);
+    parts[buyer] = parts[seller] = ZERO;
+    return sum.equals(game.rows[buyer][seller - game.rows.length]);
+  });
+  return isParted && parts.every((part) => part.isZero());
 }
 
 /** By what numbers something was agreed on: by others it is another division. */

@@ -21,6 +21,7 @@ import { verifyPanel } from "./verify.js";
 import { showPart, showView, viewOfAddress, watchAnswer, watchParts } from "./views.js";
 
 const at = (id) => document.getElementById(id);
+const OPENED = "Open a document";
 const WAYS = { round: "Round all to four decimals", whole: "All times a power of ten" };
 const kept = new Map(); // what was typed in cases that aren't shown
 
@@ -133,6 +134,13 @@ function replaced(kind, what) {
   return past;
 }
 
+/** What becomes of the cells that stood there before a document was opened: "" where nobody had typed any. */
+function whereBefore(kind, past, before) {
+  if (past.past.at(-1) !== before) return "What stood here before is replaced: “Undo” brings it back.";
+  const { kind: other, isTyped } = session, isKept = isTyped && other && other !== kind;
+  return isKept ? `Your case “${other.title}” is kept as it is: go to “All cases”, and choose it there.` : "";
+}
+
 /** Makes the numbers of a case coarser, as the user chose, or gives a fault in words. */
 async function coarsen(kind, how) {
   const { typed } = session, before = structuredClone(cellsNow()), { paper, places } = nowTyped();
@@ -242,7 +250,9 @@ function begin() {
     mark: () => session.marks.usual(), onLine: (text, from) => verify.setLine(text, from),
     onOpen: (kind, typed, settings) => {
       const { kept: tree, ...others } = settings, pinned = tree ? pinOfTree(tree, typed) : null;
-      openCase(kind, typed, { ...others, pinned, isFile: true, past: replaced(kind, "Open a document") });
+      const before = (session.kind === kind ? steps : kept.get(kind)?.past)?.past.at(-1);
+      const past = replaced(kind, OPENED), notes = [...others.notes, whereBefore(kind, past, before)].filter(Boolean);
+      openCase(kind, typed, { ...others, pinned, isFile: true, past, notes });
     },
   });
   verify = verifyPanel({

@@ -109,8 +109,8 @@ const mainOf = ({ result, agreed }) => agreed ?? solutionOf(result) ?? result.po
 const shownPoints = (view) => (view.withProposal ? view.result.points : [mainOf(view)]);
 
 /** Who trades, at what prices, and by which limit prices. */
-function tradesOn({ game, matching, ...result }, format) {
-  const deals = dealsOf(game, matching, solutionOf(result));
+function tradesOn({ agreed, result: { game, matching, ...result }, format }) {
+  const deals = dealsOf(game, matching, agreed ?? solutionOf(result));
   return el("section", {}, tradesLead(deals, idleOf(game, matching), matching.value, format),
     tradesTable(deals, format), el("p", { class: "hint" },
       `${limitsText(game, format)}${priceText(deals)} ${tiesText(game, matching)}`));
@@ -121,7 +121,7 @@ function answerOf(view) {
   if (game.ballots) return votesOn(view);
   const point = mainOf(view);
   if (!point) return null;
-  if (result.matching) return tradesOn(result, format);
+  if (result.matching) return tradesOn(view);
   const { title } = point, totals = totalsOf(rows, point.shares);
   const context = contextOf(game, rows, format), texts = format.column(totals, rows);
   const hasExact = totals.some((total) => !format.isExact(total)), who = game.costs ? "Who pays" : "Who gets";

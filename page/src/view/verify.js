@@ -63,15 +63,31 @@ class VerifyPanel {
   }
 
   /** Puts the game of a case that was typed, {text, title}, into the place of the agreed one, as long as no other was
-   * given. That of a worked example, or beside another file, is offered. */
+   * given. That of a worked example, one that was left out, or beside another file, is offered. */
   fromCase(own) {
     const { agreed, from: { ofGame } } = this, text = own ? `${own.text}\n` : "";
-    const take = () => (refill(this.offer), this.ofGame.setText(text, { ofCase: own.title }));
+    const isByItself = own?.isTyped && text !== this.leftOut, take = () => {
+      refill(this.offer);
+      this.ofGame.setText(text, { ofCase: own.title });
+    };
+    this.own = own;
     const isOther = (agreed.trim() && !ofGame.ofCase) || ofGame.fault;
-    refill(this.offer, own && text !== agreed && (isOther || !own.isTyped)
+    refill(this.offer, own && text !== agreed && (isOther || !isByItself)
       && button(`The game of my case, “${own.title}”`, take, { class: "quiet" }));
     if (isOther || text === agreed) return;
-    this.ofGame.setText(own?.isTyped ? text : "", own?.isTyped ? { ofCase: own.title } : {});
+    this.ofGame.setText(isByItself ? text : "", isByItself ? { ofCase: own.title } : {});
+  }
+
+  /** The game of the last case came by itself: where it isn't that of the line, it may have nothing to do with it. */
+  besideLast({ isOfCase, isYes }) {
+    const leave = () => {
+      this.leftOut = this.agreed;
+      this.ofGame.setText("");
+      this.fromCase(this.own);
+    };
+    return isOfCase && isYes !== true && el("p", { class: "note screen" }, "The page put the game of your case, "
+      + `“${this.from.ofGame.ofCase}”, beside this line. If the two have nothing to do with each other, leave it out. `,
+    button("Leave my case out", leave, { class: "quiet" }));
   }
 
   /** Says where what was checked isn't the game of the case above, whose document is `text` (null where it has none).
@@ -187,7 +203,7 @@ class VerifyPanel {
   show(seen, game, found) {
     const same = this.sameWord(seen);
     const words = [same, ...(seen.fault ? [] : [programWord(found.program, game), anewWord(found.anew, game)])];
-    refill(this.answers, conclusion(words, seen, game, this.format()), twice(seen),
+    refill(this.answers, conclusion(words, seen, game, this.format()), this.besideLast(same), twice(seen),
       seen.fault && unreadable(seen, (text) => this.mend(text)),
       (!seen.fault || same.isGiven) && el("ul", { class: "words" }, words.map(wordLine)),
       this.mendAgreed(seen), disagreement(found), besideRight(seen, game, found.right, this.format()),
@@ -236,7 +252,7 @@ class VerifyPanel {
       : "Open this game here, with the reasons";
     refill(this.answers,
       el("p", { class: "notice" }, isTurned ? "The other file has the certificate: are the two in each other’s place?"
-        : bareText(seen, game, bare)),
+        : bareText(seen, game, bare)), this.besideLast(same),
       isTurned && el("p", { class: "tools" }, button("Let them change places", () => this.turnRound())),
       this.mendAgreed(seen), twice(seen), el("ul", { class: "words" }, words.map(wordLine)), nameRemarks(seen),
       lineTable(seen, game, this.format()), this.sums,
