@@ -13,7 +13,9 @@ const WORTH = new RegExp("cost|gain|worth|value|saving|amount|price|profit|koste
   + "|co[uû]t|valeur|montant|\\bv ?\\(s\\)|\\b(eur|usd|gbp|chf)\\b|\\p{Sc}", "iu");
 
 const PER = /\b(?:per|je|pro|par|por|unit|each)\b|einzel|stück|unitaire|\/ ?\p{L}/iu; // a price for each
-const isWorth = (heading = "", isCost = undefined) => WORTH.test(heading) && !PER.test(heading)
+
+/** Whether a heading says that numbers of groups are below: costs, or gains; or what `isCost` says. */
+export const isWorth = (heading = "", isCost = undefined) => WORTH.test(heading) && !PER.test(heading)
   && (isCost === undefined || !isOtherKind(heading, isCost));
 
 /** Rows of a group and its number, of such as may have headings and further columns: {rows, lines, told, title}, this
@@ -69,10 +71,10 @@ function asOneColumn(given, mark) {
 
 /** The first row, if it is a word and years above numbers. */
 function yearsOf([[word = "", ...years], ...below]) {
-  const isYear = (text) => /^(19|20)\d\d$/.test(text), isGroup = /^(gr[uo]u?pp?[aeos]*|coalition|koalition|s|who)$/i;
-  const isOf = years.length > 0 && years.every(isYear) && (years.length > 1 || isGroup.test(word));
-  return isOf && /^\p{L}+$/u.test(word) && below.every(([, ...some]) => some.length === years.length)
-    ? [word, ...years] : null;
+  const isYear = (text) => /^(?:\p{Sc}|[A-Z]{3} ?)?(?:19|20)\d\d(?: ?(?:\p{Sc}|[A-Z]{3}))?$/u.test(text);
+  const isGroup = /^(gr[uo]u?pp?[aeos]*|coalition|koalition|s|who)$/i.test(word);
+  const isOf = years.length > 0 && years.every(isYear) && (years.length > 1 || isGroup) && /^\p{L}*$/u.test(word);
+  return isOf && below.every(([, ...some]) => some.length === years.length) ? [word, ...years] : null;
 }
 
 /** What is told of a first line that was taken as a heading. */

@@ -2,6 +2,7 @@
 // a cell for each member.
 import { readNumber } from "../exact/decimals.js";
 import { withEscapes } from "../game/names.js";
+import { isWorth } from "./group-columns.js";
 
 export const IN = /^(1|x|✓|✔|☑|y|yes|ja|j|oui|sí|si)$/i;
 const OUT = /^(0|no?|nein|non|nee|☐|✗|[-–—.]?)$/i;
@@ -9,19 +10,11 @@ const MOST_BEFORE = 2; // columns before those of marks, as a number and a label
 
 export const isMark = (text = "") => IN.test(text) || OUT.test(text);
 
-/** Rows of a group and its number, from rows below names that say who is in the group: {rows, told}; the same rows if
+/** Rows of a group and its numbers, from rows below names that say who is in the group: {rows, told}; the same rows if
  * they are others. Columns before the names that number or call the rows are left out. */
 export function joinedMembers(given) {
-  for (let before = 0; before <= MOST_BEFORE; before++) {
-    const [heads = [], ...below] = aligned(given), own = [heads, ...below].map((row) => row.slice(before));
-    const rows = fromMarks(own), isLabel = (c) => new Set(below.map((row) => row[c])).size === below.length;
-    const firsts = heads.slice(0, before);
-    if (!rows || !firsts.every((_, c) => isLabel(c))) continue;
-    const shown = firsts.map((head, c) => `“${withEscapes(head || `${below[0][c]} …`)}”`).join(" and ");
-    return { rows, told: before ? `${shown}, before the columns of marks, was left out.` : "" };
-  }
-  const rows = fromCells(given);
-  return rows ? { rows, told: "Names side by side are a group." } : { rows: given, told: "" };
+  const marked = fromMarks(aligned(given)), rows = marked ? null : fromCells(given);
+  return marked ?? (rows ? { rows, told: "Names side by side are a group." } : { rows: given, told: "" });
 }
 
 /** The rows of groups whose members have a cell each, and all a row alone; null for others. */
@@ -42,10 +35,29 @@ function aligned([heads = [], ...below]) {
   return [isShort ? ["", ...heads] : heads, ...below];
 }
 
-/** The rows of groups; null if not all columns but the last are marks, or the last one is. */
+/** The same rows of a table with columns of marks side by side, and beside them one of numbers, behind or before;
+ * null for others. */
 function fromMarks([heads = [], ...below]) {
-  const names = heads.slice(0, -1), n = names.length, hasMarks = (row) => names.every((_, c) => isMark(row[c]));
-  const isOf = n > 1 && names.every((name) => name && !isMark(name)) && below.every(hasMarks);
-  if (!isOf || below.every((row) => isMark(row[n]))) return null;
-  return [["", heads[n]], ...below.map((row) => [names.filter((_, c) => IN.test(row[c])).join("+"), row[n]])];
+  const wide = below.reduce((most, { length }) => Math.max(most, length), heads.length);
+  const all = Array.from({ length: wide }, (_, c) => c), textsAt = (c) => below.map((row) => row[c] ?? "");
+  const isName = (text = "") => text !== "" && !isMark(text) && !isWorth(text);
+  const isMarks = (c) => isName(heads[c]) && textsAt(c).every(isMark) && textsAt(c).some((text) => IN.test(text));
+  const runs = all.filter((c) => isMarks(c) && !isMarks(c - 1)).map((c) => {
+    const end = all.find((one) => one > c && !isMarks(one)) ?? wide;
+    return all.slice(c, end);
+  });
+  const marks = runs.reduce((most, run) => (run.length > most.length ? run : most), []), hasMost = marks.length > 1;
+  const [before, behind] = [all.slice(0, marks[0]), all.slice(marks.at(-1) + 1)];
+  const hasNumbers = (some) => some.some((c) => textsAt(c).some((text) => /\d/.test(text)));
+  const isBehind = hasNumbers(behind), isLabel = (c) => new Set(textsAt(c)).size === below.length;
+  const isCalled = before.length <= MOST_BEFORE && before.every(isLabel);
+  const isOf = isBehind ? isCalled : hasNumbers(before) && before.some((c) => isWorth(heads[c]));
+  if (!hasMost || !isOf) return null;
+  const [kept, out] = isBehind ? [behind, before] : [before, []], cellsOf = (row) => kept.map((c) => row[c] ?? "");
+  const shown = out.map((c) => `“${withEscapes(heads[c] || `${below[0][c]} …`)}”`).join(" and ");
+  const membersOf = (row) => marks.filter((c) => IN.test(row[c] ?? "")).map((c) => heads[c]).join("+");
+  return {
+    rows: [["", ...cellsOf(heads)], ...below.map((row) => [membersOf(row), ...cellsOf(row)])],
+    told: shown ? `${shown}, before the columns of marks, was left out.` : "",
+  };
 }

@@ -31,6 +31,15 @@ export const GROUPS = [
   ["gains", "A 1\nB 2\nC 3\nAB 8\nABC 20", "A|B|C|1|2|8|3|||20", /“AB”, “ABC” are groups/, "Yes, groups"],
   ["gains", "A 1\nB 2\nC 3\nAB 8", /^A\|B\|C\|AB\|1\|2\|\|3\|\|\|\|8/, /4 players/, "No, one player"],
   ["gains", "AB 8\nAC 9\nBC 10\nABC 20", "A|B|C|0|0|8|0|9|10|20", /are groups/, "Each of them gains 0 alone"],
+  // columns of marks beside several others, or behind the cost
+  ["costs", "A\tB\tPrice\tBy\tDate\nx\t\t5\tIda\t12.03.2026\n\tx\t6\tIda\t12.03.2026\nx\tx\t9\tUwe\t14.03.2026",
+    "A|B|5|6|9", /“By” was left out\. “Date” was left out/],
+  ["costs", "Offer\tA\tB\tPrice\tBy\n1\tx\t\t5\tIda\n2\t\tx\t6\tIda\n3\tx\tx\t9\tIda", "A|B|5|6|9", /“Offer”, before/],
+  ["costs", "A\tB\t2026\t2027\nx\t\t5\t6\n\tx\t6\t7\nx\tx\t9\t9", null, /Which column is the cost\? “2026” “2027”/],
+  ["gains", "A\tB\tCost\tProfit\n1\t0\t0\t1\n0\t1\t1\t1\n1\t1\t1\t3", "A|B|1|1|3", /“Cost” was left out/],
+  ["gains", "A\tB\tC\tworth\n1\t0\t1\t1\n1\t1\t0\t0\n1\t0\t0\t0\n0\t1\t0\t0\n0\t0\t1\t0", "A|B|C|0|0|0|0|1||"],
+  ["costs", "Cost\tA\tB\n5\tx\t\n6\t\tx\n9\tx\tx", "A|B|5|6|9"],
+  ["gains", "Partners\tEUR 2026\tEUR 2027\nA\t5\t6\nB\t6\t7\nA+B\t15\t19", "A|B|6|7|19", /“EUR 2026” was/, "“EUR 2027”"],
   // gains in the case of costs, and costs in that of gains
   ["costs", "Who\tSavings\nA\t0\nB\t0\nA+B\t9", null, /“Savings” says gains, .* to “Gains of each group” Costs: take/],
   ["costs", "Who\tSavings\nA\t0\nB\t0\nA+B\t9", "A|B|0|0|9", /3 groups/, "Costs: take them here"],
