@@ -33,6 +33,9 @@ export const looseText = (odd) => `Names and numbers stand in one cell each, and
 const NOTHING = new RegExp("^(nil|none|nothing|zero|nichts|kein[es]?|néant|nul|rien|aucune?|niente|nulla|nada|ninguno|"
   + "cero|geen|niets|nihil)\\.?$", "iu");
 
+/** Whether a word says that an amount is nothing. */
+export const isNothing = (text) => NOTHING.test(text);
+
 /** The block of pasted `rows`: {rows, lines, notes, loose}. Lines of one cell each are parted into a name and its
  * numbers; what is empty around names and numbers goes, and so do numbers of rows, which is told. `lines` has the
  * number of each row in the text; names and numbers that still share cells, since nobody can part them, are `loose`. A

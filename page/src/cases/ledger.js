@@ -4,7 +4,9 @@ import { withEscapes } from "../game/names.js";
 const MOST_LETTERS = 600; // of a line
 const MOST_TOLD = 4; // payers who are named
 export const AS_PARTS = "Write each as a line: diesel 84: Anna, Bo, Chris.";
-const MONTH = "(?:jan(?:uary|uar|vier)?|feb(?:ruary|ruar)?|févr?(?:ier)?|mar(?:ch|s)?|märz|apr(?:il)?|avril|may|mai"
+/** A month, in words. */
+export const MONTH = "(?:"
+  + "jan(?:uary|uar|vier)?|feb(?:ruary|ruar)?|févr?(?:ier)?|mar(?:ch|s)?|märz|apr(?:il)?|avril|may|mai"
   + "|june?|juni|juin|july?|juli|juillet|aug(?:ust)?|août|sept?(?:ember|embre)?|o[ck]t(?:ober|obre)?"
   + "|nov(?:ember|embre)?|d[eé][cz](?:ember|embre)?)(?!\\p{L})\\.?";
 const DAY = "\\d{1,2}(?:st|nd|rd|th|\\.)?", YEAR = "(?:,? ?(?:19|20)\\d\\d)?";

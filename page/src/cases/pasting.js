@@ -10,13 +10,14 @@ const ABOUT = /^(ca\.?|approx\.?|about|circa|etwa|env\.?|~) *\d/iu; // no headin
 /** Whether a text is a number with something beside it. */
 export const isSpoilt = (text) => SPOILT.test(text) || ABOUT.test(text);
 
+const MOST_RULE = 400; // signs of a line that is drawn
 const QUOTED = /(?<=^|[\t;,\n])"(?:[^"\t]|"")*"(?=[\t;,\n]|$)/g; // a cell in quotes, which may have lines of its own
 
 /** Of a spreadsheet (tabs), a file with semicolons or commas, a table with bars, or one with columns by blanks. Quotes
  * may surround a cell. A comma parts cells only where there is no tab and no semicolon, and maybe in a table alone. */
 export function cellsOf(pasted) {
   const text = pasted.replace(/\r\n?/g, "\n").replace(QUOTED, (cell) => cell.replace(/(?<=.)\s*\n\s*/gs, " "));
-  const lines = text.split("\n");
+  const lines = text.split("\n").map((line) => (isRule(line) ? "" : line));
   while (lines.length > 1 && !lines.at(-1).trim()) lines.pop(); // empty lines, and no cell of the last one
   const by = hasBars(lines) ? "|" : text.includes("\t") ? "\t" : text.includes(";") ? ";" : hasCommaColumns(lines) ? ","
     : "\t";
@@ -26,6 +27,9 @@ export function cellsOf(pasted) {
   const isOpen = by === "\t" && !text.includes(by) && !lines.some((_, k) => isOf(k));
   return (isOpen && (byPlaces(lines) || byBlanks(lines))) || rows;
 }
+
+/** Whether a line is drawn by signs, as "-----": it says nothing. */
+const isRule = (line) => line.length <= MOST_RULE && /^[ \-–—_=*~+]{3,}$/.test(line) && /([-–—_=*~])\1\1/.test(line);
 
 /** Whether a bar is at both ends of each line, or as many with blanks around within each. */
 function hasBars(lines) {

@@ -2,6 +2,7 @@
 // Each amount has to stand beside words that name its group plainly: one with "alone", several with "and", or all.
 import { countIn, COUNT, WITH } from "./all-together.js";
 import { LONE } from "./group-words.js";
+import { MONTH } from "./ledger.js";
 
 const MOST_LETTERS = 4000, MOST_NAME = 40, MOST_WORDS = 4, MOST_NAMES = 16;
 const CODE = "(?<!\\p{L})[A-Z]{3}(?!\\p{L})", MONEY = `(?:\\p{Sc}|${CODE})`;
@@ -12,6 +13,11 @@ const UNIT = /^\s\p{L}+(?=[,;])/u; // behind an amount
 const BLANK = /\d[\u00a0 ]\d/, NAMED = /(?<!\p{L})\p{Lu}\p{L}*\s*$/u;
 const HAS_MONEY = new RegExp(MONEY, "u");
 const MARKS = /^\s*(?:>\s*)*(?:[-–•*]\s+|\d{1,2}[.)]\s+)?/u; // of a list or a quotation
+const YEAR = "(?:19|20)\\d\\d", DAY = "\\d{1,2}(?:st|nd|rd|th|\\.)?", OF = `(?:,? ${YEAR})?`;
+const DATED = new RegExp(`(?<!\\p{L})(?:${DAY} ?${MONTH}${OF}|${MONTH} ${DAY}${OF}`
+  + `|(?:in|im|year|jahr|season|saison|en) ${YEAR}`
+  + "|(?:item|top|punkt|point|page|seite|section|§) ?\\d{1,3}|\\d{1,2}[:.]\\d\\d (?:h|uhr|am|pm))"
+  + "(?![\\d\\p{L}.,]\\d|\\p{L})", "giu");
 const WRAPPED = /[^.:;!?\d\s\p{Sc}]\s*$/u, GOES_ON = /^(?:\p{Ll}|\p{Sc}?\d)/u; // a line that the next one goes on
 const END = /(?<=[\d\p{Sc})%]|\p{Ll}{3})[.!?]\s+|;\s+/u; // of a sentence
 const AND = "(?:and|und|et|en|e|y|och|with|mit|avec|met|con)";
@@ -26,6 +32,7 @@ const LONE_WORD = new RegExp(`(?<!\\p{L})(?:${LONE})(?!\\p{L})`, "iu");
 const WITH_WORD = new RegExp(`(?<!\\p{L})(?:${WITH})(?!\\p{L})`, "iu");
 const ALL_OF = "(?:all|alle|tous|toutes|tutt[ie]|tod[oa]s|allemaal)";
 const ALL = new RegExp("(?<!\\p{L})(?:"
+  + `(?:${WITH}),? (?:all )?(?:they|the|die|les|i|los|las|de)? ?(?:${COUNT})|`
   + `${ALL_OF}(?: of (?:them|us)| the| les| e| l[oa]s)? (?:${COUNT}|${WITH})|${ALL_OF} of (?:them|us)`
   + `|(?:both|beide|allebei)(?: of them)?|(?:the|die|les|i|los|las|de) (?:${COUNT}) (?:${WITH})|everybody|everyone`
   + ")(?!\\p{L})", "iu");
@@ -44,6 +51,9 @@ const GOES_FURTHER = new RegExp(`^\\s*(?:[&+]|,?\\s*${AND}\\s+(?:${ARTICLE}\\s+)
 const SEVERAL = new RegExp(`\\s(?:&|${AND})\\s`, "u");
 const FROM = new RegExp(`\\S.*(?:,|&|\\+|(?<!\\p{L})${AND})\\s*(?:${ARTICLE}\\s+)?$`, "u");
 
+/** A text with signs in the place of digits that are of a day, a year or an item. */
+const undated = (text) => text.replace(DATED, (one) => one.replace(/\d/g, "_"));
+
 /** The sentences of a text, each with the number of its line; lines that a mail program broke are one. */
 function sentencesOf(text) {
   const lines = [];
@@ -57,8 +67,9 @@ function sentencesOf(text) {
 }
 
 /** A sentence as its amounts, and the words around them: one more than amounts. */
-function partsOf(text) {
-  const found = [...text.matchAll(AMOUNT)], ends = found.map(({ index, 0: own }) => index + own.length);
+function partsOf(given) {
+  const text = undated(given), found = [...text.matchAll(AMOUNT)];
+  const ends = found.map(({ index, 0: own }) => index + own.length);
   const words = [...found, { index: text.length }].map(({ index }, k) => text.slice(ends[k - 1] ?? 0, index));
   return { amounts: found.map(([own]) => own.trim()), words };
 }
@@ -113,7 +124,7 @@ function groupsOf({ amounts, words }, names, isCost) {
 export function spokenGroups(text, isCost) {
   if (text.length > MOST_LETTERS || /[\t|]/.test(text)) return null;
   const all = sentencesOf(text).map((one) => ({ ...one, ...partsOf(one.text) }));
-  const said = all.filter((one) => /\d/.test(one.text)), pieces = said.flatMap(({ words }) => words);
+  const said = all.filter((one) => /\d/.test(undated(one.text))), pieces = said.flatMap(({ words }) => words);
   const isMarked = (one) => LONE_WORD.test(one) || WITH_WORD.test(one);
   const isSpoken = said.some(({ words }) => words.some((one) => SPOKEN.test(one)));
   if (!isSpoken && !said.some(({ words }) => words.filter(isMarked).length > 1)) return null;

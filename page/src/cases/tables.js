@@ -4,6 +4,7 @@ import { mostOf } from "../game/classes.js";
 import { maskOf, masksBySize, membersOf } from "../game/groups.js";
 import { withEscapes } from "../game/names.js";
 import { listed } from "../game/words.js";
+import { withoutPartHeads } from "./between.js";
 import { blockOf, looseText } from "./block.js";
 import { filledGroups } from "./filled-cells.js";
 import { FORM, headingText, pairsOf } from "./group-columns.js";
@@ -16,6 +17,7 @@ import { fromPairs } from "./pair-squares.js";
 import { UNKNOWN } from "./columns.js";
 import { leftText, unframed } from "./frames.js";
 import { cellsOf } from "./pasting.js";
+import { apartText, missingText, sparseText } from "./odd-groups.js";
 import { otherCase, TABLES, takenTo } from "./other-case.js";
 import { Reading } from "./reading.js";
 import { answerFault } from "./saved-tables.js";
@@ -32,7 +34,6 @@ export const AS_GROUPS = "No, each line is a group with its own cost";
 const SEVERAL_IN = /\d(?:[,;]| \/) .*\p{L}.* \S*\d\S*$/u; // several groups in a line
 const MOST_BY_NAME = 6; // above, the document lists numbers alone: it would be too long by names
 const MOST_PLAYERS = mostOf("table");
-const MOST_TOLD = 4; // names without a line
 const MOST_SPARSE = 4; // players of whose groups most may be empty
 const MOST_LETTERS = 4000; // of a group with all its names
 const MOST_SHOWN = 60; // of a sentence that is quoted
@@ -148,7 +149,8 @@ export function withoutPlayer(state, player) {
  * all: then it is read again with what was said of it (`roles`). A {fault} may have a `way` on, a title and what then
  * is said (`isZeroAlone`, `isSparse`). `told` says how it was read, `remark` what was left out. */
 export function tableOf(text, names = [], order = "size", mark = ".", said = {}) {
-  const book = textbookRows(text), cells = book?.rows ?? cellsOf(text), saved = answerFault(cells);
+  const book = textbookRows(text), pasted = book?.rows ?? cellsOf(text), saved = answerFault(pasted);
+  const { cells, left } = book ?? saved ? { cells: pasted, left: book?.left ?? [] } : withoutPartHeads(pasted);
   const block = blockOf(cells, { canBeNegative: true, words: true }), framed = unframed(block.rows), { rows } = framed;
   const others = () => tableOf(text, names, order, mark, { ...said, isParts: false });
   const ofParts = saved || book ? undefined : partsRead(cells, mark, said, others);
@@ -164,14 +166,14 @@ export function tableOf(text, names = [], order = "size", mark = ".", said = {})
   if (found.state || found.isAll) return found;
   const { rows: bare, units = [], fault = found.many } = withoutUnits(joined, 1);
   if (fault || !kept.length) return { fault: fault || "There is nothing in this list." };
-  const told = [leftText(book?.left ?? framed.left), ...block.notes, marked.told, unitsText(units)].filter(Boolean)
+  const told = [leftText([...framed.left, ...left]), ...block.notes, marked.told, unitsText(units)].filter(Boolean)
     .map((words) => ` ${words}`).join("");
   const plain = told && !isList ? vectorIn(bare.map((row) => row.join("\t")).join("\n"), names, order, mark) : {};
   const lineOf = (k) => book?.lines[block.lines[k] - 1] ?? block.lines[k];
   const places = new Map(block.rows.map((row, k) => [row, lineOf(k)])), all = kept.map((row) => places.get(row));
   const lines = marked.from?.map((k) => all[k]) ?? all;
   const isVector = plain.state || plain.isAll || plain.many;
-  const more = { mark, cells, titles: (book?.left ?? framed.left).slice(0, 1), ...said };
+  const more = { mark, cells, titles: [...framed.left, ...left].slice(0, 1), ...said };
   const read = isVector ? { ...plain, fault: plain.fault ?? plain.many } : listOf(bare, lines, more);
   return read.state ? { ...read, remark: told + read.remark } : read;
 }
@@ -322,7 +324,7 @@ function listOf(given, allLines, { mark, roles, column, cells, titles = [], ...s
   });
   const unknown = open.size ? ` A cell with ${listed([...open].map((text) => `“${text}”`))} is empty.` : "";
   const found = inOtherWords(read, { roles, isRun: said.isRun });
-  const table = found.read ? placedList(found.read, said) : found;
+  const table = found.read ? placedList(found.read, { ...said, roles }) : found;
   const state = table.state && { ...table.state, ...(amounts && { amounts }) };
   return state ? { ...table, state, remark: told + found.told + unknown } : table;
 }
@@ -330,7 +332,7 @@ function listOf(given, allLines, { mark, roles, column, cells, titles = [], ...s
 /** The table of lines of groups: {state}, or {fault} in words; with a `way` on if lines of players alone lack, until
  * somebody says that each gains 0 (`isZeroAlone`), and if hardly any group has a number, until that is meant
  * (`isSparse`). */
-function placedList(read, { isZeroAlone, isSparse, isCost } = {}) {
+function placedList(read, { isZeroAlone, isSparse, isPlayer, isCost, roles } = {}) {
   const given = new Set(read.filter(({ members }) => members.length === 1).map(({ members }) => members[0]));
   const missing = [...new Set(read.flatMap(({ members }) => members))].filter((name) => !given.has(name));
   const own = isZeroAlone ? missing.map((name) => ({ members: [name], number: "0" })) : [], all = [...own, ...read];
@@ -348,6 +350,8 @@ function placedList(read, { isZeroAlone, isSparse, isCost } = {}) {
   const isOdd = names.length > MOST_SPARSE && count * 2 >= 2 ** names.length && !isSparse
     && !read.some(({ members }) => members.length === 2);
   if (fault) return { fault };
+  const apart = isPlayer ? undefined : apartText(numbers, names, roles);
+  if (apart) return apart;
   return isOdd ? sparseText(names, count) : { state: { names, numbers } };
 }
 
@@ -361,25 +365,6 @@ function numbersOf(read, names) {
     numbers[mask] = number;
   }
   return { numbers };
-}
-
-/** What is said of a list that gives hardly any group a number. */
-function sparseText(names, count) {
-  const some = names.slice(0, 3).map((name) => `“${withEscapes(name)}”`).join(", ");
-  const fault = `So read, these are ${names.length} players (${some} …), and ${count} of ${2 ** names.length - 1} `
-    + "groups have no number. A group is its members with + between them, such as Sales+Ops. Is it meant so?";
-  return { fault, way: ["Yes, take it", { isSparse: true }] };
-}
-
-/** What is said of names that are in groups and have no line alone. */
-function missingText(missing, read, isCost) {
-  const [name, ...others] = missing, { line } = read.find(({ members }) => members.includes(name));
-  if (!name) return { fault: `${line}Beside a + a member is missing. Write it, or leave the + out.` };
-  const some = listed(others.slice(0, MOST_TOLD).map((one) => `“${withEscapes(one)}”`));
-  const more = `${some && `, nor for ${some}`}${others.length > MOST_TOLD ? " and others" : ""}`;
-  const fault = `${line}There is no line for “${withEscapes(name)}” alone${more}. Add a line for each player alone, or `
-    + "write the names as there.";
-  return { fault, way: isCost ? undefined : ["Each of them gains 0 alone", { isZeroAlone: true }] };
 }
 
 export function groupLabel(names, mask) {

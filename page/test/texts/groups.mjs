@@ -20,6 +20,7 @@ const TOM = "Hi Margaret,\n\nI rang Harper Coaches again about the district tour
 const ZERO = "Alone they gain nothing: 0", DONE = "A|B|C|1|2|8|3|9|10|20";
 const SEVEN = ([a, b, c, ab, ac, bc, abc]) => `${a}\t1\n${b}\t2\n${c}\t3\n${ab}\t8\n${ac}\t9\n${bc}\t10\n${abc}\t20`;
 const OAKS = "Red Oak|Green Mill|Hill|1|2|8|3|9|10|20";
+const THREE = SEVEN(["A", "B", "C", "A+B", "A+C", "B+C", "all"]);
 export const GROUPS = [
   // members side by side
   ["costs", SEVEN(["A", "B", "C", "AB", "AC", "BC", "ABC"]), DONE, /3 players, 7 groups\. “AB”, .* “ABC” are groups/],
@@ -39,7 +40,17 @@ export const GROUPS = [
   ["gains", "A\tB\tCost\tProfit\n1\t0\t0\t1\n0\t1\t1\t1\n1\t1\t1\t3", "A|B|1|1|3", /“Cost” was left out/],
   ["gains", "A\tB\tC\tworth\n1\t0\t1\t1\n1\t1\t0\t0\n1\t0\t0\t0\n0\t1\t0\t0\n0\t0\t1\t0", "A|B|C|0|0|0|0|1||"],
   ["costs", "Cost\tA\tB\n5\tx\t\n6\t\tx\n9\tx\tx", "A|B|5|6|9"],
-  ["gains", "Partners\tEUR 2026\tEUR 2027\nA\t5\t6\nB\t6\t7\nA+B\t15\t19", "A|B|6|7|19", /“EUR 2026” was/, "“EUR 2027”"],
+  ["gains", "Partners\tEUR 2026\tEUR 2027\nA\t5\t6\nB\t6\t7\nA+B\t15\t19", "A|B|6|7|19", /“EUR 2026”/, "“EUR 2027”"],
+  // headings of parts, rules, and one who is in no group
+  ["costs", "Alone\nA: 8\nB: 7\n\nPairs\nA & B: 12", "A|B|8|7|12", /Left out, .*“Alone”, “Pairs”/],
+  ["gains", "Coalition  Profit\n-----------------\n{A}        1\n{B}        2\n{A,B}      4\n=========", "A|B|1|2|4"],
+  ["costs", `Number of members\t3\n${THREE}`, null, /“Number of members” is in no group but that of all, as the/],
+  ["costs", `Number of members\t3\n${THREE}`, DONE, /was left/, "Leave it out"],
+  ["costs", "A\t1\nB\t2\nC\t3\nA+B\tnot costed\nall\t5", "A|B|C|1|2||3|||5", /A cell with “not costed” is empty/],
+  // minutes, with days, years and items
+  ["costs", "On 3 May all were read. Dorf alone would pay 12, Hof alone 9. Together the two would pay 15 in 2027.",
+    "Dorf|Hof|12|9|15", /“On 3 May all were read”/, "Yes, take it"],
+  ["costs", "Present: 12 men. Dorf alone would pay 12, Hof alone 9. Both together: 15.", null, /“Present: 12 men”/],
   // gains in the case of costs, and costs in that of gains
   ["costs", "Who\tSavings\nA\t0\nB\t0\nA+B\t9", null, /“Savings” says gains, .* to “Gains of each group” Costs: take/],
   ["costs", "Who\tSavings\nA\t0\nB\t0\nA+B\t9", "A|B|0|0|9", /3 groups/, "Costs: take them here"],
