@@ -33,7 +33,7 @@ export function pairsOf(given, allLines, { mark, column, cells, isCost }) {
   const wide = all.reduce((most, { length }) => Math.max(most, length), 0);
   const others = Array.from({ length: wide - 1 }, (_, k) => k + 1);
   const numeric = others.filter((c) => rows.some((row) => isNumber(row[c]))), meant = (c) => isWorth(headings?.[c]);
-  const fit = [meant, (c) => isWorth(headings?.[c], Boolean(isCost))].map((is) => numeric.filter(is));
+  const fit = [meant, (c) => isWorth(headings?.[c], isCost)].map((is) => numeric.filter(is));
   const several = fit.find(({ length }) => length === 1) ?? numeric, at = column ?? several[0];
   const isNamed = rows.every(([group]) => !isNumber(group)), isPlain = others.every((c) => numeric.includes(c));
   if (several.length > 1 && column === undefined && isNamed && (headings || isPlain)) {

@@ -16,8 +16,9 @@ export function isOtherKind(text = "", isCost = false) {
 }
 
 /** What is asked of numbers of which one of some texts says that they belong into the other case; undefined if none
- * does. */
+ * does, or if it isn’t known which case this is. */
 export function otherCase(texts, isCost) {
+  if (isCost === undefined) return undefined;
   const [here, there] = isCost ? ["costs", "gains"] : ["gains", "costs"];
   const text = texts.find((one) => isOtherKind(one, isCost));
   const answer = (id, where) => `${id[0].toUpperCase()}${id.slice(1)}: take them ${where}`;

@@ -353,7 +353,7 @@ class TableGrid {
   async takeList(text, order = "size", close = null, said = {}) {
     if (close) this.element.dispatchEvent(new CustomEvent("pasted-text", { detail: null })); // it is mended in its box
     this.say("Reading the list …");
-    const what = { text, names: this.ownNames(), order, said: { ...said, isCost: this.kind.isCost } };
+    const what = { text, names: this.ownNames(), order, said: { ...said, isCost: Boolean(this.kind.isCost) } };
     const found = await this.readList(what), { state, told, isOdd } = found;
     this.element.again = (grid) => grid.takeList(text, order, null, said);
     const use = (more) => () => (more.goTo ? readIn(more.goTo, text, { grid: this.element, onCase: this.onCase })
