@@ -6,6 +6,7 @@ import { withoutPlayer } from "../src/cases/tables.js";
 import { formatOf } from "../src/view/format.js";
 import { outOfBounds } from "../src/view/own-bounds.js";
 import { pinnedOf, pinnedText } from "../src/view/pinned.js";
+import { proposalOf } from "../src/view/proposal.js";
 import { Session } from "../src/view/session.js";
 import { Rational } from "../src/exact/rational.js";
 import { readCase } from "../src/work/cases.js";
@@ -141,6 +142,21 @@ for (const [before, now, totals, wanted] of KEPT) {
   const settings = { format: formatOf(2, { mark: "." }), labelOfCell: (cell) => cell };
   expect(`${before}, ${now}`, pinnedText(seen, { ...point, totals: point.shares }, rows, settings), wanted);
 }
+/** Amounts that are said by the whole, 90, and what they are, or what is said of them. */
+const BY_WHOLE = [
+  [["50 %", "30", "the rest"], "45,30,15", /Of the whole, 90: “50 %” is 45 and “the rest” is 15\./],
+  [["half", "a third", "nothing"], "45,30,0"], [["1/2", "1/3", "1/6"], "1/2,1/3,1/6"],
+  [["33,5 %", "Rest", "0"], "603/20,1197/20,0"], [["rest", "30", ""], ",30,", /known once all others have an amount/],
+  [["rest", "30", "rest"], ",30,", /It stands twice/], [["100", "the rest", "0"], "100,-10,0"],
+  [["equally", "", ""], ",,", /“Fill it with” has equal parts/],
+  [["half of it", "pro rata", ""], "45,,", /in proportion/],
+];
+for (const [texts, wanted, told = /^/] of BY_WHOLE) {
+  const rows = texts.map((label) => ({ label })), found = proposalOf(texts, rows, ".", Rational.of(90));
+  expect(`${texts}, of 90`, found.values.join(), wanted);
+  expect(`${texts}, of 90, told`, [found.told, ...found.faults].join(" "), told);
+}
+expect("50 % of nothing known", proposalOf(["50 %"], [{ label: "Ann" }], ".").faults[0], "It is no number.");
 console.log(`${CARRIED.length} cases whose rows changed beside own amounts, ${KEPT.length} beside a kept answer, `
   + `${faults} faults`);
 process.exit(faults ? 1 : 0);

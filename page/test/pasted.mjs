@@ -277,8 +277,9 @@ for (const [id, text, cells, told, answer] of ALL.filter(([, text]) => String(te
   faults += 1;
   console.log(`${id}: ${JSON.stringify(text)} is\n  ${found.cells}: ${found.told}\n  and not ${cells}: ${told}`);
 }
+const OF_ALL = { first: 0, before: ["", "", ""] };
 for (const [text, wanted, told = /^/, labels = ["Sales", "Ops", "Legal"]] of [...PROPOSED, ...DIVIDED]) {
-  const { texts, fault, said = "" } = pastedDivision(text, labels, { first: 0, before: ["", "", ""] });
+  const { texts, fault, said = "" } = pastedDivision(text, labels, { ...OF_ALL, isOfWhole: !told.isOfToday });
   if ((fault ?? texts.join()) === wanted && told.test(said)) continue;
   faults += 1;
   console.log(`${JSON.stringify(text)}, proposed: ${fault ?? texts}, ${said}, and not ${wanted}`);

@@ -8,7 +8,10 @@ const END = "(?=\\s*(?:;|[,.](?!\\d)|\\s(?:and|und|et|e|y|en)\\s|$))"; // and no
 const UNIT = "(?:\\s(?!(?:and|und|et|e|y|en)\\s)\\p{Ll}{2,12})?"; // as in "41 shares"
 const ITEM = new RegExp(`\\s*([^\\d,;:]*\\p{L}[^\\d,;:]*?)\\s*[ :=]\\s*(${NUMBER}${UNIT})${END}\\s*(?:[,;.]\\s*)*`
   + "(?:(?:and|und|et|e|y|en)\\s+)?", "uy");
-const BEHIND = new RegExp(`^\\s*(?:[:=]|[–-](?=\\s)|gets|pays|bekommt|zahlt)?\\s*(${NUMBER})(?![.,'’]?\\d)`, "u");
+/** What stands between who pays or gets and the amount. */
+export const PAYS = "(?:(?:should|would|will|soll|wird) )?(?:pays?|gets?|takes?|bears?|receives?|zahlt|bekommt|trägt|"
+  + "übernimmt|erhält|paie|paye|reçoit|prend|paga|recibe)";
+const BEHIND = new RegExp(`^\\)?\\s*(?:[:=]|[–-](?=\\s)|(?:${PAYS})\\s)?\\s*(${NUMBER})(?![.,'’]?\\d)`, "u");
 const ENDS = new RegExp(`^(?:${END}|\\s\\()`, "u"), HAS_WORDS = /^\s\p{L}+\s\p{L}/u; // behind a number
 const VERB = /\s(?:owes|has|holds|claims|gets|pays|wants|schuldet|hat|hält|fordert|bekommt|zahlt|doit)$/u;
 const SHORT = /^\D{1,60}\s\p{Sc}?\d[\d.,]*$/u; // a line of a name and its number

@@ -56,6 +56,12 @@ function partIn(typed, mark, votes) {
   return part && { part, isMore };
 }
 
+/** The part of a whole that a text says in words or in per cent; null for another text. */
+export function partSaid(text, mark) {
+  const bare = text.toLowerCase();
+  return ofWords(bare) ?? (PER_CENT.test(bare) ? ofNumbers(bare, mark, []) : null);
+}
+
 /** "Two thirds", "zweidrittel", "¾". */
 function ofWords(text) {
   if (SIGNS[text]) return Rational.of(SIGNS[text]);

@@ -28,9 +28,10 @@ export function ownInput({ label }, r, own, key, title) {
       },
       paste: (event) => {
         const pasted = event.clipboardData?.getData("text/plain").trim() ?? "";
-        if (!isOfRows(pasted, own.labels)) return;
+        if (!isOfRows(pasted, own.labels, r)) return;
         event.preventDefault();
-        const { texts, said, fault } = pastedDivision(pasted, own.labels, { first: r, before: own.texts });
+        const place = { first: r, isOfWhole: key === "proposal" };
+        const { texts, said, fault } = pastedDivision(pasted, own.labels, { ...place, before: own.texts });
         own.setAll(texts ?? own.texts, fault ?? said, "Paste your amounts");
         bringIntoView(`${key}.${r}`);
       },

@@ -1,41 +1,84 @@
 // The division that the user proposes, or that stands today: a text for each row of the answer.
-import { readNumber, readTogether } from "../exact/decimals.js";
+import { readNumber, readTogether, shortText } from "../exact/decimals.js";
 import { isMark, nameOfMark, otherMark } from "../exact/marks.js";
 import { Rational } from "../exact/rational.js";
-import { linesByName, linesByNumber } from "../cases/in-line.js";
+import { linesByName, linesByNumber, PAYS } from "../cases/in-line.js";
 import { withoutSigns } from "../cases/signs.js";
 import { unitsText, withoutUnits } from "../cases/units.js";
 import { isSumWord, withEscapes } from "../game/names.js";
 import { listed, plural } from "../game/words.js";
 import { meantRows, meantText } from "./meant-rows.js";
+import { buttonFor, isPart, withParts } from "./whole-parts.js";
 
-const IN_LINE = /[,;]\s+(?=\p{L})|(?<=\d)\s+(?:and|und|et|y|e)\s+(?=\p{L})/gu; // between amounts in a line of a mail
+const ENDS = "\\d|%|half|third|quarter|nothing|rest|hälfte|drittel|viertel|nichts|moitié|tiers|rien"; // of amounts
+const IN_LINE = new RegExp(`[,;]\\s+(?=\\p{L})|(?<=${ENDS})\\s+(?:and|und|et|y|e)\\s+(?=\\p{L})`, "giu"); // there
 const LINE = /^(?<name>.*?\p{L}.*?)(?:\s*[:=;,]\s*|\s+(?:[-–—]\s+)?)(?<number>[-−(]?\p{Sc}?\s?\d.*)$/u;
 const BESIDE = /^\s*[:=;,]?\s*(?:[-–—](?=\s))?\s*|\s*\(.*\p{L}.*\)$/gu; // of a number behind a name
+const VERB = new RegExp(`^(?:${PAYS})\\s+`, "iu");
+const EACH = /,?\s+(?:each|je|chacune?)\.?$/iu, MOST_EACH = 400; // letters of such a line
+const AND = /\s*(?:[,;+&]|(?<!\p{L})(?:and|und|et|y|e)(?!\p{L}))\s*/u; // between names that share an amount
+const MOST_LINES = 40, MOST_LINE = 2000; // of a mail, and letters
 const NUMBER = /^[-−(]?\p{Sc}?\s?\d[\d.,'’\s/]*(?:\p{Sc}|[A-Z]{3})?\)?$/u;
 
 /** What a pasted text gives the rows, by their `labels`: {texts, said}, or {fault} in words. Lines with a name go to
  * the row that is called so, or that alone is meant; numbers alone go on below from a row. A unit behind all numbers
  * goes. */
-export function pastedDivision(text, labels, { first, before }) {
+export function pastedDivision(pasted, labels, { first, before, isOfWhole = false }) {
   const isOdd = labels.some((label) => /["|]/.test(label)), plain = isOdd ? (line) => line
     : (line) => line.replace(/^ *"([^"]*)"/, "$1").replace(/ *\| */g, " ");
   const bare = (line) => plain(line).trim().replace(/\s+/g, " ");
+  const isSaid = (one) => isOfWhole && isPart(one), byButton = isOfWhole && buttonFor(pasted);
+  if (byButton) return { fault: `${byButton} Nothing was taken.` };
+  const text = amountsInLine(pasted, labels.length - first)?.join("\n") ?? pasted;
   const named = partedLines(text, labels), own = named?.text ?? (isLine(text) ? text.replace(IN_LINE, "\n") : text);
   const given = own.split(/\r\n?|\n/).map(bare).filter((line) => /[^-: ]/.test(line));
   const lines = withoutSigns(given.map((line) => [line])).rows.flat(), alone = withoutUnit(lines);
-  const isAlone = alone.fault === undefined && alone.numbers.every((line) => NUMBER.test(line));
-  const found = isAlone ? numbersBelow(alone, labels.length - first) : namedAmounts(lines, labels);
+  const isAlone = alone.fault === undefined && alone.numbers.every((line) => NUMBER.test(line) || isSaid(line));
+  const apart = lines.flatMap((line) => ofEach(line, labels));
+  const found = isAlone ? numbersBelow(alone, labels.length - first) : namedAmounts(apart, labels, isSaid);
   if (found.fault) return { fault: `${found.fault} Nothing was taken.` };
   const { amounts, at = (r) => r - first } = found, said = [found.said, outText(named?.left ?? [])];
   return { texts: before.map((own, r) => amounts[at(r)] ?? own), said: said.filter(Boolean).join(" ") };
 }
 
-const partedLines = (text, labels) => linesByName(text, labels) ?? linesByNumber(text, labels);
+const partedLines = (text, labels) => {
+  return linesByName(text, labels) ?? linesByNumber(text, labels) ?? lineOfMail(text, labels);
+};
+/** A line of several rows that have the same amount each, as "Bo and Cleo 50 each", as a line of each. */
+function ofEach(line, labels) {
+  if (line.length > MOST_EACH || !EACH.test(line)) return [line];
+  const words = line.replace(EACH, "").split(" "), rows = new Set(labels.map((label) => label.toLowerCase()));
+  const namesIn = (k) => words.slice(0, k).join(" ").split(AND).filter(Boolean);
+  const isOwn = (_, k) => namesIn(k).length > 1 && namesIn(k).every((name) => rows.has(name.toLowerCase()));
+  const end = words.findLastIndex(isOwn), amount = words.slice(end).join(" ").replace(VERB, "");
+  return end > 0 ? namesIn(end).map((name) => `${name} ${amount}`) : [line];
+}
+
 const isLine = (text) => !/[\r\n]/.test(text.trim());
 
+/** The one line of a mail that has each name with its amount, where no number stands in another; else null. */
+function lineOfMail(text, labels) {
+  const lines = text.split(/[\r\n]+/).map((line) => line.trim()).filter(Boolean);
+  if (lines.length < 2 || lines.length > MOST_LINES) return null;
+  const found = lines.map((line) => linesByName(line, labels)), own = found.filter(Boolean);
+  const others = lines.filter((_, k) => !found[k]);
+  if (own.length !== 1 || others.some((line) => /\d/.test(line))) return null;
+  return { text: own[0].text, left: [...own[0].left, ...others] };
+}
+
+/** Amounts in a line for so many rows, as "50/30/20", or the cells of a spreadsheet; null for another text. Of two,
+ * "6/4" is a fraction, but for parts of 100. */
+function amountsInLine(text, most) {
+  if (!isLine(text) || text.length > MOST_LINE || most < 2) return null;
+  const parts = text.trim().split(/\s*[\t/;:|]\s*|,\s+|\s+(?:and|und|et|y|e)\s+/u);
+  const isAll = parts.length === most && parts.every((one) => NUMBER.test(one) && !/[/\s]/.test(one));
+  const [one, other] = parts.map(Number), isFraction = most === 2 && text.includes("/") && one + other !== 100;
+  return isAll && !isFraction ? parts : null;
+}
+
 /** Whether a pasted text is of several rows, and not of one cell. */
-export const isOfRows = (text, labels) => !isLine(text) || text.trim().replace(IN_LINE, "\n").includes("\n")
+export const isOfRows = (text, labels, first = 0) => !isLine(text) || Boolean(buttonFor(text))
+  || amountsInLine(text, labels.length - first) !== null || text.trim().replace(IN_LINE, "\n").includes("\n")
   || partedLines(text, labels) !== null;
 
 /** What is told of lines and words that were left out. */
@@ -57,15 +100,16 @@ function numbersBelow({ numbers, told }, most) {
 }
 
 /** Amounts beside names: {amounts, at, said}, `at(r)` being the place of that of a row, or {fault}. */
-function namedAmounts(lines, labels) {
+function namedAmounts(lines, labels, isSaid) {
   const { places, strangers, out, twice } = namedLines(lines, labels);
   if (twice !== undefined) return { fault: `${withEscapes(labels[twice])} is there twice.` };
-  const others = meantBeside(strangers, labels, places), { meant = [], names = [] } = others;
+  const others = meantBeside(strangers, labels, places, isSaid), { meant = [], names = [] } = others;
   if (others.fault) return others;
   meant.forEach((place, k) => places.set(place, names[k].number));
   const called = [...places.keys()], { numbers, told, fault } = withoutUnit([...places.values()]);
   if (fault) return { fault };
-  const odd = numbers.findIndex((number) => readNumber(number).fault), label = withEscapes(labels[called[odd]] ?? "");
+  const odd = numbers.findIndex((number) => readNumber(number).fault && !isSaid(number));
+  const label = withEscapes(labels[called[odd]] ?? "");
   if (odd >= 0) return { fault: `${oddText(label, numbers[odd])}. Write one amount beside each name, such as 12.50.` };
   if (!places.size) return { fault: "Give a number a line, or a name and a number in each." };
   const rest = out.filter((line) => names.every((one) => one.line !== line));
@@ -77,10 +121,10 @@ function namedAmounts(lines, labels) {
 }
 
 /** Lines of other names with an amount, as `names`, and the rows that they have to mean: {meant, names}, or {fault}. */
-function meantBeside(strangers, labels, places) {
+function meantBeside(strangers, labels, places, isSaid) {
   const { unit } = withoutUnit(places.size ? [...places.values()] : strangers.map(({ number }) => number));
   const bare = (number) => (unit && number.endsWith(unit) ? number.slice(0, -unit.length).trim() : number);
-  const names = strangers.filter(({ number }) => NUMBER.test(bare(number)));
+  const names = strangers.filter(({ number }) => NUMBER.test(bare(number)) || isSaid(bare(number)));
   const { places: meant, fault } = meantRows(names.map(({ name }) => name), labels, places);
   return { meant, names, fault };
 }
@@ -95,15 +139,18 @@ function namedLines(lines, labels) {
   let twice;
   for (const line of lines) {
     const place = placeOf(line), { name, number } = LINE.exec(line)?.groups ?? {};
-    const isLonger = name && place !== undefined && /\p{L}/u.test(name.slice(labels[place].length));
+    const more = place === undefined ? "" : (name ?? "").slice(labels[place].length).trim();
+    const isLonger = /\p{L}/u.test(more) && !VERB.test(`${more} `);
     if (place === undefined || isLonger) {
       out.push(line);
       if (name && !isSumWord(name)) strangers.push({ name, number, line });
     } else if (places.has(place)) twice ??= place;
-    else places.set(place, line.slice(labels[place].length).replace(BESIDE, "").replace(/[.;,]$/, "").trim());
+    else places.set(place, besideName(line.slice(labels[place].length)));
   }
   return { places, strangers, out, twice };
 }
+
+const besideName = (text) => text.replace(BESIDE, "").replace(VERB, "").replace(/[.;,]$/, "").trim();
 
 /** Numbers without the unit that all have, which is told: {numbers, unit, told}, or {fault}. Per cent is none. */
 function withoutUnit(texts) {
@@ -128,13 +175,14 @@ export function proposalOf(texts, rows, mark, whole = null) {
   const found = ways.map((by) => readTogether(typed, by)), isWhole = ({ read }) => {
     return whole && read.every(({ value }) => value) && Rational.sum(read.map(({ value }) => value)).equals(whole);
   };
-  const chosen = found.find(isWhole) ?? found[0], { read, by } = chosen;
+  const chosen = found.find(isWhole) ?? found[0], { by } = chosen;
+  const { read, told } = withParts(typed, chosen.read, { whole, mark: by, show: shortText });
   const isFault = ({ fault }, r) => fault && typed[r].trim();
   const totals = rows.length && read.every(({ value }) => value) ? read.map(({ value }) => value) : null;
   return {
     texts: typed, totals, shares: totals && sharesOf(rows, totals), values: read.map(({ value = null }) => value),
-    faults: read.map((one, r) => (isFault(one, r) ? `It ${one.fault}.` : null)),
-    told: chosen === found[0] ? "" : `Read with the ${nameOfMark(by)} before decimals: so they add to the whole.`,
+    faults: read.map((one, r) => (isFault(one, r) ? buttonFor(typed[r]) || `It ${one.fault}.` : null)),
+    told: chosen === found[0] ? told : `Read with the ${nameOfMark(by)} before decimals: so they add to the whole.`,
   };
 }
 

@@ -206,7 +206,25 @@ export const LISTS = [
   ["votes", DISTRICT.replace(/\nThe.*/, ""), DISTRICT_VOTES, /Left out, as it is no row: “5\. Votes in the/],
 ];
 const MAYOR = "Ops 8,300, Sales 9,000 and Legal 7,250", OF_MAYOR = "9,000,8,300,7,250";
+const OF_TODAY = Object.assign(/^/, { isOfToday: true }); // amounts that are no parts of the whole
+const NO_WHOLE = "“50%” beside Sales is no amount. Write one amount beside each name, such as 12.50. Nothing was "
+  + "taken.";
 export const DIVIDED = [
+  ["Sales pays 40, Ops 30 and Legal the rest", "40,30,the rest", /^Taken by name: Sales, Ops and Legal\.$/],
+  ["Sales 50%, Ops 30%, Legal 20%", "50%,30%,20%"], ["Sales 50%, Ops 30%, Legal 20%", NO_WHOLE, OF_TODAY],
+  ["50%\n30%\n20%", "50%,30%,20%"], ["50/30/20", "50,30,20"], ["50\t30\t20", "50,30,20"],
+  ["20, 30 and 50", "20,30,50"], ["50 : 30 : 20", "50,30,20"], ["60/40", "60,40,", /^/, ["Sales", "Ops"]],
+  ["Sales pays nothing, Ops and Legal 50 each", "nothing,50,50"],
+  ["Ops pays half, Sales and Legal a quarter each", "a quarter,half,a quarter"],
+  ["Hi all,\nI'd suggest Sales takes 20, Ops takes 30 and we (Legal) take 50.\nBest, Eva", "20,30,50",
+    /Left out: “I'd suggest”/],
+  ["Hi all,\nSales takes 20, Ops takes 30 and Legal takes 50.\nOf these 5 are paid.\nBest, Eva",
+    "“20, Ops takes 30 and Legal takes 50” beside Sales is no amount. Write one amount beside each name, such as "
+    + "12.50. Nothing was taken."],
+  ["equally", "“Fill it with” has equal parts, below “What if”. Nothing was taken."],
+  ["a third each", "“Fill it with” has equal parts, below “What if”. Nothing was taken."],
+  ["Name\tNow\tNew\nSales\t20\t25\nOps\t30\t30\nLegal\t50\t45", "Two numbers stand beside Sales: “20 25”. Write "
+    + "one amount beside each name, such as 12.50. Nothing was taken."],
   ["Sales pays 960.00, Ops pays 580.00 and Legal pays 1,220.00: together 2,760.00.", "960.00,580.00,1,220.00",
     /Left out: “together 2,760\.00\.?”/],
   ["Sales pays 960.00, Ops pays 580.00 and Legal pays 1,220.00: together 2,760.00.\nAll amounts are in k EUR.\n",
