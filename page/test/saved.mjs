@@ -48,6 +48,8 @@ const HELD = {
 const SHOWN = [
   ["Ann\t120 €\nBo\t80 €", "€"], ["Cost (€)\tGroup\n3\tA", "€"], ["Ann\t12 CHF\nBo\t8 €", ""],
   ["EUR 1000\tWell\tNord\nWell\t\t420\nNord\t420\t", ""], ["120 €\tAnn\n80 €\tBo", "€"],
+  ["Ann £120\nBo £80", "£"], ["Ann: CHF 120\nBo: CHF 80 (niece)", "CHF"], ["Ann 120 kr\nBo 80 kr", "kr"],
+  ["Ann 120 zł\nBo £80", ""], ["Ann US$ 1,200\nBo US$ 800", "US$"], ["Ann T€ 12\nBo T€ 8", "T€"], ["Lot A 120", ""],
 ];
 
 /** What is said of the unit on paper: that of a pasted table goes with it, and one that was typed stays. */

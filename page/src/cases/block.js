@@ -2,6 +2,7 @@
 import { readNumber } from "../exact/decimals.js";
 import { isSumWord, withEscapes } from "../game/names.js";
 import { UNKNOWN } from "./columns.js";
+import { OF_NO_CENTS } from "./pasting.js";
 import { namesFirst, withoutDashes, withoutSigns } from "./signs.js";
 import { parted } from "./units.js";
 
@@ -17,7 +18,7 @@ const MOST_LETTERS = 400; // of a line that is parted
 export const PAGES = "page|seite|blatt|p[aá]gina|strona|side";
 const NO_NAME = new RegExp(`,|^(—|${PAGES})$`, "iu");
 /** Whether a name may end so before a number: not with a number, a minus or a currency. */
-const endsName = (word) => !NO_NAME.test(word) && !isNumber(word) && !isNumber(`${word}1`);
+const endsName = (word) => !NO_NAME.test(word) && ![word, `${word}1`].some(isNumberOrPart);
 
 /** What is told of numbers of rows. */
 export const ROW_NUMBERS = "The first column, of row numbers, was left out.";
@@ -121,13 +122,15 @@ export const isLostPerson = (text) => isPerson(text) || (FULL_NAME.test(text) &&
 /** The ways in which a line is a name and a number behind it, which may have blanks; behind a colon one. */
 function waysOf(text, hasWords) {
   if (text.length > MOST_LETTERS || CALL.test(text)) return [];
-  const [, named, whole = ""] = SAYING.exec(text) ?? [], words = text.split(/\s+/);
+  const [, named, rest = ""] = SAYING.exec(text) ?? [], words = text.split(/\s+/);
+  const whole = /^[-–—]/.test(rest) && OF_NO_CENTS.test(text) ? "" : rest;
   const last = words.at(-1), isWord = hasWords && words.length > 1 && NOTHING.test(last);
   if (isWord) return [[bare(words.slice(0, -1).join(" ")).replace(/\s*[:=–-]$/, ""), last]];
   const said = whole.replace(REMARK, "").replace(/(?<=[\p{L}\d])[.;,]$/u, "");
   const isSaid = SOME_OF.test(said) || UNKNOWN.test(said) || isNumber(said) || parted(said); // 12 votes
   if (said && isSaid) return PHONE.test(said) ? [] : [[bare(named), said]];
-  return words.map((_, k) => [bare(words.slice(0, k).join(" ")), words.slice(k).join(" ")])
+  const nameOf = (k) => bare(words.slice(0, k).join(" ")).replace(/\s*[:=]$/, "");
+  return words.map((_, k) => [nameOf(k), words.slice(k).join(" ")])
     .filter(([name, number]) => /\p{L}/u.test(name) && isNumberOrPart(number));
 }
 

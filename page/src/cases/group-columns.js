@@ -4,7 +4,7 @@ import { withEscapes } from "../game/names.js";
 import { listed } from "../game/words.js";
 import { isOtherKind } from "./other-case.js";
 import { headingsOf } from "./pasting.js";
-import { amountsBelow } from "./units.js";
+import { amountsIn } from "../exact/money.js";
 
 const MOST_SHOWN = 120; // letters of a line that is quoted
 export const FORM = "Give each group a line: its members with + between them, then its number. Marks in columns need "
@@ -20,14 +20,14 @@ export const isWorth = (heading = "", isCost = undefined) => WORTH.test(heading)
 
 /** Rows of a group and its number, of such as may have headings and further columns: {rows, lines, told, title}, this
  * that of the numbers. Of several columns of numbers the one `column` is taken; {columns} with their titles if nobody
- * said which; {fault} where no
- * headings say what the others are. `lines` are the numbers of the lines of the text. */
-export function pairsOf(given, allLines, { mark, column, cells, isCost }) {
+ * said which; {fault} where no headings say what the others are. `lines` are the numbers of the lines of the text, and
+ * `titles` stand above. */
+export function pairsOf(given, allLines, { mark, column, cells, isCost, titles }) {
   const { rows: all, told: joined } = asOneColumn(given, mark);
   const headings = headingsOf(all, 1, mark) ?? yearsOf(all), skip = headings ? 1 : 0, rows = all.slice(skip);
   const lines = allLines.slice(skip), long = rows.findIndex((row) => row.slice(2).some(Boolean));
   const told = headings ? headingText((cells[allLines[0] - 1] ?? headings).filter(Boolean).join("; ")) + joined : "";
-  if (long < 0) return { rows, lines, told, title: headings?.[1], amounts: amountsBelow(headings?.[1]) };
+  if (long < 0) return { rows, lines, told, title: headings?.[1], amounts: amountsIn(headings?.[1], titles) };
   const isNumber = (text) => Boolean(text) && !readNumber(text, mark).fault;
   const shown = withEscapes(rows[long].join("; ")).slice(0, 60), line = `Line ${lines[long]}: `;
   const wide = all.reduce((most, { length }) => Math.max(most, length), 0);
@@ -49,7 +49,7 @@ export function pairsOf(given, allLines, { mark, column, cells, isCost }) {
   }
   const out = others.filter((c) => c !== at).map((c) => withEscapes(headings?.[c] ?? rows[0][c] ?? ""));
   const left = out.map((text) => ` “${text}”${headings ? "" : " …"} was left out.`).join("");
-  const title = headings?.[at], amounts = amountsBelow(title);
+  const title = headings?.[at], amounts = amountsIn(title, titles);
   return { rows: rows.map((row) => [row[0], row[at] ?? ""]), lines, told: told + left, title, amounts };
 }
 

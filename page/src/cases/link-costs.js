@@ -1,6 +1,7 @@
 // What a link of a pasted list costs, where one of its columns is a price for each of another, as "price per m" beside
 // "length": the product of the two, or what stands in a column of its own.
-import { moneyIn, readNumber } from "../exact/decimals.js";
+import { readNumber } from "../exact/decimals.js";
+import { moneyIn } from "../exact/money.js";
 import { withEscapes } from "../game/names.js";
 
 /** That a link costs the price times the size. */

@@ -113,8 +113,9 @@ export function listOf(rows, { judge, said, unitAt }) {
   });
   const rest = wide > 3 ? rows[0].map((_, c) => c).filter((c) => ![from, to, ...cost].includes(c)) : [];
   const lost = below.length < given.length ? [`“${given.at(-1).filter(Boolean).join("; ")}”, a sum`] : [];
-  const told = said ? [`A link costs ${cost.map(label).join(" times ")}.`] : [];
-  return { points, entries, shape: "a list of from, to, cost", left: [...rest.map(label), ...lost], told };
+  const told = said ? [`A link costs ${cost.map(label).join(" times ")}.`] : [], isOne = cost.length === 1;
+  const head = isOne ? heads[cost[0]] : undefined; // a product has its own
+  return { points, entries, shape: "a list of from, to, cost", left: [...rest.map(label), ...lost], told, head };
 }
 
 /** The columns of a list: {from, to, priced}, where each of `priced` may be the cost; null if it is none. */

@@ -17,6 +17,7 @@
 // name already; otherwise the only one with a name such as reservoir or Wasserwerk; otherwise the first of a half. If
 // there is none, the page asks.
 import { cellNumber } from "../exact/decimals.js";
+import { amountsIn } from "../exact/money.js";
 import { mostOf } from "../game/classes.js";
 import { withEscapes } from "../game/names.js";
 import { plural } from "../game/words.js";
@@ -57,7 +58,8 @@ function padded(rows) {
   return rows.map((row) => Array.from({ length: wide }, (_, c) => clean(row[c] ?? "")));
 }
 
-/** What a pasted block says of a whole network: {points, source, links, said}, `links` by "i-j" of the points; {fault}
+/** What a pasted block says of a whole network: {points, source, links, said}, `links` by "i-j" of the points, and the
+ * `amounts` that a heading says they are; {fault}
  * if it contradicts itself; {product} if one of its columns is a price for each of another, and nobody said what the
  * `cost` is; {asked} if several `columns` may be it, and nobody said which; null if it is numbers alone, or names
  * alone, for the cells where it was pasted. */
@@ -86,8 +88,8 @@ export function networkOf(pasted, { mark = ".", source = "", cost, columns } = {
   const out = texts.map((text) => `“${text}”`);
   if (rows !== block.rows && !letter.length) out.push(...titleOf(pasted, block));
   out.push(...left, ...found.units.map((unit) => `“${unit}”, the unit`));
-  return { points, links, shape, left: out, told: [...block.notes, ...found.told, ...wordsOf(found)],
-    ...sourceOf(points, found, { named: source, texts }) };
+  const told = [...block.notes, ...found.told, ...wordsOf(found)], amounts = amountsIn(found.head, texts);
+  return { points, links, shape, left: out, told, amounts, ...sourceOf(points, found, { named: source, texts }) };
 }
 
 /** What is told of words that say that there is no link. */
@@ -114,8 +116,8 @@ function readOf(given, { mark, cost, columns }) {
   if (product && meant === undefined) return { product };
   const { rows, left: out = [], told = [] } = product ? byCost(bare, product, meant) : { rows: bare };
   if (rows.length < 2 || !rows.flat().some(judge.isNumber)) return null;
-  const found = listOf(rows, { judge, said: columns, unitAt }) ?? labelledOf(rows, judge) ?? namedOf(rows, judge)
-    ?? squareOf(rows, judge);
+  const found = cornered(rows, judge) ?? listOf(rows, { judge, said: columns, unitAt }) ?? labelledOf(rows, judge)
+    ?? namedOf(rows, judge) ?? squareOf(rows, judge);
   const all = (key, ...more) => [...found[key] ?? [], ...more];
   return found && { ...found, left: all("left", ...out), told: all("told", ...told), units, judge };
 }
@@ -177,6 +179,13 @@ function joined({ entries, points }, judge) {
 
 // ---- Shapes
 
+/** The same names above and before each row, with a word in the corner, as “EUR”; null for other rows. */
+function cornered([[corner, ...heads], ...below], judge) {
+  const isSame = judge.isName(corner) && heads.length > 1 && String(heads) === String(below.map(([name]) => name));
+  const found = isSame ? labelledOf([["", ...heads], ...below], judge) : null;
+  return found && !found.fault ? { ...found, left: [...found.left, `“${corner}”`], head: corner } : found;
+}
+
 /** Names above and names before each row: what they share says how the block is to be read. */
 function labelledOf(given, { isNumber, isName, isZero }) {
   const { rows: [heads, ...below], left } = withoutSums(given);
@@ -201,7 +210,8 @@ function labelledOf(given, { isNumber, isName, isZero }) {
   const isHalf = [(i, j) => i < j, (i, j) => i > j].some((is) => {
     return entries.every(([i, j, text]) => !is(i, j) || isNone(text) || isZero(text));
   });
-  return { points, entries, shape: `a ${isHalf ? "triangle" : "square"} with names`, left, isFirst: !isSquare };
+  const shape = `a ${isHalf ? "triangle" : "square"} with names`;
+  return { points, entries, shape, left, isFirst: !isSquare };
 }
 
 /** Names before each row alone: a square, or a triangle whose first row is the source’s. */

@@ -1,5 +1,6 @@
 // Cases that are a matrix: a network of links, and buyers with sellers.
 import { cellNumber, typedText } from "../exact/decimals.js";
+import { amountsIn } from "../exact/money.js";
 import { Rational, ZERO } from "../exact/rational.js";
 import { CLASSES, mostOf } from "../game/classes.js";
 import { withEscapes } from "../game/names.js";
@@ -195,7 +196,8 @@ export function marketOf(pasted, isAbove = false) {
     unitsText(units), isSaid && !pairs && `“${corner}”: the rows are sellers.`].filter(Boolean);
   const isHeadless = !shape?.sellers && left.some((text) => text.split(/\s+/).length === wide - 1);
   const words = shape?.values && !pairs && texts.length ? texts : undefined;
-  return shape && !isHeadless ? { ...shape, words, notes, isPairs: Boolean(pairs) } : { fault: NO_MARKET };
+  const head = pairs ? bare.find(([, , text]) => !isValue(text))?.[2] : corner, amounts = amountsIn(head, left);
+  return shape && !isHeadless ? { ...shape, words, notes, amounts, isPairs: Boolean(pairs) } : { fault: NO_MARKET };
 }
 
 const AS_PAIRS = "Taken as a list of buyer, seller and what they gain together.";

@@ -1,5 +1,6 @@
 // What the columns of a list of limit prices are: by their headings, and by what is in them.
-import { moneyIn, readNumber } from "../exact/decimals.js";
+import { readNumber } from "../exact/decimals.js";
+import { moneyIn } from "../exact/money.js";
 import { UNKNOWN } from "./columns.js";
 import { withoutUnits } from "./units.js";
 

@@ -1,9 +1,8 @@
 // A row or a column of limit prices within a table of buyers and sellers, as "Reserve": what it may mean, and the table
 // without it.
-import { cellNumber, isOfMoney, moneyIn, typedText } from "../exact/decimals.js";
-import { isMark, onlyMark, WHOLE } from "../exact/marks.js";
+import { moneyText, readNumber, readTogether, typedText } from "../exact/decimals.js";
+import { amountsIn, moneyIn } from "../exact/money.js";
 import { Rational, ZERO } from "../exact/rational.js";
-import { withEscapes } from "../game/names.js";
 import { blockOf, isText, isValue } from "./block.js";
 import { UNKNOWN } from "./columns.js";
 import { unframed } from "./frames.js";
@@ -22,11 +21,11 @@ function sideOfLine(text, beside) {
   return isPrice && !isBoth && !(isWeak && side === "buyers") ? side : undefined; // Max may be a person
 }
 
-/** Such a line of a pasted table: {name, side, rows, at, left}, without the columns `left`, and with buyers before the
- * rows and the line `at` of them for the sellers, or with sellers before the rows and that of the buyers; null if there
- * is none, or several. */
+/** Such a line of a pasted table: {name, side, rows, at, left, amounts}, without the columns `left`, and with buyers
+ * before the rows and the line `at` of them for the sellers, or with sellers before the rows and that of the buyers;
+ * null if there is none, or several. */
 export function priceLineOf(pasted) {
-  const block = blockOf(pasted), { rows: framed } = unframed(block.rows);
+  const block = blockOf(pasted), { rows: framed, left: titles } = unframed(block.rows);
   const { rows: given = [] } = withoutUnits(framed.filter((row) => row.some(Boolean)), 1);
   const even = given.map((row) => Array.from({ length: given[0].length }, (_, c) => row[c] ?? ""));
   const { rows, left } = even.length ? withoutTexts(even) : { rows: even, left: [] };
@@ -40,7 +39,7 @@ export function priceLineOf(pasted) {
   const [line, other] = lines, isWide = line?.isColumn ? above.length > 2 : below.length > 1;
   if (!line || other || !isWide) return null;
   const { name, side, at, isColumn } = line;
-  return { name, side, at, rows: isColumn ? turned(rows) : rows, left };
+  return { name, side, at, rows: isColumn ? turned(rows) : rows, left, amounts: amountsIn(corner, titles) };
 }
 
 /** The table without its line: of what the pairs gain, with buyers before the rows. */
@@ -49,18 +48,17 @@ export function withoutLine({ rows: [[, ...heads], ...below], at, side }) {
   return side === "sellers" ? kept : turned(kept);
 }
 
-/** The same, with what sellers take at least taken off what the buyers give: {rows, least}, with that by the sellers'
- * names; {fault} in words; or {doubt}, a number
- * that can be read in two ways, until somebody said (`isSaid`) that `entry` is the mark. */
-export function takenOff(line, entry, isSaid = false) {
-  const { rows, at } = line, [[, ...heads], ...below] = rows, texts = below.flatMap((row) => row.slice(1));
+/** The same, with what sellers take at least taken off what the buyers give: {rows, least, told}, with that by the
+ * sellers' names, or {fault} in words; or {doubt}, a number that can be read in two ways, until somebody says by which
+ * mark (`by`). */
+export function takenOff(line, entry, by) {
+  const { rows, at, amounts } = line, [[, ...heads], ...below] = rows, texts = below.flatMap((row) => row.slice(1));
   const [money, otherMoney] = new Set(texts.map(moneyIn).filter(Boolean));
   if (otherMoney) return { fault: `Some prices are in ${money}, others in ${otherMoney}. Give all in one.` };
-  const shown = onlyMark(texts.map((text) => cellNumber(text, entry).by));
-  const odd = isSaid || shown || !isMark(entry) ? [] : texts.filter((text) => cellNumber(text, entry).doubt);
-  const isWhole = odd.length > 0 && odd.every(isOfMoney), mark = shown ?? (isWhole ? WHOLE : entry);
-  if (odd.length && !isWhole) return { doubt: odd[0] };
-  const valueOf = (text) => (UNKNOWN.test(text) ? undefined : cellNumber(text, mark).value);
+  const { read, isSettled, money: proof, by: mark } = readTogether(texts, by ?? entry, by ? "rates" : amounts);
+  const doubt = texts.find((_, k) => read[k].doubt && !isSettled && !by);
+  if (doubt !== undefined) return { doubt };
+  const valueOf = (text) => (UNKNOWN.test(text) ? undefined : readNumber(text, mark).value);
   const least = rows[at].map(valueOf);
   const gain = (text, c) => {
     const value = valueOf(text);
@@ -70,5 +68,6 @@ export function takenOff(line, entry, isSaid = false) {
     return [name, ...row.map((text, c) => gain(text, c + 1))];
   });
   const leastOf = (c) => (least[c + 1] ? typedText(least[c + 1], mark) : "");
-  return { rows: [["", ...heads], ...gains], least: new Map(heads.map((name, c) => [name, leastOf(c)])) };
+  const told = proof && moneyText(proof, mark);
+  return { rows: [["", ...heads], ...gains], told, least: new Map(heads.map((name, c) => [name, leastOf(c)])) };
 }

@@ -1,6 +1,7 @@
 // Limit prices of a market, pasted: the most that each buyer would pay for one like thing, and the least that each
 // seller would take.
-import { moneyIn, readNumber } from "../exact/decimals.js";
+import { readNumber } from "../exact/decimals.js";
+import { amountsIn, moneyIn } from "../exact/money.js";
 import { isSumWord, withEscapes } from "../game/names.js";
 import { listed } from "../game/words.js";
 import { blockOf, isText, looseText } from "./block.js";
@@ -33,7 +34,8 @@ export function pricesOf(given, said) {
   const { lists, notes } = found, money = moneyFault(lists);
   if (money) return { fault: money };
   const sided = sidesOf(lists, said);
-  return sided && (sided.lists ? { ...taken(sided.lists), notes: [...notes, ...notesOf(lists)] } : sided);
+  const [head, ...heads] = lists.map((list) => list.head ?? ""), amounts = amountsIn(head, heads);
+  return sided && (sided.lists ? { ...taken(sided.lists), amounts, notes: [...notes, ...notesOf(lists)] } : sided);
 }
 
 /** Lists of which each has its side: {lists}; or {asked} or {fault}; null for one list of no prices. */

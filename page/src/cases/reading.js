@@ -1,10 +1,9 @@
 // Reads what a person typed into the cells of a case, and keeps what is wrong, cell by cell.
 import { bytesOf } from "../game/words.js";
 import { lcm } from "../exact/rational.js";
-import {
-  cellNumber, countText, isOfMoney, markOfThousands, moneyIn, shortText, thousandsIn,
-} from "../exact/decimals.js";
-import { DECIMALS, isMark, MARKS, onlyMark, otherMark } from "../exact/marks.js";
+import { cellNumber, countText, shortText, Shown, thousandsIn } from "../exact/decimals.js";
+import { isMark, MARKS, otherMark } from "../exact/marks.js";
+import { moneyIn } from "../exact/money.js";
 import { LIMITS } from "../game/classes.js";
 import { isTime, UNKNOWN } from "./columns.js";
 import { remarksOf, withEscapes } from "../game/names.js";
@@ -41,16 +40,14 @@ export function byOneMark(read, mark) {
 export class Reading {
   /** `opened` are the names of a document in whose cells nothing was typed yet; `isUnnamed` says that it has none. */
   constructor(mark, { opened = [], isUnnamed = false, beside, amounts } = {}) {
-    Object.assign(this, { mark, opened: new Set(opened), isUnnamed, amounts });
+    Object.assign(this, { mark, opened: new Set(opened), isUnnamed });
     this.faults = []; // {cell, sentence}
     this.count = 0; // of faults
     this.empty = { count: 0, first: null }; // cells that are empty and may not be
     this.doubts = new Map(); // of numbers that the decimal mark decides, by how they were read: the first, and how many
     this.thousands = new Set(); // signs between thousands
-    this.shown = new Map(); // marks that stand in front of decimals beyond doubt, each with a text that shows it
-    if (beside) this.shown.set(beside.mark, beside.text); // of a column that was pasted with these
-    this.ofThousands = new Set(); // marks before decimals by which some of those are in thousands
-    this.ofMoney = undefined; // the first of those that is an amount of money
+    this.shown = new Shown(amounts); // of marks that stand in front of decimals
+    if (beside) this.shown.add(beside.text, { by: beside.mark }); // of a column that was pasted with these
     this.money = undefined; // which the first number names that names one
     this.asked = null; // a row that may be the sum of the others: {r, name}
     this.mixed = null; // a number that would have decimals, though it hardly looks so: {typed, proof, count, value}
@@ -102,8 +99,7 @@ export class Reading {
   number(cell, typed, what, { canBeNegative = false, isFilled = false, hint = "" } = {}) {
     const { value, fault, doubt, by } = this.known(typed);
     if (doubt && !isFilled) this.doubt(doubt, typed, value);
-    if (doubt && !isFilled && this.isAmount(typed)) this.ofMoney ??= typed;
-    if (by && !this.shown.has(by)) this.shown.set(by, typed);
+    this.shown.add(typed, { by, doubt: isFilled ? undefined : doubt });
     if (fault === "is empty") return this.open(cell);
     if (DATE.test(typed)) return this.fault(cell, `${what} looks like a date: “${typed.trim()}”.`);
     if (fault) {
@@ -125,18 +121,6 @@ export class Reading {
     return value;
   }
 
-  /** Whether a number is money, by itself or by its column (`amounts` says so, or that these are rates). */
-  isAmount(typed) {
-    return this.amounts === "money" || (this.amounts !== "rates" && isOfMoney(typed));
-  }
-
-  /** The marks that stand before decimals, each with a text that shows it: beyond doubt, or else by an amount of money,
-   * unless the user said otherwise. */
-  proofs() {
-    const { shown, ofMoney, mark } = this, by = onlyMark(this.ofThousands);
-    return !shown.size && ofMoney && by && mark !== DECIMALS ? new Map([[by, ofMoney]]) : shown;
-  }
-
   /** A cell that is empty and may not be. */
   open(cell) {
     this.empty.count += 1;
@@ -148,14 +132,13 @@ export class Reading {
     const known = this.doubts.get(how) ?? { how, typed, value: String(value), count: 0 };
     this.doubts.set(how, known);
     known.count += 1;
-    this.ofThousands.add(markOfThousands(typed));
     if (/0\D*$/.test(typed)) known.isRound = true;
   }
 
   /** Where numbers as 90,000 would be read with decimals, and others show the mark by other than three of them, or show
    * both marks, it is asked what they are, unless the user said it. */
   askOfMixed(isMarked) {
-    const odd = this.doubts.get("decimals"), [proof] = this.shown.values(), isClash = this.shown.size > 1;
+    const odd = this.doubts.get("decimals"), { marks } = this.shown, [proof] = marks.values(), isClash = marks.size > 1;
     if (isMarked || !odd || !proof || !(isClash || (odd.isRound && this.isUneven))) return;
     this.mixed = { ...odd, proof, whole: String(cellNumber(odd.typed, "").value) };
   }
@@ -163,7 +146,7 @@ export class Reading {
   /** Where numbers can be read both ways, as 1.200, and nothing shows which, it is asked, unless the user said it. */
   askOfUnsure(isMarked) {
     const [doubt] = this.doubts.values();
-    if (isMarked || !doubt || this.proofs().size || this.either || !isMark(this.mark)) return;
+    if (isMarked || !doubt || this.shown.proofs(this.mark).size || this.either || !isMark(this.mark)) return;
     const ways = MARKS.map(([mark]) => [cellNumber(doubt.typed, mark).value, mark]);
     ways.sort(([one], [other]) => other.abs().compare(one.abs())); // the whole number first, be it negative
     const count = [...this.doubts.values()].reduce((all, one) => all + one.count, 0);
@@ -172,7 +155,7 @@ export class Reading {
 
   /** The one mark that all other numbers show; null where none does, or both stand there. */
   settles() {
-    return onlyMark(this.proofs().keys());
+    return this.shown.settles(this.mark);
   }
 
   /** A whole number. One as 1.234 that would have decimals shows that its mark parts thousands; of one as 5.000, which
@@ -183,7 +166,7 @@ export class Reading {
     if (doubt) this.doubt(doubt, typed, value);
     if (doubt && !this.either) this.either = eitherOf(typed);
     const shown = doubt ? this.markOfWhole(typed, isWhole) : by;
-    if (shown && !this.shown.has(shown)) this.shown.set(shown, typed);
+    this.shown.add(typed, { by: shown, doubt }, false);
     if (!isWhole) return this.fault(cell, `${what} is a whole number.${value ? "" : hintOf(typed)}`);
     const number = value.toNumber();
     if (number >= low && number <= high) return number;

@@ -15,7 +15,8 @@ import { headingsOf, pastedText } from "./pasting.js";
 import { answerFault } from "./saved-tables.js";
 import { belowNumbers } from "./signs.js";
 import { quotasOf, singleOf, singlesOf, withSingle } from "./single.js";
-import { amountsBelow, unitsText, withoutUnits } from "./units.js";
+import { amountsIn } from "../exact/money.js";
+import { unitsText, withoutUnits } from "./units.js";
 
 const MOST_NAME = 80, MOST_PROSE = 600; // letters
 const MOST_HEADS = 3; // words of two headings in a line
@@ -93,7 +94,7 @@ export function sheetOf(pasted, columns, { mark, single, usual, isFirst = true, 
     pastedText(rows, headings, targets, usual), unitsText(unitsOf(units, targets)),
     ...singlesText(singles, single, said), single?.tells?.(pasted)];
   const line = singles.number ? undefined : single?.lineOf?.(table.out);
-  const head = headings?.[targets.findIndex((own) => own?.number && !own.short)], amounts = amountsBelow(head);
+  const head = headings?.[targets.findIndex((own) => own?.number && !own.short)], amounts = amountsIn(head, table.out);
   const asks = { isUnordered: isGuess, steps: targets.some((own) => own?.steps?.test(head ?? "")) ? head : undefined };
   return { rows: below, targets, headings, notes: notes.filter(Boolean), asks, line, amounts, ...beside,
     number: singles.number?.text, other: singles.other?.text, isPercent: isOfHundred(title, headings, targets, units) };

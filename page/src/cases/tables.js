@@ -173,7 +173,7 @@ export function tableOf(text, names = [], order = "size", mark = ".", said = {})
   const places = new Map(block.rows.map((row, k) => [row, lineOf(k)])), all = kept.map((row) => places.get(row));
   const lines = marked.from?.map((k) => all[k]) ?? all;
   const isVector = plain.state || plain.isAll || plain.many;
-  const more = { mark, cells, titles: [...framed.left, ...left].slice(0, 1), ...said };
+  const more = { mark, cells, titles: [...framed.left, ...left], ...said };
   const read = isVector ? { ...plain, fault: plain.fault ?? plain.many } : listOf(bare, lines, more);
   return read.state ? { ...read, remark: told + read.remark } : read;
 }
@@ -300,10 +300,10 @@ function groupsFirst(rows) {
 
 /** A table of rows of a group and its number; `allLines` are the numbers of their lines. */
 function listOf(given, allLines, { mark, roles, column, cells, titles = [], ...said }) {
-  const pairs = pairsOf(given, allLines, { mark, column, cells, isCost: said.isCost });
+  const pairs = pairsOf(given, allLines, { mark, column, cells, titles, isCost: said.isCost });
   const { rows, lines, told, fault, columns, amounts } = pairs, lineOf = (k) => `Line ${lines[k]}: `;
   if (fault || columns) return { fault, columns };
-  const other = said.isHere ? undefined : otherCase([pairs.title, ...titles], said.isCost);
+  const other = said.isHere ? undefined : otherCase([pairs.title, ...titles.slice(0, 1)], said.isCost);
   if (other) return other;
   if (!rows.some(([, number = ""]) => /\d/.test(number))) {
     const texts = rows.map(([group, number]) => withEscapes((number || group).slice(0, 40)));

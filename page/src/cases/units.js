@@ -1,5 +1,6 @@
 // Units behind pasted numbers, as in "12 km": one that a column has throughout is left out, and told.
-import { isOfMoney, moneyIn, readNumber, withoutMoney } from "../exact/decimals.js";
+import { readNumber } from "../exact/decimals.js";
+import { isOfMoney, moneyIn, withoutMoney } from "../exact/money.js";
 import { isTime } from "./columns.js";
 
 const MOST_LETTERS = 80; // of a number with its unit
@@ -8,24 +9,22 @@ const WORD = "\\p{L}[\\p{L}.²³]{0,11}";
 const PER = `\\s*/\\s*${WORD}|\\s+(?:per|pro|par|por|je|im|al|an?|p\\.) ?${WORD}`
   + `|\\s+(?:\\p{L}+(?:ly|lich)|net|gross|netto|brutto|(?:incl|excl|inkl|exkl|zzgl|plus|ohne)\\.? ${WORD})`;
 const BEHIND = new RegExp(`^(.*\\d.*?)(${PER})$`, "u");
-const MONEY = "(?:\\p{Sc}|[A-Z]{3})", UNIT = `(?:[kKM]?\\p{Sc}|%|${WORD}(?: ?${MONEY})?)(?:${PER})?`;
+const MONEY = "(?:\\p{Sc}|[A-Z]{3})", UNIT = `(?:[kKMT]?\\p{Sc}|%|${WORD}(?: ?${MONEY})?)(?:${PER})?`;
+const SCALED = new RegExp("^([kKMT](?:\\p{Sc}|EUR|CHF|USD|GBP)|\\p{Sc}(?:[kKmM]|mn|bn))\\s?([-−]?\\d[\\d.,'’]*)$", "u");
+const MILLIONS = /^(?:m|mn|bn|b)\b/iu; // behind money
 const WITH_UNIT = new RegExp(`^((?:${MONEY} ?)?[-−]?\\d[\\d.,'’\\s\u202f]*?)\\s*(${UNIT})$`, "u");
-const CODE = "(?:EUR|USD|GBP|CHF|JPY|CNY|INR|SEK|NOK|DKK|PLN|CZK|HUF|AUD|CAD|NZD|BRL|MXN|ZAR|TRY)";
-const IN_MONEY = new RegExp(`(?<![\\p{L}\\d'’])(?:${CODE}|\\p{Sc}|euros?|dollars?|francs?|franken)`
-  + "(?![\\p{L}\\d'’])", "u");
-const RATE = /(?<!\p{L})(?:per|pro|je|par|por|p\.|each) ?\p{L}|\/ ?\p{L}/iu;
-const SCALED = new RegExp("(?<!\\p{L})(?:[kKTM]?(?:\\p{Sc}|EUR)|in|x|×) ?(?:[kmTM]|bn|['’.,]?000)(?!\\p{L})"
-  + "|(?<!\\p{L})[kKTM](?:\\p{Sc}|EUR)|thousand|tausend|tsd|mio|mill?ion|mln|mrd|milliard", "iu");
-const OF_MANY = /^(k|[kKM]?\p{Sc}|tsd|tausend|thousand|mio|mill?ion(s|en)?|mln|mn|mrd|bn)\b\.?/iu;
+const OF_MANY = /^(k|[kKMT]?\p{Sc}|tsd|tausend|thousand|mio|mill?ion(s|en)?|mln|mn|mrd|bn)\b\.?/iu;
 
 /** The number and the unit of a text, as "12 km" and "1200 EUR/year"; null for another text, and for one that is a
  * number as it stands. A sign of money before "per year" is of the number. `isSure` says that the number is an amount,
  * and no part of a name: it is in thousands, or for each of something. */
 export function parted(text) {
   if (text.length > MOST_LETTERS || !readNumber(text).fault || isTime(text)) return null;
+  const [, scaled, amount] = SCALED.exec(text) ?? [];
+  if (scaled) return { number: amount, unit: scaled, isSure: true };
   const [, before, per] = BEHIND.exec(text) ?? [], isMoney = before && !readNumber(before).fault;
-  const [, number, unit] = isMoney ? [text, before, per] : WITH_UNIT.exec(text) ?? [];
-  const isSure = Boolean(isMoney) || OF_MANY.test(unit ?? "");
+  const [, number, unit = ""] = isMoney ? [text, before, per] : WITH_UNIT.exec(text) ?? [];
+  const isSure = Boolean(isMoney) || OF_MANY.test(unit) || (MILLIONS.test(unit) && moneyIn(number) !== undefined);
   return number ? { number, unit: unit.trim().replace(/\s*\/\s*/, "/"), isSure } : null;
 }
 
@@ -62,12 +61,6 @@ function moneyBeside(numbers) {
   const [money, other] = new Set(numbers.map((text) => moneyIn(text) ?? "")), isOpen = (text) => readNumber(text).doubt;
   const isAny = money && other === undefined && numbers.some((text) => isOpen(text) && isOfMoney(text));
   return isAny ? numbers[0].replace(/[\d.,\s'’\u202f−-]/g, "") : "";
-}
-
-/** What a heading says of numbers below it: that they are "money", or "rates", as "€ per m", or in millions, of which
- * nobody knows how many decimals they have. Undefined where it says nothing. */
-export function amountsBelow(head = "") {
-  return RATE.test(head) || SCALED.test(head) ? "rates" : IN_MONEY.test(head) ? "money" : undefined;
 }
 
 /** What is told of units behind numbers. */

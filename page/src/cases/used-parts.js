@@ -1,6 +1,7 @@
 // Parts of one work, pasted each with its cost and who uses it: in brackets behind, in a column, or by marks below
 // names. A group by itself pays the parts that somebody of it uses.
-import { readTogether } from "../exact/decimals.js";
+import { moneyText, quotedText, readNumber, readTogether } from "../exact/decimals.js";
+import { otherMark } from "../exact/marks.js";
 import { lcm, Rational } from "../exact/rational.js";
 import { writtenAs } from "../exact/styles.js";
 import { isSumWord, withEscapes } from "../game/names.js";
@@ -74,7 +75,7 @@ function partsIn(cells, { mark = ".", column } = {}, days) {
   const found = besideCosts(cells) ?? inColumn(cells, mark) ?? byMarks(cells);
   if (!found) return null;
   const { rows: bare, units = [], fault: several } = withoutUnits(found.rows, 1);
-  const pairs = pairsOf(bare, found.lines, { mark, column, cells }), { rows = [], lines } = pairs;
+  const pairs = pairsOf(bare, found.lines, { mark, column, cells, titles: found.left }), { rows = [], lines } = pairs;
   const all = rows.map(([name, cost], k) => {
     return { name, cost, users: found.users.at(k - rows.length), line: `Line ${lines[k]}: ` };
   });
@@ -93,7 +94,7 @@ function partsIn(cells, { mark = ".", column } = {}, days) {
   const isGroups = names.every(isOwn) && new Set(kinds).size === lists.length;
   const fault = several ?? paidFault(found, names, cells) ?? pairs.fault ?? faultOf(parts, names);
   const remark = told.join("") + (pairs.told ?? "");
-  return { ...found, parts, sums, names, remark, fault, columns: pairs.columns, isGroups };
+  return { ...found, parts, sums, names, remark, fault, columns: pairs.columns, amounts: pairs.amounts, isGroups };
 }
 
 /** Whether some of the names are groups of others. */
@@ -238,14 +239,16 @@ export function partsElsewhere(pasted, { isSaid = false } = {}) {
 }
 
 /** The table of groups of such parts: {state, remark}, or {fault}; or {doubt}, a number that can be read in two ways,
- * until somebody says by which mark (`by`). */
-export function tableOfParts({ parts, sums, names, remark }, { mark: usual, by }) {
-  const mark = by ?? usual, texts = parts.map(({ cost }) => cost), { isSettled, read } = readTogether(texts, mark);
+ * until somebody says by which mark (`by`). Where money shows it, `way` is the other reading. */
+export function tableOfParts({ parts, sums, names, remark, amounts }, { mark: usual, by }) {
+  const texts = parts.map(({ cost }) => cost), what = by ? "rates" : amounts; // money shows nothing more
+  const readAll = (all) => readTogether(all, by ?? usual, what);
+  const { isSettled, read, money, by: mark } = readAll(texts);
   const odd = read.findIndex(({ fault }) => fault), doubt = isSettled || by ? -1 : read.findIndex((one) => one.doubt);
   if (odd >= 0) return { fault: `${parts[odd].line}${quoted(texts[odd])} is no number. Write the number alone.` };
   if (doubt >= 0) return { doubt: texts[doubt] };
   const costs = read.map(({ value }) => value), n = names.length;
-  const whole = Rational.sum(costs), sumOf = ({ cost }) => readTogether([...texts, cost], mark).read.at(-1).value;
+  const whole = Rational.sum(costs), sumOf = ({ cost }) => readAll([...texts, cost]).read.at(-1).value;
   const other = sums.find((sum) => !sumOf(sum)?.equals(whole));
   if (other) {
     const [name, said] = [other.name, other.cost || "nothing"].map(withEscapes);
@@ -262,9 +265,10 @@ export function tableOfParts({ parts, sums, names, remark }, { mark: usual, by }
   });
   const out = sums.map(({ name }) => ` ${quoted(name)} was left out, as a sum of other lines.`).join("");
   return {
-    state: { names, numbers: ["", ...writtenAs(values, texts, mark, by && MONEY_PLACES)] },
+    state: { names, numbers: ["", ...writtenAs(values, texts, mark, (by || money) && MONEY_PLACES)] },
     remark: `${remark}${out} Made of ${plural(parts.length, "part")}: each group costs the parts that somebody of it `
-      + "uses.",
+      + `uses.${money ? ` ${moneyText(money, mark)}` : ""}`,
+    way: money && [`No: read it as ${quotedText(readNumber(money, otherMark(mark)).value)}`, { by: otherMark(mark) }],
   };
 }
 

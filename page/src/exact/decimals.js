@@ -1,5 +1,6 @@
 // Decimals: those that people type, and those that are shown.
-import { BLANK, isMark, onlyMark, otherMark, spoken } from "./marks.js";
+import { BLANK, DECIMALS, isMark, onlyMark, otherMark, spoken } from "./marks.js";
+import { isOfMoney, withoutMoney } from "./money.js";
 import { Rational } from "./rational.js";
 
 const HALF = new Rational(1n, 2n);
@@ -8,12 +9,11 @@ const MOST_POWER = 40; // of ten, in a number as 1e-05
 const BLANKS = "[\\s\u00a0\u202f'’_]";
 const PARTED = new RegExp(`\\d${BLANKS}+\\d`), PARTED_BEHIND = new RegExp(`${BLANKS}\\d`);
 const BY_THREE = new RegExp(`^\\D*\\d{1,3}(?:${BLANKS}\\d{3})+(?!\\d)(\\D.*)?$`, "s");
-const MONEY = "(?:Rs\\.?|S?Fr\\.?|EUR|USD|GBP|CHF|JPY|CNY|INR|SEK|NOK|DKK|PLN|CZK|HUF|AUD|CAD|NZD|BRL|MXN|ZAR|TRY|"
-  + "\\p{Sc})";
-const OF_MONEY = new RegExp(`^${MONEY}|${MONEY}$`, "gu");
-const SAME_MONEY = { "€": "EUR", $: "USD", "£": "GBP", "¥": "JPY", "₹": "INR", Rs: "INR", Fr: "CHF", SFr: "CHF" };
 const LAKHS = /^-?[1-9]\d?(?:,\d\d)+,\d{3}(\.\d+)?$/; // thousands as in India: 12,34,567
-const NO_CENTS = /^(.{0,60}\d)(?:([.,])[-–—]{1,2}|\/[-–])(\D{0,9})$/u; // 12,- and 12.– and 12/-
+const NO_CENTS = /^(.{0,60}\d)(?:([.,])[-–—]{1,2}|[:/][-–])(\D{0,9})$/u; // 12,- and 12.– and 12/- and 12:-
+const PARTS_OF_ONE = Object.fromEntries("½1/2 ⅓1/3 ⅔2/3 ¼1/4 ¾3/4 ⅕1/5 ⅖2/5 ⅗3/5 ⅘4/5 ⅙1/6 ⅚5/6 ⅛1/8 ⅜3/8 ⅝5/8 ⅞7/8"
+  .split(" ").map(([sign, ...parts]) => [sign, parts.join("")]));
+const WITH_PART = /^(-?)(\d{0,15})([½⅓⅔¼¾⅕⅖⅗⅘⅙⅚⅛⅜⅝⅞])$/; // 2½
 const SCIENTIFIC = /^(-?)(\d*)(?:([.,])(\d*))?e([+-]?\d{1,3})$/i;
 
 /** Shares in steps of the last place, which add to the rounded sum, or to one that is given: all are rounded down
@@ -175,25 +175,8 @@ export function groupedText(value, by, thousands) {
 function joined(typed) {
   const rest = PARTED.test(typed) ? BY_THREE.exec(typed) : [];
   if (!rest || PARTED_BEHIND.test(rest[1] ?? "")) return null;
-  return typed.replace(/[\s\u00a0\u202f'’_]/g, "").replace(OF_MONEY, "").replace(/^[−–]/, "-");
+  return withoutMoney(typed).replace(/[\s\u00a0\u202f'’_]/g, "").replace(/^[−–]/, "-");
 }
-
-/** The money that a text names, by its code or sign; undefined where it names none. */
-export function moneyIn(typed) {
-  const [sign] = typed.trim().match(OF_MONEY) ?? [], name = sign?.replace(".", "");
-  return SAME_MONEY[name] ?? name;
-}
-
-const BY_MARK = /\d([.,])\d{3}(?!\d)/, FINE = /[\ufdfc\u20bf]/; // rials of Oman have three decimals, bitcoins eight
-
-/** Whether a text that can be read both ways is an amount of money, as "£4,200", which has no three decimals. */
-export const isOfMoney = (typed) => Boolean(moneyIn(typed)) && !FINE.test(typed) && !/[*×+]/.test(typed);
-
-/** A number without the sign or code of its money. */
-export const withoutMoney = (typed) => typed.trim().replace(OF_MONEY, "").trim();
-
-/** The mark in front of decimals by which a text that can be read both ways is in thousands. */
-export const markOfThousands = (typed) => otherMark(BY_MARK.exec(typed)[1]);
 
 /** A decimal with a power of ten, as programs print it: 1e-05 is 0.00001. */
 function scientific(text) {
@@ -220,6 +203,8 @@ export function readNumber(typed, mark = ".") {
     return den ? { value: new Rational(num, den) } : { fault: "is divided by nothing" };
   }
   if (/^\(\d[\d.,]*\)$/.test(text)) return readNumber("-" + text.slice(1, -1), mark);
+  const [, sign, whole, part] = WITH_PART.exec(text) ?? [], partial = part && Rational.of(PARTS_OF_ONE[part]);
+  if (part) return { value: partial.plus(Rational.of(`${whole || 0}`)).times(Rational.of(`${sign}1`)) };
   if (!/^-?[\d.,]*\d[\d.,]*$/.test(text)) return scientific(text) ?? { fault: "is no number" };
   return marked(text, mark);
 }
@@ -230,12 +215,53 @@ function withoutCents(found, by) {
   return { ...found, doubt: undefined, ...(by && { by }) };
 }
 
+const BY_MARK = /\d([.,])\d{3}(?!\d)/;
+
+/** What numbers that are read together show of the mark before decimals: beyond doubt (`marks`, each with a text that
+ * shows it), or else by an amount of money, which has no three decimals. `amounts` is what a heading says of them. */
+export class Shown {
+  constructor(amounts) {
+    Object.assign(this, { amounts, marks: new Map(), ofThousands: new Set(), ofMoney: undefined });
+  }
+
+  /** A number as it was read; one that can't be `money` may be in thousands, too. */
+  add(typed, { doubt, by }, isMoney = isOfMoney(typed, this.amounts)) {
+    if (doubt && isMoney) this.ofMoney ??= typed;
+    if (doubt) this.ofThousands.add(otherMark(BY_MARK.exec(typed)[1])); // by which it would be in thousands
+    if (by && !this.marks.has(by)) this.marks.set(by, typed);
+  }
+
+  /** The amount of money that shows the mark, if no other number does, unless the user said otherwise by a `mark`. */
+  proofOfMoney(mark) {
+    return this.marks.size || mark === DECIMALS || !onlyMark(this.ofThousands) ? undefined : this.ofMoney;
+  }
+
+  /** The marks that stand before decimals, each with a text that shows it. */
+  proofs(mark) {
+    const money = this.proofOfMoney(mark);
+    return money === undefined ? this.marks : new Map([[onlyMark(this.ofThousands), money]]);
+  }
+
+  /** The one mark that all of them show; null where none does, or both stand there. */
+  settles(mark) {
+    return onlyMark(this.proofs(mark).keys());
+  }
+}
+
+/** What is told of an amount of money that shows the mark. */
+export function moneyText(typed, by) {
+  const value = quotedText(readNumber(typed, by).value);
+  return `“${typed.trim()}” is read as ${value}, since money has no three decimals.`;
+}
+
 /** Texts that are read by one mark: the one that some of them show, or else the given one. `isSettled` says that they
- * show it. */
-export function readTogether(texts, mark) {
-  const first = texts.map((text) => readNumber(text, mark)), shown = onlyMark(first.map(({ by }) => by));
-  const isSettled = shown !== null, by = shown ?? mark;
-  return { isSettled, by, read: by === mark ? first : texts.map((text) => readNumber(text, by)) };
+ * show it, and `money` is the amount that does, if money alone does. */
+export function readTogether(texts, mark, amounts) {
+  const first = texts.map((text) => readNumber(text, mark)), shown = new Shown(amounts);
+  texts.forEach((text, k) => shown.add(text, first[k]));
+  const settled = shown.settles(mark), by = settled ?? mark, money = shown.proofOfMoney(mark);
+  const read = by === mark ? first : texts.map((text) => readNumber(text, by));
+  return { isSettled: settled !== null, by, money, read };
 }
 
 /** The sign between the thousands of a number that was read, {by, doubt}; null if that is a blank, or there is none. */
@@ -253,7 +279,7 @@ export function cellNumber(typed, mark = ".") {
   if (!/[\d.,)\s][*×+]/.test(typed) || SCIENTIFIC.test(typed.trim())) return readNumber(typed, mark);
   if (typed.length > MOST_WORKED_OUT) return { fault: "is too long to be worked out" };
   const terms = typed.trim().replace(/^=/, "").split("+").map((term) => term.split(/[*×]/).map((text) => text.trim()));
-  const { read: all } = readTogether(terms.flat(), mark), left = [...all];
+  const { read: all } = readTogether(terms.flat(), mark, "rates"), left = [...all]; // as many as have a price each
   if (all.some(({ fault }) => fault)) return { fault: "is no number" };
   const products = terms.map(({ length }) => left.splice(0, length).reduce((product, { value }) => {
     return product.times(value);

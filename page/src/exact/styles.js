@@ -26,5 +26,6 @@ export function writtenAs(values, texts, mark, least) {
     return places >= 0 && readNumber(text, by).value?.equals(value) ? text : plain[k];
   });
   const again = readTogether(written, by);
-  return !again.isSettled && again.read.some(({ doubt }) => doubt) ? plain : written;
+  const isOpen = !again.isSettled || again.money !== undefined;
+  return isOpen && again.read.some(({ doubt }) => doubt) ? plain : written;
 }

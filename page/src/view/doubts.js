@@ -1,6 +1,6 @@
 // What is said where numbers can be read in two ways, or show two marks, and the buttons that read them otherwise.
 import { Rational } from "../exact/rational.js";
-import { cellNumber, quotedText } from "../exact/decimals.js";
+import { cellNumber, countText, moneyText, quotedText } from "../exact/decimals.js";
 import { DECIMALS, isMark, nameOfMark, otherMark, WHOLE } from "../exact/marks.js";
 import { withEscapes } from "../game/names.js";
 import { listed } from "../game/words.js";
@@ -19,15 +19,24 @@ export function doubtNotes({ doubts: found, entry, mark, shown, isByMoney }, { s
     "change places. Each of the two can be read in one way only, so it is read as it shows.");
   if (!doubts.length) return clash;
   const proof = isClash ? undefined : one, isChosen = !isMark(entry);
+  if (isByMoney && !isChosen) return moneyNote(doubts, { mark, proof }, setEntry);
   const isOwn = doubts.some(({ typed }) => typed === proof);
-  const own = isByMoney ? "money has no three decimals, so " : "it can only be whole, so ";
-  const because = proof && (isOwn ? own : `${quoted(proof)} shows that `);
+  const because = proof && (isOwn ? "it can only be whole, so " : `${quoted(proof)} shows that `);
   const why = isChosen ? "as you chose" : `${because ?? ""}the ${nameOfMark(mark)} comes before decimals`;
   const read = listed(doubts.map((doubt) => readAs(doubt, mark, doubts.length)));
   const [{ count }] = doubts, isMany = doubts.length === 1 && count > 1;
   const more = isMany ? ` So are the ${count} numbers here that can be read in two ways.` : "";
   return [clash, el("p", { class: "note" }, `${read}${isChosen ? ", " : ": "}${why}.${more} `,
     waysOut({ doubts, mark, proof, isChosen }, setEntry))];
+}
+
+/** The note where money alone shows the mark, with the other reading. */
+function moneyNote(doubts, { mark, proof }, setEntry) {
+  const count = doubts.reduce((all, one) => all + one.count, 0) - 1;
+  const like = count > 0 ? ` So ${count > 1 ? `are the ${countText(count)} others` : "is the other"} like it.` : "";
+  const other = quotedText(cellNumber(proof, DECIMALS).value, mark);
+  return el("p", { class: "note" }, `${moneyText(proof, mark)}${like} `,
+    button(`No: read it as ${other}${like && ", and all like it"}`, () => setEntry(DECIMALS), { class: "quiet" }));
 }
 
 /** Of several kinds of readings each says how many are like it. */

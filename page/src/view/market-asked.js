@@ -15,16 +15,16 @@ export function askLine(grid, line, use) {
     const notes = [line.bids, line.left.length > 0 && `Left out: ${line.left.join(", ")}.`, told];
     return use({ isLine: true, told: notes.filter(Boolean).join(" "), ...more }, some);
   };
-  const takeOff = (by, isSaid) => {
-    const { rows, least, fault, doubt } = takenOff(line, by, isSaid);
+  const takeOff = (by) => {
+    const { rows, least, fault, doubt, told = "" } = takenOff(line, grid.mark(), by);
     if (fault) return grid.take(fault);
-    if (doubt) return askMark(grid, doubt, (mark) => takeOff(mark, true));
-    return taken(`A pair gains its number less “${line.name}”, or nothing.`, rows, { least });
+    if (doubt) return askMark(grid, doubt, takeOff);
+    return taken(`A pair gains its number less “${line.name}”, or nothing. ${told}`.trim(), rows, { least });
   };
   const leave = () => taken(`“${line.name}” was left out.`, out);
   const [looks, ...ways] = line.side === "sellers"
     ? ["the least that sellers take. What are the other numbers?",
-      way(`What a buyer would pay: take ${name} off`, () => takeOff(grid.mark())),
+      way(`What a buyer would pay: take ${name} off`, () => takeOff()),
       way(`What a pair gains: leave ${name} out`, leave)]
     : ["the most that a buyer can pay, and there is no place for it here.", way(`Leave ${name} out`, leave)];
   askIn(grid.element, grid.said, [`Nothing was taken yet. ${name} looks like ${looks} `, ways,

@@ -196,7 +196,7 @@ class MarketGrid {
   }
 
   /** Limit prices of both sides are the case; those of one take the place of its list. */
-  takePrices({ buyers, sellers, notes = [], fault }) {
+  takePrices({ buyers, sellers, amounts, notes = [], fault }) {
     const { typed, kind: { most } } = this, sides = Object.entries({ buyers, sellers }).filter(([, list]) => list);
     const isLong = sides.some(([, list]) => list.length > most), isPart = sides.length < 2 && !typed.limits;
     const why = fault ?? (isLong ? `A side has at most ${most} traders.` : isPart && ONE_SIDE);
@@ -204,6 +204,7 @@ class MarketGrid {
     this.take(why, [`Taken as limit prices of ${told}.`, ...notes], () => {
       typed.limits ??= {};
       delete typed.least;
+      if (amounts || sides.length > 1) typed.amounts = amounts;
       for (const [side, list] of sides) {
         typed[side] = list.map(({ name }) => name);
         typed.limits[side] = list.map(({ price }) => price);
@@ -345,7 +346,9 @@ class MarketGrid {
   /** A block, with names before and above it or without. */
   fill(cell, found) {
     const { isAnew, top, left, sides, bottom, right } = this.placeOf(cell, found), { typed } = this;
-    if (isAnew) Object.assign(typed, { buyers: [], sellers: [], values: [], least: undefined, isMarked: undefined });
+    if (isAnew) Object.assign(typed, {
+      buyers: [], sellers: [], values: [], least: undefined, isMarked: undefined, amounts: found.amounts,
+    });
     const least = isAnew ? 1 : 0;
     this.resize(Math.max(typed.buyers.length, bottom, least), Math.max(typed.sellers.length, right, least));
     sides.buyers?.forEach((name, k) => (typed.buyers[top + k] = name));

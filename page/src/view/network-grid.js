@@ -177,7 +177,9 @@ class NetworkGrid {
     if (isWhole) {
       const cells = cellsOfNetwork(found), isSourceOpen = !found.isSure && found.points.some(Boolean);
       cells.source ||= found.points[0] === "" && found.points.some(Boolean) ? typed.source ?? "" : cells.source;
-      this.change(() => Object.assign(typed, cells, { filled: {}, isSourceOpen, isMarked: undefined }));
+      this.change(() => Object.assign(typed, cells, {
+        filled: {}, isSourceOpen, isMarked: undefined, amounts: found.amounts,
+      }));
       refill(this.said, takenText(found, sourceName(typed)), isSourceOpen && this.sourceQuestion());
     } else {
       const { told, ...own } = cells;

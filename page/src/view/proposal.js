@@ -1,5 +1,5 @@
 // The division that the user proposes, or that stands today: a text for each row of the answer.
-import { readNumber, readTogether, shortText } from "../exact/decimals.js";
+import { moneyText, readNumber, readTogether, shortText } from "../exact/decimals.js";
 import { isMark, nameOfMark, otherMark } from "../exact/marks.js";
 import { Rational } from "../exact/rational.js";
 import { linesByName, linesByNumber, PAYS } from "../cases/in-line.js";
@@ -172,7 +172,8 @@ const shownLine = (line) => withEscapes(line.replace(/\t/g, " ").slice(0, 40));
  * decimal marks gives the `whole` that is divided, that one is meant. */
 export function proposalOf(texts, rows, mark, whole = null) {
   const typed = rows.map((_, r) => texts[r] ?? ""), ways = isMark(mark) ? [mark, otherMark(mark)] : [mark];
-  const found = ways.map((by) => readTogether(typed, by)), isWhole = ({ read }) => {
+  const found = [readTogether(typed, mark), ...ways.map((by) => readTogether(typed, by, "rates"))];
+  const isWhole = ({ read }) => {
     return whole && read.every(({ value }) => value) && Rational.sum(read.map(({ value }) => value)).equals(whole);
   };
   const chosen = found.find(isWhole) ?? found[0], { by } = chosen;
@@ -182,7 +183,8 @@ export function proposalOf(texts, rows, mark, whole = null) {
   return {
     texts: typed, totals, shares: totals && sharesOf(rows, totals), values: read.map(({ value = null }) => value),
     faults: read.map((one, r) => (isFault(one, r) ? buttonFor(typed[r]) || `It ${one.fault}.` : null)),
-    told: chosen === found[0] ? told : `Read with the ${nameOfMark(by)} before decimals: so they add to the whole.`,
+    told: chosen !== found[0] ? `Read with the ${nameOfMark(by)} before decimals: so they add to the whole.`
+      : [told, chosen.money && moneyText(chosen.money, by)].filter(Boolean).join(" "),
   };
 }
 

@@ -358,11 +358,9 @@ class TableGrid {
     this.element.again = (grid) => grid.takeList(text, order, null, said);
     const use = (more) => () => (more.goTo ? readIn(more.goTo, text, { grid: this.element, onCase: this.onCase })
       : this.takeList(text, order, close, { ...said, ...more }));
-    const asks = listAsked(found, this.kind, said);
-    if (asks) {
-      const [asked, ...answers] = asks, way = ([title, more]) => [button(title, use(more), { class: "quiet" }), " "];
-      return askIn(this.element, this.message, [`Nothing was taken yet. ${asked} `, answers.map(way)]);
-    }
+    const [asked, ...answers] = listAsked(found, this.kind, said) ?? [];
+    const way = ([title, more]) => [" ", button(title, use(more), { class: "quiet" })];
+    if (asked) return askIn(this.element, this.message, [`Nothing was taken yet. ${asked}`, answers.map(way)]);
     if (!state) return this.say(found.fault, " Nothing was taken.");
     close?.();
     this.remember(said.what ?? (close ? "Use this list" : "Paste"));
@@ -372,7 +370,7 @@ class TableGrid {
     return this.say(`Read${told ? { size: " by size", mask: " by masks" }[told.order] : ""}: `
       + `${plural(names.length, "player")}, ${plural(this.order.length - lacking, "group")}${rest}.`
       + `${found.remark ?? ""}${told ? placeOf(told, names) : ""}`,
-    isOdd && this.otherOrder(text, told.order));
+    isOdd && this.otherOrder(text, told.order), found.way && way(found.way));
   }
 
   /** A hint that the list may stand in the other order. */

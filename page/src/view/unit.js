@@ -1,20 +1,24 @@
 // The unit of money: what was typed for paper, or else the one that a pasted table has in its headings or numbers.
+import { SIGN as MONEY } from "../exact/money.js";
 
-const SIGN = "(?:[kKTM]|Mio\\.? ?|Tsd\\.? ?|thousand |million )?(?:\\p{Sc}|EUR|USD|GBP|CHF|SEK|NOK|DKK|PLN|CZK|HUF|JPY|"
-  + "CAD|AUD|NZD|INR|CNY|BRL|MXN|ZAR|TRY|kr)";
+const SIGN = `(?:[kKTM]|Mio\\.? ?|Tsd\\.? ?|thousand |million )?${MONEY}`;
 const IN_HEAD = new RegExp(`[(\\[]\\s*(?:in )?(${SIGN})\\s*[)\\]]|\\bin (${SIGN})\\s*$`, "u");
 const AMOUNT = "\\d[\\d.,'’\\s\\u202f]*";
-const BESIDE = new RegExp(`^[-−(]?${AMOUNT}(${SIGN})\\)?$|^(\\p{Sc}|[A-Z]{3})\\s?[-−]?${AMOUNT}$`, "u");
+const BESIDE = new RegExp(`^[-−(]?${AMOUNT}(${SIGN})\\)?$|^(${SIGN}|[A-Z]{3})\\s?[-−]?${AMOUNT}$`, "u");
+const BEHIND = new RegExp(`(?:^|[\\s:=–—(-])(?:(${SIGN})\\s?[-−]?${AMOUNT}|${AMOUNT}(${SIGN}))\\)?[.,;]?$`, "u");
+const REMARK = /\s*\([^()]*\p{L}[^()]*\)$/u, LAST = 80; // letters of a line with a name and an amount
 
-/** The one unit that the cells of a pasted text show; "" if they show none, or several. In the corner of a table
- * "EUR 1000" is no amount. */
+/** The one unit that the cells of a pasted text show, or the ends of its lines, as "Ann £120"; "" if they show none, or
+ * several. In the corner of a table "EUR 1000" is no amount. */
 export function unitIn(text) {
   const found = new Set();
   text.split(/[\n\r]+/).forEach((line, r) => {
     const cells = line.split(/[\t;|]/).map((cell) => cell.trim()), isNamed = cells.some((cell) => /^\D+$/.test(cell));
     cells.forEach((cell, c) => {
       const [, head, behind] = IN_HEAD.exec(cell) ?? [], isCorner = r + c === 0 && isNamed;
-      const [, after, before] = (!isCorner && BESIDE.exec(cell)) || [], unit = head ?? behind ?? after ?? before;
+      const end = cell.slice(-LAST).replace(REMARK, "");
+      const [, ...beside] = (!isCorner && (BESIDE.exec(cell) ?? BEHIND.exec(end))) || [];
+      const unit = head ?? behind ?? beside.find(Boolean);
       if (unit) found.add(unit.trim());
     });
   });

@@ -62,8 +62,9 @@ function tooManyPerHead(rows, tree) {
  * between thousands. */
 function marksOf(reading) {
   const { mark: entry, doubts } = reading, settled = reading.settles(), thousands = onlyMark(reading.thousands);
-  const mark = isMark(entry) ? entry : settled ?? ".", proofs = reading.proofs(), isByMoney = proofs !== reading.shown;
-  return { entry, mark, settled, thousands, doubts: [...doubts.values()], shown: [...proofs.entries()], isByMoney };
+  const mark = isMark(entry) ? entry : settled ?? ".", isByMoney = reading.shown.proofOfMoney(entry) !== undefined;
+  const shown = [...reading.shown.proofs(entry).entries()];
+  return { entry, mark, settled, thousands, doubts: [...doubts.values()], shown, isByMoney };
 }
 
 /** The rows of what was pasted. */

@@ -1,6 +1,6 @@
 // The same game with another amount to divide: several estates side by side, and an overrun.
 import { Rational } from "../exact/rational.js";
-import { readNumber, readTogether, shortText } from "../exact/decimals.js";
+import { moneyText, readNumber, readTogether, shortText } from "../exact/decimals.js";
 import { nameOfMark, otherMark } from "../exact/marks.js";
 import { withEscapes } from "../game/names.js";
 import { solutionOf } from "./answers.js";
@@ -18,17 +18,22 @@ export function amountsIn(typed, mark) {
   const isOne = !isParted && /\S\s\S/.test(plain) && !readNumber(plain, mark).fault;
   const texts = isOne ? [typed] : plain.split(isParted ? PARTING : /\s+/);
   const found = texts.map((text) => text.trim()).filter(Boolean), kept = found.slice(0, MOST_ESTATES);
-  const all = readTogether(kept.map((text) => text.replace(UNIT, "")), mark);
-  const read = kept.map((text, k) => amountOf(text, all.read[k], all.by, { isOne, isSettled: all.isSettled }));
+  const all = moneyRead(kept, plain !== typed, mark);
+  const read = kept.map((text, k) => amountOf(text, all.read[k], { ...all, isOne }));
   if (found.length > MOST_ESTATES) read.push({ fault: `Only the first ${MOST_ESTATES} amounts are shown.` });
   return read;
 }
 
+/** Amounts that are read together without their units, which are money if there `isUnit`. */
+const moneyRead = (texts, isUnit, mark) => readTogether(texts.map((text) => text.replace(UNIT, "").trim()), mark,
+  isUnit ? "money" : undefined);
+
 /** One amount; `note` says how it is read where that could be doubted, and `other` by which mark it would be another.
  * */
-function amountOf(text, { value, fault, doubt }, mark, { isOne, isSettled }) {
+function amountOf(text, { value, fault, doubt }, { by: mark, isOne, isSettled, money }) {
   const shown = withEscapes(text.slice(0, 20)), other = otherMark(mark);
   if (fault) return { fault: `“${shown}” ${fault}.` };
+  if (doubt && money) return { value, note: moneyText(text.replace(UNIT, ""), mark) };
   if (doubt && !isSettled) {
     return { value, note: `“${shown}” is read as ${shortText(value)}: the ${nameOfMark(mark)} comes before decimals, `
       + `and the ${nameOfMark(other)} between thousands.`, other };
@@ -55,8 +60,8 @@ export function estates({ typed, mark }, { tree: game }) {
 
 /** What is typed as an amount, or as a percentage of the whole. */
 function changeOf(typed, whole, mark) {
-  const isPart = /%\s*$/.test(typed), number = typed.replace(/%\s*$/, "").replace(UNIT, "");
-  const { value, fault } = readNumber(number, mark);
+  const isPart = /%\s*$/.test(typed), number = typed.replace(/%\s*$/, "").trim();
+  const { read: [{ value, fault }] } = moneyRead([number], !isPart && number !== number.replace(UNIT, ""), mark);
   if (fault) return { fault: `“${withEscapes(typed.trim().slice(0, 20))}” ${fault}. Give an amount, or a percentage.` };
   return { more: isPart ? whole.times(value).over(Rational.of(100)) : value };
 }

@@ -21,6 +21,8 @@ const ZERO = "Alone they gain nothing: 0", DONE = "A|B|C|1|2|8|3|9|10|20";
 const SEVEN = ([a, b, c, ab, ac, bc, abc]) => `${a}\t1\n${b}\t2\n${c}\t3\n${ab}\t8\n${ac}\t9\n${bc}\t10\n${abc}\t20`;
 const OAKS = "Red Oak|Green Mill|Hill|1|2|8|3|9|10|20";
 const THREE = SEVEN(["A", "B", "C", "A+B", "A+C", "B+C", "all"]);
+const OF_MONEY = "Ann|Bo|Cy|72,000.00 EUR|24,000.00 EUR|72,000.00 EUR|48,000.00 EUR|72,000.00 EUR|72,000.00 EUR"
+  + "|72,000.00 EUR"; // of parts
 export const GROUPS = [
   // members side by side
   ["costs", SEVEN(["A", "B", "C", "AB", "AC", "BC", "ABC"]), DONE, /3 players, 7 groups\. “AB”, .* “ABC” are groups/],
@@ -237,4 +239,22 @@ export const GROUPS = [
   ["gains", "Group\tGain in €m\nA\t€38,400\nB\t€12,000\nA+B\t€55,000", "A|B|€38,400|€12,000|€55,000",
     /can be read as/],
   ["costs", "A\t38,400\nB\t12,000\nA+B\t45,000", "A|B|38,400|12,000|45,000", /can be read as/],
+  ["costs", "Costs in EUR\n\nA\t38,400\nB\t12,000\nA+B\t45,000", "A|B|38,400|12,000|45,000",
+    /^(?!.*can be read as)/],
+  ["costs", "Costs in EUR thousand\n\nA\t38,400\nB\t12,000\nA+B\t45,000", "A|B|38,400|12,000|45,000",
+    /can be read as/],
+  ["costs", "Fork  24,000 EUR  Ann, Bo\nRoad  48,000 EUR  Ann, Cy", OF_MONEY,
+    /“24,000 EUR” is read as 24000, since money has no three decimals\. No: read it as 24/, YES],
+  ["costs", "Part\tCost (EUR)\tUsed by\nFork\t24,000\tAnn, Bo\nRoad\t48,000\tAnn, Cy", OF_MONEY.replaceAll(" EUR", ""),
+    /“24,000” is read as 24000, since money has no three decimals/, YES],
+  ["costs", "Part\tCost per m (EUR)\tUsed by\nFork\t24,000\tAnn, Bo\nRoad\t48,000\tAnn, Cy", null,
+    /“24,000” can be read as 24000 or as 24\. Which is meant/, YES],
+  // signs of money in lines, and what is no whole number
+  ["gains", "A -£120\nB £80\nA+B £100", "A|B|-£120|£80|£100"],
+  ["gains", "A\t(£120)\nB\t£80\nA+B\t£100", "A|B|(£120)|£80|£100"],
+  ["costs", "A 120 kr\nB 80 kr\nA+B 150 kr", "A|B|120 kr|80 kr|150 kr"],
+  ["costs", "A US$ 1,200\nB US$ 800\nA+B US$ 1,500", "A|B|US$ 1,200|US$ 800|US$ 1,500"],
+  ["costs", "A $1,200\nB $800\nA+B $1,500", "A|B|$1,200|$800|$1,500"],
+  ["costs", "A\t½\nB\t2½\nA+B\t2¾", "A|B|½|2½|2¾", /^(?!.*is no number)/],
+  ["costs", "A 1.200,–\nB 800,–\nA+B 1.500,–", "A|B|1.200,–|800,–|1.500,–"],
 ];

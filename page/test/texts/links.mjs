@@ -1,5 +1,7 @@
 // Texts of a network's links and of a market, as rows of pasted.mjs.
 const LINKED = "Works|A|B|0-1|12|0-2|9|1-2|4";
+const CLEAR = /^(?!.*can be read as)/;
+
 export const LINKS_AND_TRADES = [
   ["market", "Things\tPrice\nBike\t50\nSofa\t80\nLamp\t30", null,
     /Whose limit prices are those of “Bike and Sofa …”\?/],
@@ -38,7 +40,19 @@ export const LINKS_AND_TRADES = [
   ["market", "\tAnn\tBo\tAsking price\nhut\t5,5\t8\t3\nflat\t9\t9\t4", "hut|flat|Ann|Bo|2,5|5|5|5", /less “Asking/,
     "What a buyer would pay: take “Asking price” off"],
   ["market", "\thut\tflat\nAnn\t1,500\t900\nBo\t800\t900\nReserve\t600\t400", null,
-    /taken yet\. “1,500” can be read as 1500 or as 1,5\. Which/, "What a buyer would pay: take “Reserve” off"],
+    /“1,500” can be read as 1500 or as 1,5\. Which is meant\?/, "What a buyer would pay: take “Reserve” off"],
+  ["market", "EUR\thut\tflat\nAnn\t1,500\t900\nBo\t800\t900\nReserve\t600\t400", "hut|flat|Ann|Bo|900|500|200|500",
+    /“1,500” is read as 1500, since money has no three decimals/, "What a buyer would pay: take “Reserve” off"],
+  ["market", "EUR\thut\tflat\nAnn\t1,500\t1,200\nBo\t1,100\t1,900", "hut|flat|Ann|Bo|1,500|1,200|1,100|1,900", CLEAR],
+  ["market", "EUR m\thut\tflat\nAnn\t1,500\t1,200\nBo\t1,100\t1,900", "hut|flat|Ann|Bo|1,500|1,200|1,100|1,900",
+    /can be read as/],
+  ["market", "Buyer\tBid (EUR)\tSeller\tAsk (EUR)\nAnn\t1,500\tCy\t1,200", "Cy|Ann|1,200|1,500", CLEAR],
+  ["market", "Buyer\tSeller\tGain (EUR)\nAnn\tCy\t1,500\nBo\tCy\t1,200", "Cy|Ann|Bo|1,500|1,200", CLEAR],
+  ["network", "From\tTo\tCost (EUR)\nWorks\tA\t24,000\nWorks\tB\t1,200\nA\tB\t3,000", /24,000/, CLEAR],
+  ["network", "From\tTo\t€ per m\nWorks\tA\t24,000\nWorks\tB\t1,200\nA\tB\t3,000", /24,000/, /can be read as/],
+  ["network", "Costs in EUR\n\n\tWorks\tA\nWorks\t\t24,000\nA\t24,000\t", "Works|A|0-1|24,000", CLEAR],
+  ["network", "EUR\tWorks\tA\tB\nWorks\t\t24,000\t1,200\nA\t24,000\t\t3,000\nB\t1,200\t3,000\t",
+    "Works|A|B|0-1|24,000|0-2|1,200|1-2|3,000", /^(?!.*can be read as).*Left out: “EUR”/],
   ["market", "\thut\tflat\nAnn\t5 €\t9 €\nBo\t8 €\t9 €\nReserve\t6 $\t4 $", null, /in EUR, others in USD/,
     "What a buyer would pay: take “Reserve” off"],
   ["market", "Buyer\thut\tflat\tBudget\nAnn\t5\t9\t7\nBo\t8\t9\t9", "hut|flat|Ann|Bo|5|9|8|9", /“Budget” was left out/,
