@@ -102,7 +102,8 @@ const GREETING = new RegExp("^(hi|hello|hey|dear|hallo|liebe[rs]?|sehr|guten|bon
 const PERSON = /^\p{Lu}[\p{L}'’. -]*(, ?\p{Lu}[\p{L}'’. -]{0,40}:?|:)$/u; // "Rossi, M", or "Cleo:"
 const FULL_NAME = /^\p{Lu}[\p{L}'’.-]*( \p{Lu}[\p{L}'’.-]*){0,2}$/u;
 const PHONE = /(^|[:=]\s*)\+?0\d{5,}$/;
-const CALL = /^(?:tel|t[eé]l[eé](?:ph|f)one?|phone|mobile?|handy|fon|fax)(?!\p{L})\P{L}{0,4}[+0]\d[\d ()/.-]{4,40}$/iu;
+const CALL = new RegExp("(?:^|[\\s,;(|])(?:tel|t[eé]l[eé](?:ph|f)one?|phone|mobile?|handy|fon|fax)(?!\\p{L})\\P{L}{0,4}"
+  + "[+0]\\d[\\d ()/.-]{4,40}$", "iu");
 const SOME_OF = /^\d+ (?:of|von|sur|de|van) \d+$/; // a quota
 const SAYING = /^(.*\S)(?:\s*[:=]\s*|\s{2,})([^\s:=].*)$/u;
 

@@ -1,12 +1,14 @@
 // A table whose columns say by marks who is in a group: 1 and 0, x or yes, below the names of the players; or which has
 // a cell for each member.
 import { readNumber } from "../exact/decimals.js";
-import { withEscapes } from "../game/names.js";
+import { isSumWord, withEscapes } from "../game/names.js";
 import { isWorth } from "./group-columns.js";
 
 export const IN = /^(1|x|✓|✔|☑|y|yes|ja|j|oui|sí|si)$/i;
 const OUT = /^(0|no?|nein|non|nee|☐|✗|[-–—.]?)$/i;
 const MOST_BEFORE = 2; // columns before those of marks, as a number and a label of each row
+
+const quoted = (text) => `“${withEscapes(text)}”`;
 
 export const isMark = (text = "") => IN.test(text) || OUT.test(text);
 
@@ -54,10 +56,13 @@ function fromMarks([heads = [], ...below]) {
   const isOf = isBehind ? isCalled : hasNumbers(before) && before.some((c) => isWorth(heads[c]));
   if (!hasMost || !isOf) return null;
   const [kept, out] = isBehind ? [behind, before] : [before, []], cellsOf = (row) => kept.map((c) => row[c] ?? "");
-  const shown = out.map((c) => `“${withEscapes(heads[c] || `${below[0][c]} …`)}”`).join(" and ");
+  const shown = out.map((c) => quoted(heads[c] || `${below[0][c]} …`)).join(" and ");
   const membersOf = (row) => marks.filter((c) => IN.test(row[c] ?? "")).map((c) => heads[c]).join("+");
+  const isSum = (row) => !membersOf(row) && before.some((c) => isSumWord(row[c] ?? "")), sum = below.find(isSum);
+  const own = below.filter((row) => !isSum(row)), ofSum = sum ? `${quoted(sum[before[0]])} was left out.` : "";
   return {
-    rows: [["", ...cellsOf(heads)], ...below.map((row) => [membersOf(row), ...cellsOf(row)])],
-    told: shown ? `${shown}, before the columns of marks, was left out.` : "",
+    rows: [["", ...cellsOf(heads)], ...own.map((row) => [membersOf(row), ...cellsOf(row)])],
+    from: [0, ...own.map((row) => below.indexOf(row) + 1)],
+    told: [shown && `${shown}, before the columns of marks, was left out.`, ofSum].filter(Boolean).join(" "),
   };
 }

@@ -1,7 +1,7 @@
 // Groups whose members are written shortly: side by side, as AB, 12 or Ann Bo; by a part of each name, as A + B for
 // Hospital A and Hospital B; or by those who lack, as "without Ann".
 import { withEscapes } from "../game/names.js";
-import { isLone } from "./all-together.js";
+import { isAllWord, isLone } from "./all-together.js";
 
 const MOST_LETTERS = 200; // of a group, and of names that stand side by side
 const MOST_NAMES = 16, MOST_GLUED = 3; // players, and letters of a name without a blank behind
@@ -58,11 +58,13 @@ export function areAllGroups(texts) {
  * there, until somebody said whether they are groups (`isRun`). */
 export function parted(read, isRun) {
   const used = new Set(read.flatMap(({ members }) => (members.length > 1 ? members : [])));
-  const lone = read.filter((line) => isLone(line) && !used.has(textOf(line))), texts = [...new Set(lone.map(textOf))];
+  const all = read.filter((line) => isLone(line) && !used.has(textOf(line)));
+  const lone = all.filter((line) => !isAllWord(textOf(line))), texts = [...new Set(lone.map(textOf))];
   const found = isRun === false ? [] : sideBySide(texts), groups = new Map(found);
   if (!groups.size) return { words: [] };
   const names = [...new Set(found.flatMap(([, own]) => own))];
-  const isWhole = lone.length === texts.length && texts.length >= 2 ** names.length - 1 - names.length
+  const count = groups.size + all.length - lone.length;
+  const isWhole = lone.length === texts.length && count >= 2 ** names.length - 1 - names.length
     && texts.every((text) => groups.has(text) || names.includes(text));
   if (!isWhole && !isRun) return questionOf(found);
   for (const line of lone) if (groups.has(textOf(line))) line.members = groups.get(textOf(line));

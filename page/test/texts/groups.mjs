@@ -43,8 +43,15 @@ export const GROUPS = [
   ["gains", "A\tB\tC\tworth\n1\t0\t1\t1\n1\t1\t0\t0\n1\t0\t0\t0\n0\t1\t0\t0\n0\t0\t1\t0", "A|B|C|0|0|0|0|1||"],
   ["costs", "Cost\tA\tB\n5\tx\t\n6\t\tx\n9\tx\tx", "A|B|5|6|9"],
   ["gains", "Partners\tEUR 2026\tEUR 2027\nA\t5\t6\nB\t6\t7\nA+B\t15\t19", "A|B|6|7|19", /“EUR 2026”/, "“EUR 2027”"],
+  ["costs", "Lot\tA\tB\tCost\n1\tx\t\t5\n2\t\tx\t6\n3\tx\tx\t9\nSum\t\t\t20", "A|B|5|6|9", /“Sum” was left/],
+  // a mail with a telephone below its list
+  ["costs", "Hi,\n- A only: 8 €\n- B only: 7 €\n- A + B: 12 €\nLet me know by Friday.\nJo\n\n--\nJo, Tel. 0711 1234",
+    "A|B|8 €|7 €|12 €", /“Let me know by Friday\.”/],
+  ["costs", "A\t8\nB\t7\nA u. B\t12", "A|B|8|7|12", /“A u\. B” is a group/],
+  ["gains", "A + B: 5\nA + C: 6\nB + C: 7\nEveryone: 20\nSingly: none", "A|B|C|0|0|5|0|6|7|20", /“Singly” is the/],
   // headings of parts, rules, and one who is in no group
   ["costs", "Alone\nA: 8\nB: 7\n\nPairs\nA & B: 12", "A|B|8|7|12", /Left out, .*“Alone”, “Pairs”/],
+  ["costs", "Cost\nAlone\n  A 8\n  B 7\nTwo together\n  A+B 12", "A|B|8|7|12", /Left out, .*“Two together”/],
   ["gains", "Coalition  Profit\n-----------------\n{A}        1\n{B}        2\n{A,B}      4\n=========", "A|B|1|2|4"],
   ["costs", `Number of members\t3\n${THREE}`, null, /“Number of members” is in no group but that of all, as the/],
   ["costs", `Number of members\t3\n${THREE}`, DONE, /was left/, "Leave it out"],
@@ -67,6 +74,9 @@ export const GROUPS = [
     /Left out, as no number stands beside: “Gloves”/],
   ["gains", "v(i) = 0 for all i\nv(AB) = 8\nv(AC) = 9\nv(BC) = 10\nv(ABC) = 20", "A|B|C|0|0|8|0|9|10|20", /“alone”/],
   ["gains", "v(1)=5 v(2)=7 v(1,2)=20 EUR", "1|2|5|7|20 EUR"],
+  ["gains", "Let N = {A, B} and v(A)=v(B)=0, v(N)=100. Find the Shapley value.", "A|B|0|0|100", /“Find/],
+  ["gains", "N = {1, 2}\nv({1}) = 5\nv({2}) = 7\nv(N) = 20", "1|2|5|7|20", /Left out, .*“N = \{1, 2\}”/],
+  ["gains", "v(A)=v(B)=v(C)=1, v(AB)=8, v(AC)=9, v(BC)=10, v(N)=20", "A|B|C|1|1|8|1|9|10|20", /“all”/],
   // members by a part of their names, and groups by those who lack
   ["costs", SEVEN(["Red Oak", "Green Mill", "Hill", "RO+GM", "RO+H", "GM+H", "RO+GM+H"]), OAKS, /“GM” is “Green Mill”/],
   ["costs", SEVEN(["Red Oak", "Green Mill", "Hill", "Oak, Mill", "Oak, Hill", "Mill, Hill", "all"]), OAKS, /“Oak” is/],
