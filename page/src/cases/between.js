@@ -1,7 +1,10 @@
-// Lines between those of groups that are none: a heading above a part of them, as "Pairs".
+// Lines above and between those of groups that are none: a title, or a heading above a part of them, as "Pairs".
 import { isNothing } from "./block.js";
+import { YEAR } from "./frames.js";
+import { saysKind } from "./other-case.js";
 
 const MOST_LETTERS = 80; // of a heading
+const TITLE_WORDS = 5; // of a name without a number, which then is none
 const KNOWN = new RegExp("^(?:(?:each )?alone|singl(?:y|es?|etons?)|individual(?:ly|s)?|stand-?alone(?: \\p{L}+)?"
   + "|pairs?|pairwise|doubles|triples?|(?:two|three|four)(?: together| players| members)|einzeln|allein|paare?"
   + "|zu (?:zweit|dritt|viert)|seule?s?|à (?:deux|trois)|coalitions?(?: of (?:two|three|four))?):?$", "iu");
@@ -21,4 +24,15 @@ export function withoutPartHeads(cells) {
   return heads.size ? {
     cells: cells.map((row, k) => (heads.has(k) ? [""] : row)), left: [...heads].map((k) => texts[k]),
   } : { cells, left: [] };
+}
+
+/** Rows of groups without titles above them: {rows, lines, left}. Such a one has no number, no group has it, and it has
+ * many words, or says that costs or gains follow. */
+export function withoutTitles({ rows, lines }) {
+  const first = rows.findIndex(([, number = ""]) => /\d/.test(number)), groups = rows.slice(Math.max(0, first));
+  const isSaid = (text) => !/\d/.test(text.replace(YEAR, ""))
+    && (text.split(/\s+/).length >= TITLE_WORDS || saysKind(text));
+  const isTitle = ([text = "", number]) => !number && isSaid(text) && !groups.some(([group]) => group.includes(text));
+  const above = rows.slice(0, Math.max(0, first)), isOf = above.every(isTitle), count = isOf ? above.length : 0;
+  return { rows: rows.slice(count), lines: lines.slice(count), left: above.slice(0, count).map(([text]) => text) };
 }

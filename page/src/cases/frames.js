@@ -7,7 +7,8 @@ import { parted } from "./units.js";
 
 const MOST_TOLD = 4;
 const MOST_LETTERS = 60;
-const YEAR = /(?<!\d)(?:19|20)\d\d(?!\d)/g;
+/** A year in a text. */
+export const YEAR = /(?<!\d)(?:19|20)\d\d(?!\d)/g;
 const NOTE = /^([(*†]|sources?\b|notes?\b|remarks?\b|quellen?\b|hinweis|anmerkung|stand\b)/iu;
 
 const PARAGRAPH = /^(?:§|art(?:icle|ikel|\.)\s*\d)/iu;

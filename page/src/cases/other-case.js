@@ -15,6 +15,9 @@ export function isOtherKind(text = "", isCost = false) {
   return other.test(text) && !own.test(text);
 }
 
+/** Whether a text names costs or gains. */
+export const saysKind = (text) => GAINS.test(text) || COSTS.test(text);
+
 /** What is asked of numbers of which one of some texts says that they belong into the other case; undefined if none
  * does, or if it isn’t known which case this is. */
 export function otherCase(texts, isCost) {

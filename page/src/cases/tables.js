@@ -4,7 +4,7 @@ import { mostOf } from "../game/classes.js";
 import { maskOf, masksBySize, membersOf } from "../game/groups.js";
 import { withEscapes } from "../game/names.js";
 import { listed } from "../game/words.js";
-import { withoutPartHeads } from "./between.js";
+import { withoutPartHeads, withoutTitles } from "./between.js";
 import { blockOf, looseText } from "./block.js";
 import { filledGroups } from "./filled-cells.js";
 import { FORM, headingText, pairsOf } from "./group-columns.js";
@@ -181,6 +181,8 @@ export function tableOf(text, names = [], order = "size", mark = ".", said = {})
 /** Whether one line may be of several groups, and nothing for one cell. */
 export const hasGroups = ([[text]]) => isSentence(text) || textbookRows(text) !== null;
 
+const withBlank = (text) => text && ` ${text}`;
+
 /** Why a line of which nobody can part the name from the number isn't taken. */
 const looseFault = (line) => looseText(line) + (/\d/.test(line) && !isSentence(line) ? "" : ADVICE);
 
@@ -198,8 +200,7 @@ function spokenTable({ rows, lines, left, odd }, { isSpoken, ...said }) {
     return { fault: `Read as: ${told}. Is it meant so?`, ways: [["Yes, take it", { isSpoken: true }],
       ["No", { isSpoken: false }]] };
   }
-  const out = leftText(left);
-  return { ...read, remark: (out && ` ${out}`) + read.remark };
+  return { ...read, remark: withBlank(leftText(left)) + read.remark };
 }
 
 const LEDGER = `These lines say who paid, and not for sure who uses what. ${AS_PARTS}`;
@@ -301,9 +302,10 @@ function groupsFirst(rows) {
 /** A table of rows of a group and its number; `allLines` are the numbers of their lines. */
 function listOf(given, allLines, { mark, roles, column, cells, titles = [], ...said }) {
   const pairs = pairsOf(given, allLines, { mark, column, cells, titles, isCost: said.isCost });
-  const { rows, lines, told, fault, columns, amounts } = pairs, lineOf = (k) => `Line ${lines[k]}: `;
+  const { fault, columns, amounts } = pairs;
   if (fault || columns) return { fault, columns };
-  const other = said.isHere ? undefined : otherCase([pairs.title, ...titles.slice(0, 1)], said.isCost);
+  const { rows, lines, left } = withoutTitles(pairs), lineOf = (k) => `Line ${lines[k]}: `;
+  const other = said.isHere ? undefined : otherCase([pairs.title, ...titles.slice(0, 1), ...left], said.isCost);
   if (other) return other;
   if (!rows.some(([, number = ""]) => /\d/.test(number))) {
     const texts = rows.map(([group, number]) => withEscapes((number || group).slice(0, 40)));
@@ -326,7 +328,7 @@ function listOf(given, allLines, { mark, roles, column, cells, titles = [], ...s
   const found = inOtherWords(read, { roles, isRun: said.isRun });
   const table = found.read ? placedList(found.read, { ...said, roles }) : found;
   const state = table.state && { ...table.state, ...(amounts && { amounts }) };
-  return state ? { ...table, state, remark: told + found.told + unknown } : table;
+  return state ? { ...table, state, remark: pairs.told + withBlank(leftText(left)) + found.told + unknown } : table;
 }
 
 /** The table of lines of groups: {state}, or {fault} in words; with a `way` on if lines of players alone lack, until

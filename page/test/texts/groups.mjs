@@ -20,6 +20,7 @@ const TOM = "Hi Margaret,\n\nI rang Harper Coaches again about the district tour
 const ZERO = "Alone they gain nothing: 0", DONE = "A|B|C|1|2|8|3|9|10|20";
 const SEVEN = ([a, b, c, ab, ac, bc, abc]) => `${a}\t1\n${b}\t2\n${c}\t3\n${ab}\t8\n${ac}\t9\n${bc}\t10\n${abc}\t20`;
 const OAKS = "Red Oak|Green Mill|Hill|1|2|8|3|9|10|20";
+const VAN = "Touring van and technician – offers for the 2027 season";
 const THREE = SEVEN(["A", "B", "C", "A+B", "A+C", "B+C", "all"]);
 const OF_MONEY = "Ann|Bo|Cy|72,000.00 EUR|24,000.00 EUR|72,000.00 EUR|48,000.00 EUR|72,000.00 EUR|72,000.00 EUR"
   + "|72,000.00 EUR"; // of parts
@@ -49,6 +50,10 @@ export const GROUPS = [
     "A|B|8 €|7 €|12 €", /“Let me know by Friday\.”/],
   ["costs", "A\t8\nB\t7\nA u. B\t12", "A|B|8|7|12", /“A u\. B” is a group/],
   ["gains", "A + B: 5\nA + C: 6\nB + C: 7\nEveryone: 20\nSingly: none", "A|B|C|0|0|5|0|6|7|20", /“Singly” is the/],
+  // titles with a dash and a year
+  ...["\t", ": ", " ", " – "].map((gap) => ["costs", `${VAN}\nTrio A${gap}42\nDuo B${gap}51\nTrio A + Duo B${gap}70`,
+    "Trio A|Duo B|42|51|70", /Left out, as no number stands beside: “Touring van and technician – o/]),
+  ["costs", "Cy\t\nAnn\t8\nBo\t7\nall\t12", "Cy|Ann|Bo||8||7|||12", /3 players, 3 groups; 4 groups have no number/],
   // headings of parts, rules, and one who is in no group
   ["costs", "Alone\nA: 8\nB: 7\n\nPairs\nA & B: 12", "A|B|8|7|12", /Left out, .*“Alone”, “Pairs”/],
   ["costs", "Cost\nAlone\n  A 8\n  B 7\nTwo together\n  A+B 12", "A|B|8|7|12", /Left out, .*“Two together”/],
