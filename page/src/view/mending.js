@@ -68,7 +68,8 @@ const widthOf = (rows) => rows.reduce((most, { length }) => Math.max(most, lengt
 
 class Mending {
   /** Rows that the sentence `said` quotes are marked; `read(text, id)` reads what is left, also in another case. */
-  constructor(rows, kind, said, read) {
+  constructor(given, kind, said, read) {
+    const rows = given.length > 1 ? given : given[0].map((cell) => [cell]); // parts of one line are lines
     this.wide = widthOf(rows);
     this.rows = rows.map((row) => ({ cells: Array.from({ length: this.wide }, (_, c) => row[c] ?? ""), isIn: true }));
     this.columns = Array(this.wide).fill(true);
