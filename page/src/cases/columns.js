@@ -5,6 +5,7 @@ import { readNumber } from "../exact/decimals.js";
 /** What says that nobody knows a number. */
 export const UNKNOWN = new RegExp("^(\\?+|n/?a|n\\.a\\.|k\\. ?a\\.|[-–—]|unknown|pending|open|offen|unbekannt|inconnue?"
   + "|tb[acd]|not (?:yet )?(?:known|asked|costed|quoted|given|available)|no (?:quote|figure|data)|missing|fehlt"
+  + "|to be (?:costed|quoted|agreed|confirmed|determined)"
   + "|keine angabe|nicht (?:bekannt|angefragt)|pas de devis|non (?:connue?|chiffrée?))$", "iu");
 const NUMBERING = /(^|\s)(no|nr|num|number|nummer|id|ref|lp|pos)\.?$|[#№]/iu; // what numbers things is no amount
 /** The choice of a column that wasn’t pasted. */

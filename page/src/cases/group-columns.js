@@ -1,6 +1,6 @@
 // Which column of a list of groups has their numbers, where it has several.
 import { readNumber } from "../exact/decimals.js";
-import { withEscapes } from "../game/names.js";
+import { isSumWord, withEscapes } from "../game/names.js";
 import { listed } from "../game/words.js";
 import { isOtherKind } from "./other-case.js";
 import { headingsOf } from "./pasting.js";
@@ -14,9 +14,16 @@ const WORTH = new RegExp("cost|gain|worth|value|saving|amount|price|profit|koste
 
 const PER = /\b(?:per|je|pro|par|por|unit|each)\b|einzel|stück|unitaire|\/ ?\p{L}/iu; // a price for each
 
-/** Whether a heading says that numbers of groups are below: costs, or gains; or what `isCost` says. */
-export const isWorth = (heading = "", isCost = undefined) => WORTH.test(heading) && !PER.test(heading)
-  && (isCost === undefined || !isOtherKind(heading, isCost));
+/** Whether a heading says that numbers of groups are below. */
+export const isWorth = (heading = "") => WORTH.test(heading) && !PER.test(heading);
+
+/** Of columns of numbers those that may be meant: not what the other case has, and the one that says so, unless one of
+ * them is a total. */
+function meantOf(numeric, headings, isCost) {
+  const own = numeric.filter((c) => isCost === undefined || !isOtherKind(headings?.[c], isCost));
+  const some = own.length ? own : numeric, worths = some.filter((c) => isWorth(headings?.[c]));
+  return worths.length === 1 && !some.some((c) => isSumWord(headings?.[c] ?? "")) ? worths : some;
+}
 
 /** Rows of a group and its number, of such as may have headings and further columns: {rows, lines, told, title}, this
  * that of the numbers. Of several columns of numbers the one `column` is taken; {columns} with their titles if nobody
@@ -32,9 +39,8 @@ export function pairsOf(given, allLines, { mark, column, cells, isCost, titles }
   const shown = withEscapes(rows[long].join("; ")).slice(0, 60), line = `Line ${lines[long]}: `;
   const wide = all.reduce((most, { length }) => Math.max(most, length), 0);
   const others = Array.from({ length: wide - 1 }, (_, k) => k + 1);
-  const numeric = others.filter((c) => rows.some((row) => isNumber(row[c]))), meant = (c) => isWorth(headings?.[c]);
-  const fit = [meant, (c) => isWorth(headings?.[c], isCost)].map((is) => numeric.filter(is));
-  const several = fit.find(({ length }) => length === 1) ?? numeric, at = column ?? several[0];
+  const numeric = others.filter((c) => rows.some((row) => isNumber(row[c])));
+  const several = meantOf(numeric, headings, isCost), at = column ?? several[0];
   const isNamed = rows.every(([group]) => !isNumber(group)), isPlain = others.every((c) => numeric.includes(c));
   if (several.length > 1 && column === undefined && isNamed && (headings || isPlain)) {
     const textOf = (c) => headings?.[c] || `${rows.slice(0, 2).map((row) => row[c]).join(", ")} …`;

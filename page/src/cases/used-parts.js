@@ -188,7 +188,9 @@ function inColumn(pasted, mark) {
   const isCalled = (c) => USERS.test(headings?.[c] ?? "");
   const listsAt = (c) => below.map((row) => cellsAt(row, c, headings).flatMap(usersIn));
   const isSaid = (c) => SURE.test(headings?.[c] ?? "");
-  const isOf = (c) => (c > 0 || isSaid(c)) && areUsers(listsAt(c).filter(({ length }) => length), isSaid(c));
+  const isMarks = (c) => parts.every((row) => isMark(row[c]));
+  const isOf = (c) => (c > 0 || isSaid(c)) && !isMarks(c)
+    && areUsers(listsAt(c).filter(({ length }) => length), isSaid(c));
   const named = columns.find((c) => isCalled(c) && isOf(c)), at = named ?? columns.find((c) => isWords(c) && isOf(c));
   const isLabel = (c) => parts.every((row) => isText(row[c] ?? ""));
   const own = columns.find((c) => c !== at && isLabel(c)), label = own ?? (isSaid(at) ? at : undefined);
@@ -224,7 +226,8 @@ function byMarks(pasted) {
   const marks = columns.filter(isOf), bare = (row) => row.filter((_, c) => !marks.includes(c));
   const users = below.map((row) => marks.filter((c) => IN.test(row[c] ?? "")).map((c) => heads[c]));
   const isWhole = new Set(users.map(String)).size === below.length && below.length === 2 ** marks.length - 1;
-  const isFit = marks.length > 1 && columns.length > marks.length + 1 && parts.every(([name]) => isText(name));
+  const isFit = marks.length > 1 && columns.length > marks.length + 1
+    && parts.every(([name]) => isText(name) && !isMark(name));
   if (loose || isWhole || !isFit || !areUsers(users.filter(({ length }) => length))) return null;
   return { rows: rows.map(bare), lines, users, notes, left, isSure: false, isSaid: false };
 }

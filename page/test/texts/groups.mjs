@@ -50,6 +50,12 @@ export const GROUPS = [
     "A|B|8 €|7 €|12 €", /“Let me know by Friday\.”/],
   ["costs", "A\t8\nB\t7\nA u. B\t12", "A|B|8|7|12", /“A u\. B” is a group/],
   ["gains", "A + B: 5\nA + C: 6\nB + C: 7\nEveryone: 20\nSingly: none", "A|B|C|0|0|5|0|6|7|20", /“Singly” is the/],
+  ["costs", ["\tA\tB\tC\tBid", "1\tja\tnein\tja\t8", "2\tnein\tja\tja\t7", "3\tja\tja\tja\t12", "4\tja\tnein\tnein\t4",
+    "5\tnein\tja\tnein\t4", "6\tnein\tnein\tja\t5", "7\tja\tja\tnein\t7"].join("\n"), "A|B|C|4|4|7|5|8|7|12"],
+  // several columns of numbers
+  ["costs", "Who\tTotal quote\tSaving\nA\t8\t0\nB\t7\t0\nA+B\t12\t3", "A|B|8|7|12", /“Saving” was left out/],
+  ["costs", "Who\tVan cost\tFuel\tTotal\nA\t8\t1\t9\nB\t7\t2\t9\nA+B\t12\t3\t15", null, /Which column .* “Total”/],
+  ["costs", "Who\tCost\nA\t8\nB\tto be quoted\nA+B\t12", "A|B|8||12", /A cell with “to be quoted” is empty/],
   // titles with a dash and a year
   ...["\t", ": ", " ", " – "].map((gap) => ["costs", `${VAN}\nTrio A${gap}42\nDuo B${gap}51\nTrio A + Duo B${gap}70`,
     "Trio A|Duo B|42|51|70", /Left out, as no number stands beside: “Touring van and technician – o/]),
