@@ -155,11 +155,26 @@ async function oneByOne(page, expect) {
   expect("all is undone", await valueOf("rows.0.name"), "Adler");
 }
 
+/** What is typed and typed back is no step, and the steps before it stay. */
+async function typedBack(page, expect) {
+  await page.run(`[...document.querySelectorAll("#case .remove")][2].click()`);
+  const step = await lastStep(page);
+  await page.type("rows.0.claim", "5");
+  await page.type("rows.0.claim", "1200.50");
+  expect("the last step", await lastStep(page), step);
+  await page.click("Undo “");
+  await quiet(page);
+  expect("the row is there again", await page.run(`document.querySelector('[data-cell="rows.2.name"]').value`), "Chopra");
+}
+
 /** Of so many seeds, for each of three cases. */
 export function undone(seeds, count = 6) {
   return [["undo: one step after the other", "estate", async (page, expect) => {
     await page.run(WATCH);
     await oneByOne(page, expect);
+  }], ["undo: what is typed back", "estate", async (page, expect) => {
+    await page.run(WATCH);
+    await typedBack(page, expect);
   }], ...seeds.flatMap((seed) => [["estate", LISTS], ["costs", TABLES], ["runway", LISTS]].map(([id, blocks]) => {
     return [`undo: steps at random, ${id}, seed ${seed}`, id, mixed(seed, count, blocks)];
   }))];

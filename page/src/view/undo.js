@@ -65,7 +65,8 @@ export class Undoing {
   }
 
   watch(panel) {
-    panel.addEventListener("input", () => { this.still = this.isTyping(TYPING) ? {} : this.snapshot(); }, true);
+    const still = () => (this.isTyping(TYPING) ? this.typed.cells : this.snapshot());
+    panel.addEventListener("input", () => { this.still = still(); }, true);
     panel.addEventListener("input", () => { this.still = null; });
     panel.addEventListener("click", ({ target }) => {
       const one = target.closest("button");
@@ -81,20 +82,20 @@ export class Undoing {
     this.clicked = null;
   }
 
-  /** What was remembered is no step if the cells are as they were. */
+  /** What was remembered is no step if the cells are as they were. Whether that is so. */
   withoutEmpty() {
     const { fresh, steps } = this, isEmpty = fresh && fresh === steps.past.at(-1)
       && textOf(fresh.cells) === textOf(this.snapshot());
     this.fresh = null;
-    if (!isEmpty) return;
+    if (!isEmpty) return false;
     steps.past.pop();
     this.show();
+    return true;
   }
 
   changed() {
-    this.withoutEmpty();
-    const isTyped = this.still !== null;
-    if (isTyped) this.typing(TYPING, this.still);
+    const isEmpty = this.withoutEmpty(), isTyped = this.still !== null;
+    if (isTyped && !isEmpty) this.typing(TYPING, this.still);
     return isTyped;
   }
 }
