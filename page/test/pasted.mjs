@@ -371,9 +371,9 @@ for (const [id, text] of ANEW) {
 /** Texts that are opened as a document, and what is said of them. */
 const OPENED = [
   [ANSWER, /table of an answer: .* “Save the case” makes a file that opens here/],
-  ["User,Uses,Needs alone\nAer,3,20\nBee,2,40\n", /no saved case\. Choose “A runway”, and paste/],
+  ["User,Uses,Needs alone\nAer,3,20\nBee,2,40\n", /no saved case\. Choose “A runway”: it goes/],
   ["Anna;120\nBen;80", /This is a table, and no saved case\. Choose the case that it is of/],
-  ['"Anna";"120"\n"Ben";"80"', /This is a table/], ["{,}", /It is no JSON text/], ["Dear all", /It is no JSON text/],
+  ['"Anna";"120"\n"Ben";"80"', /This is a table/], ["{,}", /It is no JSON text/], ["Dear all", /This is no document/],
 ];
 for (const [text, wanted] of OPENED) {
   const { refusal } = openText({ text, mark: "." });

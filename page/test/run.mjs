@@ -13,6 +13,7 @@ import { checks } from "./checks.mjs";
 import { desk } from "./desk.mjs";
 import { checking, documents } from "./documents.mjs";
 import { door } from "./door.mjs";
+import { dropped } from "./dropped.mjs";
 import { entering } from "./entering.mjs";
 import { face } from "./face.mjs";
 import { failing } from "./failing.mjs";
@@ -43,6 +44,7 @@ const harness = new Harness(pathToFileURL(page).href, option("--only", ""), slac
 const program = resolve(option("--program", join(top, "crates", "coop_program", "out", "coop_program")));
 harness.add(large(slack, told));
 harness.add(desk);
+harness.add(dropped);
 harness.add(door);
 harness.add(face);
 harness.add(strangers);

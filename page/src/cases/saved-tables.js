@@ -12,16 +12,25 @@ function isAnswer(rows) {
 /** Why rows can't be a case, if they are the page's own table of an answer; undefined for others. */
 export const answerFault = (rows) => (isAnswer(rows) ? `${OF_AN_ANSWER} Paste the costs, claims or gains.` : undefined);
 
-/** Why a text that was opened as a document is a table and none, which may be the list of the case `runway`; undefined
- * for others. */
+const NO_DOCUMENT = "This is no document and no saved case, which begin with “{”. If it has names or numbers, choose "
+  + "the case that they are of: it goes into the cells there.";
+
+/** Whether a text is meant for the program: one that is JSON, or has an object, as a mail may. */
+export function isProgramText(text) {
+  const plain = text.replace(/^\ufeff/, "");
+  return plain.includes("{") || (/^\s*[["]/.test(plain) && !/^"[^"]*"[,;\t]/.test(plain)) || plain.trim() === "null";
+}
+
+/** Why a text that was opened as a document is none, but a table or words, which may be the list of the case `runway`;
+ * undefined for others. */
 export function tableFault(text, runway) {
   const plain = text.replace(/^\ufeff/, "");
-  if (/^\s*[{["]/.test(plain) && !/^"[^"]*"[,;\t]/.test(plain)) return undefined;
+  if (isProgramText(plain)) return undefined;
   const rows = cellsOf(plain).filter((row) => row.some(Boolean));
   if (isAnswer(rows)) return `${OF_AN_ANSWER} “Save the case” makes a file that opens here.`;
   const isOf = ({ title, heads }) => rows[0]?.some((text) => text === title || heads.test(text));
   const isRunway = runway.columns.every((column) => column.optional || isOf(column));
   const where = isRunway ? `“${runway.title}”` : "the case that it is of";
-  if (rows.filter(({ length }) => length > 1).length < 2) return undefined;
-  return `This is a table, and no saved case. Choose ${where}, and paste the table into the first cell.`;
+  if (rows.filter(({ length }) => length > 1).length < 2) return NO_DOCUMENT;
+  return `This is a table, and no saved case. Choose ${where}: it goes into the cells there.`;
 }

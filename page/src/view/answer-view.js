@@ -360,10 +360,13 @@ export class AnswerView {
     const sentence = /^(The program|Stopped)/.test(message) ? message
       : "The program failed at this document, which it never should, so there is no answer. Please save the document, "
         + "and send it to its makers.";
-    for (const id of ["answer", ...PARTS]) at(id).hidden = id !== "answer";
+    const canSave = this.made?.childElementCount > 0;
+    for (const id of ["answer", ...PARTS]) at(id).hidden = id !== "answer" && !(id === "files" && canSave);
+    refill(at("files-body"), this.made); // the case can be saved still, and no table of an answer
     at("waiting").hidden = true;
     for (const id of ["answer", "parts"]) at(id).classList.remove("stale");
-    for (const id of ["answer-measure", "answer-settings", "margins", "answer-more", "next"]) refill(at(id));
+    for (const id of ["answer-measure", "answer-settings", "margins", "answer-more"]) refill(at(id));
+    this.showLinks();
     this.shownMore = this.drawn = null;
     refill(at("answer-body"), el("div", { class: "notice bad", role: "alert" }, el("p", {}, sentence),
       button("Try again", () => this.session.changed(0))));

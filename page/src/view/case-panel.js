@@ -26,10 +26,11 @@ const KEYS = { player: "Alt+Delete in a name removes the player.", row: "Alt+Del
 /** `settings` are {mark, setEntry, notes, onReset, steps, snapshot, onUndo, onCase} and what the grids
  * need. */
 export function casePanel(kind, typed, settings) {
+  const unread = el("div", { class: "screen", role: "alert" }); // why a file can't be
   const sample = sampleLine(kind, typed, settings), change = settings.onChange, undo = new Undoing(settings);
   let grid = null, mend = null; // while they are made, cells may change
   const onChange = (wait, removed) => {
-    refill(sample);
+    for (const gone of [sample, unread]) refill(gone);
     if (grid) dropText(grid);
     change(wait, { isTyped: undo.changed(), removed });
     mend?.();
@@ -40,7 +41,7 @@ export function casePanel(kind, typed, settings) {
   const faults = el("div", { class: "faults", role: "status" }), made = el("div", { class: "made" });
   const coarse = el("div"), legend = el("p", { class: "hint legend screen" });
   const element = el("div", { class: "case" },
-    el("p", { class: "help" }, kind.help), sample,
+    el("p", { class: "help" }, kind.help), sample, unread,
     notes.map((note) => el("p", { class: "note" }, note)), coarse, grid, legend, faults,
     el("div", { class: "tools bottom" }, moreTools(kind, typed, grid.more, onReset), undo.element));
   undo.watch(element);
@@ -60,8 +61,9 @@ export function casePanel(kind, typed, settings) {
     refill(made, madeOf(reading, kind, typed, settings));
   }
 
+  const say = (sentence) => refill(unread, el("p", { class: "note" }, sentence));
   return {
-    element, tell, made, undo, goTo: (cell) => goTo(grid, cell), choices: () => grid.choices?.(),
+    element, tell, say, made, undo, goTo: (cell) => goTo(grid, cell), choices: () => grid.choices?.(),
     setTips: (tips) => showDeciding(grid, legend, tips),
   };
 }

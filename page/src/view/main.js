@@ -7,7 +7,9 @@ import { agreedColumn } from "./agreed.js";
 import { AnswerView } from "./answer-view.js";
 import { casePanel } from "./case-panel.js";
 import { Documents } from "./documents.js";
+import { takeDrops } from "./drops.js";
 import { el, measureByCanvas, refill } from "./dom.js";
+import { holdClicks } from "./held.js";
 import { unpackWorkers } from "./helper.js";
 import { marginsOf, tipOf } from "./margins-part.js";
 import { takeText } from "./mending.js";
@@ -25,7 +27,9 @@ const OPENED = "Open a document";
 const WAYS = { round: "Round all to four decimals", whole: "All times a power of ten" };
 const kept = new Map(); // what was typed in cases that aren't shown
 
-let panel = null, verify = null, steps = new Steps(), isUnsaved = false;
+const unsaved = new Set(); // cases that were changed since they were saved or opened
+
+let panel = null, verify = null, steps = new Steps();
 
 measureByCanvas();
 
@@ -37,17 +41,24 @@ const session = new Session({
     view.showWaiting(session.reading, panel);
     verify.beside(session.reading.text ?? null);
     view.fit();
+    doHeld(true);
   },
   answer: (came) => {
     view.show(came);
     if (!came || came === "margins") panel.setTips(tipsOf());
   },
+  whole: () => doHeld(),
   busy: (isBusy) => view.busy(isBusy),
   fault: (fault) => view.fault(fault),
-  step: (what, isTyping) => (isTyping ? panel.undo.typing(what) : panel.undo.remember(what)),
+  step: (what, isTyping) => {
+    unsaved.add(session.kind);
+    if (isTyping) panel.undo.typing(what);
+    else panel.undo.remember(what);
+  },
 });
 const view = new AnswerView(session);
 const paper = new Paper(session, view);
+const doHeld = holdClicks(session);
 
 /** What is said of the numbers in the cells; null while nobody knows. */
 function tipsOf() {
@@ -68,7 +79,8 @@ function openCase(kind, typed, { past = new Steps(), notes = [], doubt = "", pap
   panel = casePanel(kind, typed, {
     ...asked(kind), steps, notes: doubt ? [doubt, ...notes] : notes,
     onChange: (wait, { isTyped, removed }) => {
-      isUnsaved = session.isTyped = true;
+      session.isTyped = true;
+      unsaved.add(kind);
       view.takeUnit(isTyped);
       if (isTyped) session.ownSaid = "";
       else session.moveRows(removed);
@@ -95,6 +107,7 @@ function openCase(kind, typed, { past = new Steps(), notes = [], doubt = "", pap
  * and if only names changed ("named"), with each of the own amounts in its row. */
 function reset(kind, next, what, how) {
   const { file, typed, ...same } = structuredClone(cellsNow()), { paper, places } = nowTyped();
+  unsaved.add(kind);
   steps.add(what, how ? { file, typed, ...same } : { file, typed, ...same, paper, places });
   openCase(kind, next, { ...(how && { ...same, paper, places, isMoved: how !== "named" }), past: steps });
   view.takeUnit(false);
@@ -112,6 +125,7 @@ function asked(kind) {
     caseText: () => {
       const { pinned, reading, marks } = session, kept = pinned ? keptTree(pinned, session.typed) : undefined;
       const { shown: mark, thousands } = marks, { text, settled } = reading, entry = settled ?? reading.entry;
+      unsaved.delete(kind);
       const { typed } = view, sheet = { ...typed, agreed: agreedColumn(session, typed)?.key };
       return caseText({ ...nowTyped(), paper: sheet, kind, kept, mark, thousands, entry, text });
     },
@@ -188,6 +202,14 @@ function takeBeside(event) {
   takeText(text);
 }
 
+/** Gives a text that was dropped to the case that is shown, or tells why there is none. Whether a case is shown. */
+function toCase(text, fault) {
+  const isShown = document.body.dataset.view === "case";
+  if (isShown && fault) panel.say(fault);
+  else if (isShown) takeText(text);
+  return isShown;
+}
+
 /** What nobody has foreseen is told in a sentence, and what was typed stays. */
 function tellUnforeseen() {
   const tell = (event) => {
@@ -228,7 +250,7 @@ function listen() {
   addEventListener("beforeprint", () => paper.before());
   addEventListener("afterprint", () => paper.after());
   addEventListener("popstate", () => show(viewOfAddress()));
-  addEventListener("beforeunload", (event) => isUnsaved && event.preventDefault());
+  addEventListener("beforeunload", (event) => unsaved.size && event.preventDefault());
 }
 
 /** The example of the start: asked for when the start is seen. */
@@ -248,11 +270,13 @@ function begin() {
   }));
   const documents = new Documents({
     mark: () => session.marks.usual(), onLine: (text, from) => verify.setLine(text, from),
+    onTable: (id, text) => (show(id), takeText(text)),
     onOpen: (kind, typed, settings) => {
       const { kept: tree, ...others } = settings, pinned = tree ? pinOfTree(tree, typed) : null;
       const before = (session.kind === kind ? steps : kept.get(kind)?.past)?.past.at(-1);
       const past = replaced(kind, OPENED), notes = [...others.notes, whereBefore(kind, past, before)].filter(Boolean);
       openCase(kind, typed, { ...others, pinned, isFile: true, past, notes });
+      unsaved.delete(kind);
     },
   });
   verify = verifyPanel({
@@ -261,7 +285,10 @@ function begin() {
     onPrint: () => paper.print("check"),
   });
   refill(at("verify-body"), verify.element);
-  documents.takeDrops({ show, onLine: verify.setLine });
+  takeDrops({
+    toLine: (text, from) => (show("verify"), verify.setLine(text, from)),
+    toDocument: (text, from) => (show("document"), documents.open(text, { from })), toCase,
+  });
   listen();
   session.places = 2;
   session.warmUp();

@@ -12,6 +12,8 @@ import { unitOf, unitText } from "./unit.js";
 const MOST_GROUPS = 1023; // that are printed, all groups of ten players
 const ON_SCREEN = 63; // of the groups, those that stand in the grid
 
+const STALE = "What was typed last isn’t worked out yet: an answer here is of the cells before.";
+
 const at = (id) => document.getElementById(id);
 
 /** The choice of what is printed, and the heading of the page. */
@@ -74,12 +76,17 @@ export class Paper {
   before() {
     const { session, view } = this, { dataset } = document.body, isCase = dataset.view === "case";
     let what = dataset.print ?? (isCase ? "sheet" : dataset.view === "verify" ? "check" : "all");
-    if (isCase && (view.isHidden || view.still) && what === "sheet") what = "all"; // the case alone, or what is open
+    if (isCase && (view.isHidden || this.still()) && what === "sheet") what = "all"; // the case alone, or what is open
     if (what === "sheet") showSheet(session, view.typed);
     if (what === "sheet" && !(isCase && at("sheet").childElementCount)) what = "all";
     dataset.print = what;
     refill(at("paper-head"), what === "sheet" ? [] : this.head(what, isCase));
     refill(at("paper-groups"), what === "all" && isCase && this.groups());
+  }
+
+  /** Why the answer isn't of what was given last, in a sentence; "" where it is. */
+  still() {
+    return this.view.still || (this.session.isStale ? STALE : "");
   }
 
   after() {
@@ -93,7 +100,7 @@ export class Paper {
     const own = what === "check" ? "The check of a line" : (isCase && heading?.trim()) || "";
     return [
       el("p", {}, own && el("b", {}, own), own && " – ", dayText()),
-      what === "all" && isCase && this.view.still && el("p", {}, el("b", {}, this.view.still)),
+      what === "all" && isCase && this.still() && el("p", {}, el("b", {}, this.still())),
       what === "all" && unit && !(isCase && this.session.kind.isVote) && el("p", {}, `All amounts are in ${unit}.`),
       what === "all" && isCase && !this.view.isHidden && this.proved(),
     ];

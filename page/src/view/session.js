@@ -17,8 +17,8 @@ const isSame = (one, other) => (one && other
   ? [...one, ...other].every((_, r) => (one[r] ?? "") === (other[r] ?? "")) : one === other);
 
 export class Session {
-  /** `on` is called as things happen: `stale`, `read`, `answer(came)`, `busy(isBusy)` and `fault(fault)`; and before
-   * the user's own numbers change, `step(what, isTyping)`. */
+  /** `on` is called as things happen: `stale`, `read`, `answer(came)`, `whole` once no part of it is to come,
+   * `busy(isBusy)` and `fault(fault)`; and before the user's own numbers change, `step(what, isTyping)`. */
   constructor(on) {
     this.on = on;
     this.engine = new Helper();
@@ -27,6 +27,7 @@ export class Session {
     this.kind = null;
     this.turn = 0;
     this.isStale = false; // whether something was typed that the answer doesn't know yet
+    this.isRead = false; // whether all that was typed is read
     this.marks = new Marks(new Intl.NumberFormat().format(0.5).includes(",") ? "," : ".");
     this.isTyped = false; // whether the cells aren't those of a worked example
     this.wantsCore = false; // whether a core point is shown
@@ -59,6 +60,7 @@ export class Session {
     if (!this.file?.made) this.file = null;
     this.turn += 1;
     this.isStale = true;
+    this.isRead = false;
     this.on.stale();
     clearTimeout(this.timer);
     this.timer = setTimeout(() => this.work(), wait);
@@ -119,11 +121,12 @@ export class Session {
       const reading = marks.take(read, this.isTyped);
       if (this.file) this.file.made ??= reading.text;
       if (JSON.stringify(marks.spelling()) !== before) return void this.changed(0); // for the notes, too
-      Object.assign(this, { reading, judged: {} });
+      Object.assign(this, { reading, judged: {}, isRead: true });
       this.carryOwn(reading);
       this.on.read();
       if (reading.facts) await this.ask(about, { engine, checker }, isMine);
       else this.withoutProgram(reading);
+      if (isMine()) this.on.whole();
     } catch (fault) {
       if (isMine() && fault.message !== "stopped") this.on.fault(fault);
     } finally {

@@ -7,19 +7,39 @@ export const MOST_BYTES = 8388608; // of a text that is read at all
 const MOST_SHOWN = 200000; // characters of a text in a text area
 const WAIT = 250;
 
+const NO_TEXT = "is no text. If it is a workbook or a PDF, open it in its own program, copy the cells or lines there, "
+  + "and paste them here.";
 const TOO_LONG = "This is longer than 8 MB, so it is no document or line of the program, and isn’t read.";
 
-/** The text of a file, and where it is from: {text, from}, or {fault} where it is too long, empty, or isn't a text. */
-export async function textOfFile(file) {
-  const name = withEscapes(file.name);
-  if (file.size > MOST_BYTES) return { fault: TOO_LONG };
-  if (!file.size) return { fault: `${name} is empty.` };
+const MARKED = { "255,254": "utf-16le", "254,255": "utf-16be" }; // by the first two bytes
+
+/** The text of the one file that was given, and where it is from: {text, from}, or {fault} where there are several, or
+ * it is too long, empty, or isn't a text. */
+export async function textOfFile([file, ...others]) {
+  const name = withEscapes(file.name), { size } = file;
+  if (others.length) return { fault: `These are ${others.length + 1} files. Give one at a time.` };
+  if (size > MOST_BYTES) return { fault: TOO_LONG };
+  if (!size) return { fault: `${name} is empty.` };
   try {
-    const text = new TextDecoder("utf-8", { fatal: true, ignoreBOM: true }).decode(await file.arrayBuffer());
-    return { text, from: { name, size: file.size } };
+    return textOfBytes(new Uint8Array(await file.arrayBuffer()), { name, size });
   } catch {
-    return { fault: `${name} isn’t a text in UTF-8. Save it anew as UTF-8.` };
+    return { fault: `${name} can’t be read. If it is a folder, give a file of it.` };
   }
+}
+
+/** Bytes as a text. One of two bytes a letter, as spreadsheets save it, may be a table: no fingerprint is worked out of
+ * that. */
+export function textOfBytes(bytes, from) {
+  const wide = MARKED[bytes.slice(0, 2).join()], { name } = from;
+  try {
+    const text = new TextDecoder(wide ?? "utf-8", { fatal: true, ignoreBOM: !wide }).decode(bytes);
+    if (!text.includes("\0") && !(wide && text.includes("{"))) return { text, from };
+  } catch {
+    // said below
+  }
+  if (!wide && bytes.includes(0)) return { fault: `${name} ${NO_TEXT}` };
+  const help = "Save it anew as UTF-8, or open it, copy its text, and paste it here.";
+  return { fault: `${name} isn’t a text in UTF-8. ${help}` };
 }
 
 /** What is said of where a text is from; nothing of one that was pasted. */
@@ -46,16 +66,12 @@ class TextPlace {
       on: { input: () => this.later(), paste: (event) => this.paste(event) },
     });
     this.chooser = el("input", {
-      type: "file", accept: ".json,.txt,application/json,text/plain", class: "away",
-      tabindex: "-1", "aria-hidden": "true", on: { change: () => this.take(this.chooser.files[0]) },
+      type: "file", accept: ".json,.txt,.csv,.tsv,application/json,text/*", class: "away",
+      tabindex: "-1", "aria-hidden": "true", on: { change: () => this.take(this.chooser.files) },
     });
     this.element = el("div", { class: "drop", on: {
       dragover: (event) => this.over(event, true), dragleave: (event) => this.over(event, false),
-      drop: (event) => {
-        this.over(event, false);
-        event.stopPropagation();
-        this.take(event.dataTransfer.files[0]);
-      },
+      drop: (event) => this.drop(event),
     } }, el("p", { class: "field" }, title), el("p", { class: "hint" }, hint), this.area,
     el("p", {}, button("Choose a file", () => this.chooser.click(), {
       class: "quiet", "aria-label": `Choose a file: ${title}`,
@@ -84,9 +100,17 @@ class TextPlace {
     this.setText(text);
   }
 
-  async take(file) {
-    if (!file) return;
-    const mine = (this.turn += 1), { text, from, fault } = await textOfFile(file);
+  drop(event) {
+    this.over(event, false);
+    event.stopPropagation();
+    const { files } = event.dataTransfer, text = event.dataTransfer.getData("text/plain");
+    if (!files.length && text) this.setText(text);
+    else this.take(files);
+  }
+
+  async take(files) {
+    if (!files.length) return;
+    const mine = (this.turn += 1), { text, from, fault } = await textOfFile(files);
     this.chooser.value = "";
     if (mine === this.turn) this.setText(text ?? "", from ?? { fault }); // else another text came meanwhile
   }

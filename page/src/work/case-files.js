@@ -9,6 +9,7 @@ import { isCaseFile } from "../cases/is-case-file.js";
 import { tableFault } from "../cases/saved-tables.js";
 import { packed } from "../cases/tables.js";
 import { openDocument, readCase } from "./cases.js";
+import { leftOut, mended } from "../tell/mail.js";
 import { fillSplits } from "./splits.js";
 
 const OF_A_CASE = "A saved case. Whether somebody has changed the file since, the page can’t know. The program reads "
@@ -18,12 +19,15 @@ const NOT_FOLLOWING = "The cells that the file calls filled have other numbers t
 const OTHER_CELLS = "The cells in the file make another document than the one in it, so the cells here are those of "
   + "its document. Somebody has changed the file.";
 
-/** A text as a case: as openDocument has it, and of a saved case `more` of what was typed, `settings`, and `notes`. */
+/** A text as a case: as openDocument has it, and of a saved case `more` of what was typed, `settings`, and `notes`. A
+ * refusal says whether the text may be `forCells`, or how it is without what a mail program added: `mended`, which
+ * leaves out what is `left`. */
 export function openText({ text, mark }) {
-  const tree = text.includes('"coop-page"') ? treeOf(text) : null;
-  const table = tree ? undefined : tableFault(text, caseNamed("runway"));
-  if (table) return { refusal: { sentence: table } };
-  return isCaseFile(tree) ? openCase(tree, mark) : withMark(openDocument({ text, mark }), mark);
+  const tree = treeOf(text), table = tree ? undefined : tableFault(text, caseNamed("runway"));
+  if (table) return { refusal: { sentence: table, forCells: true } };
+  if (isCaseFile(tree)) return openCase(tree, mark);
+  const found = withMark(openDocument({ text, mark }), mark), plain = tree ? null : mended(text);
+  return plain === null ? found : { refusal: { ...found.refusal, mended: plain, left: leftOut(text) } };
 }
 
 /** The cells of what was opened by a decimal mark: they were written with points. */
