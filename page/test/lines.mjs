@@ -199,8 +199,11 @@ for (const [text, left] of [
   [`\ufeff${plain.replace("tw", "t\nw")}`, "1 mark that nobody sees and 1 line break"],
   [`a\nb\nc\nd\ne\n${plain}`, "“a”, “b”, “c” and 2 more lines"], [`{s. u.}\n${plain}\nF`, "“{s. u.}” and “F”"],
   [plain.replace(/"(\w)/g, "“$1").replace(/"/g, "”"), "6 typographic quote marks"],
+  [plain.replace(",", ",\u00a0"), "1 hard blank"],
   [plain.replaceAll(",", "=2C").replace("one", "o=\nne"), "3 “=” of a packed text"],
 ]) expect(`left out of ${JSON.stringify(text)}`, leftOut(text), left);
+expect("a saved case as the agreed file", lookAtLine({ line: plain, agreed: '{"coop-page":1,"document":{}}' }, ask)
+  .same.sentence, /It is a saved case of this page\. .* and then its game is offered here\./);
 expect("nothing to mend", mended('{"a":'), null);
 expect("no other advice beside the way", unreadable(`> ${plain}`, true).join(), "Its lines begin with “>”, as in the "
   + "answer to a mail.");

@@ -2,7 +2,7 @@
 // before its step: cells, questions that were answered, the user's own amounts, and the kept answer.
 
 const QUIET = `(() => {
-  const answer = document.getElementById("answer"), isStale = !answer.hidden && answer.classList.contains("stale");
+  const isStale = document.getElementById("answer").classList.contains("stale"); // also while there is none
   return !isStale && [...asking.values()].every((count) => count < 1)
     && !document.querySelector("#busy button, #evidence:not([hidden]) .word.busy")
     && ![...document.querySelectorAll("#answer .verdict td, #answer .because")]

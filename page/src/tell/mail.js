@@ -4,6 +4,7 @@ import { withEscapes } from "../game/names.js";
 import { listed, plural } from "../game/words.js";
 
 const MARKS = /[\ufeff\u200b\u200e\u200f\u2060]/g; // that programs put in front, or between, and nobody sees
+const HARD = /\u00a0/g; // blanks, as mail programs make them of those at the beginnings of lines
 const QUOTES = /[\u201c-\u201f\u00ab\u00bb\u2033]/g;
 const SIGNS = /^[ \t]*(?:[>|][ \t]?)+/gm, BREAKS = /\r?\n/g, BARE = /(?<!=\r?)\r?\n/g, PACKED = /=3D|=2C|=\r?\n/g;
 const MOST_READ = 2000000; // letters of a text that is looked through
@@ -20,6 +21,7 @@ const DONE = [
   [/^\s*[^{\s>\ufeff\u200b]/, "Other words come before the first {."],
   [/\}[^{}]*[^\s{}][^{}]*$/, "Other words come after the last }."],
   [/[\u201c\u201d\u201e]\s*[:,\]}]/, "It has typographic quote marks (“ ”) where plain ones (\") belong."],
+  [/[{}[\],:]\s*\u00a0/, "It has hard blanks, as mail programs make them, where plain ones belong."],
   [/[^,{}[\]:\s"]\r?\n[^\s]/, "It was broken into lines in the middle of a word."],
 ];
 
@@ -37,14 +39,15 @@ export const mended = (text) => undone(text)?.way ?? null;
 /** A text without what mail programs add, with the part of it that is kept: {way, inside, plain}; null as above. */
 function undone(text) {
   if (text.length > MOST_READ) return null;
-  const plain = text.replace(MARKS, "").replace(SIGNS, "");
-  const from = plain.indexOf("{"), to = plain.lastIndexOf("}");
+  const bare = text.replace(MARKS, "").replace(SIGNS, "");
+  const from = bare.indexOf("{"), to = bare.lastIndexOf("}");
   if (from < 0 || to < from) return null;
-  const own = [plain.slice(from, to + 1), objectIn(plain)].filter(Boolean);
+  const own = [bare.slice(from, to + 1), objectIn(bare)].filter(Boolean);
   const ways = own.flatMap((inside) => {
     const unbroken = inside.replace(BREAKS, ""), plainly = (some) => some.replace(QUOTES, '"');
-    const some = [inside, unbroken, unpacked(inside), plainly(unbroken), plainly(inside)];
-    return some.map((way) => ({ way, inside, plain }));
+    const plain = [inside, unbroken, unpacked(inside), plainly(unbroken), plainly(inside)];
+    const some = [...plain, ...plain.map((way) => way.replace(HARD, " "))];
+    return some.map((way) => ({ way, inside, plain: bare }));
   });
   return ways.find(({ way }) => way && way !== text && isJson(way)) ?? null;
 }
@@ -62,6 +65,7 @@ export function leftOut(text) {
     [lost(SIGNS, text), "sign of quotation", "signs of quotation"],
     [lost(MARKS, text), "mark that nobody sees", "marks that nobody sees"],
     [lost(BARE, inside, way), "line break"], [lost(QUOTES, inside, way), "typographic quote mark"],
+    [lost(HARD, inside, way), "hard blank"],
     [lost(PACKED, inside, way), "“=” of a packed text", "“=” of a packed text"]];
   const quoted = (line) => `“${withEscapes(line.slice(0, MOST_LETTERS))}${line.length > MOST_LETTERS ? " …" : ""}”`;
   return listed([...shown.map(quoted),

@@ -71,7 +71,7 @@ export class AnswerView {
   /** Shows the answer: all of it, or the parts in which it is seen what `came`. */
   show(came) {
     const { result, isStale } = this.session;
-    for (const id of ["answer", "parts"]) at(id).classList.toggle("stale", !result || isStale);
+    for (const id of ["answer", "parts"]) at(id).classList.toggle("stale", isStale);
     if (result && isStale) return; // what stands there is of the old cells; the next answer is drawn anew
     this.showPanels(result);
     if (!result) return this.hush();

@@ -69,6 +69,9 @@ function bareOf({ shares }, own, agreed) {
 const SAVED_CASE = "It is a saved case of this page, and no answer with evidence. “Open a saved case”, where the page "
   + "begins, opens it.";
 
+const SAVED_GAME = "It is a saved case of this page. “Open a saved case”, where the page begins, opens it, and then its "
+  + "game is offered here.";
+
 /** What is said of a mail with names and amounts. */
 const IN_WORDS = "Shares in words are judged in a case: there “What if” has “Your own division”, which takes them.";
 
@@ -95,6 +98,7 @@ function lineOf(text) {
 /** The agreed file; one that has the game alone counts as well. */
 function gameFileOf(text) {
   const file = lineOf(text);
+  if (file.fault === SAVED_CASE) return { fault: SAVED_GAME };
   if (file.fault || file.tree.game !== undefined || file.tree.class === undefined) return file;
   return { ...partsOf({ game: file.tree }), doubles: file.doubles, isBare: true };
 }
