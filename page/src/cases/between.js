@@ -1,13 +1,25 @@
 // Lines above and between those of groups that are none: a title, or a heading above a part of them, as "Pairs".
+import { isAllWord } from "./all-together.js";
 import { isNothing } from "./block.js";
 import { YEAR } from "./frames.js";
 import { saysKind } from "./other-case.js";
 
 const MOST_LETTERS = 80; // of a heading
+const ALL_LINE = /^(\D{2,40}?)\s*[:=–]?\s*((?:\p{Sc}\s?)?\d[\d.,'’ ]*(?:\p{Sc}|[A-Z]{3})?)$/u;
 const TITLE_WORDS = 5; // of a name without a number, which then is none
 const KNOWN = new RegExp("^(?:(?:each )?alone|singl(?:y|es?|etons?)|individual(?:ly|s)?|stand-?alone(?: \\p{L}+)?"
   + "|pairs?|pairwise|doubles|triples?|(?:two|three|four)(?: together| players| members)|einzeln|allein|paare?"
   + "|zu (?:zweit|dritt|viert)|seule?s?|à (?:deux|trois)|coalitions?(?: of (?:two|three|four))?):?$", "iu");
+
+/** Cells of a table; a line of all together in one cell, as "All three: 72", is parted into words and number. */
+export function withAllLine(cells) {
+  if (!cells.some((row) => row.filter(Boolean).length > 2)) return cells;
+  return cells.map((row) => {
+    const [text = "", other] = row.filter(Boolean), isShort = !other && text.length <= MOST_LETTERS;
+    const [, words, number] = (isShort && ALL_LINE.exec(text)) || [];
+    return words && isAllWord(words) ? [words, number] : row;
+  });
+}
 
 /** Cells without headings of parts: {cells, left}. Such a one has no number, stands below an empty line, ends with a
  * colon or has known words, and has rows with numbers above and right below; then

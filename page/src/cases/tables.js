@@ -4,7 +4,7 @@ import { mostOf } from "../game/classes.js";
 import { maskOf, masksBySize, membersOf } from "../game/groups.js";
 import { withEscapes } from "../game/names.js";
 import { listed } from "../game/words.js";
-import { withoutPartHeads, withoutTitles } from "./between.js";
+import { withAllLine, withoutPartHeads, withoutTitles } from "./between.js";
 import { blockOf, looseText } from "./block.js";
 import { filledGroups } from "./filled-cells.js";
 import { FORM, headingText, pairsOf } from "./group-columns.js";
@@ -150,7 +150,8 @@ export function withoutPlayer(state, player) {
  * is said (`isZeroAlone`, `isSparse`). `told` says how it was read, `remark` what was left out. */
 export function tableOf(text, names = [], order = "size", mark = ".", said = {}) {
   const book = textbookRows(text), pasted = book?.rows ?? cellsOf(text), saved = answerFault(pasted);
-  const { cells, left } = book ?? saved ? { cells: pasted, left: book?.left ?? [] } : withoutPartHeads(pasted);
+  const headless = book || saved ? null : withoutPartHeads(withAllLine(pasted));
+  const { cells, left } = headless ?? { cells: pasted, left: book?.left ?? [] };
   const block = blockOf(cells, { canBeNegative: true, words: true }), framed = unframed(block.rows), { rows } = framed;
   const others = () => tableOf(text, names, order, mark, { ...said, isParts: false });
   const ofParts = saved || book ? undefined : partsRead(cells, mark, said, others);

@@ -52,6 +52,9 @@ export const GROUPS = [
   ["gains", "A + B: 5\nA + C: 6\nB + C: 7\nEveryone: 20\nSingly: none", "A|B|C|0|0|5|0|6|7|20", /“Singly” is the/],
   ["costs", ["\tA\tB\tC\tBid", "1\tja\tnein\tja\t8", "2\tnein\tja\tja\t7", "3\tja\tja\tja\t12", "4\tja\tnein\tnein\t4",
     "5\tnein\tja\tnein\t4", "6\tnein\tnein\tja\t5", "7\tja\tja\tnein\t7"].join("\n"), "A|B|C|4|4|7|5|8|7|12"],
+  // all together in a line below a square
+  ["gains", "\tA\tB\tC\nA\t1\t8\t9\nB\t\t2\t10\nC\t\t\t3\n\nAll three: 20 €", `${DONE} €`, /“All three” is/],
+  ["gains", "\tA\tB\tC\nA\t1\t8\t9\nB\t\t2\t10\nC\t\t\t3\ntogether 20", DONE],
   // several columns of numbers
   ["costs", "Who\tTotal quote\tSaving\nA\t8\t0\nB\t7\t0\nA+B\t12\t3", "A|B|8|7|12", /“Saving” was left out/],
   ["costs", "Who\tVan cost\tFuel\tTotal\nA\t8\t1\t9\nB\t7\t2\t9\nA+B\t12\t3\t15", null, /Which column .* “Total”/],
