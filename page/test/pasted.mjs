@@ -280,7 +280,8 @@ for (const [id, text, cells, told, answer] of ALL.filter(([, text]) => String(te
 const OF_ALL = { first: 0, before: ["", "", ""] };
 for (const [text, wanted, told = /^/, labels = ["Sales", "Ops", "Legal"]] of [...PROPOSED, ...DIVIDED]) {
   const { texts, fault, said = "" } = pastedDivision(text, labels, { ...OF_ALL, isOfWhole: !told.isOfToday });
-  if ((fault ?? texts.join()) === wanted && told.test(said)) continue;
+  const isWanted = wanted instanceof RegExp ? wanted.test(fault) : (fault ?? texts.join()) === wanted;
+  if (isWanted && told.test(said)) continue;
   faults += 1;
   console.log(`${JSON.stringify(text)}, proposed: ${fault ?? texts}, ${said}, and not ${wanted}`);
 }

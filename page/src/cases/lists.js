@@ -53,7 +53,7 @@ export const runway = {
       key: "count", title: "Uses", number: true, short: true, fallback: "1",
       heads: heads("landings|flights|movements|trips|\\b(uses|times)\\b|number|count|how (many|often)|landungen|flüge|"
         + "fahrten|nutzungen|anzahl|häufig|wie oft|atterri|vols|passages|mouvements|utilisations|nombre|combien|"
-        + "aterriz|atterragg|pouso|vuelos|viajes|voli\\b|usos|número|numero"),
+        + "landingen|aantal|liczba|lądow|aterriz|atterragg|pouso|vuelos|viajes|voli\\b|usos|número|numero"),
       not: HOW_FAR,
     },
   ],
@@ -77,6 +77,7 @@ export const runway = {
     askOfTwice(reading, state);
     askOfOrder(reading, state);
     askOfSteps(reading, state, mark);
+    askOfMerged(reading, state);
     reading.askOfEither(state);
     const all = kept.reduce((sum, { count }) => sum + count, 0);
     if (!kept.length && reading.isRight()) reading.open("rows.0.cost");
@@ -121,6 +122,20 @@ function askOfOrder(reading, state) {
   const [{ cost, count, name = "", type = "" }] = kept;
   reading.swap = { cost, count, name: shownName(name.trim() || type.trim() || "the first row") };
   reading.isOpen = true;
+}
+
+/** Rows with a type and without a user, below one that has both, may come from cells that a sheet has merged: then the
+ * user stands there once. */
+function askOfMerged(reading, { rows, isNamed }) {
+  const has = (row, key) => Boolean(row?.[key]?.trim()), first = rows.findIndex((row) => has(row, "name"));
+  const open = rows.map((_, r) => r).filter((r) => !has(rows[r], "name") && has(rows[r], "type"));
+  if (!isNamed || !open.length || first < 0 || open[0] < first || !has(rows[first], "type")) return;
+  let above;
+  const names = rows.map((row, r) => {
+    if (has(row, "name")) above = row.name;
+    return open.includes(r) ? above : row.name;
+  });
+  reading.merged = { names, type: shownName(rows[open[0]].type.trim()), name: shownName(names[open[0]].trim()) };
 }
 
 const COUNT_BEHIND = /\d\D{0,20}\((\d[\d.,'’]{0,12} ?(?:[x×/]|\p{L})[^()]{0,30})\)[.;,]?$/u;

@@ -15,6 +15,8 @@ const MILLIONS = /^(?:m|mn|bn|b)\b/iu; // behind money
 const WITH_UNIT = new RegExp(`^((?:${MONEY} ?)?[-−]?\\d[\\d.,'’\\s\u202f]*?)\\s*(${UNIT})$`, "u");
 const OF_MANY = /^(k|[kKMT]?\p{Sc}|tsd|tausend|thousand|mio|mill?ion(s|en)?|mln|mn|mrd|bn)\b\.?/iu;
 
+const CHANGE = /^(?:less|more|fewer|extra|weniger|mehr|moins|minder|meer)$/iu;
+
 /** The number and the unit of a text, as "12 km" and "1200 EUR/year"; null for another text, and for one that is a
  * number as it stands. A sign of money before "per year" is of the number. `isSure` says that the number is an amount,
  * and no part of a name: it is in thousands, or for each of something. */
@@ -44,6 +46,8 @@ export function withoutUnits(rows, from = 0) {
     const texts = rows.map((row) => row[c] ?? "").filter(Boolean), own = texts.map(parted).filter(Boolean);
     const [unit, other] = unitsOf(own), isBare = (text) => /[1-9]/.test(text) && !parted(text);
     const isNumber = (text) => !readNumber(text).fault, isMixed = texts.some((text) => isBare(text) && isNumber(text));
+    const change = own.find((one) => CHANGE.test(one.unit));
+    if (change) return { fault: `“${change.number} ${change.unit}” says a difference. Write the amounts themselves.` };
     if (!unit || isMixed || own.length * 2 < texts.length - 1) continue;
     if (other) return { fault: `The numbers have several units: “${unit}” and “${other}”. Give all in one.` };
     const sign = moneyBeside(own.map(({ number }) => number));

@@ -8,10 +8,11 @@ import { doubtNotes } from "./doubts.js";
 
 /** What has to be settled before there is an answer, and how numbers were read. */
 export function questions(reading, typed, settings) {
-  const { asked, swap, steps, perHead, mixed, unsure, part, rest, either } = reading;
+  const { asked, swap, steps, merged, perHead, mixed, unsure, part, rest, either } = reading;
   return [
     asked && (asked.ways ? twiceQuestion : asked.amount ? wholeQuestion : sumQuestion)(asked, typed, settings),
     swap && swapQuestion(swap, typed, settings), steps && stepsQuestion(steps, typed, settings),
+    merged && mergedQuestion(merged, typed, settings),
     perHead && perHeadQuestion(perHead, settings), mixed && mixedQuestion(mixed, reading, settings),
     rest ? restQuestion(rest, typed, reading, settings) : part && partQuestion(part, typed, settings),
     unsure && unsureQuestion(unsure, reading, settings),
@@ -96,6 +97,15 @@ function stepsQuestion({ head, sums, name }, typed, { onReset, onChange }) {
     `Do the costs below “${withEscapes(head)}” each come on top of those above? Then ${withEscapes(name)} needs `
     + `${sums[1]} alone. `, button("Yes, add those above", added, { class: "quiet" }), " ",
     button("No, each is all that one use needs", keep, { class: "quiet" }));
+}
+
+/** Asks whether a user stands once for all rows below: rows without a user are open otherwise. */
+function mergedQuestion({ names, type, name }, typed, { onReset }) {
+  const rows = typed.rows.map((row, r) => ({ ...row, name: names[r] ?? row.name }));
+  return el("p", { class: "note asked" },
+    `Beside “${withEscapes(type)}” stands no user. Is it “${withEscapes(name)}”, as above? If not, type who it is. `,
+    button("Yes, each as above", () => onReset({ ...typed, rows, offered: undefined }, "Fill in the users", true),
+      { class: "quiet" }));
 }
 
 /** Per head is another rule, so nobody gets other shares without a word. */

@@ -1,7 +1,9 @@
 // The division that the user proposes, or that stands today: a text for each row of the answer.
 import { moneyText, readNumber, readTogether, shortText } from "../exact/decimals.js";
 import { isMark, nameOfMark, otherMark } from "../exact/marks.js";
+import { moneyIn } from "../exact/money.js";
 import { Rational } from "../exact/rational.js";
+import { isNothing } from "../cases/block.js";
 import { linesByName, linesByNumber, PAYS } from "../cases/in-line.js";
 import { withoutSigns } from "../cases/signs.js";
 import { unitsText, withoutUnits } from "../cases/units.js";
@@ -10,12 +12,15 @@ import { listed, plural } from "../game/words.js";
 import { meantRows, meantText } from "./meant-rows.js";
 import { buttonFor, isPart, withParts } from "./whole-parts.js";
 
-const ENDS = "\\d|%|half|third|quarter|nothing|rest|hälfte|drittel|viertel|nichts|moitié|tiers|rien"; // of amounts
+const ENDS = "\\d|%|\\p{Sc}|\\d\\s?[A-Z]{3}|half|third|quarter|nothing|rest|hälfte|drittel|viertel|nichts|moitié|tiers"
+  + "|rien"; // of amounts
 const IN_LINE = new RegExp(`[,;]\\s+(?=\\p{L})|(?<=${ENDS})\\s+(?:and|und|et|y|e)\\s+(?=\\p{L})`, "giu"); // there
 const LINE = /^(?<name>.*?\p{L}.*?)(?:\s*[:=;,]\s*|\s+(?:[-–—]\s+)?)(?<number>[-−(]?\p{Sc}?\s?\d.*)$/u;
 const BESIDE = /^\s*[:=;,]?\s*(?:[-–—](?=\s))?\s*|\s*\(.*\p{L}.*\)$/gu; // of a number behind a name
 const VERB = new RegExp(`^(?:${PAYS})\\s+`, "iu");
 const EACH = /,?\s+(?:each|je|chacune?)\.?$/iu, MOST_EACH = 400; // letters of such a line
+const REST_TO = /^((?:the |den |le )?(?:reste?|remainder|balance))\s+(?:goes )?(?:to|for|für|an|pour|à)\s+(\S.*)$/iu;
+const BRACKETS = /^\(([^()]*)\)$/;
 const AND = /\s*(?:[,;+&]|(?<!\p{L})(?:and|und|et|y|e)(?!\p{L}))\s*/u; // between names that share an amount
 const MOST_LINES = 40, MOST_LINE = 2000; // of a mail, and letters
 const NUMBER = /^[-−(]?\p{Sc}?\s?\d[\d.,'’\s/]*(?:\p{Sc}|[A-Z]{3})?\)?$/u;
@@ -27,7 +32,7 @@ export function pastedDivision(pasted, labels, { first, before, isOfWhole = fals
   const isOdd = labels.some((label) => /["|]/.test(label)), plain = isOdd ? (line) => line
     : (line) => line.replace(/^ *"([^"]*)"/, "$1").replace(/ *\| */g, " ");
   const bare = (line) => plain(line).trim().replace(/\s+/g, " ");
-  const isSaid = (one) => isOfWhole && isPart(one), byButton = isOfWhole && buttonFor(pasted);
+  const isSaid = isOfWhole ? isPart : isNothing, byButton = isOfWhole && buttonFor(pasted);
   if (byButton) return { fault: `${byButton} Nothing was taken.` };
   const text = amountsInLine(pasted, labels.length - first)?.join("\n") ?? pasted;
   const named = partedLines(text, labels), own = named?.text ?? (isLine(text) ? text.replace(IN_LINE, "\n") : text);
@@ -42,10 +47,16 @@ export function pastedDivision(pasted, labels, { first, before, isOfWhole = fals
 }
 
 const partedLines = (text, labels) => {
+  const all = isLine(text) ? ofEach(text.trim().replace(/\s+/g, " "), labels) : [];
+  if (all.length > 1) return { text: all.join("\n"), left: [] };
   return linesByName(text, labels) ?? linesByNumber(text, labels) ?? lineOfMail(text, labels);
 };
-/** A line of several rows that have the same amount each, as "Bo and Cleo 50 each", as a line of each. */
+
+/** A line of several rows that have the same amount each, as "Bo and Cleo 50 each", as a line of each; and the row
+ * before its rest in "the rest to Bo". */
 function ofEach(line, labels) {
+  const [, rest, name] = line.length <= MOST_EACH ? REST_TO.exec(line) ?? [] : [];
+  if (name) return [`${name} ${rest}`];
   if (line.length > MOST_EACH || !EACH.test(line)) return [line];
   const words = line.replace(EACH, "").split(" "), rows = new Set(labels.map((label) => label.toLowerCase()));
   const namesIn = (k) => words.slice(0, k).join(" ").split(AND).filter(Boolean);
@@ -140,7 +151,7 @@ function namedLines(lines, labels) {
   for (const line of lines) {
     const place = placeOf(line), { name, number } = LINE.exec(line)?.groups ?? {};
     const more = place === undefined ? "" : (name ?? "").slice(labels[place].length).trim();
-    const isLonger = /\p{L}/u.test(more) && !VERB.test(`${more} `);
+    const isLonger = /\p{L}/u.test(more) && !VERB.test(`${more} `) && !(more && moneyIn(`${more} 1`));
     if (place === undefined || isLonger) {
       out.push(line);
       if (name && !isSumWord(name)) strangers.push({ name, number, line });
@@ -154,8 +165,11 @@ const besideName = (text) => text.replace(BESIDE, "").replace(VERB, "").replace(
 
 /** Numbers without the unit that all have, which is told: {numbers, unit, told}, or {fault}. Per cent is none. */
 function withoutUnit(texts) {
-  const { rows = [], units: [unit] = [], fault } = withoutUnits(texts.map((text) => [text]));
-  if (fault || unit === "%") return { fault, numbers: texts, told: "" };
+  const isInBrackets = texts.length > 1 && texts.every((text) => BRACKETS.test(text)); // "Ann (20)" is no loss
+  const bare = isInBrackets ? texts.map((text) => BRACKETS.exec(text)[1]) : texts;
+  if (bare.every((text) => isPart(text))) return { numbers: bare, told: "" };
+  const { rows = [], units: [unit] = [], fault } = withoutUnits(bare.map((text) => [text]));
+  if (fault || unit === "%") return { fault, numbers: bare, told: "" };
   return { numbers: rows.flat(), unit, told: unit ? unitsText([unit]) : "" };
 }
 

@@ -9,7 +9,7 @@ import { listed } from "../game/words.js";
 const MOST_LETTERS = 40;
 const REST = /^(?:the |den |le |la |el |il |de )?(?:rest|remainder|remaining|balance|reste|resto|übrige)$/iu;
 const OF = /\s+(?:of (?:it|all|the (?:whole|total|cost))|davon|vom ganzen|du total)$/iu; // behind a part
-const EVEN = /^(?:equal(?:ly| parts| shares)?|evenly|zu gleichen teilen|à parts égales|.{0,12}\beach)$/iu;
+const EVEN = /^(?:equal(?:ly| parts| shares)?|evenly|zu gleichen teilen|à parts égales|.{0,12}\beach|each .{1,12})$/iu;
 const WEIGHED = /^(?:pro ?rata|proportional(?:ly|)|in proportion|anteilig|verhältnismäßig|au prorata)$/iu;
 
 /** The part of the whole that a text says, {part}, or that it takes the `rest`; null for another text. A fraction
@@ -36,16 +36,18 @@ export function buttonFor(typed) {
 /** Numbers that were read of `texts`, with those that are said by the `whole`: {read, told}. The rest is known if all
  * others are, and one takes it. */
 export function withParts(texts, read, { whole, mark, show }) {
-  const said = texts.map((text) => (whole ? partOf(text, mark) : null));
+  const isKnown = (one) => one && (whole || one.part?.isZero()), parts = texts.map((text) => partOf(text, mark));
+  const said = parts.map((one) => (isKnown(one) ? one : null)), of = whole ?? ZERO;
   if (!said.some(Boolean)) return { read, told: "" };
-  const known = read.map((one, r) => (said[r]?.part ? { value: whole.times(said[r].part) } : one));
+  const known = read.map((one, r) => (said[r]?.part ? { value: of.times(said[r].part) } : one));
   const rests = said.flatMap((one, r) => (one?.isRest ? [r] : [])), [rest, another] = rests;
   const others = known.filter((_, r) => r !== rest), values = others.map(({ value }) => value);
   const left = rest !== undefined && another === undefined && values.every(Boolean)
     ? whole.minus(Rational.sum(values)) : null;
   const open = { fault: another === undefined ? "is known once all others have an amount" : "stands twice" };
-  const all = known.map((one, r) => (!said[r]?.isRest ? one : left ? { value: left } : open));
-  const shown = said.flatMap((one, r) => (one && all[r].value ? [`“${withEscapes(texts[r].trim())}” is ${
-    show(all[r].value)}`] : []));
-  return { read: all, told: shown.length ? `Of the whole, ${show(whole)}: ${listed([...new Set(shown)])}.` : "" };
+  const now = known.map((one, r) => (!said[r]?.isRest ? one : left ? { value: left } : open));
+  const shown = said.flatMap((one, r) => (one && now[r].value ? [`“${withEscapes(texts[r].trim())}” is ${
+    show(now[r].value)}`] : []));
+  const all = [...new Set(shown)];
+  return { read: now, told: whole && all.length ? `Of the whole, ${show(whole)}: ${listed(all)}.` : "" };
 }

@@ -20,7 +20,8 @@ const MOST_PER_HEAD = 8;
 const TOO_MANY = "With so many different votes the page counts the power of up to 16 voters only.";
 const ANSWERS = ["nucleolus", "prenucleolus", "shapley"];
 const MOST_BYTES = 2097152;
-const QUESTIONS = ["asked", "either", "mixed", "unsure", "swap", "steps", "part", "rest"]; // of a reading, for the user
+// of a reading, for the user
+const QUESTIONS = ["asked", "either", "mixed", "unsure", "swap", "steps", "merged", "part", "rest"];
 
 /** What the cells say: the rows of the answer, what is wrong, and, if nothing is, the document, its facts and game. */
 export function readCase({ id, typed, mark, measure, isMarked = typed.isMarked }) {

@@ -9,6 +9,7 @@ const DISTRICT = "5. Votes in the district council\nThe council adopts a decisio
 const FUNDS = "Tower roof fund\t£6,000.00\nOrgan fund\t£4,500.00\nChoir school\t£2,000.00\nAlmshouses\t£1,500.00";
 const IN_FUNDS = FUNDS.replace(/\t/g, "=").replace(/\n/g, "|"), PROMISED = `Promised\tAmount\n${FUNDS}\n`;
 const SECTIONS = "Section\tFarm at the end\tCost of this section\n1\tMill\t240\n2\tOak\t260\n3\tTop\t530";
+const MERGED = "Airline\tType\tUses\tCost\nAer\tA320\t40\t120\n\tA340\t8\t210\nCondor\tB757\t6\t170\n\tA320\t3\t120";
 
 export const LISTS = [
   ["estate", "Flood relief fund: 50,000 EUR\nClaims received:\n- Huber: 12,500 EUR\n- Maier: 38,000 EUR",
@@ -84,6 +85,12 @@ export const LISTS = [
   ["runway", "Type\tCost\tLandings\nA\t12\t350\nB\t24\t120/yr", /120\/yr/,
     /whole number\. Write the number alone, without/],
   ["runway", "Cessna: 50,000 (120/yr)\nDash 8: 90,000 (2 x a week)", null, /“120\/yr” stands behind a cost, and looks/],
+  ["runway", MERGED, "Aer=A320=120=40|=A340=210=8|Condor=B757=170=6|=A320=120=3",
+    /Beside “A340” stands no user\. Is it “Aer”, as above\?.*2 empty/],
+  ["runway", MERGED, "Aer=A320=120=40|Aer=A340=210=8|Condor=B757=170=6|Condor=A320=120=3",
+    /^(?!.*stands no user).*0 empty/, "Yes, each as above"],
+  ["runway", "Gebruiker\tKosten\tAantal landingen\nKLM\t120\t40\nAer\t90\t25", "KLM=120=40|Aer=90=25"],
+  ["estate", "Ann\t5 less\nBo\t7 less", null, /“5 less” says a difference\. Write the amounts themselves/],
   ["runway", SECTIONS, "Mill=240=1|Oak=260=1|Top=530=1",
     /Do the costs below “Cost of this section” each come on top of those above\? Then Oak needs 500 alone/],
   ["runway", SECTIONS, "Mill=240=1|Oak=500=1|Top=1030=1", /^(?!.*on top)/, "Yes, add those above"],
@@ -234,6 +241,13 @@ export const DIVIDED = [
   ["Hi all,\nSales takes 20, Ops takes 30 and Legal takes 50.\nOf these 5 are paid.\nBest, Eva",
     "“20, Ops takes 30 and Legal takes 50” beside Sales is no amount. Write one amount beside each name, such as "
     + "12.50. Nothing was taken."],
+  ["Sales paie 20 €, Ops 30 € et Legal le reste", "20 €,30 €,le reste"],
+  ["Sales 50 percent, Ops 30 percent, Legal 20 percent", "50 percent,30 percent,20 percent"],
+  ["Sales, Ops and Legal 30 each", "30,30,30"], ["Sales 20, Ops 30, remainder to Legal", "20,30,remainder"],
+  ["Sales (20), Ops (30), Legal (50)", "20,30,50"], ["Sales (20)\nOps 30\nLegal 50", "(20),30,50"],
+  ["as now, but Sales 5 less", /Nothing was taken/],
+  ["Sales CHF 1'200.-, Ops CHF 1'300.-, Legal CHF 500.-", "CHF 1'200.-,CHF 1'300.-,CHF 500.-"],
+  ["Sales nothing\nOps 3\nLegal 4", "nothing,3,4", OF_TODAY],
   ["equally", "“Fill it with” has equal parts, below “What if”. Nothing was taken."],
   ["a third each", "“Fill it with” has equal parts, below “What if”. Nothing was taken."],
   ["Name\tNow\tNew\nSales\t20\t25\nOps\t30\t30\nLegal\t50\t45", "Two numbers stand beside Sales: “20 25”. Write "
