@@ -88,6 +88,7 @@ export const untaken = [
     await page.type("rows.0.claim", "310 €");
     expect("it goes with an edit", await page.text("#case .mend"), "");
     await page.click("Undo");
+    expect("and comes again", await page.text("#case .mend"), /Not as you meant it\?/);
     await page.click("Undo");
     expect("one step", await page.run(NAMES), "Adler Brandt Chopra");
     await page.paste('[data-cell="rows.0.name"]', "Who\tA\tB\nTom\t120 €\t30 €\nUli\t80 €\t20 €\nVic\t9 €\t8 €");

@@ -12,7 +12,7 @@ const QUOTED = /“([^”…]{3,200})”/gu; // what a sentence quotes
 const TAKING = "Paste"; // the step by which a grid takes a text
 const TITLES = { asks: "None of these? Change your text", taken: "Not as you meant it? Change your text" };
 
-const pasted = new WeakMap(); // by what is typed of a case: {cell, text, last} with the last step before
+const pasted = new Map(); // by the id of a case: {cell, text, last} with the last step before
 
 /** Shows the text that was pasted into the grid of a case, below what is said of it, and gives what shows it anew. The
  * grid tells what is pasted by "pasted-text", and takes one by "take-text". */
@@ -22,7 +22,7 @@ export function mendIn(grid, kind, { steps, onUndo, onCase }) {
   const stateOf = ({ step }) => ["asks", "refused"].find((state) => grid.classList.contains(state))
     ?? (step && step === lastStep() && "taken");
   const show = () => {
-    const kept = pasted.get(grid.typed), state = kept && stateOf(kept);
+    const kept = pasted.get(kind.id), state = kept && stateOf(kept);
     const rows = state && kept.text.length <= MOST_LETTERS ? cellsOf(kept.text) : [];
     const isFit = rows.length <= MOST_ROWS && widthOf(rows) <= MOST_COLUMNS;
     const read = (text, id) => {
@@ -36,10 +36,10 @@ export function mendIn(grid, kind, { steps, onUndo, onCase }) {
   };
   said.after(place);
   grid.addEventListener("pasted-text", ({ detail }) => {
-    pasted.set(grid.typed, detail && { ...detail, last: lastStep() });
+    pasted.set(kind.id, detail && { ...detail, last: lastStep() });
   });
   grid.addEventListener("untaken", () => queueMicrotask(() => { // what is said of it, and its step, come right behind
-    const kept = pasted.get(grid.typed), step = lastStep();
+    const kept = pasted.get(kind.id), step = lastStep();
     if (kept && step !== kept.last && step?.what === TAKING) kept.step ??= step;
     show();
   }));
