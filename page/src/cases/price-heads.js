@@ -15,7 +15,11 @@ const BID = words("bids?|most|up to|m[aá]x(im\\p{L}*)?|highest|(willing(ness)?|
   + "|höchst\\p{L}*|gebote?|zahlungsbereitschaft|bod");
 const ASK = words("ask(s|ed|ing)?|wants?|least|m[ií]n(im\\p{L}*)?|lowest|(willing(ness)?|ready) to (accept|sell|take)"
   + "|wta|takes?|mindest\\p{L}*|au moins");
-const RESERVE = words("reserves?|reservation"); // of a seller, unless it is said to be a buyer's
+const RESERVE = words("reserves?|reservation|réserves?"); // of a seller, unless it is said to be a buyer's
+// where bids begin
+const START = words("(min(\\.|im\\p{L}*)?|start(ing)?|opening|reserve|lowest|least) (bids?|offers?)|upset price"
+  + "|(start|ausruf)(preis|gebot|prijs|bod)|inzet(prijs)?|vraagprijs|mise à prix|prezzo (base|di partenza|d['’]asta)"
+  + "|base d['’]asta|precio (de salida|base)");
 const PRICE = new RegExp("price|preis|pri[xj]|precio|limit|valu|worth|wert|valeur|valor|amount|betrag|montant|\\p{Sc}|"
   + "bereitschaft", "iu");
 const NAME = words("names?|traders?|who|persons?|participants?|players?|nom|nombre|wer|händler");
@@ -48,7 +52,8 @@ const MARKED = /^(b|s)[ .:-]?\d+$|[([](b|s)[)\]]$/i;
 /** What a heading says: whose price or name it is, and whether it is a price. `isSoft` gives way to a side that the
  * columns before it have; `isBoth` says that it names both. */
 export function kindOf(head) {
-  const isBuyer = BUYS.test(head), isSeller = SELLS.test(head), isBid = BID.test(head), isAsk = ASK.test(head);
+  const isBuyer = BUYS.test(head), isSeller = SELLS.test(head), isStart = START.test(head);
+  const isBid = BID.test(head) && !isStart, isAsk = ASK.test(head) || isStart;
   const isSoft = RESERVE.test(head) && !isBuyer && !isSeller, isBoth = isBuyer && isSeller;
   const buys = isBuyer || (isBid && !isSeller), sells = isSeller || ((isAsk || isSoft) && !isBuyer);
   const side = buys === sells ? undefined : buys ? "buyers" : "sellers";
