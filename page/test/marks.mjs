@@ -5,6 +5,7 @@ import { Rational } from "../src/exact/rational.js";
 import { beyondTexts } from "../src/view/beyond.js";
 import { questions } from "../src/view/case-questions.js";
 import { proposalOf } from "../src/view/proposal.js";
+import { todayOf, todayTools } from "../src/view/today.js";
 import { amountsIn } from "../src/work/others.js";
 import { Desk } from "./grids.mjs";
 
@@ -156,6 +157,11 @@ for (const [texts, mark, whole, values, told] of [
   const found = proposalOf(texts, ROWS, mark, whole && Rational.of(whole));
   expect(`a division ${texts}`, [found.values.join(" "), told.test(found.told)], [values, true]);
 }
+
+/** What is said of today's amounts. */
+const today = todayOf({ todays: ["1.200 €", "80 €"], result: {}, marks: { beside: () => "." } }, ROWS);
+expect("today", [String(today.values[0]), / “1\.200 €” is read as 1200, since money has no three decimals\.$/
+  .test(todayTools({ costs: true }, today).textContent)], ["1200", true]);
 
 /** Several estates in a field, and what is said of the first. */
 for (const [typed, mark, values, note] of [

@@ -11,9 +11,9 @@ export function todayOf(session, rows) {
   const canBe = !result.game || (!result.game.isMarket() && !result.game.ballots); // of many landings there is no game
   if (!todays || !canBe) return { canBe, texts: null, setAll };
   const set = (r, text) => setAll(Object.assign([...todays], { [r]: text }));
-  const { texts, values, faults } = proposalOf(todays, rows, session.marks.beside()), isWhole = values.every(Boolean);
+  const { texts, values, faults, told } = proposalOf(todays, rows, session.marks.beside()), isWhole = values.every(Boolean);
   const labels = rows.map(({ label }) => label);
-  return { canBe, texts, faults, labels, set, setAll, values: isWhole ? [...values, Rational.sum(values)] : values };
+  return { canBe, texts, faults, told, labels, set, setAll, values: isWhole ? [...values, Rational.sum(values)] : values };
 }
 
 export function todayTitle({ costs }) {
@@ -34,12 +34,12 @@ export function changeBelow(step, now, format) {
 }
 
 /** The way to the column, and what is said of it. */
-export function todayTools({ costs }, { canBe, texts, setAll }) {
+export function todayTools({ costs }, { canBe, texts, told, setAll }) {
   const what = costs ? "what each pays today" : "what each has now";
   if (!canBe) return null;
   const way = (title, next) => button(title, () => setAll(next, "", title), { class: "quiet" });
   if (!texts) return el("p", { class: "tools" }, way(`Compare with ${what}`, []));
   return el("p", { class: "tools" }, way(`Without ${what}`, null),
     el("span", { class: "hint" }, "Each share shows how much more or less it is. The column is for the table and for "
-      + "paper."));
+      + `paper.${told ? ` ${told}` : ""}`));
 }
