@@ -112,8 +112,8 @@ const USERS = [["User", "Type", "Cost", "Uses"], ["North", "B1", "24,000.00 EUR"
   ["South", "C2", "118,500.00 EUR", 2]];
 const SUMS = ["A", "B", "C", "A+B", "A+C", "B+C", "A+B+C"].map((group) => [group, `${20 + group.length},000.00 EUR`]);
 const CUT = "(one) => one.scrollWidth > one.clientWidth + 1";
-const cutCells = (page) => page.run(`[...document.querySelectorAll("#case input")].filter(${CUT})
-  .map(({ value }) => value).join("; ")`);
+const cutCells = (page) => page.run(`[...document.querySelectorAll("#case input")].filter((one) => one.checkVisibility())
+  .filter(${CUT}).map(({ value }) => value).join("; ")`);
 
 const amounts = [["network", "names.0", LINKS], ["runway", "rows.0.name", USERS], ["costs", "numbers.1", SUMS]];
 const whole = amounts.map(([id, cell, rows]) => [`nothing is cut off of amounts with cents and a unit: ${id}`, id,
