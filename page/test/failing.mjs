@@ -25,6 +25,9 @@ async function fails(page, expect, url, wanted) {
   expect("told", await page.text("#answer-body"), wanted);
   expect("no shares", await page.run("document.querySelectorAll('#answer-body table').length"), 0);
   expect("no evidence", await page.run("document.getElementById('evidence').hidden"), true);
+  expect("the case can be saved", await page.run("document.getElementById('files').textContent"), /Save the case/);
+  expect("and the way there is seen", await page.text("#next"), /^Files$/);
+  expect("but no table", await page.run("document.getElementById('files').textContent"), /^(?!.*Save the table)/s);
   await page.run("location.hash = '#verify'");
   await page.fill("#verify textarea", await page.run("window.line"));
   await page.until("document.querySelector('#verify .lead')");
