@@ -1,6 +1,6 @@
 // Scenarios: files and texts that are dropped on the page or opened and are no document, and what is handed on while
 // the answer isn't there yet.
-import { noted, READY, settle, told } from "./harness.mjs";
+import { noted, READY, savedFile, settle, told } from "./harness.mjs";
 
 /** Drops files, {name: text or bytes}, or a text on an element. */
 const drop = (page, what, selector = "body") => page.run(`(() => {
@@ -100,5 +100,17 @@ export const dropped = [
     await page.run("dispatchEvent(new Event('beforeprint'))");
     expect("then the one page", await page.run("document.body.dataset.print"), "sheet");
     await page.run("dispatchEvent(new Event('afterprint'))");
+  }],
+
+  ["whoever leaves is asked as long as something isn't saved", "estate", async (page, expect) => {
+    const asks = () => page.run("!dispatchEvent(new Event('beforeunload', { cancelable: true }))");
+    expect("nothing was typed", await asks(), false);
+    await page.click("equal parts");
+    await settle(page);
+    expect("an own division", await asks(), true);
+    await savedFile(page, "Save the case");
+    expect("saved", await asks(), false);
+    await page.click("Clear all");
+    expect("cleared", await asks(), true);
   }],
 ];
