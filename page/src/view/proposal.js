@@ -1,5 +1,5 @@
 // The division that the user proposes, or that stands today: a text for each row of the answer.
-import { moneyText, readNumber, readTogether, shortText } from "../exact/decimals.js";
+import { countText, moneyText, readNumber, readTogether, shortText } from "../exact/decimals.js";
 import { isMark, nameOfMark, otherMark } from "../exact/marks.js";
 import { moneyIn } from "../exact/money.js";
 import { Rational } from "../exact/rational.js";
@@ -23,6 +23,7 @@ const REST_TO = /^((?:the |den |le )?(?:reste?|remainder|balance))\s+(?:goes )?(
 const BRACKETS = /^\(([^()]*)\)$/;
 const AND = /\s*(?:[,;+&]|(?<!\p{L})(?:and|und|et|y|e)(?!\p{L}))\s*/u; // between names that share an amount
 const MOST_LINES = 40, MOST_LINE = 2000; // of a mail, and letters
+const LONG = `A line has more than ${countText(MOST_LINE)} letters. Give each row a line: its name and its amount.`;
 const NUMBER = /^[-−(]?\p{Sc}?\s?\d[\d.,'’\s/]*(?:\p{Sc}|[A-Z]{3})?\)?$/u;
 
 /** What a pasted text gives the rows, by their `labels`: {texts, said}, or {fault} in words. Lines with a name go to
@@ -34,6 +35,7 @@ export function pastedDivision(pasted, labels, { first, before, isOfWhole = fals
   const bare = (line) => plain(line).trim().replace(/\s+/g, " ");
   const isSaid = isOfWhole ? isPart : isNothing, byButton = isOfWhole && buttonFor(pasted);
   if (byButton) return { fault: `${byButton} Nothing was taken.` };
+  if (isLong(pasted)) return { fault: `${LONG} Nothing was taken.` };
   const text = amountsInLine(pasted, labels.length - first)?.join("\n") ?? pasted;
   const named = partedLines(text, labels), own = named?.text ?? (isLine(text) ? text.replace(IN_LINE, "\n") : text);
   const given = own.split(/\r\n?|\n/).map(bare).filter((line) => /[^-: ]/.test(line));
@@ -66,6 +68,7 @@ function ofEach(line, labels) {
 }
 
 const isLine = (text) => !/[\r\n]/.test(text.trim());
+const isLong = (text) => text.split(/[\r\n]/).some(({ length }) => length > MOST_LINE);
 
 /** The one line of a mail that has each name with its amount, where no number stands in another; else null. */
 function lineOfMail(text, labels) {
@@ -88,7 +91,7 @@ function amountsInLine(text, most) {
 }
 
 /** Whether a pasted text is of several rows, and not of one cell. */
-export const isOfRows = (text, labels, first = 0) => !isLine(text) || Boolean(buttonFor(text))
+export const isOfRows = (text, labels, first = 0) => isLong(text) || !isLine(text) || Boolean(buttonFor(text))
   || amountsInLine(text, labels.length - first) !== null || text.trim().replace(IN_LINE, "\n").includes("\n")
   || partedLines(text, labels) !== null;
 
