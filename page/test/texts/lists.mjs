@@ -245,7 +245,7 @@ export const DIVIDED = [
   ["Sales 50 percent, Ops 30 percent, Legal 20 percent", "50 percent,30 percent,20 percent"],
   ["Sales, Ops and Legal 30 each", "30,30,30"], ["Sales 20, Ops 30, remainder to Legal", "20,30,remainder"],
   ["Sales (20), Ops (30), Legal (50)", "20,30,50"], ["Sales (20)\nOps 30\nLegal 50", "(20),30,50"],
-  [`Sales 4\nOps 5${" ".repeat(3e6)}x`, /^A line has more than 2.000 letters\. Give each row a line: its name and its/],
+  [`Sales 4\nOps 5${" ".repeat(3e6)}x`, /^A line has more than 2000 letters\. Give each row a line: its name and its/],
   ["as now, but Sales 5 less", /Nothing was taken/],
   ["Sales CHF 1'200.-, Ops CHF 1'300.-, Legal CHF 500.-", "CHF 1'200.-,CHF 1'300.-,CHF 500.-"],
   ["Sales nothing\nOps 3\nLegal 4", "nothing,3,4", OF_TODAY],
