@@ -38,6 +38,9 @@ export const byLimitPrices = [
 
   ["a market by limit prices, typed and opened again", "market", async (page, expect) => {
     await page.click("Clear all");
+    const isShown = "(one) => one.textContent === 'Enter limit prices instead' && one.checkVisibility()";
+    const shown = await page.run(`[...document.querySelectorAll("button")].filter(${isShown}).length`);
+    expect("limit prices can be chosen below empty cells", shown, 1);
     await page.paste('[data-cell="buyers.0"]', "Buyer\tBid\nAnn\t10");
     await told(page, "#case", /limit prices of one side alone.* Nothing was taken/);
     await page.click("Enter limit prices instead");
@@ -47,7 +50,8 @@ export const byLimitPrices = [
     await typeAll(page, { "limits.sellers.1": "$8" });
     await noted(page, /The name “Ann” occurs twice/);
     await page.click("Number the names that occur twice");
-    const lead = /together they gain 4\.50\. The price is from 8\.00 to 9\.00, the same for all/;
+    const price = "from 8\\.00 to 9\\.00, and by “Fairest to those who gain least” 8\\.50, the same for all";
+    const lead = new RegExp(`together they gain 4\\.50\\. The price is ${price}`);
     await told(page, "#answer .lead", lead);
     const { text: saved } = await savedBy(page, "Save the case");
     expect("saved", saved, /"limits":\{"buyers":\["10\.5","9"\],"sellers":\["7","\$8"\]\}/);

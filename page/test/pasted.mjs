@@ -341,7 +341,7 @@ const LEFT = [
   ["costs", "Group\t2024\t2025\nA\t8\t9\nB\t7\t8\nA+B\t12\t13", /Which column is the cost\?/],
   ["market", "\thut\tflat\nAnn\t5\t9\nBo\t8\t9\nReserve\t6\t4", /looks like the least that sellers take/],
   ["market", "A\t4\nB\t5\n\nX\t1\nY\t2", /Whose limit prices are those/],
-  ["market", "\tTown\thut\tflat\nAnn\tUlm\t5\t9\nBo\tBonn\t8\t9", /“Town” has no numbers/],
+  ["market", "\tTown\thut\tflat\nAnn\tUlm\t5\t9\nBo\tBonn\t8\t9", /“Town” seems to be no trader/],
 ];
 for (const [id, text, asked] of LEFT) {
   const desk = new Desk(id, ".");

@@ -43,10 +43,9 @@ export function columnLabel({ head, texts, unit }) {
   return `“${head || some.join(", ")}${head || filled.length < 3 ? "" : " …"}”`;
 }
 
-/** The text of a link's cost: of a column, or of two that are multiplied, without the point of a sentence. A link that
- * isn't there has none. */
+/** The text of a link's cost: of a column, or of two that are multiplied. A link that isn't there has none. */
 export function costText(row, columns, isNone) {
-  const texts = columns.map((c) => row[c].replace(/(?<=\d)\.$/, ""));
+  const texts = columns.map((c) => row[c]);
   return texts.find(isNone) ?? texts.join("*");
 }
 

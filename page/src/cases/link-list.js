@@ -12,8 +12,8 @@ const PLACES = (words) => `node ?${words}|point ?${words}|end ?${words}|place ?$
 const HEADS = [
   new RegExp("^(from|von|van|desde|de|da|od|från|fra|start|begin|origen?|origine|d[eé]part|source|a|i|tail"
     + `|${PLACES("1")})(?!\\p{L})`, "iu"),
-  new RegExp("^(to|nach|naar|hasta|bis|à|vers|do|till|til|destin\\p{L}*|arriv[eé]e|target|b|j|head"
-    + `|${PLACES("2")})(?!\\p{L})`, "iu"),
+  new RegExp("^(to|nach|naar|hasta|bis|à|vers|do|till|til|destin\\p{L}*|arriv[eé]e|end(?! ?1)|finish|ende|ziel|target|b"
+    + `|j|head|${PLACES("2")})(?!\\p{L})`, "iu"),
   new RegExp("cost|price|amount|kosten|kostnad|koszt|custo|preis|pri[js]s?(?!\\p{L})|precio|prezzo|betrag|bedrag"
     + "|co[uû]t|prix|montant|\\p{Sc}", "iu"),
 ];
@@ -24,20 +24,37 @@ const YEAR = /^(19|20)\d\d$/, MOST_LETTERS = 300, MOST_ROWS = 1000;
 export const isNone = (text = "") => NONE.test(text.trim());
 export const isNameless = (text = "") => /^[-–—.]?$/.test(text.trim());
 export const clean = (text) => text.normalize("NFC").trim();
-const FROM = "(?:(?:(?:[Tt]he |[Aa] )?(?:[Ll]ink|[Pp]ipe|[Cc]able|[Rr]oad|[Ll]ine) )?[Ff]rom (?=.* to ))?";
-const PAIR = new RegExp(`^${FROM}(.{1,99}?)(?: (?:to|[-–—/]) |\\s?(?:[–—→]|->)\\s?|(?<=\\S)-(?=\\S))(.{1,99})$`, "u");
+const PAIR = /^(?:[Ff]rom (?=.* to ))?(.{1,99}?)(?: (?:to|[-–—/]) |\s?(?:[–—→]|->)\s?|(?<=\S)-(?=\S))(.{1,99})$/u;
+const LINK = "links?|pipes?|cables?|roads?|lines?|leitung|rohr|kabel|straße|strecke|verbindung|weg|conduite|route|câble"
+  + "|tuyau|lien|tubería|carretera|cable|leiding";
+const SPOKEN = [["from|von|vom|van|från|fra", "to|nach|zum|zur|zu|naar|till|til"], ["de|du|desde", "à|au|aux|hasta|a"],
+  ["between|zwischen|tussen|entre|mellan", "and|und|en|et|y|och"]].map(([one, other]) => {
+  const before = `(?:(?:\\p{L}{1,12} )?(?:${LINK}) )?`; // as "the pipe"
+  return new RegExp(`^${before}(?:${one}) (\\S.{0,98}?) (?:${other}) (\\S.{0,98})$`, "iu");
+});
+
+/** The two ends that a text names, as "Alby - Brook" and "the pipe from Alby to Brook"; undefined without them. */
+function pairOf(text = "") {
+  const own = text.slice(0, MOST_LETTERS), [found] = SPOKEN.map((way) => way.exec(own)).filter(Boolean);
+  return (found ?? PAIR.exec(own))?.slice(1);
+}
+
 const SIGN = /\S\s*([–—→]|->)\s*\S|\S (-|to) \S/u; // between the ends of a link, and not within a name
 const COSTS = /,?(?:\s(?:it|that|this|would|will)){0,2}\s(?:costs?|is|kostet(?: es)?|coûte|cuesta|kost(?: het)?)$/iu;
 const LONG = /\s\d[\d.,]*\s?(k?m|met(re|er)s?|ft|yd)$/iu; // behind an end
 
-/** A row as "Alby - Brook: 40 m, 1,240 EUR", in a cell or two, with a cell for each number. */
-export function numbersApart(row) {
+const POINT = /(?<=\d|\d\s?(?:\p{Sc}|[A-Z]{3}))\.$/u; // of a sentence that ends with a number
+
+/** A row as "Alby - Brook: 40 m, 1,240 EUR", in a cell or two, with a cell for each number, and without the point of a
+ * sentence. */
+export function numbersApart(given) {
+  const row = given.filter(Boolean).length === 1 ? given.map((text) => text.replace(POINT, "")) : given;
   const [, ends = "", behind = ""] = /^([^:]{1,200}):\s*(?=[\d\p{Sc}])(.{1,200})$/u.exec(row[0]) ?? [];
   const numbers = [...behind.split(/[,;]\s+(?=[\d\p{Sc}])/u), ...row.slice(1)];
-  return PAIR.test(ends) && numbers.length > 1 ? [ends, ...numbers] : row;
+  return pairOf(ends) && numbers.length > 1 ? [ends, ...numbers] : row;
 }
 
-const endsOf = (text = "") => PAIR.exec(text.slice(0, MOST_LETTERS))?.slice(1).map(clean);
+const endsOf = (text) => pairOf(text)?.map(clean);
 const isOdd = ([one, other]) => one.includes(": ") || LONG.test(other) || /: \p{L}/u.test(other);
 const isLink = ([text, ...others]) => {
   const ends = endsOf(text);
@@ -56,8 +73,8 @@ export function withEnds(given) {
   const rows = given.filter((row) => row.some(Boolean)).map((row) => {
     return row.length > 1 ? row : row[0].split(/\s*:\s*(?=\d)/);
   });
-  const last = rows.at(-1) ?? [], isSum = rows.length > 2 && isSumWord(last[0] ?? "") && !PAIR.test(last[0]);
-  const ends = rows.map(([one]) => PAIR.exec(one)?.slice(1).map((end) => clean(end.replace(COSTS, ""))));
+  const last = rows.at(-1) ?? [], isSum = rows.length > 2 && isSumWord(last[0] ?? "") && !pairOf(last[0]);
+  const ends = rows.map(([one]) => pairOf(one)?.map((end) => clean(end.replace(COSTS, ""))));
   const below = ends.slice(ends[0] ? 0 : 1, isSum ? -1 : undefined), all = below.flat();
   const isWord = (text) => isText(text) && /^\p{L}/u.test(text), isNear = nearIn(rows);
   const isLoose = ends.some((own, k) => own && k && !isLink(rows[k]) && !isNear(own));
@@ -90,7 +107,7 @@ export const arePairs = (names) => names.filter((name) => SIGN.test(name)).lengt
 /** The line above links whose ends share a cell, if it is no word for them: told as it was. */
 export function titleOf(pasted, { rows, lines }) {
   const k = rows.findIndex((row) => row.some(Boolean)), text = (pasted[lines[k] - 1] ?? []).filter(Boolean).join("; ");
-  return PAIR.test(rows[k][0]) || HEADS.some((head) => head.test(text)) ? [] : [`“${text}”, a heading`];
+  return pairOf(rows[k][0]) || HEADS.some((head) => head.test(text)) ? [] : [`“${text}”, a heading`];
 }
 
 /** A list, with headings or without: {points, entries, shape, left, told}, or {fault}; or {asked}, the columns of which
@@ -106,16 +123,31 @@ export function listOf(rows, { judge, said, unitAt }) {
   const cost = said ?? priced, label = (c) => columnLabel(partOf(c));
   const loose = below.find((row) => isNameless(row[from]) || isNameless(row[to]));
   if (loose) return { fault: `In “${withEscapes(loose.filter(Boolean).join("; "))}” a link has one end only.` };
-  const points = [...new Set(below.flatMap((row) => [row[from], row[to]]))], place = (name) => points.indexOf(name);
+  const { points, called, same } = pointsOf(below.flatMap((row) => [row[from], row[to]]));
+  const place = (name) => points.indexOf(called.get(name));
   const entries = below.map((row) => {
     const [i, j] = [place(row[from]), place(row[to])].sort((a, b) => a - b);
     return [i, j, costText(row, cost, isNone)];
   });
   const rest = wide > 3 ? rows[0].map((_, c) => c).filter((c) => ![from, to, ...cost].includes(c)) : [];
   const lost = below.length < given.length ? [`“${given.at(-1).filter(Boolean).join("; ")}”, a sum`] : [];
-  const told = said ? [`A link costs ${cost.map(label).join(" times ")}.`] : [], isOne = cost.length === 1;
-  const head = isOne ? heads[cost[0]] : undefined; // a product has its own
+  const told = [...(said ? [`A link costs ${cost.map(label).join(" times ")}.`] : []), ...same];
+  const head = cost.length === 1 ? heads[cost[0]] : undefined; // a product has its own
   return { points, entries, shape: "a list of from, to, cost", left: [...rest.map(label), ...lost], told, head };
+}
+
+const THE = /^(?:the|der|die|das|dem|den|la|le|les|el|het) (?=\S)/iu;
+
+/** The points that some ends name: {points, called, same}, with that of each end (`called`), and what is told of ends
+ * that differ from one before by capitals or an article only, and are the same. */
+function pointsOf(ends) {
+  const keyOf = (name) => (name.length > 2 ? name.toLowerCase().replace(THE, "") : name), first = new Map();
+  for (const name of ends) if (!first.has(keyOf(name))) first.set(keyOf(name), name);
+  const called = new Map(ends.map((name) => [name, first.get(keyOf(name))]));
+  const same = [...called].filter(([name, own]) => name !== own).map(([name, own]) => {
+    return `“${withEscapes(name)}” was taken as “${withEscapes(own)}”.`;
+  });
+  return { points: [...first.values()], called, same };
 }
 
 /** The columns of a list: {from, to, priced}, where each of `priced` may be the cost; null if it is none. */

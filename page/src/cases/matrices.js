@@ -177,8 +177,8 @@ export const NO_MARKET = "This is no table of gains. Give the sellers’ names a
   + "Seller, Ask.";
 
 /** What a pasted block says of a market: {buyers, sellers, values, notes} with those of the three that are there, or
- * {names, notes}; or {fault} in words. `words` are the headings of columns without numbers that are left out, and
- * `isPairs` says that it is a list of pairs. Where buyers stand above (`isAbove`), the rows are sellers. */
+ * {names, notes}; or {fault} in words. `words` are the names of columns and rows that are no traders' and are left out,
+ * and `isPairs` says that it is a list of pairs. Where buyers stand above (`isAbove`), the rows are sellers. */
 export function marketOf(pasted, isAbove = false) {
   const block = blockOf(pasted), { rows: framed, left } = unframed(block.rows);
   const saved = answerFault(pasted);

@@ -99,7 +99,8 @@ export function fitOf(head, texts) {
   const isSides = isWord && !isMoney && (isRole || isTold);
   const isName = !kind.isPrice && (Boolean(kind.side) || NAME.test(head));
   return {
-    head, texts, isNumbers, isMoney, isName, ...kind, isSides, isRole, isNames, isBoth: kind.isBoth && !isRole,
+    head, texts, isNumbers, isMoney, isName, ...kind, isSides, isRole, isNames,
+    isBoth: kind.isBoth && !isRole && !isTold,
     isFew: isWord && !isMoney && !isDeal && few <= MOST_KINDS && few < known.length,
     isQuantity: isNumbers && !kind.isPrice && QUANTITY.test(head),
     isCount: isNumbers && !kind.isPrice && isCount(head),

@@ -32,7 +32,7 @@ export function priceLineOf(pasted) {
   const [[corner = "", ...above] = [], ...below] = rows, isEven = given.every(({ length }) => length <= even[0].length);
   const isTable = isEven && above.length > 0 && below.length > 1 && above.every(isText)
     && below.every(([name, ...texts]) => name && (isText(name) || isText(corner)) && texts.every(isValue));
-  if (block.loose || !isTable) return null;
+  if (block.loose || !isTable || kindOf(corner).isPrice) return null;
   const [before, top] = GOODS.test(corner) ? ["sellers", "buyers"] : ["buyers", "sellers"];
   const lines = [above.map((name, c) => ({ name, at: c + 1, isColumn: true, side: sideOfLine(name, before) })),
     below.map(([name], r) => ({ name, at: r + 1, side: sideOfLine(name, top) }))].flat().filter(({ side }) => side);

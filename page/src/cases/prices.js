@@ -100,16 +100,19 @@ function inParts(pasted) {
   return withLists(lists.map(({ groups: [group], side, out }) => ({ ...group, side, out })), notes);
 }
 
-/** Rows with a row for each trader of a line as “Buyers: Ann 12, Bo 10”, where there is one of each side. */
+/** Rows with a row for each trader of a line as “Buyers: Ann 12, Bo 10”, where there is one of each side, or of lines
+ * as “Ann would buy at 12, Bo at 10”. */
 function inLines(rows) {
   const own = rows.length > MOST_LISTED ? [] : rows.map((row) => {
-    const { items, said = "" } = saidItemsOf(row.filter(Boolean).join(", ").slice(0, MOST_LINE));
-    const side = sideLine([said]);
-    return items && said && side ? { side, some: [[said], ...items] } : null;
+    const line = row.filter(Boolean).join(", ").slice(0, MOST_LINE), { items, said = "" } = saidItemsOf(line);
+    const side = items && said ? sideLine([said]) : undefined, isDeals = items && !said && areDeals(items);
+    return side || isDeals ? { side, isDeals, some: side ? [[said], ...items] : items } : null;
   });
-  const isBoth = SIDES.every((side) => own.some((one) => one?.side === side));
-  return isBoth ? rows.flatMap((row, k) => own[k]?.some ?? [row]) : rows;
+  const isBoth = SIDES.every((side) => own.some((one) => one?.side === side)), isAny = own.some((one) => one?.isDeals);
+  return isBoth || isAny ? rows.flatMap((row, k) => own[k]?.some ?? [row]) : rows;
 }
+
+const areDeals = (items) => items.every(([name]) => nameOf(name) !== name);
 
 /** Of a line without a number that speaks of one side alone, which. */
 function sideLine(filled) {

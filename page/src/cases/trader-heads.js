@@ -1,7 +1,9 @@
 // What stands in a pasted table of a market beside the names of its traders and their numbers: “Bid” before the names
-// of buyers, columns of words, as "Owner", and numbers of the rows.
+// of buyers, columns of words, as "Owner", and numbers that are nobody's, as an area.
+import { readNumber } from "../exact/decimals.js";
+import { Rational } from "../exact/rational.js";
 import { withEscapes } from "../game/names.js";
-import { isText, isValue } from "./block.js";
+import { isText as isWord, isValue } from "./block.js";
 import { BUYS_AT, GOODS, isCount, kindOf } from "./price-heads.js";
 
 const OF = "(?:\\s(?:of|by|from|von|de|des|du|van|av))?:?";
@@ -35,14 +37,35 @@ export function withoutBids(pasted) {
   return { rows, isAbove, told: `“${withEscapes(word)}” beside the names was left out.` };
 }
 
-/** A table without columns that have only texts below their heading, as remarks, and without one that numbers its
- * goods: {rows, left}. */
-export function withoutTexts([heads, ...below]) {
-  const isWords = (c) => isText(heads[c]) && below.some((row) => row[c])
-    && below.every((row) => row[c] === "" || !isValue(row[c]));
-  const isNumbers = (c) => (isCount(heads[c]) || GOODS.test(heads[c])) && below.length > 1
+const SIZES = new RegExp("(?<!\\p{L})(area|size|surface|superficie|fläche|größe|oppervlakte|floor|etage|age|alter|âge"
+  + "|baujahr|year built)(?!\\p{L})|m²|sqm|sq ?ft", "iu");
+const BEST = /(?<!\p{L})(highest|best|top|winning|max|maximum|höchst\p{L}*|meilleure?|hoogste)(?!\p{L})/iu;
+
+/** Whether a column of a table has no more than the highest of its other numbers, but those of limit prices. */
+function isHighest([heads, ...below], c) {
+  const others = heads.map((_, at) => at).filter((at) => at && at !== c && !kindOf(heads[at]).isPrice);
+  const valueOf = (text = "") => readNumber(text).value, isOf = (row) => {
+    const values = others.map((at) => valueOf(row[at])).filter(Boolean);
+    return values.length > 1 && Boolean(valueOf(row[c])?.equals(Rational.max(values)));
+  };
+  return BEST.test(heads[c]) && kindOf(heads[c]).isPrice && below.length > 1 && below.every(isOf);
+}
+
+/** A table without columns that have only texts below their heading, as remarks, without rows that have only texts
+ * behind their name, and without numbers that are nobody's: numbers of the goods, their sizes, and the highest bids:
+ * {rows, left}. */
+export function withoutTexts([heads, ...all]) {
+  const isText = (text) => text === "" || !isValue(text), isSome = ([name, ...texts]) => name && texts.some(Boolean);
+  const isRemark = (row) => isSome(row) && row.slice(1).every(isText), gone = all.filter(isRemark);
+  const below = gone.length < all.length - 1 ? all.filter((row) => !gone.includes(row)) : all;
+  const isWords = (c) => isWord(heads[c]) && below.some((row) => row[c]) && below.every((row) => isText(row[c]));
+  const isCounts = (c) => (isCount(heads[c]) || GOODS.test(heads[c])) && below.length > 1
     && below.every((row, k) => row[c] === String(k + 1));
-  const isOut = heads.map((_, c) => c > 0 && (isWords(c) || isNumbers(c)));
-  const left = heads.filter((_, c) => isOut[c]).map((head) => `“${withEscapes(head)}”`);
-  return { rows: [heads, ...below].map((row) => row.filter((_, c) => !isOut[c])), left };
+  const isOut = heads.map((head, c) => {
+    return c > 0 && (isWords(c) || isCounts(c) || SIZES.test(head) || isHighest([heads, ...below], c));
+  });
+  const others = all.filter((row) => !below.includes(row)).map(([name]) => name);
+  const names = [...heads.filter((_, c) => isOut[c]), ...others];
+  const rows = [heads, ...below].map((row) => row.filter((_, c) => !isOut[c]));
+  return { rows, left: names.map((name) => `“${withEscapes(name)}”`) };
 }

@@ -35,8 +35,8 @@ export function askLine(grid, line, use) {
 export function askWishes(grid, { first, buyers, sellers, values }, use) {
   const rows = [["", ...sellers], ...buyers.map((name, i) => [name, ...values[i]])];
   const told = "Each pair that is named gains 1, and no other pair anything.";
-  askIn(grid.element, grid.said, [`Nothing was taken yet. “${withEscapes(first)}” names whom somebody would trade `
-    + "with, and no number. Does each such pair gain 1, and no other pair anything? The order counts for nothing then. ",
+  askIn(grid.element, grid.said, [`Nothing was taken yet. “${withEscapes(first)}” says with whom somebody would trade, `
+    + "and has no number. Does each such pair gain 1, and no other pair anything? The order counts for nothing then. ",
   offer("Yes, 1 for each", () => use({ isLine: true, told }, rows)), " ",
   offer("No, this is something else", () => grid.take(NO_MARKET))]);
 }
@@ -56,10 +56,10 @@ export function askWhose(grid, list, use) {
     way("They are no limit prices", "none")]);
 }
 
-/** Asks whether a table with columns of words has what each pair gains. */
+/** Asks whether a table with columns or rows of others than traders has what each pair gains. */
 export function askOut(grid, words, leave) {
-  const all = listed(words), have = words.length > 1 ? "have" : "has";
-  askIn(grid.element, grid.said, [`Nothing was taken yet. ${all} ${have} no numbers. Are the other columns what each `
+  const all = listed(words), seem = words.length > 1 ? "seem to be no traders" : "seems to be no trader";
+  askIn(grid.element, grid.said, [`Nothing was taken yet. ${all} ${seem}. Are the other numbers what each `
     + "buyer gains with each seller? ", button(`Yes: leave ${all} out`, leave, { class: "quiet" }), " ",
   button("No, this is something else", () => grid.take(NO_MARKET), { class: "quiet" })]);
 }

@@ -22,6 +22,7 @@ const ONE_SIDE = "Here are limit prices of one side alone. Paste those of the ot
   + "column is what one trader would pay, leave out the columns of words beside the names.";
 const AS_PRICES = "A pair gains the buyer’s most less the seller’s least, or nothing if that is negative.";
 
+const TO_LIMITS = "Enter limit prices instead", TO_GAINS = "Enter gains instead";
 const NO_LEAST = "Leave these prices out";
 const AS_MARKET = "Give the sellers’ names above, and each buyer’s name before its row of gains; or limit prices in "
   + "lines, such as “Ann buys at 12” and “Bo sells at 8”.";
@@ -62,9 +63,9 @@ class MarketGrid {
   }
 
   show() {
-    const { typed, kind } = this, isPrices = Boolean(typed.limits), word = isPrices ? "gains" : "limit prices";
+    const { typed, kind } = this, isPrices = Boolean(typed.limits), title = isPrices ? TO_GAINS : TO_LIMITS;
     this.traders.hidden = isPrices;
-    refill(this.element.more, button(`Enter ${word} instead`, () => this.turn(), { class: "quiet" }));
+    refill(this.element.more, button(title, () => this.turn(), { class: "quiet" }));
     refill(this.least, !isPrices && this.leastText());
     if (!isPrices) return this.showMatrix();
     refill(this.none);
@@ -260,15 +261,17 @@ class MarketGrid {
     this.showNone();
   }
 
-  /** Pairs without a number, where others have one, may be such as can't trade. */
+  /** Pairs without a number, where others have one, may be such as can't trade; where none has, limit prices may be
+   * what somebody has. */
   showNone() {
-    const all = this.typed.values.flat().map((text) => text.trim()), isOpen = all.includes("") && all.some(Boolean);
-    const title = "The empty pairs can’t trade: 0", fill = () => this.change(() => {
+    const all = this.typed.values.flat().map((text) => text.trim()), isAny = all.some(Boolean);
+    const title = isAny ? all.includes("") && "The empty pairs can’t trade: 0" : TO_LIMITS;
+    const fill = () => this.change(() => {
       this.remember(title);
       this.typed.values = this.typed.values.map((row) => row.map((text) => (text.trim() ? text : "0")));
     });
-    if (this.none.textContent === (isOpen ? title : "")) return;
-    refill(this.none, isOpen && button(title, fill, { class: "quiet" }));
+    if (this.none.textContent === (title || "")) return;
+    refill(this.none, title && button(title, isAny ? fill : () => this.turn(), { class: "quiet" }));
   }
 
   nameInput(side, k, placeholder) {
