@@ -50,12 +50,14 @@ const SURNAMES = /^[^\d,"]+, \p{L}[^\d,]*\s\p{Sc}?\d[\d.,]*\D{0,4}$/u; // Rossi,
 
 /** A text with a number at its end that has a sign for no cents, as "120,-" and "120:-". */
 export const OF_NO_CENTS = /\d[.,:/][-–—]{1,2}\D{0,9}$/u;
+const MOST_OF = 5000; // letters of a line whose commas may be of its numbers
 
 /** A comma between a name and a number, or between two points; and not the decimal comma of a lone column, the comma of
  * a number behind a colon, or the commas within the numbers of a mail. */
 function hasCommaColumns(lines) {
-  const isOf = (line) => /^[-−]?[\d\s.'’]*,\d+$|[:=]\s*[^,]{0,4}\d[\d,.]*\D{0,4}$|^[^"]*(\d,\d[^"]*,\s|,\s[^"]*\d,\d)/
-    .test(line.trim()) || [SURNAMES, OF_NO_CENTS].some((one) => one.test(line.trim()));
+  const isOf = (line) => line.length < MOST_OF && (
+    /^[-−]?[\d\s.'’]*,\d+$|[:=]\s*[^,]{0,4}\d[\d,.]*\D{0,4}$|^[^"]*(\d,\d[^"]*,\s|,\s[^"]*\d,\d)/.test(line.trim())
+    || [SURNAMES, OF_NO_CENTS].some((one) => one.test(line.trim())));
   const isWithin = (line) => /\p{L}/u.test(line) && !line.replace(/\d,(?=\d)/g, "").includes(",");
   const isCount = lines.length > 2 && lines.every((line, k) => line.startsWith(`${k + 1},`));
   const isNamed = [lines[0], lines.at(-1)].some((line) => /^[^\d,]*\p{L}(,[^\s,][^,]*)+$/u.test(line));

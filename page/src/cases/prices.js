@@ -13,6 +13,7 @@ import { answerFault } from "./saved-tables.js";
 import { unitsText, withoutUnits } from "./units.js";
 
 const MOST_LETTERS = 60; // of a line that says whose prices come below it
+const MOST_COLUMNS = 200;
 const MOST_LISTED = 40, MOST_LINE = 2000; // rows and letters of lists that stand in a line each
 const ONE_EACH = "Each trader buys or sells one. Give each unit a row, as “Ann 1” and “Ann 2”, without this column.";
 const TWO_EACH = "Each trader has one price: a buyer the most to pay, or a seller the least to take.";
@@ -104,7 +105,8 @@ function inParts(pasted) {
  * as “Ann would buy at 12, Bo at 10”. */
 function inLines(rows) {
   const own = rows.length > MOST_LISTED ? [] : rows.map((row) => {
-    const line = row.filter(Boolean).join(", ").slice(0, MOST_LINE), { items, said = "" } = saidItemsOf(line);
+    const line = row.filter(Boolean).join(", ").replace(/\s+/g, " "), isShort = line.length <= MOST_LINE;
+    const { items, said = "" } = isShort ? saidItemsOf(line) : {};
     const side = items && said ? sideLine([said]) : undefined, isDeals = items && !said && areDeals(items);
     return side || isDeals ? { side, isDeals, some: side ? [[said], ...items] : items } : null;
   });
@@ -138,7 +140,7 @@ function byBlankLine(pasted) {
 /** Lists side by side, or one list that says of each who buys; null for other blocks. */
 function inColumns(pasted) {
   const block = blockOf(pasted), { rows, left } = unframed(block.rows);
-  if (block.loose) return null;
+  if (block.loose || rows.some(({ length }) => length > MOST_COLUMNS)) return null;
   const { groups, out, fault, sides } = groupsIn(rows.filter((row) => !isBlank(row)));
   const notes = [leftText(left), ...block.notes].filter(Boolean);
   if (fault || !groups?.length || groups.length > 2) return fault ? { fault } : null;

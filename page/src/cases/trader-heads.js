@@ -43,12 +43,13 @@ const BEST = /(?<!\p{L})(highest|best|top|winning|max|maximum|höchst\p{L}*|meil
 
 /** Whether a column of a table has no more than the highest of its other numbers, but those of limit prices. */
 function isHighest([heads, ...below], c) {
+  if (!BEST.test(heads[c]) || !kindOf(heads[c]).isPrice || below.length < 2) return false;
   const others = heads.map((_, at) => at).filter((at) => at && at !== c && !kindOf(heads[at]).isPrice);
   const valueOf = (text = "") => readNumber(text).value, isOf = (row) => {
     const values = others.map((at) => valueOf(row[at])).filter(Boolean);
     return values.length > 1 && Boolean(valueOf(row[c])?.equals(Rational.max(values)));
   };
-  return BEST.test(heads[c]) && kindOf(heads[c]).isPrice && below.length > 1 && below.every(isOf);
+  return below.every(isOf);
 }
 
 /** A table without columns that have only texts below their heading, as remarks, without rows that have only texts
