@@ -3,6 +3,7 @@
 import { pastedDivision } from "../src/view/proposal.js";
 import { openText } from "../src/work/case-files.js";
 import { Desk, settled } from "./grids.mjs";
+import { AROUND } from "./texts/around.mjs";
 import { GROUPS } from "./texts/groups.mjs";
 import { LINKS_AND_TRADES } from "./texts/links.mjs";
 import { DIVIDED, LISTS } from "./texts/lists.mjs";
@@ -268,7 +269,7 @@ async function outcome(of, text, answer) {
 }
 
 let faults = 0;
-const ALL = [...TEXTS, ...GROUPS, ...LISTS, ...LINKS_AND_TRADES];
+const ALL = [...TEXTS, ...AROUND, ...GROUPS, ...LISTS, ...LINKS_AND_TRADES];
 for (const [id, text, cells, told, answer] of ALL.filter(([, text]) => String(text).includes(only))) {
   const found = await outcome(id, text, answer);
   const isOf = cells instanceof RegExp ? cells.test(found.cells) : cells === found.cells;

@@ -92,7 +92,8 @@ function withoutCount(rows) {
   return isOf ? rows.map((one) => (one.length > 1 ? one.slice(1) : one)) : rows;
 }
 
-const REMARK = /\s*(\([^()]*\p{L}[^()]*\))[.;,]?$/u; // behind a number, as "(niece)"
+/** A remark behind a number, as "(niece)" and "(12.03.2026)". */
+const REMARK = /\s*(\((?:[^()]*\p{L}[^()]*|(?:\d{1,2}[./-]){0,2}(?:19|20)\d\d)\))[.;,]?$/u;
 // what a line of a mail ends or begins with, above its list or below
 const MAIL = /,|[:;.!?]$|\b(regards|wishes|thanks|grüße|gruß|cordialement|saludos|groeten|sincerely)\b/iu;
 // words before a name that greet
@@ -129,10 +130,13 @@ function waysOf(text, hasWords) {
   if (isWord) return [[bare(words.slice(0, -1).join(" ")).replace(/\s*[:=–-]$/, ""), last]];
   const said = whole.replace(REMARK, "").replace(/(?<=[\p{L}\d])[.;,]$/u, "");
   const isSaid = SOME_OF.test(said) || UNKNOWN.test(said) || isNumber(said) || parted(said); // 12 votes
+  if (/\d:\d\d\P{L}{0,3}$/u.test(text)) return []; // a time
   if (said && isSaid) return PHONE.test(said) ? [] : [[bare(named), said]];
-  const nameOf = (k) => bare(words.slice(0, k).join(" ")).replace(/\s*[:=]$/, "");
-  return words.map((_, k) => [nameOf(k), words.slice(k).join(" ")])
+  const nameOf = (all, k) => bare(all.slice(0, k).join(" ")).replace(/\s*[:=]$/, "");
+  const waysIn = (all) => all.map((_, k) => [nameOf(all, k), all.slice(k).join(" ")])
     .filter(([name, number]) => /\p{L}/u.test(name) && isNumberOrPart(number));
+  const own = REMARK.test(text) ? waysIn(text.replace(REMARK, "").split(/\s+/)) : [];
+  return own.length ? own : waysIn(words);
 }
 
 /** A number, or one in per cent, in thousands or for each year. */
@@ -165,11 +169,13 @@ function partedLines(rows, { canBeNegative, words: hasWords }) {
   const lines = rows.map((row) => row.find(Boolean) ?? ""), whole = { rows };
   if (lines.filter(Boolean).length < 2 || rows.some((row) => row.filter(Boolean).length > 1)) return whole;
   const named = namesFirst(lines), isTurned = named !== lines;
-  const { texts, isDashed } = withoutDashes(named, (text) => waysOf(text).length > 0, canBeNegative);
+  const isPlain = (text) => !canBeNegative && /[:=]\s*[^\s:=]*\d/.test(text); // its number has no minus
+  const isOpen = (text) => waysOf(text).length > 0 && !isPlain(text);
+  const { texts, isDashed } = withoutDashes(named, isOpen, canBeNegative);
   const ways = texts.map((text) => waysOf(text, hasWords)), longest = ways.map(([one]) => one);
   const isOneName = areAlike(longest);
   const even = evenOf(texts), parts = even ?? (isOneName ? ways.map((some) => some.at(-1)) : longest);
-  const isTitled = parts[0] && /\s20[12]\d$/.test(texts[0]);
+  const isTitled = parts[0] && /\s20[12]\d$/.test(texts[0].replace(REMARK, ""));
   if (isTitled && !isTitle(texts, parts)) return { rows, loose: texts[0] };
   if (isTitled) parts[0] = undefined;
   const found = parts.filter(Boolean), isCount = found.every(([, number], k) => Number(number) === k + 1);
@@ -186,7 +192,8 @@ function partedLines(rows, { canBeNegative, words: hasWords }) {
   const counted = parts.findIndex(isCountedLine);
   if (counted >= 0) return { rows, loose: texts[counted] };
   const headOf = (text) => {
-    const words = text.split(/\s+/), heads = isCounted ? words.slice(-wide) : words;
+    const words = text.split(/\s+/), heads = isCounted ? words.slice(-wide) : words, pair = text.split(/\s*:\s*/);
+    if (wide === 2 && pair.length === 2) return pair;
     return heads.length === wide ? heads : wide > 2 ? [text] : text.split(/\s+(?=\S+$)/);
   };
   const above = texts.findLastIndex((text, r) => r < first && isMail([text], false));

@@ -1,24 +1,28 @@
 // A clause of statutes that names a quota or two: "carried if at least 8 of the 13 seats and 55 % of the votes agree".
 import { readNumber } from "../exact/decimals.js";
-import { COUNT_WORDS, isQuota, WHOM } from "./quota.js";
+import { AT_LEAST, COUNT_WORDS, isQuota, MAJORITIES, MORE_THAN, PART_WORDS, WHOM } from "./quota.js";
 
 const MOST_LETTERS = 600;
-const NAMES = new RegExp("majorit|quota|quorum|mehrheit|consent|threshold|at least|mindestens|au moins|zustimm"
-  + "|requires?|required|\\bneed(?:s|ed)?\\b|bedarf|bedürfen|braucht|brauchen|requiert|exige", "iu");
+const NAMES = new RegExp(`${MAJORITIES}|${AT_LEAST}|quota|quorum|quórum|consent|threshold|zustimm`
+  + "|requires?|required|\\bneed(?:s|ed)?\\b|bedarf|bedürfen|braucht|brauchen|requiert|exige|vereis|\\bnodig\\b|requier"
+  + "|richied|\\bpass(?:es|ed)? (?:with|by)|\\b(?:carried|adopted)\\b", "iu");
+/** What decides, at the head of a short sentence. */
+const MOTIONS = /^(?:resolutions?|decisions?|motions?|beschlüsse|décisions|besluiten|acuerdos|decisiones|delibere) /iu;
 const NUMBER = "\\d(?:[\\d.,'’\u202f]*\\d)?";
-const MORE = "more than|over|mehr als|über|plus de|meer dan", LEAST = "at least|mindestens|au moins|minstens";
-const PARTS = "half|thirds?|quarters?|fifths?|hälfte|drittel|viertel|moitié|tiers|quarts?|helft";
+const [MORE, LEAST, PARTS] = [MORE_THAN, AT_LEAST, PART_WORDS.join("|")];
 /** What says how much, in a clause: a part, so many of all, a number of votes or behind "at least", a majority. */
 const QUOTA = new RegExp("(?<![\\p{L}\\d.,])"
   + `(?:(${MORE}) (?:the |der |die |la )?|(?:(${LEAST}) )?(?:the |a |der |die )?)(?:`
-  + `(?<part>${NUMBER}(?: \\d/\\d)? ?(?:%|per ?cent|prozent|pour cent)|\\d+ ?/ ?\\d+`
-  + `|(?:${COUNT_WORDS})[ -](?:${PARTS})(?!\\p{L})|zweidrittel|dreiviertel|half|hälfte|moitié|helft)`
+  + `(?<part>${NUMBER}(?: \\d/\\d)? ?(?:%|per ?cent|prozent|pour cent|procent|por ciento)|\\d+ ?/ ?\\d+`
+  + `|(?:${COUNT_WORDS})[ -](?:${PARTS})(?!\\p{L})|zweidrittel|dreiviertel|tweederde|${PART_WORDS[0]})`
   + `|(?<some>\\d+) (?:out of|of|von|der|sur|van|des) (?:the |den |les |de )?(?<many>\\d+)`
   + `|(?<count>${NUMBER})(?<whom> (?:\\p{L}+ )?(?:${WHOM})(?!\\p{L}))?`
-  + `|(?<most>(?:simple |absolute |einfache[nr]? |absolute[nr]? )?(?:majority|mehrheit|majorité)) (?:of|der|des)(?= ))`,
-"giu");
+  + `|(?<most>(?:simple |absolute |einfache[nr]? |absolute[nr]? )?(?:${MAJORITIES})) (?:of|der|des|de|van|dei)(?= )`
+  + `|(?<plain>(?:simple|absolute|einfache[nr]?|absolute[nr]?|gewone|volstrekte) (?:${MAJORITIES})|(?:${MAJORITIES}) `
+  + "(?:simple|absolue|absoluta|semplice|assoluta)))", "giu");
 
-const OF = new RegExp(`^(?: of)?(?: (?:all|the|der|des|aller))* ((?:\\p{L}+ ){0,2}(?:${WHOM}))(?!\\p{L})`, "iu");
+const OF = new RegExp("^(?: of)?(?: (?:all|the|der|des|aller|de|van|los|las|les|dei)){0,4} "
+  + `((?:\\p{L}+ ){0,2}(?:${WHOM}))(?!\\p{L})`, "iu");
 const ONE_MORE = /^[^,;.\d]{0,40}(?:\+ ?1|plus (?:one|1|eins|un))(?!\p{L})/iu;
 
 /** What a text says of how much, in its order: {text, whom}, the `whom` being whose it is where it says so; null for a
@@ -44,8 +48,10 @@ export function isClause(row) {
   const isRow = cells.length > 1 && !readNumber(cells.at(-1)).fault;
   if (isRow || text.length > MOST_LETTERS || !NAMES.test(text)) return false;
   const small = text.split(/\s+/).filter((word) => /^\p{Ll}/u.test(word)).length;
+  if (cells.length === 1 && isQuota(text)) return true; // "two-thirds majority"
   const said = saidIn(text.replace(NUMBERING, ""));
-  return small > 3 && said.length > 0 && said.length < 3 && said.every((one) => one && isQuota(one.text));
+  const isSaid = said.length > 0 && said.length < 3 && said.every((one) => one && isQuota(one.text));
+  return isSaid && (small > 3 || MOTIONS.test(text));
 }
 
 /** Of some texts those that name a quota, in one, and the quotas: {text, quotas}. */

@@ -13,6 +13,7 @@ export const NONE = -1;
 
 const TIME = /^(?:\d{1,2}[:h]\d\d(?::\d\d)?(?:\s?[ap]\.?m\.?|\s?Uhr)?|\d{1,2}\s?(?:[ap]\.?m\.?|Uhr))$/iu;
 const DATE = /^(?:\d{1,2}[./-]\d{1,2}[./-](?:\d\d)?\d\d|\d{4}-\d\d-\d\d)$/;
+const MAIL = /^\S{1,80}@\S{1,80}\.\p{L}{2,}$/u;
 /** Whether a text is a time or a date, and no amount. */
 export const isTime = (text) => TIME.test(text) || DATE.test(text);
 
@@ -33,7 +34,7 @@ function pastedColumns(rows, headings, mark) {
       isFull: rows.slice(headings ? 1 : 0, -1).every((row) => row[c]), // but for a sum
       isNumbers: texts.length > 0 && (!known.length || values.length * 2 > known.length),
       isCount: NUMBERING.test(head ?? ""), // what numbers the rows
-      isTimes: known.length > 0 && known.every(isTime),
+      isTimes: known.length > 0 && known.every((text) => isTime(text) || MAIL.test(text)), // no names, and no amounts
     };
   });
 }
@@ -54,10 +55,12 @@ const isHeadOf = (text, { heads, short }) => Boolean(heads?.test(text)) && (shor
 
 /** The column of ours for each pasted one, or none: {targets, isGuess}: `isGuess` says that the order of two columns of
  * numbers decided. Or {asked: {column, at, isOnly, canNone}}: which of the places `at` is for a column. `choice` has
- * what the user said, by keys, and `out` what is for none. */
+ * what the user said, by keys, and `out` what is for none. Nothing is asked of two columns of numbers without headings
+ * that may be a pair (`isPair`): somebody else asks of them. */
 export function columnsFor(columns, headings, more = {}) {
-  const { rows = [], mark = ".", choice = {}, out = [], units = new Map() } = more;
-  const all = pastedColumns(rows, headings, mark), fit = new Fit(columns, all, { headings, choice, out, units });
+  const { rows = [], mark = ".", choice = {}, out = [], units = new Map(), isPair } = more;
+  const all = pastedColumns(rows, headings, mark);
+  const fit = new Fit(columns, all, { headings, choice, out, units, isPair });
   const asked = fit.rivals() ?? fit.words() ?? fit.amounts();
   if (asked) return { asked };
   fit.rest();
@@ -65,9 +68,9 @@ export function columnsFor(columns, headings, more = {}) {
 }
 
 class Fit {
-  constructor(columns, all, { headings, choice, out, units }) {
+  constructor(columns, all, { headings, choice, out, units, isPair }) {
     const times = all.filter((one) => one.isTimes).map(({ c }) => c);
-    Object.assign(this, { columns, all, headings, choice, out: [...out, ...times], units });
+    Object.assign(this, { columns, all, headings, choice, out: [...out, ...times], units, most: isPair ? 2 : 1 });
     this.targets = all.map(({ c }) => columns.find(({ key }) => choice[key] === c));
     const hasWords = all.some((one) => one.isWords && one.isFull && !one.isNumbers); // then no numbers are names
     const hasOther = (one) => all.some((other) => other !== one && other.isNumbers && !other.isCount); // "1-40"
@@ -116,6 +119,8 @@ class Fit {
     const first = at.find(({ isCount }) => !isCount) ?? at[0];
     if (column && this.headings && isRemark && words.length === 1) return { column, at: [first, ...words] };
     if (column && this.headings && words.length > 1) return { column, at: words };
+    const ahead = words.filter(({ c }) => at.some((one) => one.c > c)), isPlain = !this.free(isType).length;
+    if (column && !this.headings && isPlain && ahead.length > 1) return { column, at: ahead, isOnly: true };
     this.give(column ? words.slice(0, 1) : [], [column]);
     this.give(this.headings ? [] : words.filter((one) => this.isOpen(one) && one.isFull), this.free(isType));
     if (!column || words.length || !at.length) return null;
@@ -133,7 +138,8 @@ class Fit {
     const real = all.filter(({ isCount }) => !isCount), numbers = real.length ? real : all;
     const isPair = Boolean(other?.short) && numbers.length === 2, whole = numbers.filter(({ isWhole }) => isWhole);
     const isClear = isPair && whole.length === 1, least = column?.fallback ? 0 : 1;
-    if (this.headings && column && !isClear && numbers.length > least) {
+    const isWide = !this.headings && numbers.length > own.length - 1 + this.most;
+    if ((this.headings || isWide) && column && !isClear && numbers.length > least) {
       return { column, at: numbers, isOnly: own.length === 1, canNone: !least };
     }
     this.isGuess = isPair && !isClear;
@@ -148,10 +154,23 @@ class Fit {
   }
 }
 
-/** Why rows without headings that are wider than their columns can't be taken; null if they aren't. */
-export function widthFault(rows, headings, { targets }, columns) {
-  const isLost = rows.some((row) => row.some((text, c) => text && !targets[c]));
+/** Why rows without headings that are wider than their columns can't be taken; null if they aren't. What was said to be
+ * for none (`out`), and remarks behind the numbers, are no part of their width. */
+export function widthFault(rows, headings, { targets }, columns, out = []) {
+  const spare = new Set([...out, ...remarksIn(rows, targets)]);
+  const isLost = rows.some((row) => row.some((text, c) => text && !targets[c] && !spare.has(c)));
   const titles = columns.map(({ title }) => `“${title}”`).join(", "), be = columns.length > 1 ? "are" : "is";
   return headings || !isLost ? null : `These rows have ${targets.length} cells, and here ${be} ${titles}. Copy those `
     + "alone, or all with their headings.";
+}
+
+/** The places of remarks, of which none is a number, behind the numbers of rows. */
+function remarksIn(rows, targets) {
+  const isAmount = (text = "") => /^\P{L}*\d/u.test(text), isOf = (c) => rows.some((row) => isAmount(row[c]));
+  const last = targets.findLastIndex((own, c) => own?.number && isOf(c));
+  const isWords = (text) => /\p{L}/u.test(text) && (text.startsWith("(") || !isAmount(text));
+  const isRemark = (text = "") => !text || isTime(text) || isWords(text);
+  const isTyped = targets.some((own) => own?.optional); // then other words may be types, too
+  const all = targets.map((_, c) => c).filter((c) => last >= 0 && c > last && !targets[c] && !isTyped);
+  return all.filter((c) => rows.every((row) => isRemark(row[c])));
 }

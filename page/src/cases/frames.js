@@ -53,7 +53,7 @@ export function unframed(rows, text = "") {
 }
 
 /** Whether a text alone in its row is a paragraph of statutes or, `isAbove` the rows, says what is listed: nobody. */
-const isHeadline = (text, isAbove) => PARAGRAPH.test(text)
+export const isHeadline = (text, isAbove) => PARAGRAPH.test(text)
   || (isAbove && [TITLE, NUMBERED].some((one) => one.test(text)));
 
 /** The same without titles, which are told with what else is left out. */

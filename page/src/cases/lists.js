@@ -18,10 +18,11 @@ const MONEY = "\\b(?:eur|usd|gbp|chf)\\b|\\p{Sc}";
 const COST = new RegExp("cost|need|price|fee|charge|amount|kosten|preis|betrag|gebühr|bedarf|co[uû]t|prix|montant|"
   + MONEY, "iu");
 const heads = (words) => new RegExp(`^(?!.*(${COST.source})).*(${words})`, "iu"); // and no word of a cost
-const CREDITOR = /creditor|claimant|lender|party|name|gläubiger|schuldeis|créancier|acreedor/iu;
+const CREDITOR = new RegExp("creditor|claimant|lender|party|name|\\bheirs?\\b|gläubiger|\\berben?\\b|schuldeis|"
+  + "créancier|acreedor", "iu");
 const CLAIM = new RegExp("claim(?!ant)|admitted|allowed\\b|(?:filed|lodged)(?! ?(?:on|\\(?da))|angemeldet|festgestellt|"
   + "anerkannt|admise?|amount|owed|debt|due\\b|forderung|betrag|schuld(?!n|eis)|créance|montant|"
-  + MONEY, "iu");
+  + "crédito|importe|importo|credito\\b|vordering|bedrag|" + MONEY, "iu");
 const MOST_LANDINGS = mostOf("airport"), MOST_CLAIMS = mostOf("bankruptcy"), MOST_NAME = LIMITS["bytes of a name"];
 
 const HOW_FAR = new RegExp("floor|stor(e?y|ies)|\\blevels?\\b(?! of)|etage|étage|stock|geschoss|\\bk?m\\b|met(re|er)|"

@@ -31,19 +31,24 @@ export function cellsOf(pasted) {
 /** Whether a line is drawn by signs, as "-----": it says nothing. */
 const isRule = (line) => line.length <= MOST_RULE && /^[ \-–—_=*~+]{3,}$/.test(line) && /([-–—_=*~])\1\1/.test(line);
 
-/** Whether a bar is at both ends of each line, or as many with blanks around within each. */
+const isBarred = (line) => /^\s*\|.*\|\s*$/.test(line);
+
+/** Whether a bar is at both ends of each line, or as many with blanks around within each; lines without one may stand
+ * above and below. */
 function hasBars(lines) {
-  const kept = lines.filter((line) => line.trim()), isFramed = (line) => /^\s*\|.*\|\s*$/.test(line);
-  const counts = new Set(kept.map((line) => line.split(/\s\|\s/).length)), [count] = counts;
-  return kept.length > 1 && (kept.every(isFramed) || (counts.size === 1 && count > 1));
+  const kept = lines.filter((line) => line.trim()), hasBar = (line) => line.includes("|");
+  const all = kept.slice(kept.findIndex(hasBar), kept.findLastIndex(hasBar) + 1);
+  const counts = new Set(all.map((line) => `${line} `.split(/\s\|\s/).length)), [count] = counts;
+  return kept.some(hasBar) && all.length > 1 && (all.every(isBarred) || (counts.size === 1 && count > 1));
 }
 
 /** The cells between bars, without the line below the headings, and without the signs of bold letters. */
 function rowsOfBars(lines, rows) {
-  const isFramed = lines.every((line) => !line.trim() || /^\s*\|.*\|\s*$/.test(line));
+  const isFramed = lines.every((line) => !line.includes("|") || isBarred(line));
   const isRule = (row) => row.some(Boolean) && row.every((cell) => /^(:?-+:?)?$/.test(cell));
   const plain = (cell) => cell.replace(/^(\*\*|__|`)(.+)\1$/, "$2");
-  return rows.map((row) => (isRule(row) ? [""] : (isFramed ? row.slice(1, -1) : row).map(plain)));
+  const own = (row) => (isFramed && row.length > 1 ? row.slice(1, -1) : row);
+  return rows.map((row) => (isRule(row) ? [""] : own(row).map(plain)));
 }
 
 const SURNAMES = /^[^\d,"]+, \p{L}[^\d,]*\s\p{Sc}?\d[\d.,]*\D{0,4}$/u; // Rossi, Mario 120
@@ -58,7 +63,7 @@ function hasCommaColumns(lines) {
   const isOf = (line) => line.length < MOST_OF && (
     /^[-−]?[\d\s.'’]*,\d+$|[:=]\s*[^,]{0,4}\d[\d,.]*\D{0,4}$|^[^"]*(\d,\d[^"]*,\s|,\s[^"]*\d,\d)/.test(line.trim())
     || [SURNAMES, OF_NO_CENTS].some((one) => one.test(line.trim())));
-  const isWithin = (line) => /\p{L}/u.test(line) && !line.replace(/\d,(?=\d)/g, "").includes(",");
+  const isWithin = (line) => /\p{L}/u.test(line) && !line.replace(/\d,(?=[\d–—-])/g, "").includes(",");
   const isCount = lines.length > 2 && lines.every((line, k) => line.startsWith(`${k + 1},`));
   const isNamed = [lines[0], lines.at(-1)].some((line) => /^[^\d,]*\p{L}(,[^\s,][^,]*)+$/u.test(line));
   const sizes = lines.map((line) => /^[1-9]\d*,(\d+)$/.exec(line)?.[1].length ?? 0), most = Math.max(...sizes);
@@ -154,7 +159,9 @@ export function headingsOf(rows, from, mark) {
  * the columns that go without saying. */
 export function pastedText(rows, headings, targets, usual = targets) {
   const pairs = headings?.map((text, c) => targets[c] && `“${text}” is “${targets[c].title}”`).filter(Boolean);
-  const out = headings?.filter((_, c) => !targets[c]).map((text) => `“${text}” was left out.`) ?? [];
+  const beside = targets.map((own, c) => (own ? [] : rows.map((row) => row[c]).filter(Boolean)));
+  const lost = beside.filter(([one]) => one).map(([one, more]) => `“${one}”${more ? " …" : ""} was left out.`);
+  const out = headings?.filter((_, c) => !targets[c]).map((text) => `“${text}” was left out.`) ?? lost;
   const taken = targets.filter(Boolean), isUsual = taken.every((column, c) => column === usual[c]);
   return [
     ...(pairs ? [`The first row was taken as headings: ${pairs.join(", ")}.`] : []), ...out,

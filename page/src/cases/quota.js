@@ -4,32 +4,42 @@ import { otherMark } from "../exact/marks.js";
 import { lcm, Rational, ZERO } from "../exact/rational.js";
 import { withEscapes } from "../game/names.js";
 
-const MORE = /^(more than|over|above|mehr als|über|plus de|meer dan|>(?!=))\s*/;
-const LEAST = /^(at least|mindestens|au moins|minstens|>=|≥)\s*/;
-const NAME = "(?:the |die )?(?:(?:simple|absolute|qualified|two-thirds|2/3|einfache|erforderliche|nötige)[ -])?(?:"
-  + "quota|quorum|threshold|majority|mehrheit|majorité|(?:ja-?stimmen |stimmen |sitze )?"
-  + "(?:benötigt|erforderlich|nötig)|at least|mindestens|au moins"
+/** What says "more than" before a part, and "at least". */
+export const MORE_THAN = "more than|over|mehr als|über|plus de|meer dan|más de|più di|oltre";
+export const AT_LEAST = "at least|mindestens|au moins|minstens|ten ?minste|al menos|por lo menos|almeno";
+const MORE = new RegExp(`^(${MORE_THAN}|above|>(?!=))\\s*`), LEAST = new RegExp(`^(${AT_LEAST}|>=|≥)\\s*`);
+/** The words for a majority. */
+export const MAJORITIES = "majority|mehrheit|majorité|meerderheid|mayoría|maggioranza";
+const KINDS = "simple|absolute|qualified|two-thirds|2/3|einfache|qualifizierte|erforderliche|nötige|benodigde|gewone";
+const NAME = `(?:the |die |la |de )?(?:(?:${KINDS})[ -])?(?:`
+  + `quota|quorum|quórum|threshold|quotum|${MAJORITIES}|(?:ja-?stimmen |stimmen |sitze )?`
+  + `(?:benötigt|erforderlich|nötig|nodig|vereist)|${AT_LEAST}`
   + "|(?:(?:votes|seats|shares|members|inhabitants) )?(?:needed|required))"
-  + "(?: needed| required| absolue)?(?: (?:for|to) [^:]*)?(?: \\(.*\\))?";
+  + "(?: needed| required| absolue| requise| requerida| richiesta)?(?: (?:for|to) [^:]*)?(?: \\(.*\\))?";
 const NAMED = new RegExp(`^${NAME}\\s*[:=]\\s*`, "iu");
 /** Whose a quota may be. */
-export const WHOM = "votes|seats|shares|capital|members|shareholders|inhabitants|habitants|einwohner|communes"
-  + "|stimmen|sitze|anteile|aktien|mitglieder|voix|sièges|stemmen|zetels";
-const BEHIND = new RegExp("\\s*(?:of (?:all|the)|(?:of (?:all |the )*|aller |der |des |van (?:de |alle )?)?"
+export const WHOM = "votes|seats|shares|weights?|capital|members|shareholders|inhabitants|habitants|einwohner|communes"
+  + "|stimmen|sitze|anteile|aktien|mitglieder|voix|sièges|stemmen|zetels|votos|escaños|acciones|voti|seggi|azioni";
+const BEHIND = new RegExp("\\s*(?:of (?:all|the)|(?:of (?:all |the )*|aller |der |des |van (?:de |alle )?"
+  + "|de (?:los |las )?|del? |dei |delle )?"
   + `(?:${WHOM})(?: present| cast)?)$`, "iu");
-const MAJORITY = /^((the|a|die|la) )?((simple|absolute|einfache) )?(majority|mehrheit|majorité( simple| absolue)?)$/;
-const UNANIMOUS = /^(all|everybody|unanim(ity|ous)|alle|einstimmig|unanimité)$/;
+const MAJORITY = new RegExp("^((the|a|die|la|de|een) )?((simple|absolute|einfache|gewone|volstrekte) )?"
+  + `(${MAJORITIES})( simple| absolue| absoluta| semplice| assoluta)?$`);
+const UNANIMOUS = /^(all|everybody|unanim(ity|ous)|alle|einstimmig|unanimité|unanimidad|unanimità)$/;
+const OF_MAJORITY = new RegExp(`[ -]*(?:${MAJORITIES})$|^(?:${MAJORITIES}) (?:of|des|de|di|von|van) `);
 const SIGNS = { "½": "1/2", "⅓": "1/3", "⅔": "2/3", "¼": "1/4", "¾": "3/4", "⅗": "3/5", "⅘": "4/5" };
 const COUNTS = {
   one: 1, two: 2, three: 3, four: 4, five: 5, six: 6, seven: 7, eight: 8, ein: 1, zwei: 2, drei: 3, un: 1, deux: 2,
-  trois: 3, a: 1,
+  trois: 3, a: 1, twee: 2, drie: 3, dos: 2, tres: 3, due: 2, tre: 3,
 };
 /** The words for how many parts. */
 export const COUNT_WORDS = Object.keys(COUNTS).join("|");
-const PARTS = [/^(half|hälfte|moitié|helft)$/, /^(thirds?|drittel|tiers)$/, /^(quarters?|viertel|quarts?)$/,
-  /^(fifths?|fünftel)$/];
-const PER_CENT = /^(.*?)\s*(?:%|per ?cent|prozent|pour cent)$/;
-const SOME_OF = /^(\S+) (?:out of|of|von|sur|di|van)(?: the| den| les)? (\S+)$/; // "3 of 5"
+/** The words for halves, thirds, quarters and fifths. */
+export const PART_WORDS = ["half|hälfte|moitié|helft|mitad|metà", "thirds?|drittel|tiers|derden?|tercios?|terzi",
+  "quarters?|viertel|quarts?|kwart|cuartos?|quarti", "fifths?|fünftel|vijfde|quintos?|quinti"];
+const PARTS = PART_WORDS.map((words) => new RegExp(`^(${words})$`));
+const PER_CENT = /^(.*?)\s*(?:%|per ?cent|prozent|pour cent|procent|por ciento|per cento)$/;
+const SOME_OF = /^(\S+) (?:out of|of|von|sur|di|van|de)(?: the| den| les| las| los)? (\S+)$/; // "3 of 5"
 const FRACTIONS = [3, 6, 7].flatMap((den) => Array.from({ length: den - 1 }, (_, k) => [k + 1, den]));
 
 /** What names the quota above a list of votes. */
@@ -52,7 +62,7 @@ function partIn(typed, mark, votes) {
   const [count, of] = [some, many].map((word) => Rational.of(String(COUNTS[word] ?? (/^\d+$/.test(word) ? word : 0))));
   if (!count.isZero() && whole.equals(of)) return { part: count.over(of), isMore };
   if (UNANIMOUS.test(bare)) return { part: Rational.of(1), isMore: false };
-  const short = bare.replace(/[ -]*(majority|mehrheit)$/, ""), part = ofWords(short) ?? ofNumbers(short, mark, votes);
+  const short = bare.replace(OF_MAJORITY, ""), part = ofWords(short) ?? ofNumbers(short, mark, votes);
   return part && { part, isMore };
 }
 
@@ -66,7 +76,7 @@ export function partSaid(text, mark) {
 function ofWords(text) {
   if (SIGNS[text]) return Rational.of(SIGNS[text]);
   const count = Object.keys(COUNTS).find((word) => text.startsWith(word)) ?? /^\d+(?=[ -]\p{L})/u.exec(text)?.[0];
-  const rest = text.slice(count?.length ?? 0).replace(/^[ -]+|^(die|la|de) /, "");
+  const rest = text.slice(count?.length ?? 0).replace(/^[ -]+|^(die|la|de|een) /, "");
   const den = PARTS.findIndex((one) => one.test(rest)) + 2;
   return den > 1 ? Rational.of(`${COUNTS[count] ?? count ?? 1}/${den}`) : null;
 }

@@ -1,6 +1,7 @@
 // A table that was pasted into a list: what stands around it goes, and each of its columns finds the one it is for.
 import { readNumber } from "../exact/decimals.js";
 import { headsFirst } from "./above-heads.js";
+import { isScale, withoutAround } from "./around-lines.js";
 import { isBareName, notNames } from "./bare-names.js";
 import { blockOf, looseText, PAGES } from "./block.js";
 import { bracketVotes } from "./bracket-votes.js";
@@ -14,13 +15,14 @@ import { ledRows } from "./leaders.js";
 import { headingsOf, pastedText } from "./pasting.js";
 import { answerFault } from "./saved-tables.js";
 import { belowNumbers } from "./signs.js";
-import { quotasOf, singleOf, singlesOf, withSingle } from "./single.js";
+import { apartSingles, quotasOf, singleOf, singlesOf, withSingle } from "./single.js";
 import { amountsIn } from "../exact/money.js";
 import { unitsText, withoutUnits } from "./units.js";
 
 const MOST_NAME = 80, MOST_PROSE = 600; // letters
 const MOST_HEADS = 3; // words of two headings in a line
 const PROSE = /\d[^\t]*\s\p{L}{2,}\s[^\t]*\s\d+ ?\S*, /u;
+const LISTED = "The numbers of the list before the names were left out.";
 const IN_LINE = "The line of names and numbers was parted between them.";
 const SENTENCE = "This is one sentence. Give each a line: the name, a tab and the number.";
 /** Why a line is no row. */
@@ -45,17 +47,21 @@ function tableIn(pasted, { single, isFirst }) {
   const isKnown = (text) => single.heads.test(text.replace(BEHIND, "")); // taken as what there is
   const { rows: numbered, pages } = isFirst ? withoutPages(given) : { rows: pasted, pages: [] };
   const { rows: paged, above } = isEstate ? belowNumbers(numbered, isKnown) : { rows: numbered, above: [] };
-  const { rows: plain, clauses } = single?.second && isFirst ? withoutClauses(paged) : { rows: paged, clauses: [] };
+  const isVotes = single?.second && isFirst;
+  const { rows: bare, own } = isVotes ? apartSingles(paged, single) : { rows: paged, own: [] };
+  const { rows: plain, clauses } = isVotes ? withoutClauses(bare) : { rows: bare, clauses: [] };
   if (clauses.length && !plain.some((row) => row.some(Boolean))) return { asked: { clause: single.lineOf(clauses) } };
-  const { rows: led, left: around } = isFirst ? ledRows(plain) : { rows: plain, left: [] };
+  const { rows: inner, left: lines, isListed } = isFirst ? withoutAround(plain) : { rows: plain, left: [] };
+  const { rows: led, left: around } = isFirst ? ledRows(inner) : { rows: inner, left: [] };
   const { rows: parted, notes: counted, loose } = isFirst ? blockOf(led, { words: true }) : whole;
   const odd = loose ?? (isFirst ? noName(parted, clauses.length > 0) : undefined);
   if (odd !== undefined || saved) return { fault: saved ?? lineText(odd) };
   if (isProse(given) || (given.length === 1 && PROSE.test(pasted[0].join(", ")))) return { fault: SENTENCE };
-  const said = single ? withSingle(parted, single) : parted;
+  const said = [...(single ? withSingle(parted, single) : parted), ...own];
   const { rows: headed, left: titles } = isEstate ? headsFirst(said) : { rows: said, left: [] };
-  const { rows, left } = unframed(headed), out = [...above, ...around, ...titles, ...left, ...clauses];
-  return { given, rows, out, notes: [leftText([...out, ...pages]), isParted && IN_LINE, ...counted] };
+  const { rows, left } = unframed(headed), all = [above, lines, around, titles, left, clauses];
+  const out = inOrder(all.flat(), pasted), told = [isParted && IN_LINE, isListed && LISTED, ...counted];
+  return { given, rows, out, notes: [leftText([...out, ...pages]), ...told] };
 }
 
 /** Pasted rows for the `columns` from a cell on, of which `usual` go without saying: {rows, targets, headings, notes},
@@ -73,20 +79,21 @@ export function sheetOf(pasted, columns, { mark, single, usual, isFirst = true, 
   const named = single ? singlesOf(all, single) : [], isTwo = columns.some(({ key }) => key === "second");
   const usually = columns.filter(({ optional }) => !optional), from = usually.findIndex((column) => column.number);
   const body = all.filter((row) => named.every((one) => one.row !== row));
-  const title = isFirst ? titleOf(table.given, body, columns) : null;
+  const title = isFirst ? titleOf(table.given, body, columns, isHead) : null;
   const rows = title ? body.slice(1) : body, headings = isHead === false || title ? null
     : headingsOf(rows, Math.max(0, from), mark) ?? knownHeads(rows, columns);
   const isLine = pasted.every((row) => row.filter(Boolean).length < 2); // and no row of cells
   const heads = isFirst && isHead === undefined && headings && unknownHeads(headings, rows, { columns, isLine });
   if (heads) return { asked: { heads } };
   if (headings && isAcross(rows, columns)) return { fault: "Here names stand side by side. Give each a row." };
-  const found = columnsFor(columns, headings, { rows, mark, choice, out, units }), { targets, asked, isGuess } = found;
+  const isPair = Boolean(single?.second) && !isTwo && !said.isOne, how = { rows, mark, choice, out, units, isPair };
+  const found = columnsFor(columns, headings, how), { targets, asked, isGuess } = found;
   if (asked) return { asked };
   const own = headings ? rows.slice(1) : rows, broken = isFirst && said.isBroken !== false ? brokenName(own) : null;
   if (broken && !said.isBroken) return { asked: { broken: broken.lines } };
   const below = broken ? mendedName(own, broken) : own, beside = besides(below, headings, targets, mark);
-  const lost = widthFault(rows, headings, found, columns), isOther = lost && single?.second && !isTwo && !said.isOne;
-  if (isOther && fitsSecond(rows, columns, { mark, single, units })) return { asked: { pair: [] } };
+  const lost = widthFault(rows, headings, found, columns, out);
+  if (lost && isPair && fitsSecond(rows, columns, { mark, single, units })) return { asked: { pair: [] } };
   if (lost) return { fault: lost };
   const singles = single?.second ? quotasOf(named, { targets, ...beside, isTwo, isOne: said.isOne }) : singleOf(named);
   if (singles.fault || singles.asked) return singles;
@@ -95,9 +102,17 @@ export function sheetOf(pasted, columns, { mark, single, usual, isFirst = true, 
     ...singlesText(singles, single, said), single?.tells?.(pasted)];
   const line = singles.number ? undefined : single?.lineOf?.(table.out);
   const head = headings?.[targets.findIndex((own) => own?.number && !own.short)], amounts = amountsIn(head, table.out);
+  const isPercent = isOfHundred(title ?? table.out?.find(isScale), headings, targets, units);
   const asks = { isUnordered: isGuess, steps: targets.some((own) => own?.steps?.test(head ?? "")) ? head : undefined };
   return { rows: below, targets, headings, notes: notes.filter(Boolean), asks, line, amounts, ...beside,
-    number: singles.number?.text, other: singles.other?.text, isPercent: isOfHundred(title, headings, targets, units) };
+    number: singles.number?.text, other: singles.other?.text, isPercent };
+}
+
+/** Texts in the order of the rows that they come from. */
+function inOrder(texts, rows) {
+  const places = new Map(rows.flatMap((row, k) => row.map((text) => [text, k])).reverse());
+  const placeOf = (text) => places.get(text) ?? -1;
+  return [...texts].sort((one, other) => placeOf(one) - placeOf(other));
 }
 
 /** Whether rows are as wide as a list with second votes. */
@@ -114,7 +129,7 @@ const unitsOf = (units, targets) => [...new Set([...units].filter(([c]) => targe
 function isOfHundred(title, headings, targets, units) {
   const isOf = (column, c) => column?.number && column.key !== "second" // of the votes that a quota is a part of
     && (units.get(c) === "%" || /%/.test(headings?.[c] ?? ""));
-  return /%/.test(title ?? "") || targets.some(isOf);
+  return /%|per ?cent|prozent/i.test(title ?? "") || targets.some(isOf);
 }
 
 /** What is told of numbers above the list that came with it. */
@@ -133,13 +148,15 @@ function besides(rows, headings, targets, mark) {
 }
 
 /** The line of several words above names and numbers that was parted as they are, and has a word for one of the
- * `columns`: no heading of each; null if there is none. */
-function titleOf(given, [first = []], columns) {
+ * `columns`, or of which somebody said that it is a heading: no heading of each; null if there is none. */
+function titleOf(given, [first = []], columns, isHead) {
   const bare = (text) => text.replace(/\s+/g, ""), own = bare(first.join(""));
   const lines = given.map((row) => row.filter(Boolean));
   const line = lines.find(([text, other]) => text && !other && bare(text) === own)?.[0];
-  const isTitle = first.length === 2 && line && !/\d/.test(line) && line.split(/\s+/).length > MOST_HEADS;
-  return isTitle && first.some((text) => isKnownHead(text, columns)) ? line : null;
+  const isTitle = first.length === 2 && first[1] && line && !/\d/.test(line);
+  const isKnown = (text) => isKnownHead(text, columns);
+  const isSure = () => isHead || (line.split(/\s+/).length > MOST_HEADS && first.some(isKnown));
+  return isTitle && isSure() ? line : null;
 }
 
 /** Whether a column that was left out may be other votes: it has numbers, and no parts of a whole. */
@@ -162,7 +179,7 @@ function unknownHeads(headings, [, ...rows], { columns, isLine }) {
   const isKnown = headings.filter(isAbove).length > 1 || headings.some((text) => isKnownHead(text, columns));
   const words = headings.filter(Boolean), isAlike = words.every((text) => isLower(text) === isLower(words[0]));
   const isTable = !isLine && rows.length > 1 && words.length === headings.length && isAlike;
-  return !isKnown && !isTable && words.join("; ");
+  return !isKnown && !isTable && words.join(isLine ? " " : "; ");
 }
 
 /** Whether names are the headings of one row of numbers. */

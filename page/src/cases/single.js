@@ -15,6 +15,14 @@ export function withSingle(rows, { heads, reads = isNumber }) {
   });
 }
 
+/** Rows without the lines among them that name a number above the list, as "Needed: at least 50 % + 1", if two others
+ * or more are left: {rows, own}, each of `own` with a cell for each. */
+export function apartSingles(all, single) {
+  const cells = withSingle(all, single), rows = all.filter((row, k) => cells[k] === row);
+  const isList = rows.filter((row) => row.some(Boolean)).length > 1;
+  return isList ? { rows, own: cells.filter((row, k) => row !== all[k]) } : { rows: all, own: [] };
+}
+
 /** The rows that name a number above the list: {row, word, numbers}, each number with its column: {text, c}. */
 export function singlesOf(rows, { heads, reads = isNumber }) {
   const wide = Math.max(...rows.map(({ length }) => length), 3);

@@ -9,13 +9,21 @@ const WORD = "\\p{L}[\\p{L}.²³]{0,11}";
 const PER = `\\s*/\\s*${WORD}|\\s+(?:per|pro|par|por|je|im|al|an?|p\\.) ?${WORD}`
   + `|\\s+(?:\\p{L}+(?:ly|lich)|net|gross|netto|brutto|(?:incl|excl|inkl|exkl|zzgl|plus|ohne)\\.? ${WORD})`;
 const BEHIND = new RegExp(`^(.*\\d.*?)(${PER})$`, "u");
-const MONEY = "(?:\\p{Sc}|[A-Z]{3})", UNIT = `(?:[kKMT]?\\p{Sc}|%|${WORD}(?: ?${MONEY})?)(?:${PER})?`;
+const MONEY = "(?:\\p{Sc}|[A-Z]{3})", UNIT = `(?:[kKMT]?\\p{Sc}|[%‰]|${WORD}(?: ?${MONEY})?)(?:${PER})?`;
 const SCALED = new RegExp("^([kKMT](?:\\p{Sc}|EUR|CHF|USD|GBP)|\\p{Sc}(?:[kKmM]|mn|bn))\\s?([-−]?\\d[\\d.,'’]*)$", "u");
 const MILLIONS = /^(?:m|mn|bn|b)\b/iu; // behind money
 const WITH_UNIT = new RegExp(`^((?:${MONEY} ?)?[-−]?\\d[\\d.,'’\\s\u202f]*?)\\s*(${UNIT})$`, "u");
 const OF_MANY = /^(k|[kKMT]?\p{Sc}|tsd|tausend|thousand|mio|mill?ion(s|en)?|mln|mn|mrd|bn)\b\.?/iu;
 
 const CHANGE = /^(?:less|more|fewer|extra|weniger|mehr|moins|minder|meer)$/iu;
+
+const OF_WHOLE = /^(\d[\d.,'’]*)\s?(\/\s?1[.,'’ ]?0[.,'’ 0]{1,8})$/; // 120,5/1000
+
+/** The same of a part of a round number, as "120,5/1000": the number and "/1000"; null for another text. */
+function partOf(text) {
+  const [, number, unit] = OF_WHOLE.exec(text) ?? [];
+  return number && !readNumber(number).fault ? { number, unit: unit.replace(/\s/g, ""), isSure: true } : null;
+}
 
 /** The number and the unit of a text, as "12 km" and "1200 EUR/year"; null for another text, and for one that is a
  * number as it stands. A sign of money before "per year" is of the number. `isSure` says that the number is an amount,
@@ -24,6 +32,7 @@ export function parted(text) {
   if (text.length > MOST_LETTERS || !readNumber(text).fault || isTime(text)) return null;
   const [, scaled, amount] = SCALED.exec(text) ?? [];
   if (scaled) return { number: amount, unit: scaled, isSure: true };
+  if (OF_WHOLE.test(text)) return partOf(text);
   const [, before, per] = BEHIND.exec(text) ?? [], isMoney = before && !readNumber(before).fault;
   const [, number, unit = ""] = isMoney ? [text, before, per] : WITH_UNIT.exec(text) ?? [];
   const isSure = Boolean(isMoney) || OF_MANY.test(unit) || (MILLIONS.test(unit) && moneyIn(number) !== undefined);
@@ -43,8 +52,10 @@ function unitsOf(own) {
 export function withoutUnits(rows, from = 0) {
   const wide = rows.reduce((most, { length }) => Math.max(most, length), 0), found = new Map(), signs = new Set();
   for (let c = from; c < wide; c++) {
-    const texts = rows.map((row) => row[c] ?? "").filter(Boolean), own = texts.map(parted).filter(Boolean);
-    const [unit, other] = unitsOf(own), isBare = (text) => /[1-9]/.test(text) && !parted(text);
+    const texts = rows.map((row) => row[c] ?? "").filter(Boolean);
+    const isParts = texts.some((text) => parted(text) && partOf(text)); // then 201/1000 is one, too
+    const unitIn = (text) => parted(text) ?? (isParts ? partOf(text) : null), own = texts.map(unitIn).filter(Boolean);
+    const [unit, other] = unitsOf(own), isBare = (text) => /[1-9]/.test(text) && !unitIn(text);
     const isNumber = (text) => !readNumber(text).fault, isMixed = texts.some((text) => isBare(text) && isNumber(text));
     const change = own.find((one) => CHANGE.test(one.unit));
     if (change) return { fault: `“${change.number} ${change.unit}” says a difference. Write the amounts themselves.` };
@@ -54,8 +65,9 @@ export function withoutUnits(rows, from = 0) {
     if (sign) signs.add(c);
     found.set(c, sign && /^\p{L}/u.test(unit) ? `${sign} ${unit}` : sign + unit);
   }
-  const numberOf = (text) => parted(text ?? "")?.number ?? text;
-  const bare = (text, c) => (signs.has(c) ? withoutMoney(numberOf(text ?? "")) : found.has(c) ? numberOf(text) : text);
+  const isPart = (c) => found.get(c)?.startsWith("/1");
+  const numberOf = (text = "", c) => (parted(text) ?? (isPart(c) ? partOf(text) : null))?.number ?? text;
+  const bare = (text, c) => (signs.has(c) ? withoutMoney(numberOf(text, c)) : found.has(c) ? numberOf(text, c) : text);
   return { rows: found.size ? rows.map((row) => row.map(bare)) : rows, units: [...new Set(found.values())], found };
 }
 

@@ -17,10 +17,12 @@ const HUNDRED = Rational.of(100);
 const BOTH_WIN = "Two groups without a common voter can both reach this quota. A majority is “more than 1/2”.";
 const WRITE = " Write a number of votes, or a part such as 2/3, 60 % or “more than 1/2”.";
 const WHOLE = "a whole number, the least number of votes that is enough; or a part, as 2/3 or 60 %.";
-const VOTER = new RegExp("voter|state|party|member|country|holder|owner|name|staat|land|partei|mitglied|aktion|"
-  + "eigentümer|état|pays|parti|propriét", "iu");
-const VOTES = new RegExp("vote|seat|share|weight|stimme|sitz|anteil|voix|siège|part\\b|zetel|\\bstem|voto|escaño|seggi|"
-  + "population|bevölkerung", "iu");
+const VOTER = new RegExp("voter|state|party|member|country|holder|owner|partner|name|staat|land|partei|mitglied|aktion|"
+  + "eigentümer|gemeinde|fraktion|état|pays|parti|propriét|commune|associé|accionista|azionista|aandeelhouder|gemeente|"
+  + "eigenaar|socio", "iu");
+const VOTES = new RegExp("vote|seat|share(?!holder)|weight|delegates|stimme|sitz|anteil|aktien|\\bmea\\b|tausendstel|"
+  + "voix|siège|délégués|tantièmes|millièmes|part\\b|zetel|\\bstem|aandelen|voto|escaño|acciones|seggi|azioni|"
+  + "millesimi|population|bevölkerung", "iu");
 
 export const votes = {
   id: "votes",

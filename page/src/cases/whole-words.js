@@ -9,7 +9,7 @@ const IN_GERMAN = "(?:insolvenz|teilungs|konkurs)?masse|nachlass|(?:noch )?(?:ve
   + "masse|mittel|betrag|summe|vermögen|nachlass))?|zu verteilen(?:de[rs]?)?(?: (?:masse|betrag|summe))?"
   + "|zur verteilung(?: verfügbar)?";
 const IN_OTHERS = "actif(?: net)?(?: (?:disponible|à répartir|réalisé))?|disponible|à répartir"
-  + "|masse (?:active|à répartir)|boedel|activo|attivo|beschikbaar|disponib(?:le|ile)";
+  + "|masse (?:active|à répartir)|mas+a(?: (?:activa|attiva))?|boedel|activo|attivo|beschikbaar|disponib(?:le|ile)";
 
 /** What names the estate for certain. */
 export const ESTATE = new RegExp("^(?:the |die |der |das |le |la |l['’]|net |total |gross |remaining |available )*(?:"
@@ -17,8 +17,8 @@ export const ESTATE = new RegExp("^(?:the |die |der |das |le |la |l['’]|net |t
   + `|${IN_OTHERS}|to (?:be )?(?:distributed?|divided?))(?: value| net(?:to)?)?(?: \\(.*\\))?[:.]?$`, "iu");
 
 const PERHAPS = new RegExp("(?<!\\p{L})(?:available|(?:distribut|verfügbar|vorhanden|verteil)\\p{L}*|disponible"
-  + "|beschikbaar|répartir|nachlass|\\p{L}*masse|estate|actif|cash|funds|proceeds|\\p{L}*erlös|vermögen|boedel)"
-  + "(?!\\p{L})", "iu");
+  + "|beschikbaar|répartir|nachlass|\\p{L}*masse|estate|actif|cash|funds|proceeds|\\p{L}*erlös|vermögen|boedel"
+  + "|assets|activo|attivo|mass?a)(?!\\p{L})", "iu");
 const SIGN = "(?:\\p{Sc}|(?<!\\p{L})[A-Z]{3}(?!\\p{L}))", DIGITS = "\\d(?:[\\d.,'’\\u00a0\\u202f]*\\d)?";
 const AMOUNT = new RegExp(`(?:${SIGN}\\s?)?${DIGITS}(?:\\s?${SIGN})?`, "gu"), MONEY = new RegExp(SIGN, "u");
 

@@ -17,7 +17,7 @@ const SAME = {
 
 const IN_HEAD = new RegExp(`(?<![\\p{L}\\d'’])(?:${SIGN}|euros?|dollars?|francs?|franken|kroner|kronor)`
   + "(?![\\p{L}\\d'’])", "u");
-const RATE = /(?<!\p{L})(?:per|pro|je|par|por|p\.|each) ?\p{L}|\/ ?\p{L}/iu;
+const RATE = /(?<!\p{L})(?:per|pro|je|par|por|p\.|each) ?(?!cent)\p{L}|\/ ?\p{L}/iu;
 const SCALED = new RegExp("(?<!\\p{L})(?:[kKTM]?(?:\\p{Sc}|EUR)|in|x|×) ?(?:[kmTM]|bn|['’.,]?000)(?!\\p{L})"
   + "|(?<!\\p{L})[kKTM](?:\\p{Sc}|EUR)|thousand|tausend|tsd|mio|mill?ion|mln|mrd|milliard", "iu");
 const FINE = /[\ufdfc\u20bf]/; // rials of Oman have three decimals, bitcoins eight

@@ -110,7 +110,7 @@ export const LISTS = [
   ["votes", `${COUNCIL}\nQuorum: 8 votes and 3 members`, "Ann=7|Bo=4|Cy=2",
     /type them above\. Votes needed: 8\. Needed of the second: 3/, "Use “Members” as second votes"],
   ["votes", "Ann\t7\t2\nBo\t4\t1", null, /These rows have two numbers each\. Are there two quotas/],
-  ["votes", "Ann\t7\t2\nBo\t4\t1", null, /These rows have 3 cells/, "No, one"],
+  ["votes", "Ann\t7\t2\nBo\t4\t1", null, /Which column is “Votes”\? “7, 4 …” “2, 1 …”/, "No, one"],
   ["votes", CLAUSE, null,
     /names two quotas, and nobody who votes\. Type the .*needed: 8 of 13\. Needed of the second: 55 %/],
   ["votes", CLAUSE, "", /2 empty|1 empty/, "Votes needed: 8 of 13. Needed of the second: 55 %"],
