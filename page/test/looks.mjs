@@ -112,14 +112,15 @@ const USERS = [["User", "Type", "Cost", "Uses"], ["North", "B1", "24,000.00 EUR"
   ["South", "C2", "118,500.00 EUR", 2]];
 const SUMS = ["A", "B", "C", "A+B", "A+C", "B+C", "A+B+C"].map((group) => [group, `${20 + group.length},000.00 EUR`]);
 const CUT = "(one) => one.scrollWidth > one.clientWidth + 1";
-const cutCells = (page) => page.run(`[...document.querySelectorAll("#case input")].filter((one) => one.checkVisibility())
-  .filter(${CUT}).map(({ value }) => value).join("; ")`);
+const cutCells = (page) => page.run(`[...document.querySelectorAll("#case input")]
+  .filter((one) => one.checkVisibility()).filter(${CUT}).map(({ value }) => value).join("; ")`);
 
 const amounts = [["network", "names.0", LINKS], ["runway", "rows.0.name", USERS], ["costs", "numbers.1", SUMS]];
 const whole = amounts.map(([id, cell, rows]) => [`nothing is cut off of amounts with cents and a unit: ${id}`, id,
   async (page, expect) => {
     await pasted(page, cell, rows);
-    expect("in the cells", await cutCells(page), "");
+    await page.run("for (const one of document.querySelectorAll('#case details')) one.open = true");
+    expect("in the cells, and those of the text", await cutCells(page), "");
     await page.click("equal parts");
     await settle(page);
     const tables = await page.run(`[...document.querySelectorAll("#answer-body .scroll")].filter(${CUT}).length`);
