@@ -5,6 +5,7 @@ import { isAllWord, isLone } from "./all-together.js";
 
 const MOST_LETTERS = 200; // of a group, and of names that stand side by side
 const MOST_NAMES = 16, MOST_GLUED = 3; // players, and letters of a name without a blank behind
+const MOST_TRIES = 500; // ways to part a text
 const MOST_TOLD = 4; // groups that are named
 const CODE = /^(?:[A-Z]{1,9}|[1-9]{1,9})$/;
 const GAP = /^(?:\s+|\s?[-–·*×]\s?)/u;
@@ -17,12 +18,14 @@ const quoted = (text) => `“${withEscapes(text)}”`;
 
 /** The names of which a text consists, each once, without signs or with blanks between; undefined if there are none, or
  * several ways. */
-function namesIn(text, names) {
+function namesIn(text, names, tries = { left: MOST_TRIES }) {
+  tries.left -= 1;
+  if (tries.left < 0) return undefined;
   const found = names.filter((name) => text.startsWith(name)).flatMap((name) => {
     const rest = text.slice(name.length), gap = GAP.exec(rest)?.[0] ?? "";
     if (!rest) return [[name]];
     if (!gap && name.length > MOST_GLUED) return [];
-    const more = namesIn(rest.slice(gap.length), names.filter((one) => one !== name));
+    const more = namesIn(rest.slice(gap.length), names.filter((one) => one !== name), tries);
     return more ? [[name, ...more]] : [];
   });
   return found.length === 1 ? found[0] : undefined;
