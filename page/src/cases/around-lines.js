@@ -21,7 +21,9 @@ const SCALE = new RegExp("\\S\\s.{0,200}\\((?:(?:all|figures|amounts|values|alle
   + "|en) ){0,4}(?:per ?cent|%|prozent|thousands?|millions?|tausend|tsd|mio|milliers|miles|[kKTM]?(?:EUR|USD|GBP|CHF|€)"
   + "|\\p{Sc}|1[., ’]?000)[^()]{0,40}\\)[¹²³⁴-⁹*†‡:]{0,3}$", "iu");
 const REMARK = /\s*\([^()]*\)[.;,:]?$/u, YEARS = /(?<!\d)(?:19|20)\d\d(?!\d)/g;
-const AMOUNT = /\d[\d.,'’\u00a0\u202f]*(?:[-–—]{1,2})?\s?(?:\p{Sc}|%|\p{L}{1,12}\.?)?[.;,:)]{0,2}$/u; // at the end
+const AMOUNT = /\d[\d.,'’\u00a0\u202f]*(?:[-–—]{1,2})?\s?(?:\p{L}{0,5}\.?\s?\p{Sc}|%|\p{L}{1,12}\.?)?[.;,:)]{0,2}$/u;
+const COUNT = /^[^\d:]{3,200}\(\d[\d.,'’ ]{0,12}\)[:.]?$/u; // a title with a sum in brackets
+const MARK = /^(?:[¹²³⁴-⁹†‡]|\*{1,3})/u; // of a note
 
 const textOf = (row) => row.find(Boolean) ?? "", isLone = (row) => row.filter(Boolean).length === 1;
 const hasAmount = (text) => AMOUNT.test(text) || AMOUNT.test(text.replace(REMARK, ""));
@@ -33,7 +35,7 @@ function isDated(text) {
 }
 
 /** Whether a line begins as an item of an agenda, a table or a note, and has no amount behind. */
-function isItem(text) {
+export function isItem(text) {
   const own = [ITEM, NOTE].find((one) => one.test(text)), rest = own ? text.replace(own, "").trim() : "";
   const isNote = own === NOTE && /\p{L}/u.test(rest) && !/[:=]\s*\P{L}{0,4}\d[\d.,]*$/u.test(rest);
   return isNote || (own === ITEM && !hasAmount(rest.replace(/\s20\d\d$/, "")));
@@ -43,19 +45,47 @@ function isItem(text) {
 export const isScale = (text) => text.length <= MOST_LETTERS && SCALE.test(text)
   && !/\d/.test(text.replace(REMARK, "").replace(YEARS, ""));
 
-/** Pasted rows without the lines around a list, and without its numbers before names: {rows, left, isListed}. */
+/** Whether a line is a sentence, as no line of a name and its number is. */
+function isSentence(text) {
+  const words = text.split(/\s+/), small = words.filter((word) => /^\p{Ll}/u.test(word)).length;
+  return /[\p{L}\d][.!?]$/u.test(text) && small > 2 && !/[:=]/.test(text);
+}
+
+/** What a line alone is: an "item", "dated", a "sentence", a "scale", a "row" of a name and its number, or "". */
+function kindOf(text) {
+  if (isItem(text) || text.startsWith("§")) return "item";
+  if (isDated(text)) return "dated";
+  return isSentence(text) ? "sentence" : isScale(text) ? "scale" : hasAmount(text) ? "row" : "";
+}
+
+/** Pasted rows without the lines around a list, without its numbers before names, and without the marks of notes:
+ * {rows, left, isListed, marks}. */
 export function withoutAround(all) {
   const texts = all.map((row) => (isLone(row) ? textOf(row).slice(0, MOST_LETTERS) : ""));
-  const isSure = texts.map((text) => text !== "" && (isItem(text) || /^§/.test(text)));
-  const isDate = texts.map((text, k) => isSure[k] || (text !== "" && isDated(text)));
-  const isRow = (row, k) => !isDate[k] && row.some(Boolean) && (texts[k] ? hasAmount(texts[k]) : true);
-  const first = all.findIndex((row, k) => isRow(row, k) && !isScale(texts[k])), last = all.findLastIndex(isRow);
-  const isSection = (text, k) => /:$/.test(text) && k < last && isHeadline(text, true);
-  const isOut = (row, k) => texts[k] !== "" && first >= 0 && (isSure[k] || isSection(texts[k], k)
-    || ((k < first || k > last) && isDate[k]) || (k < first && isScale(texts[k])));
-  const kept = all.filter((row, k) => !isOut(row, k)), isList = kept.filter((row) => row.some(Boolean)).length > 1;
+  const kinds = all.map((row, k) => (texts[k] ? kindOf(texts[k]) : row.some(Boolean) ? "row" : ""));
+  const isCount = (k) => kinds[k] === "row" && COUNT.test(texts[k].replace(YEARS, ""));
+  const [sum, other] = texts.map((_, k) => k).filter(isCount);
+  if (other === undefined && sum === kinds.indexOf("row")) kinds[sum] = "scale";
+  const first = kinds.indexOf("row"), last = kinds.lastIndexOf("row"), isBeyond = (k) => k < first || k > last;
+  const isSection = (k) => texts[k].endsWith(":") && k < last && isHeadline(texts[k], true);
+  const isOut = (_, k) => first >= 0 && (kinds[k] === "item" || isSection(k) || (kinds[k] === "scale" && k < first)
+    || (["dated", "sentence"].includes(kinds[k]) && isBeyond(k)));
+  const blankOf = (k) => (kinds[k] === "sentence" ? [[""]] : []); // what is beyond it is of no list
+  const kept = all.flatMap((row, k) => (isOut(row, k) ? blankOf(k) : [row]));
+  const isList = kept.filter((row) => row.some(Boolean)).length > 1;
+  const left = isList ? all.filter(isOut).map(textOf) : [];
   const { rows, isListed } = withoutNumbers(isList ? kept : all);
-  return { rows, isListed, left: isList ? all.filter(isOut).map(textOf) : [] };
+  return { ...withoutMarks(rows, left), isListed, left };
+}
+
+/** Rows without the marks that notes which were `left` out begin with: {rows, marks}. */
+function withoutMarks(all, left) {
+  const marks = [...new Set(left.map((text) => MARK.exec(text)?.[0]).filter(Boolean))];
+  const sorted = [...marks].sort((one, other) => other.length - one.length).map((one) => one.replace(/\*/g, "\\*"));
+  const sign = new RegExp(`(?<=[\\p{L}\\d)]\\s?)(?:${sorted.join("|")})(?=\\s|:|$)`, "u");
+  const rows = marks.length ? all.map((row) => row.map((text) => text.replace(sign, ""))) : all;
+  const isChanged = all.some((row, k) => row.some((text, c) => text !== rows[k][c]));
+  return { rows, marks: isChanged ? marks : [] };
 }
 
 const LISTED = /^(\(?)(\d{1,3}|[a-z])([.)]{1,2})\s+(?=\P{N})/u;
@@ -72,8 +102,8 @@ function withoutNumbers(all) {
     const kind = `${one[1]}${/\d/.test(one[2]) ? 1 : "a"}${one[3]}`;
     kinds.set(kind, [...(kinds.get(kind) ?? []), k]);
   });
-  const restOf = (k) => textOf(all[k]).slice(found[k][0].length), hasNumber = (k) => /\d/.test(restOf(k))
-    || all[k].filter(Boolean).length > 1;
+  const restOf = (k) => textOf(all[k]).slice(found[k][0].length);
+  const hasNumber = (k) => /\d/.test(restOf(k)) || all[k].filter(Boolean).length > 1;
   const nameOf = (k) => restOf(k).slice(0, MOST_LETTERS).replace(REMARK, "").replace(BEHIND, "");
   const isList = (own) => own.length > 1 && own.every((k, n) => ordinalOf(found[k][2]) === n + 1)
     && (own.every(hasNumber) || own.length === filled.length) && new Set(own.map(nameOf)).size === own.length;

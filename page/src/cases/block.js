@@ -94,6 +94,7 @@ function withoutCount(rows) {
 
 /** A remark behind a number, as "(niece)" and "(12.03.2026)". */
 const REMARK = /\s*(\((?:[^()]*\p{L}[^()]*|(?:\d{1,2}[./-]){0,2}(?:19|20)\d\d)\))[.;,]?$/u;
+const DASHED_REMARK = /(?<=\d\D{0,12})\s[–—-]\s(\p{L}[^\s\d,]*(?:\s[^\s\d,]+){0,2})$/u; // behind a colon
 // what a line of a mail ends or begins with, above its list or below
 const MAIL = /,|[:;.!?]$|\b(regards|wishes|thanks|grüße|gruß|cordialement|saludos|groeten|sincerely)\b/iu;
 // words before a name that greet
@@ -128,7 +129,7 @@ function waysOf(text, hasWords) {
   const whole = /^[-–—]/.test(rest) && OF_NO_CENTS.test(text) ? "" : rest;
   const last = words.at(-1), isWord = hasWords && words.length > 1 && NOTHING.test(last);
   if (isWord) return [[bare(words.slice(0, -1).join(" ")).replace(/\s*[:=–-]$/, ""), last]];
-  const said = whole.replace(REMARK, "").replace(/(?<=[\p{L}\d])[.;,]$/u, "");
+  const said = whole.replace(REMARK, "").replace(DASHED_REMARK, "").replace(/(?<=[\p{L}\d])[.;,]$/u, "");
   const isSaid = SOME_OF.test(said) || UNKNOWN.test(said) || isNumber(said) || parted(said); // 12 votes
   if (/\d:\d\d\P{L}{0,3}$/u.test(text)) return []; // a time
   if (said && isSaid) return PHONE.test(said) ? [] : [[bare(named), said]];
@@ -138,6 +139,8 @@ function waysOf(text, hasWords) {
   const own = REMARK.test(text) ? waysIn(text.replace(REMARK, "").split(/\s+/)) : [];
   return own.length ? own : waysIn(words);
 }
+
+const remarkIn = (text) => REMARK.exec(text)?.[1] ?? (/[:=]/.test(text) && DASHED_REMARK.exec(text)?.[1]);
 
 /** A number, or one in per cent, in thousands or for each year. */
 const isNumberOrPart = (text) => isNumber(text.replace(/\s?%$/, "")) || Boolean(parted(text)?.isSure);
@@ -202,7 +205,7 @@ function partedLines(rows, { canBeNegative, words: hasWords }) {
   const isOut = (r) => isFrame(r) || (r === 0 && isTitled);
   const other = (text, r) => (isHead(text, r) ? headOf(text) : isOut(r) ? [text] : [text.replace(/:$/, ""), ""]);
   const all = texts.map((text, r) => (parts[r] ? own(parts[r]) : other(text, r)));
-  const remarks = even ? [] : texts.flatMap((text, r) => (parts[r] && REMARK.exec(text)?.[1]) || []);
+  const remarks = even ? [] : texts.flatMap((text, r) => (parts[r] && remarkIn(text)) || []);
   return { rows: all, isCounted, isDashed, isTurned, remarks };
 }
 

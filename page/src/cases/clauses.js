@@ -1,6 +1,6 @@
 // A clause of statutes that names a quota or two: "carried if at least 8 of the 13 seats and 55 % of the votes agree".
 import { readNumber } from "../exact/decimals.js";
-import { AT_LEAST, COUNT_WORDS, isQuota, MAJORITIES, MORE_THAN, PART_WORDS, WHOM } from "./quota.js";
+import { AT_LEAST, COUNT_WORDS, isQuota, MAJORITIES, MORE_THAN, PART_WORDS, QUOTA as NAME, WHOM } from "./quota.js";
 
 const MOST_LETTERS = 600;
 const NAMES = new RegExp(`${MAJORITIES}|${AT_LEAST}|quota|quorum|quórum|consent|threshold|zustimm`
@@ -12,7 +12,7 @@ const NUMBER = "\\d(?:[\\d.,'’\u202f]*\\d)?";
 const [MORE, LEAST, PARTS] = [MORE_THAN, AT_LEAST, PART_WORDS.join("|")];
 /** What says how much, in a clause: a part, so many of all, a number of votes or behind "at least", a majority. */
 const QUOTA = new RegExp("(?<![\\p{L}\\d.,])"
-  + `(?:(${MORE}) (?:the |der |die |la )?|(?:(${LEAST}) )?(?:the |a |der |die )?)(?:`
+  + `(?:(${MORE}|>(?!=)) ?(?:the |der |die |la )?|(?:(${LEAST}|>=|≥) ?)?(?:the |a |der |die )?)(?:`
   + `(?<part>${NUMBER}(?: \\d/\\d)? ?(?:%|per ?cent|prozent|pour cent|procent|por ciento)|\\d+ ?/ ?\\d+`
   + `|(?:${COUNT_WORDS})[ -](?:${PARTS})(?!\\p{L})|zweidrittel|dreiviertel|tweederde|${PART_WORDS[0]})`
   + `|(?<some>\\d+) (?:out of|of|von|der|sur|van|des) (?:the |den |les |de )?(?<many>\\d+)`
@@ -46,9 +46,11 @@ const NUMBERING = /^\P{L}*(?:art\p{L}*\.? ?\d+[.)]?)?|\d{1,2}\.? \p{L}+ (?:19|20
 export function isClause(row) {
   const cells = row.filter(Boolean), text = cells.join(", ");
   const isRow = cells.length > 1 && !readNumber(cells.at(-1)).fault;
-  if (isRow || text.length > MOST_LETTERS || !NAMES.test(text)) return false;
+  const [, word, rest] = /^([^:=]{1,80})[:=](.+)$/u.exec(text.slice(0, MOST_LETTERS)) ?? [];
+  const isNamed = cells.length === 1 && word && NAME.test(word) && readNumber(rest).fault; // "Needed: all present"
+  if (isRow || text.length > MOST_LETTERS || !(isNamed || NAMES.test(text))) return false;
   const small = text.split(/\s+/).filter((word) => /^\p{Ll}/u.test(word)).length;
-  if (cells.length === 1 && isQuota(text)) return true; // "two-thirds majority"
+  if (isNamed || (cells.length === 1 && isQuota(text))) return true; // "two-thirds majority"
   const said = saidIn(text.replace(NUMBERING, ""));
   const isSaid = said.length > 0 && said.length < 3 && said.every((one) => one && isQuota(one.text));
   return isSaid && (small > 3 || MOTIONS.test(text));

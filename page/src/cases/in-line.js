@@ -1,6 +1,8 @@
 // Names and numbers in one line, as a sentence has them: "Vance 41, Ruiz 26.5 and Ott 7.5".
 import { isSumWord } from "../game/names.js";
 import { WHOEVER } from "./leaders.js";
+import { QUOTA } from "./quota.js";
+import { ESTATE } from "./whole-words.js";
 
 const MOST_LETTERS = 2000; // of a text with such a line
 const NUMBER = "\\p{Sc}?\\s?\\d(?:[\\d.,'’]*\\d)?(?:\\s?(?:\\p{Sc}|%|[A-Z]{3}))?";
@@ -11,6 +13,8 @@ const ITEM = new RegExp(`\\s*([^\\d,;:]*\\p{L}[^\\d,;:]*?)\\s*[ :=]\\s*(${NUMBER
 /** What stands between who pays or gets and the amount. */
 export const PAYS = "(?:(?:should|would|will|soll|wird) )?(?:pays?|gets?|takes?|bears?|receives?|zahlt|bekommt|trägt|"
   + "übernimmt|erhält|paie|paye|reçoit|prend|paga|recibe)";
+const IN_BRACKETS = new RegExp("\\s*([^\\d,;:()]*\\p{L}[^\\d,;:()]*?)\\s*"
+  + `\\((${NUMBER}${UNIT})\\)${END}\\s*(?:[,;.]\\s*)*(?:(?:and|und|et|e|y|en)\\s+)?`, "uy"); // Labour (26)
 const BEHIND = new RegExp(`^\\)?\\s*(?:[:=]|[–-](?=\\s)|(?:${PAYS})\\s)?\\s*(${NUMBER})(?![.,'’]?\\d)`, "u");
 const ENDS = new RegExp(`^(?:${END}|\\s\\()`, "u"), HAS_WORDS = /^\s\p{L}+\s\p{L}/u; // behind a number
 const VERB = /\s(?:owes|has|holds|claims|gets|pays|wants|schuldet|hat|hält|fordert|bekommt|zahlt|doit)$/u;
@@ -19,10 +23,14 @@ const SAID = [/^([^:]{1,200}):\s+(?=\p{L})(.*)$/u, /^(.{1,300}):\s+(?=\p{L})([^:
 
 /** The names and numbers of a line of nothing else, each name once; null for another. */
 function itemsOf(line) {
+  return itemsBy(ITEM, line) ?? itemsBy(IN_BRACKETS, line);
+}
+
+function itemsBy(way, line) {
   const found = [];
-  ITEM.lastIndex = 0;
-  while (ITEM.lastIndex < line.length) {
-    const item = ITEM.exec(line);
+  way.lastIndex = 0;
+  while (way.lastIndex < line.length) {
+    const item = way.exec(line);
     if (!item || WHOEVER.test(item[1])) return null;
     found.push([item[1].trim().replace(VERB, ""), item[2].trim()]);
   }
@@ -38,7 +46,7 @@ export function saidItemsOf(line) {
 
 /** A line by its sentences, if it is no list as a whole, and one of them is. */
 function sentencesOf(line) {
-  const some = saidItemsOf(line).items ? [line] : line.split(/(?<=\d|\p{L}{3})[.;]\s+(?=\p{L})/u);
+  const some = saidItemsOf(line).items ? [line] : line.split(/(?<=\d\)?|\p{L}{3})[.;]\s+(?=\p{L})/u);
   return some.filter((one) => saidItemsOf(one).items).length === 1 ? some : [line];
 }
 
@@ -51,7 +59,8 @@ export function partedInLine(rows) {
   const found = lines.map(saidItemsOf), [one, two, other] = found.filter(({ items }) => items);
   const numberOf = (name) => two.items.find(([own]) => own === name)?.[1];
   const isPair = two && !other && two.items.length === one.items.length && one.items.every(([own]) => numberOf(own));
-  const isOther = (line, k) => !found[k].items && SHORT.test(line);
+  const isWhole = (line) => [QUOTA, ESTATE].some((one) => one.test(line.replace(/\s\P{L}*$/u, "")));
+  const isOther = (line, k) => !found[k].items && SHORT.test(line) && !isWhole(line);
   if (!one || (two && !isPair) || lines.some(isOther)) return { rows, isParted: false };
   const whole = (line) => [line.replace(/,(?=\S)(?!\d)/g, ", ")];
   const own = one.items.map((item) => (isPair ? [...item, numberOf(item[0])] : item));

@@ -19,7 +19,8 @@ const NAME = `(?:the |die |la |de )?(?:(?:${KINDS})[ -])?(?:`
 const NAMED = new RegExp(`^${NAME}\\s*[:=]\\s*`, "iu");
 /** Whose a quota may be. */
 export const WHOM = "votes|seats|shares|weights?|capital|members|shareholders|inhabitants|habitants|einwohner|communes"
-  + "|stimmen|sitze|anteile|aktien|mitglieder|voix|sièges|stemmen|zetels|votos|escaños|acciones|voti|seggi|azioni";
+  + "|stimmen|sitze|(?:miteigentums)?anteile|aktien|mitglieder|voix|sièges|stemmen|zetels|votos|escaños|acciones|voti"
+  + "|seggi|azioni";
 const BEHIND = new RegExp("\\s*(?:of (?:all|the)|(?:of (?:all |the )*|aller |der |des |van (?:de |alle )?"
   + "|de (?:los |las )?|del? |dei |delle )?"
   + `(?:${WHOM})(?: present| cast)?)$`, "iu");
@@ -35,8 +36,8 @@ const COUNTS = {
 /** The words for how many parts. */
 export const COUNT_WORDS = Object.keys(COUNTS).join("|");
 /** The words for halves, thirds, quarters and fifths. */
-export const PART_WORDS = ["half|hälfte|moitié|helft|mitad|metà", "thirds?|drittel|tiers|derden?|tercios?|terzi",
-  "quarters?|viertel|quarts?|kwart|cuartos?|quarti", "fifths?|fünftel|vijfde|quintos?|quinti"];
+export const PART_WORDS = ["half|hälfte|moitié|helft|mitad|metà", "thirds?|dritteln?|tiers|derden?|tercios?|terzi",
+  "quarters?|vierteln?|quarts?|kwart|cuartos?|quarti", "fifths?|fünftel|vijfde|quintos?|quinti"];
 const PARTS = PART_WORDS.map((words) => new RegExp(`^(${words})$`));
 const PER_CENT = /^(.*?)\s*(?:%|per ?cent|prozent|pour cent|procent|por ciento|per cento)$/;
 const SOME_OF = /^(\S+) (?:out of|of|von|sur|di|van|de)(?: the| den| les| las| los)? (\S+)$/; // "3 of 5"

@@ -51,7 +51,7 @@ function tableIn(pasted, { single, isFirst }) {
   const { rows: bare, own } = isVotes ? apartSingles(paged, single) : { rows: paged, own: [] };
   const { rows: plain, clauses } = isVotes ? withoutClauses(bare) : { rows: bare, clauses: [] };
   if (clauses.length && !plain.some((row) => row.some(Boolean))) return { asked: { clause: single.lineOf(clauses) } };
-  const { rows: inner, left: lines, isListed } = isFirst ? withoutAround(plain) : { rows: plain, left: [] };
+  const { rows: inner, left: lines, isListed, marks } = isFirst ? withoutAround(plain) : { rows: plain, left: [] };
   const { rows: led, left: around } = isFirst ? ledRows(inner) : { rows: inner, left: [] };
   const { rows: parted, notes: counted, loose } = isFirst ? blockOf(led, { words: true }) : whole;
   const odd = loose ?? (isFirst ? noName(parted, clauses.length > 0) : undefined);
@@ -60,9 +60,13 @@ function tableIn(pasted, { single, isFirst }) {
   const said = [...(single ? withSingle(parted, single) : parted), ...own];
   const { rows: headed, left: titles } = isEstate ? headsFirst(said) : { rows: said, left: [] };
   const { rows, left } = unframed(headed), all = [above, lines, around, titles, left, clauses];
-  const out = inOrder(all.flat(), pasted), told = [isParted && IN_LINE, isListed && LISTED, ...counted];
-  return { given, rows, out, notes: [leftText([...out, ...pages]), ...told] };
+  const out = inOrder(all.flat(), given), told = [isParted && IN_LINE, marksText(marks), isListed && LISTED];
+  return { given, rows, out, notes: [leftText([...out, ...pages]), ...told, ...counted] };
 }
+
+/** What is told of the marks of notes. */
+const marksText = (marks = []) => marks.length > 0
+  && `The marks of notes were left out: ${marks.map((one) => `“${one}”`).join(", ")}.`;
 
 /** Pasted rows for the `columns` from a cell on, of which `usual` go without saying: {rows, targets, headings, notes},
  * the rows below the headings, the column that each cell is for, and what has to be told. Or {fault}, in words; or

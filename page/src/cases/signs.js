@@ -11,6 +11,8 @@ const DASHED = new RegExp(`^(?:(.*[\\p{L}\\d)\\]}.])(?:\\s+[-–—]|\\s*[–—
 
 const REMARK = /\s*\([^()]*\p{L}[^()]*\)[.;,]?$/u; // behind a number, as "(niece)"
 
+const DASHED_REMARK = /\s[–—-]\s\p{L}[^\s\d,]*(?:\s[^\s\d,]+){0,2}$/u; // and as "– new roof"
+
 /** Rows without the signs of a list or a quotation before their first text, and without a column of "1.", "2." beside
  * texts: {rows, isSigned, isCounted}. */
 export function withoutSigns(all) {
@@ -54,7 +56,8 @@ function isCountedText(all) {
 export function withoutDashes(texts, isParted, canBeNegative) {
   const isAmount = (text) => !readNumber(text).fault || parted(text) !== null;
   const dashed = texts.map((text) => {
-    const [, one, other = one, number = ""] = DASHED.exec(text) ?? [], plain = number.replace(REMARK, "");
+    const [, one, other = one, number = ""] = DASHED.exec(text) ?? [];
+    const plain = number.replace(REMARK, "").replace(DASHED_REMARK, "");
     const isMinus = canBeNegative && /^\s*-/.test(text.slice(other?.length));
     return !isMinus && isAmount(plain.replace(/[.;,]$/, "")) ? `${other.trim()}: ${number}` : null;
   });

@@ -8,7 +8,7 @@ const isNumber = (text) => !readNumber(text).fault;
 export function withSingle(rows, { heads, reads = isNumber }) {
   return rows.map((row) => {
     const [text = "", more] = row.filter(Boolean), [, word, number] = /^([^:=]+?)\s*[:=]\s*(.+)$/.exec(text) ?? [];
-    const [name, ...others] = more || text.length > MOST_LINE ? [] : text.split(/\s+(?=\d)/);
+    const [name, ...others] = more || text.length > MOST_LINE ? [] : text.replace(/(?<=\d)\.$/, "").split(/\s+(?=\d)/);
     if (!more && word && heads.test(word) && reads(number)) return [word, number];
     return others.length && heads.test(name) && others.every(reads)
       ? [name, ...(reads(others.join(" ")) ? [others.join(" ")] : others)] : row;

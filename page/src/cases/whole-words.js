@@ -1,4 +1,5 @@
 // Words for what there is to divide: a row or a line that is called so is no claim.
+import { isItem } from "./around-lines.js";
 import { readNumber } from "../exact/decimals.js";
 import { isEmpty } from "./sum-row.js";
 
@@ -18,8 +19,9 @@ export const ESTATE = new RegExp("^(?:the |die |der |das |le |la |l['’]|net |t
 
 const PERHAPS = new RegExp("(?<!\\p{L})(?:available|(?:distribut|verfügbar|vorhanden|verteil)\\p{L}*|disponible"
   + "|beschikbaar|répartir|nachlass|\\p{L}*masse|estate|actif|cash|funds|proceeds|\\p{L}*erlös|vermögen|boedel"
-  + "|assets|activo|attivo|mass?a)(?!\\p{L})", "iu");
-const SIGN = "(?:\\p{Sc}|(?<!\\p{L})[A-Z]{3}(?!\\p{L}))", DIGITS = "\\d(?:[\\d.,'’\\u00a0\\u202f]*\\d)?";
+  + "|budget|assets|activo|attivo|mass?a)(?!\\p{L})", "iu");
+const SIGN = "(?:\\p{Sc}|(?<!\\p{L})[A-Z]{3}(?!\\p{L}))", DIGITS = "(?:\\d{1,3}(?: \\d{3})+(?!\\d)(?:[.,]\\d+)?"
+  + "|\\d(?:[\\d.,'’\\u00a0\\u202f]*\\d)?)";
 const AMOUNT = new RegExp(`(?:${SIGN}\\s?)?${DIGITS}(?:\\s?${SIGN})?`, "gu"), MONEY = new RegExp(SIGN, "u");
 
 /** Whether a name may be that of the estate. */
@@ -34,13 +36,18 @@ export function askOfWhole(reading, state) {
   reading.asked = { r: found.r, name: found.row.name.trim(), amount: found.row.claim };
 }
 
+/** What a sentence says of it, beside such words. */
+const SAID = new RegExp("(?<!\\p{L})(?:left|we (?:only )?have|there (?:is|are)|to (?:share|split|divide)|account|übrig"
+  + "|zur verfügung)(?!\\p{L})", "iu");
+
 /** The one amount of a line that may say what there is to divide, {text, amount}, or undefined: of a line that speaks
  * of it, the one of money or else the one number; of another, the one of money, if one line alone has such. */
 export function wholeIn(texts) {
-  const found = texts.map((text) => {
+  const isOf = (text) => mayBeWhole(text) || SAID.test(text);
+  const found = texts.filter((text) => !isItem(text)).map((text) => {
     const all = text.match(AMOUNT) ?? [], money = all.filter((one) => MONEY.test(one));
-    const [amount, other] = money.length || !mayBeWhole(text) ? money : all;
+    const [amount, other] = money.length || !isOf(text) ? money : all;
     return !other && amount && !readNumber(amount).fault ? { text, amount: amount.trim() } : undefined;
   }).filter(Boolean);
-  return found.find(({ text }) => mayBeWhole(text)) ?? (found.length > 1 ? undefined : found[0]);
+  return found.find(({ text }) => isOf(text)) ?? (found.length > 1 ? undefined : found[0]);
 }

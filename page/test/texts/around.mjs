@@ -11,6 +11,11 @@ const MARKDOWN = "### Weights (rev. 3, 2026-11-20)\n\n| # | Partner | Weight | C
 const NOTES = "Table 2: Claims by class (USD m)\nNoteholders¹ 450\nPension fund 310\nTrade creditors² 95\n\n"
   + "¹ including interest to 1 May 2026\n² estimate of the administrator\nSource: Administrator's report, p. 14";
 const COUNCIL = "Commune\tDélégués\tPopulation\nSaint-Jean\t6\t12 450\nVilleneuve\t4\t7 800";
+const MAIL = "From: Karin Lund\nSent: Monday, 9 November 2026 08:14\n\nDear all,\nthese are the claims we know of:\n\n"
+  + "1) Lift (season 25/26): NOK 148 000\n2) Ski school: NOK 62 500\n3) Bus company (2 invoices): NOK 9 750\n\n"
+  + "On the account there are NOK 120 000.\nBest\nKarin";
+const GRANTS = "Top 5: Verteilung der Fördermittel\nSportverein: 12.000 Euro\nMusikschule: 8.500 Euro\n"
+  + "Zur Verfügung stehen 18.000 Euro.";
 
 export const AROUND = [
   // titles with a date, agenda items, sections, notes, numbers of files, and what the numbers are in
@@ -24,7 +29,8 @@ export const AROUND = [
   ["estate", "Item A: 120\nItem B: 80", "Item A=120|Item B=80"],
   ["estate", "Fallimento n. 45/2025\nCreditore: Importo\nINPS: 22.300,50\nRossi Mario: 4.500,00",
     "INPS=22.300,50|Rossi Mario=4.500,00", /“Fallimento n\. 45\/2025”\. .*“Creditore” is “Who claims”/],
-  ["estate", NOTES, "Noteholders¹=450|Pension fund=310|Trade creditors²=95", /“Table 2: Claims by .*”, “¹ in/],
+  ["estate", NOTES, "Noteholders=450|Pension fund=310|Trade creditors=95",
+    /“Table 2: Claims by .*”, “¹ in.*The marks of notes were left out: “¹”, “²”\./],
   ["estate", "Requests 2027 (in thousand EUR)\nHealth: 980\nRoads: 640", "Health=980|Roads=640",
     /Left out, .*“Requests 2027 \(in thousand EUR\)”\./],
   ["votes", "Voting power (per cent of total)\nUS 16.5\nJapan 6.1", "US=16.5|Japan=6.1", /“Voting power \(per cent/],
@@ -71,4 +77,24 @@ export const AROUND = [
   ["votes", `${PARTNERS}\nBesluiten vereisen twee derde van de stemmen.`, IN_PARTNERS, /Votes needed: twee derde/],
   ["votes", `${PARTNERS}\nMajority Trust 3`, `${IN_PARTNERS}|Majority Trust=3`],
   ["estate", "Ann - £120.50\nBo - £80\nRealised assets after costs: £90", /^Ann=/, /Is “Realised assets after costs”/],
+  // what stands in mails, letters, by-laws and tables of agencies
+  ["estate", MAIL, "Lift (season 25/26)=NOK 148 000|Ski school=NOK 62 500|Bus company (2 invoices)=NOK 9 750",
+    /The numbers of the list .*Is NOK 120 000 what there is to divide\? Yes, NOK 120 000/],
+  ["estate", "Claims:\n\nCooperative\t1,250,000*\nHotels\t3,400,000\nPortsea\t780,000**\n\n* lost catch\n** estimated",
+    "Cooperative=1,250,000|Hotels=3,400,000|Portsea=780,000", /The marks of notes were left out: “\*”, “\*\*”\./],
+  ["estate", "Ann\t120*\nBo\t80\n\n** estimated", "Ann=120*|Bo=80", /number alone/],
+  ["estate", GRANTS, "Sportverein=12.000|Musikschule=8.500", /“Top 5: Verteilung.*Is 18\.000 what there is to/],
+  ["estate", "Requests by 1 March:\n• Chemistry – $45k – new spectrometer\n• Physics – $30k – laser\nBudget: $70k",
+    "Chemistry=$45|Physics=$30|Budget=$70", /behind numbers: “new spectrometer”, “laser”.*Is “Budget”, \$70, what/],
+  ["estate", "Point 2 – Indemnisation\n- Dinard : 0,8 M€\n- Cancale : 0,35 M€", "Dinard=0,8|Cancale=0,35", /“Point 2/],
+  ["estate", "Lisa 24.50\nTom 19.50\nCan somebody work out a fair split?\nCheers\nTom", "Lisa=24.50|Tom=19.50",
+    /“Can somebody work out a fair split\?”, “Cheers”, “Tom”\./],
+  ["votes", "Knesset 2022 – seats (120)\nLikud 32 (coalition)\nYesh Atid 24 (opposition)", "Likud=32|Yesh Atid=24",
+    /“Knesset 2022 – seats \(120\)”\. Left out behind numbers: “\(coalition\)”/],
+  ["votes", "Seats: Labour (26), Conservatives (18), Greens (5). Quota 31.", "Labour=26|Conservatives=18|Greens=5",
+    /“Quota”, 31, was taken as votes needed/],
+  ["votes", "Wohnung 1 (Berger) – 410/1000\nWohnung 2 (Costa) – 590/1000\nErforderlich: Mehrheit von zwei Dritteln der "
+    + "Miteigentumsanteile", "Wohnung 1 (Berger)=410/1000|Wohnung 2 (Costa)=590/1000", /“Erforderlich”, .*, was/],
+  ["votes", `${PARTNERS}\nErforderlich: siehe Satzung`, IN_PARTNERS, /Left out, .*“Erforderlich: siehe Satzung”/],
+  ["votes", `${PARTNERS}\nDecision by qualified majority (> 66 %)`, IN_PARTNERS, /Votes needed: more than 66 %/],
 ];

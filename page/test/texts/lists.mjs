@@ -129,7 +129,7 @@ export const LISTS = [
   ["votes", "Ms Vance holds 41 shares, Mr Ruiz holds 26 shares.", "Ms Vance=41|Mr Ruiz=26", /“shares” behind the/],
   ["votes", "Clubs: Alfa 1, Beta 1, Gamma 1. Two thirds are needed.", "Alfa=1|Beta=1|Gamma=1",
     /stands beside: “Clubs”, “Two thirds are needed\.”.*Votes needed: Two thirds/],
-  ["votes", "List A (12 seats), List B (9 seats), List C (4 seats)", null, /These rows have 3 cells/],
+  ["votes", "List A (12 seats), List B (9 seats), List C (4 seats)", "List A=12|List B=9|List C=4"],
   ["votes", "Vance 41, Ruiz 27, Ott 32; at least 51", "Vance=41|Ruiz=27|Ott=32", /“at least”, 51, was taken as votes/],
   ["votes", "No. of share\tShareholder\tNominal\n1-41\tVance\t41\n42-67\tRuiz\t26", "Vance=41|Ruiz=26",
     /“Nominal” is “Votes”\. “No\. of share” was left out/],
