@@ -100,7 +100,8 @@ function withoutNumbers(all) {
   found.forEach((one, k) => {
     if (!one) return;
     const kind = `${one[1]}${/\d/.test(one[2]) ? 1 : "a"}${one[3]}`;
-    kinds.set(kind, [...(kinds.get(kind) ?? []), k]);
+    if (!kinds.has(kind)) kinds.set(kind, []);
+    kinds.get(kind).push(k);
   });
   const restOf = (k) => textOf(all[k]).slice(found[k][0].length);
   const hasNumber = (k) => /\d/.test(restOf(k)) || all[k].filter(Boolean).length > 1;

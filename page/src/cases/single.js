@@ -7,9 +7,11 @@ const isNumber = (text) => !readNumber(text).fault;
 /** Rows in which a line such as "Quorum: 2/3" or "Needed 8 3" has a cell for each. */
 export function withSingle(rows, { heads, reads = isNumber }) {
   return rows.map((row) => {
-    const [text = "", more] = row.filter(Boolean), [, word, number] = /^([^:=]+?)\s*[:=]\s*(.+)$/.exec(text) ?? [];
-    const [name, ...others] = more || text.length > MOST_LINE ? [] : text.replace(/(?<=\d)\.$/, "").split(/\s+(?=\d)/);
-    if (!more && word && heads.test(word) && reads(number)) return [word, number];
+    const [text = "", more] = row.filter(Boolean);
+    if (more || text.length > MOST_LINE) return row;
+    const [, word, number] = /^([^:=]+?)\s*[:=]\s*(.+)$/.exec(text) ?? [];
+    const [name, ...others] = text.replace(/(?<=\d)\.$/, "").split(/\s+(?=\d)/);
+    if (word && heads.test(word) && reads(number)) return [word, number];
     return others.length && heads.test(name) && others.every(reads)
       ? [name, ...(reads(others.join(" ")) ? [others.join(" ")] : others)] : row;
   });
