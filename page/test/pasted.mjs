@@ -305,6 +305,19 @@ for (const [text, wanted, told = /^/, labels = ["Sales", "Ops", "Legal"]] of [..
   faults += isAll ? 0 : 1;
 }
 
+/** Second votes are called by the heading that they were pasted below, until another list takes their place. */
+{
+  const desk = new Desk("votes", "."), offer = "Use “Inhabitants” as second votes";
+  const heads = () => desk.grid.all().filter(({ tagName }) => tagName === "th").map((one) => one.textContent).join();
+  await desk.paste("rows.0.name", "Member\tVotes\tInhabitants\nAda\t12\t2400\nBo\t9\t1900");
+  await settled(desk.read().buttons.find((one) => one.textContent === offer)?.on.click({}));
+  const before = heads();
+  await desk.paste("rows.0.name", "Cy\t12\t2400\nDi\t9\t1900");
+  const isAll = before === "Who votes,Votes,Inhabitants" && heads() === "Who votes,Votes,Second votes";
+  if (!isAll) console.log(`second votes are called by their heading: ${before}, then ${heads()}`);
+  faults += isAll ? 0 : 1;
+}
+
 /** Texts that lead to two questions or offers: those that are answered, and what then is offered or asked still. */
 const MEMBERS = "Member\tInhabitants\tVotes\nAda\t2400\t12\nBo\t1900\t9\nCy\t900\t7\nTotal\t5200\t29";
 const OWED = "Hi,\nthe estate comes to 84,000 after costs.\n\nAnn\t20,500\nBo\t30,250\nTotal\t50,800";

@@ -10,11 +10,11 @@ import { readNumber } from "../exact/decimals.js";
 import { withEscapes } from "../game/names.js";
 import { cellInput, moveByKeys, pasteCells, removal } from "./cells.js";
 import { askAgain, askIn, button, el, refill, unask } from "./dom.js";
-import { askBroken, askClause, askPair, offersOf, withoutGone } from "./list-offers.js";
+import { askBroken, askClause, askHead, askPair, offersOf, withoutGone } from "./list-offers.js";
 import { askNames } from "./names-asked.js";
 
 const ROWS = "rows."; // what the cells of the list are called by
-const NAMED = { things: "names", numbers: "numbers" };
+const NAMED = { things: "names", numbers: "numbers" }, MOST_HEAD = 40; // letters of a heading
 
 export function listGrid(kind, typed, settings) {
   return new ListGrid(kind, typed, settings).element;
@@ -54,6 +54,11 @@ class ListGrid {
     return typed.secondQuota === undefined ? columns : [...columns, second.column];
   }
 
+  /** The title of a column: of second votes their heading, if they were pasted below one. */
+  headOf({ key, title }) {
+    return key === "second" && this.typed.secondHead ? withEscapes(this.typed.secondHead) : title;
+  }
+
   /** An optional column is there where the user wants it, or where a cell of it is filled. */
   hasColumn({ key }) {
     return this.typed.more?.includes(key) || this.typed.rows.some((row) => row[key]?.trim());
@@ -72,8 +77,8 @@ class ListGrid {
     if (this.kind.columns.some(({ optional }) => optional)) this.showSingles();
     if (!rows.length || !this.isBlank(rows.at(-1))) rows.push(this.blank());
     this.head.parentElement.classList.toggle("more", this.columns().some(({ optional }) => optional));
-    const titleOf = ({ title, number }) => el("th", { scope: "col", class: number ? "number" : "" }, title);
-    refill(this.head, el("tr", {}, this.columns().map(titleOf), el("td", { class: "tool" })));
+    const headOf = (one) => el("th", { scope: "col", class: one.number ? "number" : "" }, this.headOf(one));
+    refill(this.head, el("tr", {}, this.columns().map(headOf), el("td", { class: "tool" })));
     refill(this.body, rows.map((row, r) => this.rowOf(row, r)));
   }
 
@@ -95,7 +100,7 @@ class ListGrid {
     const named = column.placeholder && !this.typed.isNamed && (byType || `${column.placeholder} ${r + 1}`);
     return el("td", { class: column.wide ? "wide" : column.short ? "short" : "" }, cellInput({
       cell: `rows.${r}.${column.key}`, value: row[column.key] ?? "", isNumber: column.number,
-      label: `${column.title}, row ${r + 1}`, placeholder: this.isBlank(row) ? "" : named || this.greyOf(column),
+      label: `${this.headOf(column)}, row ${r + 1}`, placeholder: this.isBlank(row) ? "" : named || this.greyOf(column),
       onInput: (text) => {
         const wasBlank = this.isBlank(row), isLast = r === this.typed.rows.length - 1;
         row[column.key] = text;
@@ -258,7 +263,7 @@ class ListGrid {
 
   /** Asks which of several pasted columns is meant; `use` takes the list by what is said then. */
   askWhich({ heads, pair, clause, broken, column: { key, title } = {}, at = [], isOnly, canNone }, said, use) {
-    if (heads) return this.askHead(heads, (isHead) => use({ ...said, isHead }));
+    if (heads) return askHead(this, heads, (isHead) => use({ ...said, isHead }));
     if (clause) return askClause(this, clause);
     if (broken) return askBroken(this, broken, (isBroken) => use({ ...said, isBroken }));
     if (pair) return askPair(this, pair, said, use);
@@ -279,14 +284,6 @@ class ListGrid {
       isTwo && button("Both, with two quotas", both, { class: "quiet" }), canNone && way("None", NONE)]);
   }
 
-  /** Asks whether the first row is one of headings; none of them is known. */
-  askHead(heads, use) {
-    const way = (text, isHead) => button(text, () => use(isHead), { class: "quiet" });
-    this.say("");
-    return askIn(this.element, this.said, [`Nothing was taken yet. Is “${withEscapes(heads)}” the heading of the `
-      + "columns? ", way("Yes, the heading", true), " ", way("No, a row", false)]);
-  }
-
   /** A list with names that begins in the first row is the case; and nothing of the worked example stays beside it. */
   take({ rows, targets, headings, notes, number, other, asks, isPercent, kept, beside, amounts }, at) {
     const { kind, typed } = this, isExample = this.isExample();
@@ -301,6 +298,8 @@ class ListGrid {
     Object.assign(typed, { ...asks, notTwice: false, beside, amounts, ...(kind.isVote && { isPercent }) });
     if (number) typed[kind.single.key] = number;
     if (other) typed[kind.second.single.key] = other;
+    const head = headings?.[targets.findIndex((own) => own?.key === "second")];
+    if (head) typed.secondHead = head.slice(0, MOST_HEAD);
     const filled = rows.map((row, k) => {
       const target = (typed.rows[r + k] ??= this.blank());
       row.forEach((text, c) => targets[c] && (target[targets[c].key] = text));
@@ -353,7 +352,8 @@ class ListGrid {
   leave(isExample) {
     const { typed, kind } = this, { key } = kind.single ?? {};
     Object.assign(typed, { rows: [], isPasted: true });
-    for (const said of ["notSums", "notWhole", "coarse", "isMarked", "isNamed", "offered"]) delete typed[said];
+    const own = ["notSums", "notWhole", "coarse", "isMarked", "isNamed", "offered", "secondHead"];
+    for (const said of own) delete typed[said];
     if (isExample && key && typed[key] === kind.example()[key]) typed[key] = "";
   }
 

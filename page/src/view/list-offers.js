@@ -116,6 +116,14 @@ export function askPair(grid, pair, said, use) {
     button("No, one", () => use({ ...said, isOne: true }), { class: "quiet" })]);
 }
 
+/** Asks whether the first row is one of headings; none of them is known. */
+export function askHead(grid, heads, use) {
+  const answer = (text, isHead) => button(text, () => use(isHead), { class: "quiet" });
+  grid.say("");
+  return askIn(grid.element, grid.said, [`Nothing was taken yet. Is “${withEscapes(heads)}” the heading of the `
+    + "columns? ", answer("Yes, the heading", true), " ", answer("No, a row", false)]);
+}
+
 /** Asks whether a line without an amount and the name below it are one name. */
 export function askBroken(grid, lines, use) {
   const [one, other] = lines.map(quoted), way = (text, isBroken) => {

@@ -3,6 +3,7 @@ import { neededText } from "../cases/quota.js";
 import { partsOf, remarkOn, voteHeads, votesText } from "../draw/ranges.js";
 import { fractionText, percentText, shortText, stepsOf } from "../exact/decimals.js";
 import { Rational } from "../exact/rational.js";
+import { withEscapes } from "../game/names.js";
 import { powerLead, powerOf } from "./answer.js";
 import { el } from "./dom.js";
 import { halves } from "./halves.js";
@@ -14,8 +15,9 @@ const stepsOfPercent = (part) => stepsOf(part.times(HUNDRED), 1);
 /** What is needed, as typed and in votes. */
 export function neededHint({ typed, reading }, { ballots }) {
   const all = ballots.map((ballot, b) => neededText(b ? typed.secondQuota : typed.quota, ballot, reading.entry));
-  return el("p", {}, all.length > 1 ? `Needed of the first votes: ${all[0]}. Needed of the second votes: ${all[1]}. `
-    + "A motion has to reach both." : `Needed: ${all[0]}.`);
+  const head = typed.secondHead ? ` (${withEscapes(typed.secondHead)})` : "";
+  return el("p", {}, all.length > 1 ? `Needed of the first votes: ${all[0]}. Needed of the second votes${head}: `
+    + `${all[1]}. A motion has to reach both.` : `Needed: ${all[0]}.`);
 }
 
 /** The answer; nothing as long as the power isn't known. */
