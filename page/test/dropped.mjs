@@ -53,7 +53,7 @@ export const dropped = [
   ["a table that is opened is given to a case, and a mail is read without what was added", "document",
     async (page, expect) => {
       await drop(page, { "claims.csv": CLAIMS }, "#document .drop");
-      await told(page, "#document-message", /This is a table, and no saved case\. Choose the case that it is of: it goes/);
+      await told(page, "#document-message", /This is a table, and no saved case\. Choose the case that it is of/);
       await page.click("An estate or a bankruptcy", "document.getElementById('document-message')");
       await told(page, "#case .pasted", /“Creditor” is “Who claims”/);
       expect("its name", await valueOf(page, "rows.0.name"), "Nord, Bank");

@@ -24,7 +24,7 @@ const SEEN = `(() => {
   }
   const answer = document.querySelector("#answer .lead").getBoundingClientRect();
   const before = [...document.querySelectorAll("#answer-body .note, #answer-body .notice, #answer-body .ahead")];
-  const grid = document.querySelector("#case .scroll");
+  const grid = document.querySelector("#case .scroll:not(.mend .scroll)");
   return {
     buttons: controls.length, words: words.filter(Boolean).length, high: document.documentElement.scrollHeight,
     answer: answer.bottom, above: before.filter((one) => one.getBoundingClientRect().bottom <= answer.top + 1).length,

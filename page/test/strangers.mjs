@@ -49,7 +49,7 @@ const proposals = [
       ["Hi all,\n\nSales: 4.3\nOps - 4.0\nLegal 3.7 (they use it least)\n\nAnna", "4.3,4.0,3.7", /out: “Hi all,”/],
       ["Sales\t4\nOps\t4\nMarketing\t4", "4.3,4.0,3.7", /“Marketing”\. Rows without an amount: Legal\. Nothing/],
       ["Sales\t8.00\t4.20\nOps\t7.50\t4.10", "4.3,4.0,3.7", /Two numbers stand beside Sales/],
-      ["Sales: 4 %\nOps: 4 %\nLegal: 4 %", "4.3,4.0,3.7", /“4 %” beside Sales is no amount\. Write one amount/],
+      ["Sales: 4 %\nOps: 4 %\nLegal: 4 %", "4 %,4 %,4 %", /by name: Sales, Ops and Legal/],
       ["Bid :\nLegal : 1 340 k€\nSales : 640 k€\nOps : 60 k€", "640,60,1 340",
         /“k€” behind the numbers is taken as their unit/],
       ["Sales : 1 340 k€\nOppo : 6 k€", "640,60,1 340", /No row is called “Oppo”/],

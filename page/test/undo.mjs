@@ -164,7 +164,8 @@ async function typedBack(page, expect) {
   expect("the last step", await lastStep(page), step);
   await page.click("Undo “");
   await quiet(page);
-  expect("the row is there again", await page.run(`document.querySelector('[data-cell="rows.2.name"]').value`), "Chopra");
+  const last = `document.querySelector('[data-cell="rows.2.name"]').value`;
+  expect("the row is there again", await page.run(last), "Chopra");
 }
 
 /** Of so many seeds, for each of three cases. */

@@ -100,7 +100,8 @@ const MAIL = /,|[:;.!?]$|\b(regards|wishes|thanks|grüße|gruß|cordialement|sal
 // words before a name that greet
 const GREETING = new RegExp("^(hi|hello|hey|dear|hallo|liebe[rs]?|sehr|guten|bonjour|salut|hola|ciao|thanks?|thx|danke|"
   + "merci|gracias|cheers|best|kind|warm|yours|love|lg|vg|mfg|gru(?=ß)|gr(?=ü)|gruss|viele|beste|bis|"
-  + "cordialement|bien|from|von|sent|regards|greetings|sincerely|total|sum|summe|note|source|p\\.?s|re|aw|fwd?)\\b", "iu");
+  + "cordialement|bien|from|von|sent|regards|greetings|sincerely|total|sum|summe|note|source|p\\.?s|re|aw"
+  + "|fwd?)\\b", "iu");
 const PERSON = /^\p{Lu}[\p{L}'’. -]*(, ?\p{Lu}[\p{L}'’. -]{0,40}:?|:)$/u; // "Rossi, M", or "Cleo:"
 const FULL_NAME = /^\p{Lu}[\p{L}'’.-]*( \p{Lu}[\p{L}'’.-]*){0,2}$/u;
 const PHONE = /(^|[:=]\s*)\+?0\d{5,}$/;

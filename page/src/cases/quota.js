@@ -28,10 +28,11 @@ const MAJORITY = new RegExp("^((the|a|die|la|de|een) )?((simple|absolute|einfach
   + `(${MAJORITIES})( simple| absolue| absoluta| semplice| assoluta)?$`);
 const UNANIMOUS = /^(all|everybody|unanim(ity|ous)|alle|einstimmig|unanimité|unanimidad|unanimità)$/;
 const OF_MAJORITY = new RegExp(`[ -]*(?:${MAJORITIES})$|^(?:${MAJORITIES}) (?:of|des|de|di|von|van) `);
-const SIGNS = { "½": "1/2", "⅓": "1/3", "⅔": "2/3", "¼": "1/4", "¾": "3/4", "⅗": "3/5", "⅘": "4/5" };
+// without what each object has, since people type any word
+const SIGNS = { __proto__: null, "½": "1/2", "⅓": "1/3", "⅔": "2/3", "¼": "1/4", "¾": "3/4", "⅗": "3/5", "⅘": "4/5" };
 const COUNTS = {
-  one: 1, two: 2, three: 3, four: 4, five: 5, six: 6, seven: 7, eight: 8, ein: 1, zwei: 2, drei: 3, un: 1, deux: 2,
-  trois: 3, a: 1, twee: 2, drie: 3, dos: 2, tres: 3, due: 2, tre: 3,
+  __proto__: null, one: 1, two: 2, three: 3, four: 4, five: 5, six: 6, seven: 7, eight: 8, ein: 1, zwei: 2, drei: 3,
+  un: 1, deux: 2, trois: 3, a: 1, twee: 2, drie: 3, dos: 2, tres: 3, due: 2, tre: 3,
 };
 /** The words for how many parts. */
 export const COUNT_WORDS = Object.keys(COUNTS).join("|");

@@ -53,11 +53,7 @@ export function casePanel(kind, typed, settings) {
     markOdds(grid, reading.odds ?? []);
     markChanged(grid, settings.changed?.());
     refill(coarse, coarseNote(typed, settings));
-    refill(faults, reading.notes.map((note) => el("p", { class: "note" }, note)),
-      questions(reading, typed, settings),
-      emptyCells(reading, kind, grid), faultList(reading, grid), nameHelp(reading, typed, settings),
-      oddList(reading.odds ?? [], grid, () => onReset(lowered(typed, reading.odds), "Lower the links", true)),
-      reading.isTooFine && finenessHelp(settings));
+    refill(faults, toldOf(reading, grid, { kind, typed, settings }));
     refill(made, madeOf(reading, kind, typed, settings));
   }
 
@@ -66,6 +62,17 @@ export function casePanel(kind, typed, settings) {
     element, tell, say, made, undo, goTo: (cell) => goTo(grid, cell), choices: () => grid.choices?.(),
     setTips: (tips) => showDeciding(grid, legend, tips),
   };
+}
+
+/** What is said and asked of the cells. */
+function toldOf(reading, grid, { kind, typed, settings }) {
+  const { notes, odds = [], isTooFine } = reading;
+  return [
+    notes.map((note) => el("p", { class: "note" }, note)), questions(reading, typed, settings),
+    emptyCells(reading, kind, grid), faultList(reading, grid), nameHelp(reading, typed, settings),
+    oddList(odds, grid, () => settings.onReset(lowered(typed, odds), "Lower the links", true)),
+    isTooFine && finenessHelp(settings),
+  ];
 }
 
 /** The document that a case makes, or the list of more landings than a document has. */
@@ -79,7 +86,8 @@ function madeOf(reading, kind, typed, settings) {
 function showDeciding(grid, legend, tips) {
   (grid.setTips ?? ((some) => showTips(grid, some)))(tips);
   const dot = el("span", { class: "dot", "aria-hidden": "true" });
-  refill(legend, tips && [dot, grid.setTips ? ` ${DECIDES}` : el("span", { title: DECIDES }, " decides")]);
+  const said = grid.setTips ? ` ${DECIDES}` : el("span", { title: DECIDES }, " the answer rests on these");
+  refill(legend, tips && [dot, said]);
 }
 
 function moreTools(kind, typed, others, onReset) {

@@ -11,9 +11,9 @@ export function todayOf(session, rows) {
   const canBe = !result.game || (!result.game.isMarket() && !result.game.ballots); // of many landings there is no game
   if (!todays || !canBe) return { canBe, texts: null, setAll };
   const set = (r, text) => setAll(Object.assign([...todays], { [r]: text }));
-  const { texts, values, faults, told } = proposalOf(todays, rows, session.marks.beside()), isWhole = values.every(Boolean);
-  const labels = rows.map(({ label }) => label);
-  return { canBe, texts, faults, told, labels, set, setAll, values: isWhole ? [...values, Rational.sum(values)] : values };
+  const { texts, values: own, faults, told } = proposalOf(todays, rows, session.marks.beside());
+  const values = own.every(Boolean) ? [...own, Rational.sum(own)] : own, labels = rows.map(({ label }) => label);
+  return { canBe, texts, faults, told, labels, set, setAll, values };
 }
 
 export function todayTitle({ costs }) {

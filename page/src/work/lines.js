@@ -69,8 +69,8 @@ function bareOf({ shares }, own, agreed) {
 const SAVED_CASE = "It is a saved case of this page, and no answer with evidence. “Open a saved case”, where the page "
   + "begins, opens it.";
 
-const SAVED_GAME = "It is a saved case of this page. “Open a saved case”, where the page begins, opens it, and then its "
-  + "game is offered here.";
+const SAVED_GAME = "It is a saved case of this page. “Open a saved case”, where the page begins, opens it, and then "
+  + "its game is offered here.";
 
 /** What is said of a mail with names and amounts. */
 const IN_WORDS = "Shares in words are judged in a case: there “What if” has “Your own division”, which takes them.";
