@@ -119,8 +119,8 @@ class Fit {
     const first = at.find(({ isCount }) => !isCount) ?? at[0];
     if (column && this.headings && isRemark && words.length === 1) return { column, at: [first, ...words] };
     if (column && this.headings && words.length > 1) return { column, at: words };
-    const ahead = words.filter(({ c }) => at.some((one) => one.c > c)), isPlain = !this.free(isType).length;
-    if (column && !this.headings && isPlain && ahead.length > 1) return { column, at: ahead, isOnly: true };
+    const ahead = words.filter(({ c }) => at.length > 0 && at.every((one) => one.c > c));
+    if (column && !this.headings && !this.free(isType).length && ahead.length > 1) return { column, at: ahead, isOnly: true };
     this.give(column ? words.slice(0, 1) : [], [column]);
     this.give(this.headings ? [] : words.filter((one) => this.isOpen(one) && one.isFull), this.free(isType));
     if (!column || words.length || !at.length) return null;
@@ -138,7 +138,9 @@ class Fit {
     const real = all.filter(({ isCount }) => !isCount), numbers = real.length ? real : all;
     const isPair = Boolean(other?.short) && numbers.length === 2, whole = numbers.filter(({ isWhole }) => isWhole);
     const isClear = isPair && whole.length === 1, least = column?.fallback ? 0 : 1;
-    const isWide = !this.headings && numbers.length > own.length - 1 + this.most;
+    const [, ...more] = this.all.filter((one) => one.isWords && !one.isNumbers); // names beside names have numbers each
+    const isBeside = more.some(({ c }) => numbers.some((one) => one.c > c));
+    const isWide = !this.headings && !isBeside && numbers.length > own.length - 1 + this.most;
     if ((this.headings || isWide) && column && !isClear && numbers.length > least) {
       return { column, at: numbers, isOnly: own.length === 1, canNone: !least };
     }

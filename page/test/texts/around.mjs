@@ -61,6 +61,7 @@ export const AROUND = [
   ["estate", "Huber\tJosef\t12.50\nMaier\tEva\t9", null, /Which column is “Who cl.*“Huber, Maier …” “Josef/],
   ["estate", "Huber\tJosef\t12.50\nMaier\tEva\t9", "Huber=12.50|Maier=9", /“Josef” … was left out/, "“Huber, Maier …”"],
   ["estate", "Huber\t12.50\t60%\nMaier\t9\t40%", null, /Which column is “Claim”\? “12\.50, 9 …” “60, 40 …”/],
+  ["estate", "Ann\t120\tBo\t80\nCy\t40\tDi\t30", null, /These rows have 4 cells/],
   ["votes", MARKDOWN, "Aalto=25|KTH=30", /“### Weights.*“Contact” was left .*“Quota”, 60 % of weights, was/],
   ["estate", BARS, "Hacienda=18.200,00 €|Maderas=33.100,00 €", /“Concurso — Mueb.*“Masa activa”, 35\.000,00 €, /],
   ["votes", REGISTER, "Fam. Schulz=120,5|Kern, Ute=98,25|Bank AG=781", /“MEA” is “Votes”.*“\/1000” behind the numbers/],
