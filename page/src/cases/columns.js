@@ -120,7 +120,8 @@ class Fit {
     if (column && this.headings && isRemark && words.length === 1) return { column, at: [first, ...words] };
     if (column && this.headings && words.length > 1) return { column, at: words };
     const ahead = words.filter(({ c }) => at.length > 0 && at.every((one) => one.c > c));
-    if (column && !this.headings && !this.free(isType).length && ahead.length > 1) return { column, at: ahead, isOnly: true };
+    const isTwo = !this.headings && ahead.length > 1 && !this.free(isType).length;
+    if (column && isTwo) return { column, at: ahead, isOnly: true };
     this.give(column ? words.slice(0, 1) : [], [column]);
     this.give(this.headings ? [] : words.filter((one) => this.isOpen(one) && one.isFull), this.free(isType));
     if (!column || words.length || !at.length) return null;
