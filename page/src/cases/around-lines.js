@@ -1,6 +1,7 @@
 // Lines of a document around the rows of a list, and what stands before its names: titles with a date, agenda items,
 // sections, notes and files' numbers are no rows, and the numbers of a list are no part of names.
 import { isHeadline } from "./frames.js";
+import { WHOM } from "./quota.js";
 
 const MOST_LETTERS = 300; // of a line that is looked at
 const MONTH = "(?:jan|feb|f[ée]v|mar|mär|mrt|maa|apr|avr|abr|ma[iygj]|mei|jun|jui|giu|jul|lug|aug|ao[uû]|ago|sep|set"
@@ -19,7 +20,7 @@ const NOTE = new RegExp("^(?:[¹²³⁴-⁹†‡]|\\*{1,3}\\s?(?=\\p{L})|\\[\\d
   + "|opmerking(?:en)?)(?: \\d)?[:.](?=\\s))", "iu");
 const SCALE = new RegExp("\\S\\s.{0,200}\\((?:(?:all|figures|amounts|values|alle|angaben|beträge|montants|bedragen|in"
   + "|en) ){0,4}(?:per ?cent|%|prozent|thousands?|millions?|tausend|tsd|mio|milliers|miles|[kKTM]?(?:EUR|USD|GBP|CHF|€)"
-  + "|\\p{Sc}|1[., ’]?000)[^()]{0,40}\\)[¹²³⁴-⁹*†‡:]{0,3}$", "iu");
+  + `|\\p{Sc}|1[., ’]?000|\\d[\\d.,]{0,9} (?:${WHOM}))[^()]{0,40}\\)[¹²³⁴-⁹*†‡:]{0,3}$`, "iu");
 const REMARK = /\s*\([^()]*\)[.;,:]?$/u, YEARS = /(?<!\d)(?:19|20)\d\d(?!\d)/g;
 const AMOUNT = /\d[\d.,'’\u00a0\u202f]*(?:[-–—]{1,2})?\s?(?:\p{L}{0,5}\.?\s?\p{Sc}|%|\p{L}{1,12}\.?)?[.;,:)]{0,2}$/u;
 const COUNT = /^[^\d:]{3,200}\(\d[\d.,'’ ]{0,12}\)[:.]?$/u; // a title with a sum in brackets

@@ -18,7 +18,7 @@ export const ESTATE = new RegExp("^(?:the |die |der |das |le |la |l['’]|net |t
   + `|${IN_OTHERS}|to (?:be )?(?:distributed?|divided?))(?: value| net(?:to)?)?(?: \\(.*\\))?[:.]?$`, "iu");
 
 const PERHAPS = new RegExp("(?<!\\p{L})(?:available|(?:distribut|verfügbar|vorhanden|verteil)\\p{L}*|disponible"
-  + "|beschikbaar|répartir|nachlass|\\p{L}*masse|estate|actif|cash|funds|proceeds|\\p{L}*erlös|vermögen|boedel"
+  + "|beschikbaar|répartir|nachlass|\\p{L}*masse|estate|actif|cash|funds|proceeds|\\p{L}*erlös|vermögen|boedel\\p{L}*"
   + "|budget|assets|activo|attivo|mass?a)(?!\\p{L})", "iu");
 const SIGN = "(?:\\p{Sc}|(?<!\\p{L})[A-Z]{3}(?!\\p{L}))", DIGITS = "(?:\\d{1,3}(?: \\d{3})+(?!\\d)(?:[.,]\\d+)?"
   + "|\\d(?:[\\d.,'’\\u00a0\\u202f]*\\d)?)";

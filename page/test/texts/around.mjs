@@ -78,6 +78,8 @@ export const AROUND = [
   ["votes", `${PARTNERS}\nBesluiten vereisen twee derde van de stemmen.`, IN_PARTNERS, /Votes needed: twee derde/],
   ["votes", `${PARTNERS}\nMajority Trust 3`, `${IN_PARTNERS}|Majority Trust=3`],
   ["estate", "Ann - £120.50\nBo - £80\nRealised assets after costs: £90", /^Ann=/, /Is “Realised assets after costs”/],
+  ["votes", "Gemeinderat (33 Sitze + OB)\nCDU: 11\nOB: 1", "CDU=11|OB=1", /“Gemeinderat \(33 Sitze \+ OB\)”/],
+  ["estate", "Ann € 12,50\nBo € 4,00\nTotaal € 16,50\nBoedelsaldo € 9,00", /Boedelsaldo/, /Yes, it is the estate/],
   // what stands in mails, letters, by-laws and tables of agencies
   ["estate", MAIL, "Lift (season 25/26)=NOK 148 000|Ski school=NOK 62 500|Bus company (2 invoices)=NOK 9 750",
     /The numbers of the list .*Is NOK 120 000 what there is to divide\? Yes, NOK 120 000/],
