@@ -203,8 +203,9 @@ function noName(rows, isOfText) {
   const names = new Set(texts.map((text) => text.replace(AMOUNT, ""))), isWord = (name) => /\p{L}/u.test(name);
   const isAll = names.size > 1 && found.every(Boolean) && [...names].every(isWord);
   const pair = texts.every((text) => /^\d\S*\s+\d\S*$/.test(text)) && texts.find((text) => readNumber(text).fault);
-  const [unit, other] = new Set(texts.map((text) => /\s\d[\d.,]*\s(\p{L}{2,5})\.?$/u.exec(text)?.[1]));
-  if (texts.length > 1 && (pair || (unit && !other))) return pair || texts[0];
+  const unitOf = (text) => /\s\d[\d.,]*\s(\p{L}{2,5})\.?$|\s\d+[.,]\d+\s(\p{L})$/u.exec(text)?.slice(1).find(Boolean);
+  const own = texts.filter(unitOf), isUnit = own.length * 2 > texts.length && new Set(own.map(unitOf)).size === 1;
+  if (texts.length > 1 && (pair || isUnit)) return pair || own[0];
   const isCount = found.every((text, k) => Number(text) === k + 1);
   const isNoName = (text) => text.length > MOST_NAME || ((texts.length > 1 || isOfText) && !isBareName(text));
   return texts.find(isNoName) ?? (isAll && !isCount ? texts[0] : undefined);
