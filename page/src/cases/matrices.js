@@ -28,7 +28,7 @@ export const network = {
   filled: filledLinks,
   most: mostOf("tree"),
   help: "What would each link cost? A group by itself uses only links between its own places and the source. If a link "
-    + "can’t be built, leave it empty. Paste a matrix, or a list of from, to and cost.",
+    + "can’t be built, leave it empty. Paste a matrix, or a list: from, to, cost.",
   example: () => ({
     names: ["Harbour", "Mill", "Farm", "Chapel"],
     links: linksOf([["9.99", "10.25", "12", "14"], ["1.05", "3.50", "8"], ["6", "2"], ["5"]]),

@@ -86,7 +86,7 @@ function madeOf(reading, kind, typed, settings) {
 function showDeciding(grid, legend, tips) {
   (grid.setTips ?? ((some) => showTips(grid, some)))(tips);
   const dot = el("span", { class: "dot", "aria-hidden": "true" });
-  const said = grid.setTips ? ` ${DECIDES}` : el("span", { title: DECIDES }, " the answer rests on these");
+  const said = grid.setTips ? ` ${DECIDES}` : el("span", { title: DECIDES }, " decides the shares");
   refill(legend, tips && [dot, said]);
 }
 
