@@ -31,8 +31,8 @@ export function casePanel(kind, typed, settings) {
   let grid = null, mend = null; // while they are made, cells may change
   const onChange = (wait, removed) => {
     for (const gone of [sample, unread]) refill(gone);
-    if (grid) dropText(grid);
-    change(wait, { isTyped: undo.changed(), removed });
+    const isDropped = grid !== null && dropText(grid);
+    change(wait, { isTyped: undo.changed(), isDropped, removed });
     mend?.();
   };
   const { onReset, notes = [] } = (settings = { ...settings, onChange });

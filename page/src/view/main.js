@@ -78,10 +78,10 @@ function openCase(kind, typed, { past = new Steps(), notes = [], doubt = "", pap
   view.clear(paper);
   panel = casePanel(kind, typed, {
     ...asked(kind), steps, notes: doubt ? [doubt, ...notes] : notes,
-    onChange: (wait, { isTyped, removed }) => {
+    onChange: (wait, { isTyped, isDropped, removed }) => {
       session.isTyped = true;
       unsaved.add(kind);
-      view.takeUnit(isTyped);
+      view.takeUnit(isTyped || isDropped);
       if (isTyped) session.ownSaid = "";
       else session.moveRows(removed);
       session.changed(wait);

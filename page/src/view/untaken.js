@@ -8,12 +8,13 @@ export function untakenIn(element) {
   return grid && { grid, isAsked: grid.classList.contains("asks") };
 }
 
-/** The text of a grid goes: with its question, and, `isWhole`, with what was said of it. */
+/** The text of a grid goes: with its question, and, `isWhole`, with what was said of it. Whether there was one. */
 export function dropText(grid, isWhole = false) {
   const isAsked = grid.classList.contains("asks");
-  if (!isAsked && !grid.classList.contains("refused")) return;
+  if (!isAsked && !grid.classList.contains("refused")) return false;
   if (isAsked || isWhole) refill(grid.querySelector(':scope > [role="status"]'));
   unask(grid);
+  return true;
 }
 
 /** In a sentence, as the page and paper have it; "" where no text is `untaken`. */
