@@ -10,7 +10,8 @@
 // from a relative path; an export stands in front of what it exports. Other forms of import and export are refused.
 import { spawnSync } from "node:child_process";
 import { createHash } from "node:crypto";
-import { existsSync, readdirSync, readFileSync, writeFileSync } from "node:fs";
+import { existsSync, mkdtempSync, readdirSync, readFileSync, rmSync, writeFileSync } from "node:fs";
+import { tmpdir } from "node:os";
 import { dirname, join, resolve } from "node:path";
 import { fileURLToPath } from "node:url";
 import { deflateSync, inflateSync } from "node:zlib";
@@ -126,7 +127,18 @@ function packedText(text, id, out) {
   const page = existsSync(out) ? readFileSync(out, "utf8") : "";
   const [, old] = new RegExp(`id="${id}" type="text/plain">\\s*([\\w+/=]+)\\s*<`).exec(page) ?? [];
   const isSame = old && inflateSync(Buffer.from(old, "base64")).toString() === text;
-  return isSame ? old : deflateSync(text, { level: 9 }).toString("base64");
+  return isSame ? old : textByZopfli(text) ?? deflateSync(text, { level: 9 }).toString("base64");
+}
+
+/** A text packed by zopfli, which reads files alone. */
+function textByZopfli(text) {
+  const folder = mkdtempSync(join(tmpdir(), "coop-page-")), file = join(folder, "text");
+  try {
+    writeFileSync(file, text);
+    return byZopfli(file, "--zlib");
+  } finally {
+    rmSync(folder, { recursive: true });
+  }
 }
 
 /** The version of the project. */
@@ -146,12 +158,12 @@ function commitOf(path) {
 function packedOf(file, out) {
   const own = !file || existsSync(out) ? packedIn(readFileSync(out, "utf8")) : null;
   const module = file && readFileSync(file);
-  return !module || (own && module.equals(unpacked(own))) ? own : packedByZopfli(file) ?? packed(module);
+  return !module || (own && module.equals(unpacked(own))) ? own : byZopfli(file) ?? packed(module);
 }
 
-/** The module of a file, packed to some 5 % less by Debian's zopfli; null where that isn't there. */
-function packedByZopfli(file) {
-  const { status, stdout } = spawnSync("zopfli", ["--i15", "-c", file], { maxBuffer: 1 << 26 });
+/** A file packed to some 5 % less by Debian's zopfli, in base64; null where that isn't there. */
+function byZopfli(file, ...form) {
+  const { status, stdout } = spawnSync("zopfli", ["--i15", ...form, "-c", file], { maxBuffer: 1 << 26 });
   return status === 0 ? stdout.toString("base64") : null;
 }
 
