@@ -237,7 +237,7 @@ const messy = [
     await page.paste('[data-cell="rows.0.name"]', "§ 38\tCelle\t1.234,56\nX\tMüller & Co.\t12.500,00");
     await told(page, "#case .pasted", /Which column is “Who claims”\?/);
     await page.click("“Celle, Müller & Co. …”");
-    expect("these", await cells(page), "Celle|1.234,56|Müller & Co.|12.500,00");
+    expect("these", await cells(page), "10.000,00|Celle|1.234,56|Müller & Co.|12.500,00");
   }],
   ["door: a title above a market, and a line end behind it", "market", async (page, expect) => {
     await page.paste('[data-cell="buyers.0"]', "Offers\n\tPiano\tCello\nLee\t4\t2\nKhan\t5\t3\n");
