@@ -119,7 +119,7 @@ class Fit {
     const first = at.find(({ isCount }) => !isCount) ?? at[0];
     if (column && this.headings && isRemark && words.length === 1) return { column, at: [first, ...words] };
     if (column && this.headings && words.length > 1) return { column, at: words };
-    const ahead = words.filter(({ c }) => at.length > 0 && at.every((one) => one.c > c));
+    const ahead = words.filter(({ c, isFull }) => isFull && at.length > 0 && at.every((one) => one.c > c));
     const isTwo = !this.headings && ahead.length > 1 && !this.free(isType).length;
     if (column && isTwo) return { column, at: ahead, isOnly: true };
     this.give(column ? words.slice(0, 1) : [], [column]);

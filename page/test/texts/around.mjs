@@ -82,6 +82,7 @@ export const AROUND = [
   ["estate", "Ann € 12,50\nBo € 4,00\nTotaal € 16,50\nBoedelsaldo € 9,00", /Boedelsaldo/, /Yes, it is the estate/],
   ["votes", "EU Council (2026)\nGermany 83.5 m\nItaly 58.9 m", null, /nobody can part “Germany 83\.5 m”/],
   ["estate", "Flat 12 b\nFlat 13 b", "Flat 12 b|Flat 13 b"],
+  ["estate", "Dear Ann,\nit was 12 CHF\t and then more\t5 CHF", null, /Nothing was taken\./],
   // what stands in mails, letters, by-laws and tables of agencies
   ["estate", MAIL, "Lift (season 25/26)=NOK 148 000|Ski school=NOK 62 500|Bus company (2 invoices)=NOK 9 750",
     /The numbers of the list .*Is NOK 120 000 what there is to divide\? Yes, NOK 120 000/],
