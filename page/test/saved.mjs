@@ -110,6 +110,10 @@ for (const kind of CASES) {
   expect(`the example of ${kind.id}`, openedOf(text).notes?.length, 1);
 }
 
+// What was pasted stays out of the file, but for what is in cells.
+const [, ofEstate] = HELD["an estate"], offered = { pasted: [["Dear Mr Lyle,"], ["Adler 60.000"]], said: {}, told: "" };
+expect("no letter in a file", savedOf("estate", { ...ofEstate, offered }, { entry: "," }).text.includes("Lyle"), false);
+
 /** Files that somebody changed. */
 const [, ofVotes, ofPrices] = [null, HELD["votes by two quotas"], HELD["limit prices"]].map((held) => {
   return held && savedOf(held[0], held[1], {}).text;

@@ -2,6 +2,7 @@
 import { readNumber } from "../exact/decimals.js";
 import { isSumWord, withEscapes } from "../game/names.js";
 import { UNKNOWN } from "./columns.js";
+import { PAGES } from "./page-lines.js";
 import { OF_NO_CENTS } from "./pasting.js";
 import { namesFirst, withoutDashes, withoutSigns } from "./signs.js";
 import { parted } from "./units.js";
@@ -15,7 +16,6 @@ const isBlank = (row) => !row.some(Boolean);
 const NUMBERING = /^(\P{L}*|no|nr|num|number|nummer|id|lp|pos|rank|rang)\.?$/iu; // above numbers of rows
 
 const MOST_LETTERS = 400; // of a line that is parted
-export const PAGES = "page|seite|blatt|p[aá]gina|strona|side";
 const NO_NAME = new RegExp(`,|^(—|${PAGES})$`, "iu");
 /** Whether a name may end so before a number: not with a number, a minus or a currency. */
 const endsName = (word) => !NO_NAME.test(word) && ![word, `${word}1`].some(isNumberOrPart);
@@ -166,13 +166,24 @@ function evenOf(texts) {
   return isEven && new Set(found.map(bareOf)).size === found.length ? parts : null;
 }
 
+const AFTER_COMMA = /^([^,]{1,400}),\s+(\d[\d.,'’]{0,30})$/, YEAR = /(19|20)\d\d$/;
+
+/** Lines with a colon in the place of a comma between name and number, if no number stands otherwise: "Weiss, 150". */
+function withColons(lines) {
+  const isTitle = (text, k) => k === 0 && YEAR.test(text);
+  const isOf = (text, k) => AFTER_COMMA.test(text) && !isTitle(text, k);
+  const isOther = (text, k) => /\d$/.test(text) && !isOf(text, k) && !isTitle(text, k);
+  if (lines.filter(isOf).length < 2 || lines.some(isOther)) return lines;
+  return lines.map((text, k) => (isOf(text, k) ? text.replace(AFTER_COMMA, "$1: $2") : text));
+}
+
 /** Lines of one cell each, as mails have them, parted into a name and its numbers: {rows, loose}. Texts above and
  * below may be other. Nothing is parted where the numbers only count, as in "Lot 1"; and where one line isn't such, or
  * a number may be a part of the name, as in "Flat 3 250", that line is `loose`. */
 function partedLines(rows, { canBeNegative, words: hasWords }) {
   const lines = rows.map((row) => row.find(Boolean) ?? ""), whole = { rows };
   if (lines.filter(Boolean).length < 2 || rows.some((row) => row.filter(Boolean).length > 1)) return whole;
-  const named = namesFirst(lines), isTurned = named !== lines;
+  const turned = namesFirst(lines), isTurned = turned !== lines, named = withColons(turned);
   const isPlain = (text) => !canBeNegative && /[:=]\s*[^\s:=]*\d/.test(text); // its number has no minus
   const isOpen = (text) => waysOf(text).length > 0 && !isPlain(text);
   const { texts, isDashed } = withoutDashes(named, isOpen, canBeNegative);

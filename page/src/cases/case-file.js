@@ -49,9 +49,9 @@ function isKept(one) {
 }
 
 /** The file of a case: `text` is its document, `mark` is that of what is shown, `entry` that of the cells, and
- * `thousands` the sign between thousands, if they show one. */
+ * `thousands` the sign between thousands, if they show one. What was pasted isn't in it, but for what is in cells. */
 export function caseText({ kind, typed, text, texts, todays, places, mark, entry, thousands, kept: pin, paper }) {
-  const { filled, how, coarse, source, ...cells } = typed, [model] = kind.empty().rows ?? [];
+  const { filled, how, coarse, source, offered, ...cells } = typed, [model] = kind.empty().rows ?? [];
   const rows = cells.rows?.map((row) => ({ ...model, ...row })), { heading, unit, pastedUnit, agreed } = paper;
   const shown = { decimals: places, mark, entry, thousands: thousands ?? undefined };
   const own = {

@@ -27,6 +27,7 @@ import { byCost, costsIn } from "./link-costs.js";
 import {
   arePairs, clean, isNameless, isNone, listOf, numbersApart, titleOf, untitled, withEnds, withoutMail,
 } from "./link-list.js";
+import { withoutPages } from "./page-lines.js";
 import { isSpoilt, SPOILT } from "./pasting.js";
 import { answerFault } from "./saved-tables.js";
 import { withoutUnits } from "./units.js";
@@ -63,7 +64,8 @@ function padded(rows) {
  * if it contradicts itself; {product} if one of its columns is a price for each of another, and nobody said what the
  * `cost` is; {asked} if several `columns` may be it, and nobody said which; null if it is numbers alone, or names
  * alone, for the cells where it was pasted. */
-export function networkOf(pasted, { mark = ".", source = "", cost, columns } = {}) {
+export function networkOf(given, { mark = ".", source = "", cost, columns } = {}) {
+  const { rows: pasted, pages } = withoutPages(given);
   const block = blockOf(pasted.map(numbersApart)), { rows, left: letter, odd: unread } = linksIn(block);
   const { rows: bare, left: around } = unframed(rows), { rows: framed, left: above } = untitled(bare);
   const ways = [rows, framed].map((some) => readOf(some, { mark, cost, columns })), [whole] = ways;
@@ -85,7 +87,7 @@ export function networkOf(pasted, { mark = ".", source = "", cost, columns } = {
   }
   const { links, fault } = joined(found, found.judge), texts = whole === found ? letter : [...around, ...above];
   if (fault) return { fault };
-  const out = texts.map((text) => `“${text}”`);
+  const out = [...texts, ...pages].map((text) => `“${text}”`);
   if (rows !== block.rows && !letter.length) out.push(...titleOf(pasted, block));
   out.push(...left, ...found.units.map((unit) => `“${unit}”, the unit`));
   const told = [...block.notes, ...found.told, ...wordsOf(found)], amounts = amountsIn(found.head, texts);

@@ -111,6 +111,14 @@ export function leastOf(typed, votes, mark, all = Rational.sum(votes)) {
   return Rational.of(said.isMore ? steps.floor() + 1n : -steps.negated().floor()).over(unit);
 }
 
+/** Of two quotas, {text, whom}, those that differ: the first, if both ask for as many of these votes, and of nobody
+ * else's. */
+export function apartQuotas(quotas, votes, mark) {
+  const leastIn = ({ text }) => String(leastOf(text, votes, mark) ?? readNumber(bareQuota(text), mark).value);
+  const [one, other] = quotas, isOne = quotas.length === 2 && (!other.whom || other.whom === one.whom);
+  return isOne && votes.length > 0 && leastIn(one) === leastIn(other) ? [one] : quotas;
+}
+
 /** What is needed of a ballot, of how many: "75 % of 320 votes, so at least 240", "12 of 17 votes". */
 export function neededText(typed, { votes, quota }, mark) {
   const [all, least] = [Rational.sum(votes), quota].map(shortText);

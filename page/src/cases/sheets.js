@@ -3,7 +3,7 @@ import { readNumber } from "../exact/decimals.js";
 import { headsFirst } from "./above-heads.js";
 import { isScale, withoutAround } from "./around-lines.js";
 import { isBareName, notNames } from "./bare-names.js";
-import { blockOf, looseText, PAGES } from "./block.js";
+import { blockOf, looseText } from "./block.js";
 import { bracketVotes } from "./bracket-votes.js";
 import { brokenName, mendedName } from "./broken-names.js";
 import { withoutClauses } from "./clauses.js";
@@ -12,6 +12,7 @@ import { columnsFor, isKnownHead, knownHeads, widthFault } from "./columns.js";
 import { leftText, unframed } from "./frames.js";
 import { partedInLine } from "./in-line.js";
 import { ledRows } from "./leaders.js";
+import { withoutPages } from "./page-lines.js";
 import { headingsOf, pastedText } from "./pasting.js";
 import { answerFault } from "./saved-tables.js";
 import { belowNumbers } from "./signs.js";
@@ -28,7 +29,6 @@ const SENTENCE = "This is one sentence. Give each a line: the name, a tab and th
 /** Why a line is no row. */
 const lineText = (text) => (/\d/.test(text) ? undefined : notNames([text], AS_ROWS)) ?? looseText(text);
 const AS_ROWS = "Give each row a name, a tab and a number, and leave other lines out.";
-const PAGE = new RegExp(`^\\P{L}*(${PAGES}) ?\\d+(( ?/| \\p{L}+) ?\\d+)?\\P{L}*$`, "iu");
 
 const BEHIND = /\s*[:=]?\s*(?:\p{Sc}|[A-Z]{3})?\s?\d.*$/u; // an amount behind a name
 const SAID = /\p{L}\D{1,60}\d[\d.,'’]{0,20}[.,'’]\d{2,3}(?!\d)/gu; // a name and an amount
@@ -209,11 +209,4 @@ function noName(rows, isOfText) {
   const isCount = found.every((text, k) => Number(text) === k + 1);
   const isNoName = (text) => text.length > MOST_NAME || ((texts.length > 1 || isOfText) && !isBareName(text));
   return texts.find(isNoName) ?? (isAll && !isCount ? texts[0] : undefined);
-}
-
-/** Rows without the numbers of pages between them: {rows, pages}. */
-function withoutPages(all) {
-  const isPage = (row) => row.filter(Boolean).length === 1 && PAGE.test(row.join(""));
-  const rows = all.filter((row) => !isPage(row)), isTable = rows.filter((row) => row.some(Boolean)).length > 1;
-  return isTable ? { rows, pages: all.filter(isPage).flatMap((row) => row.filter(Boolean)) } : { rows: all, pages: [] };
 }

@@ -16,6 +16,7 @@ import { oddsOf } from "./odds.js";
 import { fromPairs } from "./pair-squares.js";
 import { UNKNOWN } from "./columns.js";
 import { leftText, unframed } from "./frames.js";
+import { withoutPages } from "./page-lines.js";
 import { cellsOf } from "./pasting.js";
 import { apartText, missingText, sparseText } from "./odd-groups.js";
 import { otherCase, TABLES, takenTo } from "./other-case.js";
@@ -149,9 +150,9 @@ export function withoutPlayer(state, player) {
  * all: then it is read again with what was said of it (`roles`). A {fault} may have a `way` on, a title and what then
  * is said (`isZeroAlone`, `isSparse`). `told` says how it was read, `remark` what was left out. */
 export function tableOf(text, names = [], order = "size", mark = ".", said = {}) {
-  const book = textbookRows(text), pasted = book?.rows ?? cellsOf(text), saved = answerFault(pasted);
-  const headless = book || saved ? null : withoutPartHeads(withAllLine(pasted));
-  const { cells, left } = headless ?? { cells: pasted, left: book?.left ?? [] };
+  const book = textbookRows(text), { rows: pasted, pages } = withoutPages(book?.rows ?? cellsOf(text));
+  const saved = answerFault(pasted), headless = book || saved ? null : withoutPartHeads(withAllLine(pasted));
+  const { cells, left: out } = headless ?? { cells: pasted, left: book?.left ?? [] }, left = [...out, ...pages];
   const block = blockOf(cells, { canBeNegative: true, words: true }), framed = unframed(block.rows), { rows } = framed;
   const others = () => tableOf(text, names, order, mark, { ...said, isParts: false });
   const ofParts = saved || book ? undefined : partsRead(cells, mark, said, others);

@@ -1,4 +1,6 @@
 // What a text pasted into a list may say beside its rows: the estate, one quota or two, or second votes.
+import { apartQuotas } from "../cases/quota.js";
+import { readNumber } from "../exact/decimals.js";
 import { withEscapes } from "../game/names.js";
 import { askIn, button, el } from "./dom.js";
 
@@ -9,7 +11,7 @@ const way = (text, use) => [" ", button(text, use, { class: "quiet" })];
 
 /** Adds what is offered to what was said of a list: each part with whether it `isStill` open. */
 export function offersOf(grid, sheet, said, use) {
-  const { kind: { single, second }, typed } = grid, { line, spare = [], targets } = sheet;
+  const { kind: { single, second }, typed } = grid, { spare = [], targets } = sheet, line = lineOf(sheet, grid.mark());
   const isOpen = () => single && !typed[single.key].trim(), isOne = () => typed.secondQuota === undefined;
   const digitsOf = (text) => text.replace(/\D/g, ""), isOther = () => {
     return single && line?.amount && digitsOf(typed[single.key]) !== digitsOf(line.amount);
@@ -47,6 +49,13 @@ export function offersOf(grid, sheet, said, use) {
   ].map(([isStill, part]) => ({ isStill, element: el("span", {}, part) }));
   grid.said.append(...parts.map(({ element }) => element));
   return parts;
+}
+
+/** The line of a quota or an estate; one that says a quota twice, as "two thirds, i.e. 448", says one. */
+function lineOf({ line, rows, targets }, mark) {
+  const at = targets.findIndex((own) => own?.key === "votes");
+  const votes = rows.map((row) => readNumber(row[at] ?? "", mark).value).filter(Boolean);
+  return line?.quotas ? { ...line, quotas: apartQuotas(line.quotas, votes, mark) } : line;
 }
 
 /** Puts a row that was left out below the others: it counts. */

@@ -24,6 +24,7 @@ const BRACKETS = /^\(([^()]*)\)$/;
 const AND = /\s*(?:[,;+&]|(?<!\p{L})(?:and|und|et|y|e)(?!\p{L}))\s*/u; // between names that share an amount
 const MOST_LINES = 40, MOST_LINE = 2000; // of a mail, and letters
 const LONG = `A line has more than ${countText(MOST_LINE)} letters. Give each row a line: its name and its amount.`;
+const BETWEEN = /(?<=\d) *[\t|][\t| ]*(?=[-−(]?\p{Sc}?\d)/gu; // numbers in two cells
 const NUMBER = /^[-−(]?\p{Sc}?\s?\d[\d.,'’\s/]*(?:\p{Sc}|[A-Z]{3})?\)?$/u;
 
 /** What a pasted text gives the rows, by their `labels`: {texts, said}, or {fault} in words. Lines with a name go to
@@ -31,7 +32,7 @@ const NUMBER = /^[-−(]?\p{Sc}?\s?\d[\d.,'’\s/]*(?:\p{Sc}|[A-Z]{3})?\)?$/u;
  * goes. */
 export function pastedDivision(pasted, labels, { first, before, isOfWhole = false }) {
   const isOdd = labels.some((label) => /["|]/.test(label)), plain = isOdd ? (line) => line
-    : (line) => line.replace(/^ *"([^"]*)"/, "$1").replace(/ *\| */g, " ");
+    : (line) => line.replace(/^ *"([^"]*)"/, "$1").replace(BETWEEN, "; ").replace(/ *\| */g, " ");
   const bare = (line) => plain(line).trim().replace(/\s+/g, " ");
   const isSaid = isOfWhole ? isPart : isNothing, byButton = isOfWhole && buttonFor(pasted);
   if (byButton) return { fault: `${byButton} Nothing was taken.` };
@@ -179,7 +180,7 @@ function withoutUnit(texts) {
 /** Why what stands beside a name is no amount. */
 function oddText(label, text) {
   if (!text) return `No amount stands beside ${label}`;
-  const isTwo = text.split(" ").every((word) => !readNumber(word).fault);
+  const isTwo = text.split(/[; ]+/).every((word) => !readNumber(word).fault);
   return isTwo ? `Two numbers stand beside ${label}: “${text}”` : `“${shownLine(text)}” beside ${label} is no amount`;
 }
 

@@ -101,6 +101,8 @@ export const AROUND = [
     /“Quota”, 31, was taken as votes needed/],
   ["votes", "Wohnung 1 (Berger) – 410/1000\nWohnung 2 (Costa) – 590/1000\nErforderlich: Mehrheit von zwei Dritteln der "
     + "Miteigentumsanteile", "Wohnung 1 (Berger)=410/1000|Wohnung 2 (Costa)=590/1000", /“Erforderlich”, .*, was/],
+  ["votes", "Minutes, 3 March\n1. Haus eG, 310\n2. Kirche St. Anna, 212\n3. Weiss, 150\nResolutions need two thirds of "
+    + "all shares, i.e. at least 448.", "Haus eG=310|Kirche St. Anna=212|Weiss=150", /a quota.*needed: two thirds/],
   ["votes", `${PARTNERS}\nErforderlich: siehe Satzung`, IN_PARTNERS, /Left out, .*“Erforderlich: siehe Satzung”/],
   ["votes", `${PARTNERS}\nDecision by qualified majority (> 66 %)`, IN_PARTNERS, /Votes needed: more than 66 %/],
 ];

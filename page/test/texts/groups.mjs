@@ -281,4 +281,8 @@ export const GROUPS = [
   ["costs", "A $1,200\nB $800\nA+B $1,500", "A|B|$1,200|$800|$1,500"],
   ["costs", "A\t½\nB\t2½\nA+B\t2¾", "A|B|½|2½|2¾", /^(?!.*is no number)/],
   ["costs", "A 1.200,–\nB 800,–\nA+B 1.500,–", "A|B|1.200,–|800,–|1.500,–"],
+  ["costs", "STUDY\nCost per year (GBP)             Page 3 of 8\n\nTiles alone    42,000.50\nPaper alone    36,500\n"
+    + "Tiles and Paper    63,000", "Tiles|Paper|42,000.50|36,500|63,000", /Left out, .*“Cost per .*Page 3 of 8”/],
+  ["costs", "Lot    Price\nAnn    640\nBo    480\nAnn and Bo    980\n\nValid until 31 March 2027.        Page 6 of 11",
+    "Ann|Bo|640|480|980", /Left out, .*“Valid until 31 March 2027\. Page 6 of 11”/],
 ];

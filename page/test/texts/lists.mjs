@@ -251,8 +251,10 @@ export const DIVIDED = [
   ["Sales nothing\nOps 3\nLegal 4", "nothing,3,4", OF_TODAY],
   ["equally", "“Fill it with” has equal parts, below “What if”. Nothing was taken."],
   ["a third each", "“Fill it with” has equal parts, below “What if”. Nothing was taken."],
-  ["Name\tNow\tNew\nSales\t20\t25\nOps\t30\t30\nLegal\t50\t45", "Two numbers stand beside Sales: “20 25”. Write "
+  ["Name\tNow\tNew\nSales\t20\t25\nOps\t30\t30\nLegal\t50\t45", "Two numbers stand beside Sales: “20; 25”. Write "
     + "one amount beside each name, such as 12.50. Nothing was taken."],
+  ["Who\tBeds\tPays\nSales\t310\t523.9\nOps\t180\t304.2\nLegal\t510\t861.9", "Two numbers stand beside Sales: “310; "
+    + "523.9”. Write one amount beside each name, such as 12.50. Nothing was taken."],
   ["Sales pays 960.00, Ops pays 580.00 and Legal pays 1,220.00: together 2,760.00.", "960.00,580.00,1,220.00",
     /Left out: “together 2,760\.00\.?”/],
   ["Sales pays 960.00, Ops pays 580.00 and Legal pays 1,220.00: together 2,760.00.\nAll amounts are in k EUR.\n",
