@@ -9,6 +9,7 @@ import { UNKNOWN } from "./columns.js";
 import { leftText, unframed } from "./frames.js";
 import { saidItemsOf } from "./in-line.js";
 import { fitOf, isUnit, kindOf, nameOf, sideOf, sideOfName, sidesAmong, SIDES } from "./price-heads.js";
+import { priceSections, withoutProse } from "./price-sections.js";
 import { answerFault } from "./saved-tables.js";
 import { unitsText, withoutUnits } from "./units.js";
 
@@ -29,14 +30,15 @@ const isBlank = (row) => !row.some(Boolean);
  * is read again with what was `said`, "buyers" or "sellers". Null if these are no limit prices, or somebody said so. */
 export function pricesOf(given, said) {
   if (said === "none" || answerFault(given)) return null;
-  const pasted = inLines(given);
+  const { rows, left } = priceSections(given) ?? withoutProse(given), pasted = inLines(rows);
   const found = inParts(pasted) ?? inColumns(pasted) ?? byBlankLine(pasted);
   if (!found || found.fault) return found;
   const { lists, notes } = found, money = moneyFault(lists);
   if (money) return { fault: money };
   const sided = sidesOf(lists, said);
   const [head, ...heads] = lists.map((list) => list.head ?? ""), amounts = amountsIn(head, heads);
-  return sided && (sided.lists ? { ...taken(sided.lists), amounts, notes: [...notes, ...notesOf(lists)] } : sided);
+  const told = [leftText(left), ...notes, ...notesOf(lists)];
+  return sided && (sided.lists ? { ...taken(sided.lists), amounts, notes: told } : sided);
 }
 
 /** Lists of which each has its side: {lists}; or {asked} or {fault}; null for one list of no prices. */

@@ -93,8 +93,10 @@ function openCase(kind, typed, { past = new Steps(), notes = [], doubt = "", pap
     coarsen: (how) => coarsen(kind, how),
     asTable: (table, said) => {
       const coarse = coarseOfSums(typed.coarse, typed.names.length);
-      const { isTyped } = session, past = replaced(costs, "Make a table of costs");
-      openCase(costs, { ...table, coarse }, { notes: said, doubt, isTyped, past });
+      const { isTyped } = session, before = kept.get(costs)?.past?.past.at(-1);
+      const past = replaced(costs, "Make a table of costs"), gone = past.past.at(-1) !== before && REPLACED;
+      const notes = [...said, gone, keptText(kind)].filter(Boolean);
+      openCase(costs, { ...table, coarse }, { notes, doubt, isTyped, past });
     },
   });
   at("case-title").textContent = kind.title;
@@ -148,11 +150,14 @@ function replaced(kind, what) {
   return past;
 }
 
+const REPLACED = "What stood here before is replaced: “Undo” brings it back.";
+const keptText = ({ title }) => `Your case “${title}” is kept as it is: go to “All cases”, and choose it there.`;
+
 /** What becomes of the cells that stood there before a document was opened: "" where nobody had typed any. */
 function whereBefore(kind, past, before) {
-  if (past.past.at(-1) !== before) return "What stood here before is replaced: “Undo” brings it back.";
-  const { kind: other, isTyped } = session, isKept = isTyped && other && other !== kind;
-  return isKept ? `Your case “${other.title}” is kept as it is: go to “All cases”, and choose it there.` : "";
+  if (past.past.at(-1) !== before) return REPLACED;
+  const { kind: other, isTyped } = session;
+  return isTyped && other && other !== kind ? keptText(other) : "";
 }
 
 /** Makes the numbers of a case coarser, as the user chose, or gives a fault in words. */
