@@ -121,6 +121,8 @@ const whole = amounts.map(([id, cell, rows]) => [`nothing is cut off of amounts 
     await pasted(page, cell, rows);
     await page.run("for (const one of document.querySelectorAll('#case details')) one.open = true");
     expect("in the cells, and those of the text", await cutCells(page), "");
+    const matrices = `[...document.querySelectorAll("#case .scroll:has(> .matrix)")].filter(${CUT}).length`;
+    expect("of the table of links", await page.run(matrices), 0);
     await page.click("equal parts");
     await settle(page);
     const tables = await page.run(`[...document.querySelectorAll("#answer-body .scroll")].filter(${CUT}).length`);
@@ -138,6 +140,9 @@ async function belowOnPhone(page, expect) {
   const sizes = "[...new Set([...document.querySelectorAll('.shares :is(tbody, .sum) td:not(.main)')].map((one) => "
     + "getComputedStyle(one).fontSize))].join()";
   expect("size of letters", await page.run(sizes), "14px");
+  const ends = "new Set([...document.querySelectorAll('.shares tr:not(.above)')].map(({ children }) => Math.round("
+    + "[...children].findLast((one) => one.checkVisibility()).getBoundingClientRect().right))).size";
+  expect("places where rows end", await page.run(ends), 1);
 }
 
 const papers = CASES.map((id) => [`one page on paper: ${id}`, id, async (page, expect) => {

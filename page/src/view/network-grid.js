@@ -80,6 +80,7 @@ class NetworkGrid {
       : el("span", { class: "hint" }, "16 places is the most."),
     this.sourceChoice(names));
     refill(this.nobody, this.nobodyThere());
+    this.said.classList.toggle("asked", Boolean(typed.isSourceOpen));
     this.help.show();
   }
 

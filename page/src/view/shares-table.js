@@ -167,7 +167,7 @@ function goneRow({ label }, g, view) {
     el("td", { class: "number kept" }, format.show(first)), el("td", { class: "number main" }, "–"),
     others.map((value, k) => el("td", { class: kindOf(k + 1) }, "–",
       value && el("small", { class: "was" }, `was ${format.show(value)}`))),
-    proposal.canBe && el("td", { class: "number proposed" }), against && el("td"),
+    proposal.canBe && el("td", { class: "number proposed" }), against && el("td", { class: "against" }),
   ]);
 }
 
@@ -209,7 +209,7 @@ function sumRow({ sum, of }, view) {
     context && el("td", { class: "context" }), today.texts && el("td", { class: "number" }, now && format.show(now)),
     pinned?.pin && el("td", { class: "kept" }), cells,
     proposal.canBe && el("td", { class: "number proposed" }, proposed && format.show(proposed)),
-    against && el("td"),
+    against && el("td", { class: "against" }),
   ]);
 }
 
@@ -220,8 +220,8 @@ export function ownSum(of, { values }) {
 }
 
 function footOf(view) {
-  const { game, rows, context, columns, format, proposal, today, pinned, against } = view, last = rows.length;
-  const kept = view.kept.get(columns[0].key);
+  const { game, rows, context, columns, format, proposal, today, pinned, against, isNarrow } = view;
+  const last = rows.length, kept = view.kept.get(columns[0].key);
   const sum = named(view, "sum", "together", [
     context && el("td", { class: "number context" }, context.sum),
     today.texts && el("td", { class: "number today" }, today.values[last] ? format.show(today.values[last]) : "–"),
@@ -233,12 +233,12 @@ function footOf(view) {
     against && el("td", { class: "number against" }, against.texts.at(-1)),
   ]);
   const isJudged = columns.some(({ verdict }) => verdict !== null);
-  const isLong = Boolean(against && (proposal.verdict?.group || proposal.verdict?.refusal));
+  const isLong = Boolean(against && !isNarrow && (proposal.verdict?.group || proposal.verdict?.refusal));
   const asked = (title, told, own) => named(view, "verdict", title, [
     context && el("td", { class: "context" }), today.texts && el("td"), pinned?.pin && el("td", { class: "kept" }),
     columns.map((point, k) => el("td", { class: kindOf(k) }, told(point))),
     proposal.canBe && el("td", { class: "number proposed", colspan: isLong ? "2" : false, role: "status" },
-      proposal.shares ? told(own) : "–"), against && !isLong && el("td"),
+      proposal.shares ? told(own) : "–"), against && !isLong && el("td", { class: "against" }),
   ]);
   return el("tfoot", {}, sum,
     isJudged && asked("Could a group do better alone?", (one) => verdictText(game, one.verdict, view), proposal));
