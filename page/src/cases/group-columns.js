@@ -39,9 +39,9 @@ export function pairsOf(given, allLines, { mark, column, cells, isCost, titles }
   const shown = withEscapes(rows[long].join("; ")).slice(0, 60), line = `Line ${lines[long]}: `;
   const wide = all.reduce((most, { length }) => Math.max(most, length), 0);
   const others = Array.from({ length: wide - 1 }, (_, k) => k + 1);
-  const numeric = others.filter((c) => rows.some((row) => isNumber(row[c])));
+  const numeric = others.filter((c) => rows.some((row) => isNumber(row[c]))), isOf = new Set(numeric);
   const several = meantOf(numeric, headings, isCost), at = column ?? several[0];
-  const isNamed = rows.every(([group]) => !isNumber(group)), isPlain = others.every((c) => numeric.includes(c));
+  const isNamed = rows.every(([group]) => !isNumber(group)), isPlain = others.every((c) => isOf.has(c));
   if (several.length > 1 && column === undefined && isNamed && (headings || isPlain)) {
     const textOf = (c) => headings?.[c] || `${rows.slice(0, 2).map((row) => row[c]).join(", ")} …`;
     return { columns: several.map((c) => ({ c, title: withEscapes(textOf(c)) })) };

@@ -211,7 +211,9 @@ function pairsOf(given) {
   const [buyers, sellers] = [one, other].map((c) => [...new Set(below.map((row) => row[c]))]);
   const worths = new Map(below.map((row) => [`${row[one]}\t${row[other]}`, row[2]]));
   if (worths.size < below.length || buyers.some((name) => sellers.includes(name))) return null;
-  const values = buyers.map((buyer) => sellers.map((seller) => worths.get(`${buyer}\t${seller}`) ?? ""));
+  const isOver = Math.max(buyers.length, sellers.length) > CLASSES.market.side; // it is refused, whatever they gain
+  const valueOf = (buyer, seller) => worths.get(`${buyer}\t${seller}`) ?? "";
+  const values = isOver ? [] : buyers.map((buyer) => sellers.map((seller) => valueOf(buyer, seller)));
   return { buyers, sellers, values };
 }
 

@@ -66,7 +66,7 @@ function hasCommaColumns(lines) {
   const isWithin = (line) => /\p{L}/u.test(line) && !line.replace(/\d,(?=[\d–—-])/g, "").includes(",");
   const isCount = lines.length > 2 && lines.every((line, k) => line.startsWith(`${k + 1},`));
   const isNamed = [lines[0], lines.at(-1)].some((line) => /^[^\d,]*\p{L}(,[^\s,][^,]*)+$/u.test(line));
-  const sizes = lines.map((line) => /^[1-9]\d*,(\d+)$/.exec(line)?.[1].length ?? 0), most = Math.max(...sizes);
+  const sizes = lines.map((line) => /^[1-9]\d*,(\d+)$/.exec(line)?.[1].length ?? 0), most = mostIn(sizes);
   const isPairs = lines.length > 1 && most > 3 && sizes.every((size) => size > 0) && sizes.some((size) => size < most);
   if (lines.length > 1 && lines.every((line) => line.trim() && !/\d/.test(line))) return false; // Rossi, Mario
   if (isCount || isNamed || isPairs) return lines.every((line) => line.includes(","));
@@ -91,11 +91,15 @@ function commaTable(lines) {
   return found && !other && !isWhole ? (k) => k >= found.from && k <= found.to : () => false;
 }
 
+const mostIn = (numbers) => numbers.reduce((most, one) => Math.max(most, one), 0); // of however many
+const MOST_WIDE = 2000; // letters of a line whose columns are where no line has a letter
+
 /** Columns by blanks, as a PDF has them, parted where no line has a letter; lines without two blanks are texts of their
  * own. Null where there are no such. */
 function byPlaces(lines) {
   const isTable = (line) => /\S\s{2,}\S/.test(line), table = lines.filter(isTable), starts = [];
-  const wide = table.length > 1 ? Math.max(...table.map(({ length }) => length)) : 0;
+  const wide = table.length > 1 ? mostIn(table.map(({ length }) => length)) : 0;
+  if (wide > MOST_WIDE) return null;
   const isFree = (k) => table.every((line) => !(line[k] ?? "").trim());
   for (let k = 0; k < wide; k++) if (!isFree(k) && (!starts.length || (isFree(k - 1) && isFree(k - 2)))) starts.push(k);
   const cut = (line) => starts.map((start, c) => line.slice(c ? start : 0, starts[c + 1]).trim());
@@ -125,16 +129,21 @@ function byBlanks(lines) {
 function splitLine(line, by) {
   if (!line.includes('"')) return line.split(by);
   const cells = [];
-  let cell = "", isQuoted = false;
+  let cell = "", isQuoted = false, isBlank = true;
   for (let k = 0; k < line.length; k++) {
     const letter = line[k];
-    if (letter === '"' && (isQuoted || !cell.trim())) {
-      if (isQuoted && line[k + 1] === '"') cell += line[(k += 1)];
+    if (letter === '"' && (isQuoted || isBlank)) {
+      const isSign = isQuoted && line[k + 1] === '"';
+      if (isSign) cell += line[(k += 1)];
       else isQuoted = !isQuoted;
+      isBlank &&= !isSign;
     } else if (letter === by && !isQuoted) {
       cells.push(cell);
-      cell = "";
-    } else cell += letter;
+      [cell, isBlank] = ["", true];
+    } else {
+      cell += letter;
+      isBlank &&= !letter.trim();
+    }
   }
   return [...cells, cell];
 }

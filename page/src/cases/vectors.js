@@ -59,7 +59,8 @@ function manyText(rows) {
 /** The same of rows below a heading, and behind a first column of what they are called. A column of names is of groups,
  * unless headings without one above it, or such of groups, say what the numbers are. */
 export function manyBelow(rows) {
-  const isWord = (cell) => /\p{L}/u.test(cell) && !SPOILT.test(cell), [heads, ...below] = rows, titles = heads.slice(1);
+  const isWord = (cell) => /\p{L}/u.test(cell) && !SPOILT.test(cell);
+  const [heads = [], ...below] = rows, titles = heads.slice(1);
   const isNamed = below.some(([name = ""]) => !isNumber(name)) && below.every(({ length }) => length === heads.length);
   const apart = new Set(titles), isOfGroups = titles.some((one) => one.includes("+") || joinedOf(one, apart));
   const isGroup = ([name = ""]) => isSumWord(name) || name.includes("+") || (isWord(name) && heads.includes(name));

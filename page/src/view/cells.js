@@ -1,4 +1,5 @@
 // What the grids of all cases share: a cell to type in, moving by keys, and pasting.
+import { tooMuch } from "../cases/bounds.js";
 import { cellsOf } from "../cases/pasting.js";
 import { button, cellOf, el } from "./dom.js";
 
@@ -51,12 +52,15 @@ export function moveByKeys(element, neighbour) {
 
 /** What is pasted over several cells goes to `fill(cell, rows, text)`; a text for one cell is pasted as ever, if it
  * isn't several rows (`isSeveral`). A long one is read by `readCells`, beside the page. So is a text that comes by
- * "take-text". Each is told by "pasted-text". */
-export function pasteCells(element, fill, readCells, isSeveral = () => false) {
+ * "take-text". Each is told by "pasted-text". One that is too much to be read goes to `refuse(sentence)`, in which only
+ * lines of numbers may be long (`isLong`). */
+export function pasteCells(element, fill, readCells, { refuse, isLong, isSeveral = () => false }) {
   const rowsOf = (text) => (text.length > LONG ? undefined : cellsOf(text));
   const take = async (cell, text, rows) => {
     element.dispatchEvent(new CustomEvent("pasted-text", { bubbles: true, detail: { cell, text } }));
-    fill(cell, rows ?? await readCells(text), text);
+    const fault = tooMuch(text, { isLong });
+    if (fault) return refuse(fault);
+    return fill(cell, rows ?? await readCells(text), text);
   };
   element.addEventListener("take-text", ({ detail: { cell, text } }) => take(cell, text, rowsOf(text)));
   element.addEventListener("paste", (event) => {

@@ -38,7 +38,7 @@ class ListGrid {
       && (partedInLine(rows).isParted || isProse(rows) || (kind.isVote && rows.some(isClause)));
     const first = `${ROWS}0.${this.keys[0]}`; // of what is pasted over the estate or a quota
     const fill = (cell, rows) => this.fill(cell.startsWith(ROWS) ? cell : first, rows);
-    pasteCells(this.element, fill, readCells, isSeveral);
+    pasteCells(this.element, fill, readCells, { isSeveral, refuse: (why) => this.say(`${why} Nothing was taken.`) });
     this.showSingles();
     this.show();
     if (!askAgain(this, typed)) this.offerAgain();

@@ -57,7 +57,8 @@ class MarketGrid {
       if (what === "limits") return `limits.${a}.${Number(b) + step}`;
       return what === "values" ? `values.${Number(a) + step}.${b}` : `${what}.${Number(a) + step}`;
     });
-    pasteCells(this.holder, (cell, rows) => this.pasted(cell, rows), readCells);
+    const refuse = (fault) => this.take(fault);
+    pasteCells(this.holder, (cell, rows) => this.pasted(cell, rows), readCells, { refuse });
     this.show();
     askAgain(this, typed);
   }

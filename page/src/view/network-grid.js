@@ -41,7 +41,8 @@ class NetworkGrid {
       const [i, j] = place.split("-").map(Number);
       return `links.${i}-${j + step}`;
     });
-    pasteCells(this.holder, (cell, rows) => this.pasted(cell, rows), readCells);
+    const refuse = (fault) => this.refuse(fault);
+    pasteCells(this.holder, (cell, rows) => this.pasted(cell, rows), readCells, { refuse });
     this.show();
     if (typed.isSourceOpen) refill(this.said, this.sourceQuestion());
     askAgain(this, typed);
@@ -170,9 +171,7 @@ class NetworkGrid {
     const cells = isWhole ? {} : pastedCells(this.kind, typed, cell, blockOf(rows).rows, said);
     const fault = isWhole ? found.fault : cells.fault;
     if (cells.asks) return askNames(this.element, this.said, NAMED, (isSame) => use({ isSame }));
-    unask(this.element, Boolean(fault));
-    refill(this.said, fault && `${fault} Nothing was taken.`);
-    this.said.classList.toggle("warn", Boolean(fault));
+    this.refuse(fault);
     if (fault) return undefined;
     this.remember("Paste");
     if (isWhole) {
@@ -190,6 +189,13 @@ class NetworkGrid {
     this.help.openIfEmpty();
     if (Object.values(this.typed.filled ?? {}).includes("way")) this.help.again();
     return undefined;
+  }
+
+  /** Says why nothing was taken, or nothing. */
+  refuse(fault) {
+    unask(this.element, Boolean(fault));
+    refill(this.said, fault && `${fault} Nothing was taken.`);
+    this.said.classList.toggle("warn", Boolean(fault));
   }
 
   /** Asked before anything is taken: a column is a price for each of another, and maybe a third has the product. */

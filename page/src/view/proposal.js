@@ -4,6 +4,7 @@ import { isMark, nameOfMark, otherMark } from "../exact/marks.js";
 import { moneyIn } from "../exact/money.js";
 import { Rational } from "../exact/rational.js";
 import { isNothing } from "../cases/block.js";
+import { tooMuch } from "../cases/bounds.js";
 import { linesByName, linesByNumber, PAYS } from "../cases/in-line.js";
 import { withoutSigns } from "../cases/signs.js";
 import { unitsText, withoutUnits } from "../cases/units.js";
@@ -36,7 +37,8 @@ export function pastedDivision(pasted, labels, { first, before, isOfWhole = fals
   const bare = (line) => plain(line).trim().replace(/\s+/g, " ");
   const isSaid = isOfWhole ? isPart : isNothing, byButton = isOfWhole && buttonFor(pasted);
   if (byButton) return { fault: `${byButton} Nothing was taken.` };
-  if (isLong(pasted)) return { fault: `${LONG} Nothing was taken.` };
+  const much = isLong(pasted) ? LONG : tooMuch(pasted);
+  if (much) return { fault: `${much} Nothing was taken.` };
   const text = amountsInLine(pasted, labels.length - first)?.join("\n") ?? pasted;
   const named = partedLines(text, labels), own = named?.text ?? (isLine(text) ? text.replace(IN_LINE, "\n") : text);
   const given = own.split(/\r\n?|\n/).map(bare).filter((line) => /[^-: ]/.test(line));

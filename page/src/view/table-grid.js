@@ -50,8 +50,9 @@ class TableGrid {
     this.element.addEventListener("show-cell", ({ detail }) => this.showCell(detail));
     removeByKey(players);
     moveByKeys(list, (cell, step) => `numbers.${this.order[this.placeOf(cell) + step]}`);
-    pasteCells(list, (cell, rows, text) => this.paste(cell, rows, text), readCells, hasGroups);
-    pasteCells(players, (cell, rows, text) => this.pasteNames(cell, rows, text), readCells, hasGroups);
+    const door = { isLong: true, isSeveral: hasGroups, refuse: (fault) => this.say(fault, " Nothing was taken.") };
+    pasteCells(list, (cell, rows, text) => this.paste(cell, rows, text), readCells, door);
+    pasteCells(players, (cell, rows, text) => this.pasteNames(cell, rows, text), readCells, door);
     this.show();
     if (!askAgain(this, typed)) this.tellFilled();
   }

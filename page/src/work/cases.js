@@ -3,6 +3,7 @@ import { parseJson, writeJson } from "../exact/json.js";
 import { Rational } from "../exact/rational.js";
 import { typedText } from "../exact/decimals.js";
 import { isMark, onlyMark } from "../exact/marks.js";
+import { tooMuch } from "../cases/bounds.js";
 import { caseNamed, caseOfClass } from "../cases/cases.js";
 import { cellsOf } from "../cases/pasting.js";
 import { byOneMark } from "../cases/reading.js";
@@ -75,6 +76,8 @@ export function readCells({ text }) {
 
 /** A table from a pasted list. */
 export function readList({ text, names, order, mark, said }) {
+  const fault = tooMuch(text, { isLong: true });
+  if (fault) return { fault };
   const { state, ...found } = tableOf(text, names, order, mark, said);
   return state ? { ...found, state: packed(state) } : found;
 }

@@ -26,7 +26,7 @@ export function nucleolusOf(rows) {
     const parts = places.slice(next).map(({ cost, place }) => {
       return cost.minus(paid).over(Rational.of(place - settled + (place < everyone ? 1 : 0)));
     });
-    const part = Rational.min(parts), last = next + parts.map(String).lastIndexOf(String(part));
+    const part = Rational.min(parts), last = next + parts.findLastIndex((one) => one.equals(part));
     for (const { cost } of places.slice(next, last + 1)) shares.set(String(cost), part);
     paid = paid.plus(part.times(Rational.of(places[last].place - settled)));
     [settled, next] = [places[last].place, last + 1];
