@@ -1,5 +1,7 @@
 // Texts of an estate and of votes with lines around their list, list numbers, remarks and quotas in words, as rows of
 // pasted.mjs.
+import { MUCH } from "./much.mjs";
+
 const MINUTES = "Minutes of the consortium meeting, 24 November 2026", PARTNERS = "Leeds 5\nGraz 4\nETH 2";
 const IN_PARTNERS = "Leeds=5|Graz=4|ETH=2", ON_LIST = /The numbers of the list before the names were left out\./;
 const REGISTER = "WEG Lindenstraße 12 – Eigentümer (Stand: 01.10.2026)\nWhg.\tEigentümer\tMEA\n"
@@ -18,6 +20,7 @@ const GRANTS = "Top 5: Verteilung der Fördermittel\nSportverein: 12.000 Euro\nM
   + "Zur Verfügung stehen 18.000 Euro.";
 
 export const AROUND = [
+  ...MUCH,
   // titles with a date, agenda items, sections, notes, numbers of files, and what the numbers are in
   ["votes", `${MINUTES}\n\nItem 4: Voting rights\n${PARTNERS}`, IN_PARTNERS,
     /Left out, as these are no rows: “Minutes of the consortium meeting, 24 November 2026”, “Item 4: Voting rights”\./],

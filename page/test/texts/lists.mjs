@@ -1,4 +1,6 @@
 // Texts of a runway, an estate and votes, as rows of pasted.mjs; DIVIDED are those pasted into a proposal.
+import { MUCH_DIVIDED } from "./much.mjs";
+
 const COUNCIL = "Who\tVotes\tMembers\nAnn\t7\t2\nBo\t4\t1\nCy\t2\t2", NEEDED = `${COUNCIL}\nNeeded\t8\t3`;
 const CLAUSE = "Carried if at least 8 of the 13 council seats and at least 55 % of the inhabitants agree";
 const SEATS = "1. at least 8 of the 13 council seats: List A 5, List B 4\n"
@@ -230,6 +232,7 @@ const OF_TODAY = Object.assign(/^/, { isOfToday: true }); // amounts that are no
 const NO_WHOLE = "“50%” beside Sales is no amount. Write one amount beside each name, such as 12.50. Nothing was "
   + "taken.";
 export const DIVIDED = [
+  ...MUCH_DIVIDED,
   ["Sales pays 40, Ops 30 and Legal the rest", "40,30,the rest", /^Taken by name: Sales, Ops and Legal\.$/],
   ["Sales 50%, Ops 30%, Legal 20%", "50%,30%,20%"], ["Sales 50%, Ops 30%, Legal 20%", NO_WHOLE, OF_TODAY],
   ["50%\n30%\n20%", "50%,30%,20%"], ["50/30/20", "50,30,20"], ["50\t30\t20", "50,30,20"],
