@@ -135,7 +135,7 @@ async function belowOnPhone(page, expect) {
   await page.type("proposal.1", "0");
   await page.type("proposal.2", "0");
   await settle(page);
-  await told(page, "#answer .leaving", /Your proposal: Sales could leave, by 4\.00/);
+  await told(page, "#answer .leaving", /Your proposal: Sales would do better alone, by 4\.00/);
   expect("in the cell", await page.text(".shares .verdict .proposed"), "Yes");
   const sizes = "[...new Set([...document.querySelectorAll('.shares :is(tbody, .sum) td:not(.main)')].map((one) => "
     + "getComputedStyle(one).fontSize))].join()";
@@ -197,7 +197,7 @@ async function whatDoesNotFit(page, expect) {
   await told(page, "#answer-body", /These are 130 uses/);
   await page.click("On paper");
   await page.click("Print one page");
-  await told(page, ".paper-part .note", /^That takes \d sheets, in small letters and without a picture too/);
+  await told(page, ".paper-part [role=status]", /^That takes \d sheets, in small letters and without a picture too/);
   expect("not printed yet", await page.run("window.isPrinted"), undefined);
   expect("nor seen", await page.run("getComputedStyle(document.getElementById('sheet')).display"), "none");
   await page.click("Print them");

@@ -239,7 +239,7 @@ export const LINKS_AND_TRADES = [
     "the works|Ann|Bo|0-1|12|0-2|9|1-2|4", /“Works” was taken as “the works”/],
   ["network", "a\tA\t12\na\tB\t9\nA\tB\t4", "a|A|B|0-1|12|0-2|9|1-2|4", /Which point is the source/],
   ["network", "Start\tEnd\tCost\tSource?\nWorks\tA\t12\tyes\nWorks\tB\t9\tyes\nA\tB\t4\tno", LINKED, /“Source\?”/],
-  ["market", "Hello,\nWould sell their space:\nHuber, not below 14,000\nIlic - 16,500 EUR or more\n\nLooking for a space:"
+  ["market", "Hello,\nWould sell their space:\nHuber, not below 14,000\nIlic - 16,500 EUR or more\n\nLooking for one:"
     + "\nKern, up to 21,000\nNovak - max. 17,000 EUR\n\nWhat is fair?\nKarin",
   "Huber|Ilic|Kern|Novak|14,000|16,500 EUR|21,000|17,000 EUR", /2 buyers and 2 sellers\..*“Karin”/],
   ["market", "Hello\n\nSeller; Ask\nHuber; 14,000.00\nIlic; 16,500\n\nBuyer; Bid\nKern; 21,000\nLang; 18,000\n\n"
