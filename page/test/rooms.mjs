@@ -47,6 +47,23 @@ async function lists(page, expect) {
   expect("places where their numbers begin", await page.run(starts), 1);
 }
 
+/** Where nothing stands in its right half, the left one has the width of the part. */
+async function halves(page, expect) {
+  await page.click("equal parts");
+  await settle(page);
+  const width = (part) => page.run(`document.querySelector("#what-if ${part}").getBoundingClientRect().width`);
+  expect("as wide as the part", (await width("#own-body")) > 0.9 * (await width(".halves-of-part")), true);
+}
+
+/** No heading alone at the foot of a page, no last line alone on the last, and nothing of who types. */
+async function paper(page, expect) {
+  await page.look({ print: true });
+  const style = (selector, what) => page.run(`getComputedStyle(document.querySelector("${selector}")).${what}`);
+  expect("the empty part below a heading", await style("#margins:empty", "display"), "none");
+  expect("the end", await style("footer", "breakInside"), "avoid");
+  expect("the caret", await style("#case input", "caretColor"), "rgba(0, 0, 0, 0)");
+}
+
 export const rooms = [
   ["room: long names of a market leave the numbers in sight", "market", async (page, expect) => {
     await pasted(page, blockOf(3), /Wasserverband/);
@@ -59,4 +76,6 @@ export const rooms = [
   ["room: a question with many buttons", "network", besideQuestion],
   ["room: the mark of a question beside its first line", "costs", markBeside],
   ["room: lists of limit prices", "market", lists],
+  ["room: what would stand beside an empty half", "market", halves],
+  ["room: on paper", "market", paper],
 ];

@@ -8,7 +8,7 @@ const MOST = 20, LEAST = 8, SHORTEST = 5, FINE = 0.5; // the room of a typed nam
 /** Gives typed names the most room by which the table fits, and tells whether it does. */
 function fitNames(table, isIn) {
   const isInWith = (room) => (table.style.setProperty("--names", `${room}rem`), isIn());
-  let least = table.matches(".closest") ? SHORTEST : LEAST, most = MOST;
+  let least = table.matches(".closest:not(.dense)") ? SHORTEST : LEAST, most = MOST;
   if (isInWith(most)) return true;
   if (!isInWith(least)) return false;
   while (most - least > FINE) {
