@@ -20,7 +20,9 @@ export const agreed = [
     await settle(page);
     expect("nothing yet", await chosen(page), "");
     expect("so it is the nucleolus", await sheet(page), /Why: fairest [^(]*\(the nucleolus\)/);
+    expect("which is said", await page.text("#paper-body"), /As long as nothing is agreed on/);
     expect("a rule", await choose(page, "shapley"), "shapley");
+    expect("then no more", /As long as nothing/.test(await page.text("#paper-body")), false);
     const text = await sheet(page);
     expect("who agreed on what", text, /The parties agreed on: by what each adds \(Shapley shares\)\./);
     expect("its shares", text, /singer gets 41\.67/);

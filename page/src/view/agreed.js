@@ -55,18 +55,18 @@ export function agreedText(column) {
   return `The parties agreed on: ${rule}${name ? ` (${name})` : ""}.`;
 }
 
-/** The choice; `typed.agreed` keeps it, with the numbers that it is of. */
-export function agreedChoice(session, typed) {
+/** The choice; `typed.agreed` keeps it, with the numbers that it is of, and `onChoose()` is told. */
+export function agreedChoice(session, typed, onChoose) {
   const columns = columnsOf(session), now = agreedColumn(session, typed)?.key ?? "";
   if (!columns.length) return null;
   const isChanged = typed.agreed?.of && typed.agreed.of !== numbersOf(session, typed.agreed.key);
   const choose = ({ target: { value: key } }) => {
     typed.agreed = key ? { key, of: numbersOf(session, key) } : undefined;
-    said.remove();
+    onChoose();
   };
-  const said = el("p", { class: "note" }, isChanged && CHANGED), ways = [{ key: "", title: "nothing yet" }, ...columns];
+  const ways = [{ key: "", title: "nothing yet" }, ...columns];
   return [el("label", { class: "single" }, el("span", { class: "field" }, "Agreed on"),
     el("select", { "data-cell": "paper.agreed", on: { change: choose } }, ways.map(({ key, title, note }) => {
       return el("option", { value: key, selected: key === now }, [title, note].filter(Boolean).join(" "));
-    }))), said];
+    }))), isChanged && el("p", { class: "note" }, CHANGED)];
 }

@@ -4,7 +4,7 @@ import { countText } from "../exact/decimals.js";
 import { masksBySize } from "../game/groups.js";
 import { OWN_PROVED, provedText } from "../tell/proved.js";
 import { plainPoints, quoted } from "../tell/rule-names.js";
-import { agreedChoice } from "./agreed.js";
+import { agreedChoice, agreedColumn } from "./agreed.js";
 import { button, el, refill } from "./dom.js";
 import { dayText, showSheet } from "./sheet.js";
 import { unitOf, unitText } from "./unit.js";
@@ -48,13 +48,17 @@ export function paperPart(session, typed) {
       el("label", { class: "single" }, own, " Put the other columns on the one page too")],
     el("p", { class: "tools" },
       button("Print one page", printed("sheet"), { class: "main" }), button("Print everything", printed("all"))), said);
-  element.showAgreed = () => {
-    const { line, game, points = [] } = session.result ?? {}, choice = agreedChoice(session, typed);
-    const [first] = choice && line ? plainPoints(points, game) : [];
-    refill(agreed, first && el("p", { class: "hint" }, "As long as nothing is agreed on, the one page has ",
-      `${quoted(first)}.`), choice);
-  };
+  element.showAgreed = () => showAgreed(agreed, session, typed);
   return element;
+}
+
+/** Fills the place of what was agreed on: the choice, and, as long as nothing is, what the one page has. */
+function showAgreed(place, session, typed) {
+  const { line, game, points = [] } = session.result ?? {};
+  const choice = agreedChoice(session, typed, () => showAgreed(place, session, typed));
+  const [first] = choice && line ? plainPoints(points, game) : [], isOpen = first && !agreedColumn(session, typed);
+  refill(place, isOpen && el("p", { class: "hint" }, "As long as nothing is agreed on, the one page has ",
+    `${quoted(first)}.`), choice);
 }
 
 function printAs(what) {
