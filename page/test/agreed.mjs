@@ -56,6 +56,8 @@ export const agreed = [
 
   ["an own division that was agreed on stands on the sheet", "estate", async (page, expect) => {
     await settle(page);
+    await choose(page, "proportion");
+    expect("what part of each claim", await sheet(page), /Each gets 40\.00.% of its claim\./);
     await page.click("equal parts");
     await settle(page);
     expect("it can be chosen", await choose(page, "proposal"), "proposal");

@@ -37,9 +37,17 @@ function savingsText(game, { shares }, rows, format) {
     : listed(told)}: together ${sum}.`;
 }
 
+/** Of an estate in proportion, what part of each claim is paid; "" for another column. */
+function partText({ kind, single, amounts }, { key }, format) {
+  if (kind !== "bankruptcy" || key !== "proportion") return "";
+  const percent = single.times(Rational.of(100)).over(Rational.sum(amounts));
+  return `Each gets ${format.show(percent)}\u202f% of its claim.`;
+}
+
 /** What is said for a column that was agreed on, and isn't the answer; "" for nothing. */
 function meantOf({ result: { game }, rows, format, agreed }) {
-  const text = [savingsText(game, agreed, rows, format), meaningOf(agreed.key, game)].filter(Boolean).join(" ");
+  const text = [partText(game, agreed, format), savingsText(game, agreed, rows, format), meaningOf(agreed.key, game)]
+    .filter(Boolean).join(" ");
   return text && el("section", {}, el("h2", {}, agreed.title), el("p", {}, text));
 }
 
