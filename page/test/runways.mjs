@@ -39,6 +39,8 @@ export function tryRunways(expect, draw) {
     }
   }
   tryLimits(expect);
+  const many = Array.from({ length: 500 }, (_, k) => ({ cost: Rational.of(k + 1), count: 1 }));
+  expect("the shares of 500 different landings", String(Rational.sum(nucleolusOf(many))), "500");
 }
 
 /** From which number of landings on the page calculates what. */

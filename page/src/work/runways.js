@@ -17,16 +17,26 @@ function placesOf(rows) {
   return places;
 }
 
+/** Of `places` from some on, before which `settled` landings have `paid`: the least part that a cost leaves, and the
+ * place of the last that leaves it. Of many landings parts have hundreds of digits, so only the least is in lowest
+ * terms. */
+function leastPart(places, { paid, settled, everyone }) {
+  const heads = (place) => BigInt(place - settled + (place < everyone ? 1 : 0));
+  let least = null, last = 0;
+  places.forEach(({ cost, place }, k) => {
+    const own = { left: cost.num * paid.den - paid.num * cost.den, by: cost.den * heads(place) };
+    if (!least || own.left * least.by <= least.left * own.by) [least, last] = [own, k];
+  });
+  return { part: new Rational(least.left, least.by * paid.den), place: last };
+}
+
 /** What a landing of each row pays by the nucleolus. All that aren't settled pay the least part that some cost leaves:
  * what of it isn't paid yet, parted among the landings up to it, and one more where others need more. */
 export function nucleolusOf(rows) {
   const places = placesOf(rows), everyone = places.at(-1).place, shares = new Map();
   let paid = ZERO, settled = 0, next = 0;
   while (next < places.length) {
-    const parts = places.slice(next).map(({ cost, place }) => {
-      return cost.minus(paid).over(Rational.of(place - settled + (place < everyone ? 1 : 0)));
-    });
-    const part = Rational.min(parts), last = next + parts.findLastIndex((one) => one.equals(part));
+    const { part, place } = leastPart(places.slice(next), { paid, settled, everyone }), last = next + place;
     for (const { cost } of places.slice(next, last + 1)) shares.set(String(cost), part);
     paid = paid.plus(part.times(Rational.of(places[last].place - settled)));
     [settled, next] = [places[last].place, last + 1];
