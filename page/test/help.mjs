@@ -68,7 +68,10 @@ function tryNetwork(n) {
     const group = membersOf(mask).map((i) => i + 2);
     expect(`${group} of ${told} without a place`, Number(others.numbers[mask]), leastCost(edges, group));
   }
-  for (const [key, text] of Object.entries(fillLinks(what).links)) {
+  const { links: filled, told: made, isDearer } = fillLinks(what), costs = treeCosts(n, filled);
+  const isOf = made.length > 0 && costs.some((cost, k) => cost > Number(typed?.numbers[k + 1]));
+  if (typed) expect(`a group of ${told} is dearer than in a table of costs`, isDearer, isOf);
+  for (const [key, text] of Object.entries(filled)) {
     const [i, j] = key.split("-").map(Number), least = leastCost(edges, [j], i);
     if (!links[key]) expect(`the way ${key} of ${told}`, text === "" ? Infinity : Number(text), least);
   }

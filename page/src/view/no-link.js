@@ -16,29 +16,24 @@ const REWARD = "A place that spares others such a link is rewarded for it: the m
  * without the places `nobody`, from 0. */
 export function noLinkHelp(typed, { mark, help, remember, setLinks, asTable }) {
   const said = el("div", { "aria-live": "polite" });
-  const tell = (notes, told = []) => refill(said, notes.map((note) => el("p", { class: "note" }, note)),
-    told.length > 0 && [el("p", { class: "tools" }, "In a table of costs it counts once: ",
-      button("Make a table of costs", () => makeTable(), { class: "quiet" })),
-    el("details", { class: "named" }, el("summary", {}, "Which links"), el("p", {}, told.join("; ")))]);
+  const tell = (...what) => refill(said, toldParts(...what, () => makeTable()));
   const ask = (task, use) => async (more = {}) => {
     const { names, links, source } = typed, before = JSON.stringify(links);
     const found = await help(task, { names: [...names], ...given(typed, task), source, mark: mark(), ...more });
     if (JSON.stringify(typed.links) !== before) return; // somebody types on
-    if (found.fault) tell([found.fault]);
+    if (found.fault) tell([found.fault], [], false);
     else use(found);
   };
-  const fill = ask("fillLinks", ({ links, ways, told, notes }) => {
+  const fill = ask("fillLinks", ({ links, ways, told, notes, isDearer }) => {
     setLinks(links, { ...withoutWays(typed), ...Object.fromEntries(ways.map((key) => [key, "way"])) });
-    tell(notes, told);
+    tell(notes, told, isDearer);
     part.open = hasEmpty(typed);
   });
-  const fillWays = () => {
-    remember("Fill in the cheapest ways");
-    return fill();
-  };
+  const fillWays = () => (remember("Fill in the cheapest ways"), fill());
   const again = () => fill({ only: Object.keys(typed.filled ?? {}).filter((key) => typed.filled[key] === "way") });
-  const settings = { mark, remember, setLinks }, fillWith = (number) => tell(doWithout(typed, number, settings));
-  const fillUnused = () => tell(nobodyUses(typed, settings));
+  const settings = { mark, remember, setLinks };
+  const fillWith = (number) => tell(doWithout(typed, number, settings), [], false);
+  const fillUnused = () => tell(nobodyUses(typed, settings), [], false);
   const makeTable = (nobody) => ask("costsOfNetwork", ({ typed: table, notes }) => asTable(table, notes))({ nobody });
   const line = el("li", {}, el("b", {}, OWN), button(NOBODY, fillUnused));
   const element = waysPart({ line, fillWays, makeTable, fillWith, said }), part = element.firstChild;
@@ -52,6 +47,16 @@ export function noLinkHelp(typed, { mark, help, remember, setLinks, asTable }) {
     choices: () => choicesOf({ part, fillUnused: isUnused() && fillUnused, fillWays, makeTable }),
     openIfEmpty: () => { part.open ||= hasEmpty(typed); },
   });
+}
+
+/** What is told of links that were filled; `makeTable()` helps where that is another game. */
+function toldParts(notes, told, isDearer, makeTable) {
+  return [
+    notes.map((note) => el("p", { class: "note" }, note)),
+    isDearer && el("p", { class: "tools" }, button("Make a table of costs", makeTable, { class: "quiet" })),
+    told.length > 0 && el("details", { class: "named" }, el("summary", {}, "Which links"),
+      el("p", {}, told.join("; "))),
+  ];
 }
 
 /** Fills the empty links with a price, and gives what is told of it. */

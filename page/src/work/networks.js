@@ -3,6 +3,7 @@ import { lcm, Rational } from "../exact/rational.js";
 import { writtenAs } from "../exact/styles.js";
 import { cellNumber, shortText } from "../exact/decimals.js";
 import { sourceName } from "../cases/matrices.js";
+import { masksBySize, membersOf } from "../game/groups.js";
 import { withEscapes } from "../game/names.js";
 import { listed, plural } from "../game/words.js";
 
@@ -58,18 +59,39 @@ export function fillLinks({ names, links, unused = {}, source, mark, only = null
   }
   const texts = writtenAs(values, styleIn(links), mark), fresh = made.map((key, k) => [key, texts[k]]);
   const all = { ...links, ...unused, ...Object.fromEntries(fresh) };
-  return { links: all, ways: made, told, notes: notesOf(told, lacking) };
+  const filled = (i, j) => (`${Math.min(i, j)}-${Math.max(i, j)}` in unused ? null : cost(i, j) ?? ways[i][j]);
+  const dearer = told.length && !lacking.length ? dearerGroup(n, cost, filled) : null;
+  return { links: all, ways: made, told, isDearer: dearer !== null, notes: notesOf(told, lacking, dearer, names) };
 }
 
-function notesOf(told, lacking) {
+/** A smallest group that costs `more` by the ways that were filled than, `less`, by its cheapest network over places of
+ * others too, as where its detours share a stretch: {mask, more, less}; null if there is none. */
+function dearerGroup(n, cost, filled) {
+  const { scale, costs } = scaled(n, filled), networks = new Networks(costs);
+  const least = leastOf(n, costs.map((row, i) => row.map((one, j) => (i === j || cost(i, j) ? one : Infinity))));
+  const mask = masksBySize(n).find((one) => least[one] < networks.join(one));
+  if (mask === undefined) return null;
+  const [more, less] = [networks.join(mask), least[mask]].map((value) => new Rational(BigInt(value), scale));
+  return { mask, more, less };
+}
+
+function notesOf(told, lacking, dearer, names) {
   const notes = [];
   if (told.length) {
     notes.push(`${plural(told.length, "link was", "links were")} filled by the cheapest way through the others. `
-      + "They are marked, and follow when another number changes. If several detours of a group share a stretch, the "
-      + "stretch counts more than once, and the place that it leads through is rewarded.");
+      + `They are marked, and follow when another number changes. ${lacking.length ? "" : dearerText(dearer, names)}`);
   }
   if (lacking.length) notes.push(`No way leads there: ${lacking.join("; ")}.`);
   return notes.length ? notes : ["No link is empty."];
+}
+
+/** Whether a table of costs is another game than this network, and why. */
+function dearerText(dearer, names) {
+  if (!dearer) return "As a table of costs it is the same.";
+  const { mask, more, less } = dearer, group = membersOf(mask).map((i) => placeName(names, i + 1));
+  return "In a table of costs a group may build over others’ places, and a stretch that several of its detours share "
+    + `counts once: ${listed(group)} ${group.length > 1 ? "cost" : "costs"} ${shortText(more)} here, and `
+    + `${shortText(less)} there.`;
 }
 
 /** The table of costs of a network: a group costs the cheapest network that joins it, with or without places of others,
@@ -77,14 +99,7 @@ function notesOf(told, lacking) {
 export function costsOfNetwork({ names, links, mark, nobody = [] }) {
   const { n, cost, fault } = linksOf({ names, links, mark });
   if (fault) return { fault };
-  const { scale, costs } = scaled(n, cost), least = new Float64Array(2 ** n);
-  const networks = new Networks(costs);
-  for (let mask = 1; mask < 2 ** n; mask++) least[mask] = networks.join(mask);
-  for (let bit = 1; bit < 2 ** n; bit *= 2) {
-    for (let mask = 1; mask < 2 ** n; mask++) {
-      if (!(mask & bit) && least[mask | bit] < least[mask]) least[mask] = least[mask | bit];
-    }
-  }
+  const { scale, costs } = scaled(n, cost), least = leastOf(n, costs);
   const players = names.map((_, i) => i).filter((i) => !nobody.includes(i)), count = 2 ** players.length;
   const own = Array.from({ length: count }, (_, mask) => {
     return least[players.reduce((sum, i, k) => sum + (mask & (1 << k) ? 2 ** i : 0), 0)];
@@ -95,6 +110,18 @@ export function costsOfNetwork({ names, links, mark, nobody = [] }) {
   const notes = ["Made of a network: each group costs the cheapest network that joins it, over others’ places too."];
   if (nobody.length) notes.push(`Nobody is at ${listed(nobody.map((i) => `“${withEscapes(names[i])}”`))}.`);
   return { typed: { names: players.map((i) => names[i]), numbers }, notes };
+}
+
+/** What the cheapest network costs that joins each group, by masks, with or without places of others. */
+function leastOf(n, costs) {
+  const least = new Float64Array(2 ** n), networks = new Networks(costs);
+  for (let mask = 1; mask < 2 ** n; mask++) least[mask] = networks.join(mask);
+  for (let bit = 1; bit < 2 ** n; bit *= 2) {
+    for (let mask = 1; mask < 2 ** n; mask++) {
+      if (!(mask & bit) && least[mask | bit] < least[mask]) least[mask] = least[mask | bit];
+    }
+  }
+  return least;
 }
 
 /** Whole numbers over a scale; Infinity for a link that doesn't exist. */
