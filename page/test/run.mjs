@@ -18,6 +18,7 @@ import { entering } from "./entering.mjs";
 import { face } from "./face.mjs";
 import { failing } from "./failing.mjs";
 import { figures } from "./figures.mjs";
+import { gaps } from "./gaps.mjs";
 import { Harness } from "./harness.mjs";
 import { landings } from "./landings.mjs";
 import { lawyer } from "./lawyer.mjs";
@@ -57,6 +58,7 @@ harness.add(rooms);
 harness.add(figures);
 harness.add(byLimitPrices);
 harness.add(parts);
+harness.add(gaps);
 for (const some of [entering, assumed, saying, lecture, landings, bothWays, casesTyped, tables, otherCases,
   documents(top, program), checking(top), checks(top), letters(top), lawyer(top), failing(page, top), looks, access,
   precise, powerWhy]) {

@@ -64,8 +64,7 @@ export function beyondParts(beyond, { format, today, pinned, labelOfCell, said }
       return ownInput(row, r, today, "today", todayTitle(COSTS));
     } })),
     points.some(({ totals }) => format.isMoved(totals, rows)) && el("p", { class: "hint moved" }, movedText(rows)),
-    isAll && el("p", { class: "tools" }, keepButton(pinned), pinTools(pinned)),
-    isAll && todayTools(COSTS, today),
+    isAll && el("div", { class: "tools" }, keepButton(pinned), pinTools(pinned), todayTools(COSTS, today)),
     isAll && typesTable(rows, named, format),
     isAll && alikeTexts(beyond, format).map((text) => el("p", { class: "alike" }, text)),
     isAll && feesTexts(rows, named, format).map((text) => el("p", { class: "hint" }, text)),

@@ -82,7 +82,7 @@ class Mending {
       read(this.text());
     };
     this.element = el("form", { on: { submit } },
-      el("p", { class: "tools" }, "Your text: untick what is to be left out, or type over it. Then ",
+      el("p", {}, "Your text: untick what is to be left out, or type over it. Then ",
         button("Read it again", undefined, { type: "submit", class: "main" }), this.leaving(read),
         this.elsewhere(kind, read)),
       el("div", { class: "scroll" }, el("table", { class: "grid" }, this.wide > 1 && this.head(), this.body)));
@@ -107,8 +107,9 @@ class Mending {
   /** The other cases, for a text that belongs to one of them. */
   elsewhere(kind, read) {
     const choose = ({ target }) => read(this.text(), target.value);
-    return el("label", {}, " or read it as ", el("select", { on: { change: choose } }, el("option", {}, "another case"),
-      CASES.filter((other) => other !== kind).map(({ id, title }) => el("option", { value: id }, title))));
+    const others = CASES.filter((other) => other !== kind).map(({ id, title }) => el("option", { value: id }, title));
+    return [" ", el("label", {}, "or read it as ",
+      el("select", { on: { change: choose } }, el("option", {}, "another case"), others))];
   }
 
   tick(label, isIn, onTick) {
