@@ -140,9 +140,6 @@ async function belowOnPhone(page, expect) {
   const sizes = "[...new Set([...document.querySelectorAll('.shares :is(tbody, .sum) td:not(.main)')].map((one) => "
     + "getComputedStyle(one).fontSize))].join()";
   expect("size of letters", await page.run(sizes), "14px");
-  const ends = "new Set([...document.querySelectorAll('.shares tr:not(.above)')].map(({ children }) => Math.round("
-    + "[...children].findLast((one) => one.checkVisibility()).getBoundingClientRect().right))).size";
-  expect("places where rows end", await page.run(ends), 1);
 }
 
 const papers = CASES.map((id) => [`one page on paper: ${id}`, id, async (page, expect) => {

@@ -55,6 +55,25 @@ async function halves(page, expect) {
   expect("as wide as the part", (await width("#own-body")) > 0.9 * (await width(".halves-of-part")), true);
 }
 
+/** The column that a phone hides takes no room in any row. */
+async function rowEnds(page, expect) {
+  await page.click("equal parts");
+  await settle(page);
+  const ends = `new Set([...document.querySelectorAll("#answer .shares tr:not(.above)")].map(({ children }) => {
+    return Math.round([...children].findLast((one) => one.checkVisibility()).getBoundingClientRect().right);
+  })).size`;
+  expect("places where rows end", await page.run(ends), 1);
+}
+
+/** Buttons stand beside others, also where what was beside them is unfolded. */
+async function oneLine(page, expect) {
+  await page.click("More for the cells");
+  if (!(await page.run("document.querySelector('.more-tools details').open"))) await page.click("Paste a whole list");
+  const tops = `[...document.querySelectorAll(".more-tools .tools button")]
+    .filter((one) => !one.closest("details details")).map((one) => Math.round(one.getBoundingClientRect().top))`;
+  expect("lines of buttons", await page.run(`[${tops}.length, new Set(${tops}).size].join()`), "3,1");
+}
+
 /** No heading alone at the foot of a page, no last line alone on the last, and nothing of who types. */
 async function paper(page, expect) {
   await page.look({ print: true });
@@ -77,5 +96,7 @@ export const rooms = [
   ["room: the mark of a question beside its first line", "costs", markBeside],
   ["room: lists of limit prices", "market", lists],
   ["room: what would stand beside an empty half", "market", halves],
+  ["room: rows end at one place on a phone", "costs", rowEnds, { wide: 390, high: 844 }],
+  ["room: buttons below an open list", "costs", oneLine],
   ["room: on paper", "market", paper],
 ];

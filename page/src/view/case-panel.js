@@ -93,7 +93,7 @@ function showDeciding(grid, legend, tips) {
 function moreTools(kind, typed, others, onReset) {
   const reset = (title, next) => button(title, () => onReset(next(), title), { class: "quiet" });
   return el("details", { class: "inline more-tools" }, el("summary", {}, "More for the cells"),
-    el("p", { class: "hint keys" }, kind.isTable ? KEYS.player : KEYS.row), others, el("p", { class: "tools" },
+    el("p", { class: "hint keys" }, kind.isTable ? KEYS.player : KEYS.row), el("div", { class: "tools" }, others,
       reset("Clear all", () => cleared(kind, typed)), reset("Fill in the worked example", () => kind.example())));
 }
 

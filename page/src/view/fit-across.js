@@ -3,7 +3,7 @@
 // have, too; names then are shortened, and those above columns break anywhere.
 
 const STEPS = ["close", "closer", "closest"];
-const MOST = 20, LEAST = 8, SHORTEST = 5, FINE = 0.5; // the room of a typed name, in rem
+const MOST = 20, LEAST = 8, SHORTEST = 4.5, FINE = 0.5; // the room of a typed name, in rem
 
 /** Gives typed names the most room by which the table fits, and tells whether it does. */
 function fitNames(table, isIn) {
