@@ -37,7 +37,7 @@ export function pricesOf(given, said) {
   if (money) return { fault: money };
   const sided = sidesOf(lists, said);
   const [head, ...heads] = lists.map((list) => list.head ?? ""), amounts = amountsIn(head, heads);
-  const told = [leftText(left), ...notes, ...notesOf(lists)];
+  const told = [leftText(left), ...notes, ...notesOf(lists)].filter(Boolean);
   return sided && (sided.lists ? { ...taken(sided.lists), amounts, notes: told } : sided);
 }
 

@@ -115,7 +115,8 @@ export function leastOf(typed, votes, mark, all = Rational.sum(votes)) {
  * else's. */
 export function apartQuotas(quotas, votes, mark) {
   const leastIn = ({ text }) => String(leastOf(text, votes, mark) ?? readNumber(bareQuota(text), mark).value);
-  const [one, other] = quotas, isOne = quotas.length === 2 && (!other.whom || other.whom === one.whom);
+  const [one, other] = quotas, whom = new Set(quotas.map((quota) => quota.whom).filter(Boolean));
+  const isOne = quotas.length === 2 && whom.size < 2;
   return isOne && votes.length > 0 && leastIn(one) === leastIn(other) ? [one] : quotas;
 }
 

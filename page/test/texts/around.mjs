@@ -108,4 +108,6 @@ export const AROUND = [
     + "all shares, i.e. at least 448.", "Haus eG=310|Kirche St. Anna=212|Weiss=150", /a quota.*needed: two thirds/],
   ["votes", `${PARTNERS}\nErforderlich: siehe Satzung`, IN_PARTNERS, /Left out, .*“Erforderlich: siehe Satzung”/],
   ["votes", `${PARTNERS}\nDecision by qualified majority (> 66 %)`, IN_PARTNERS, /Votes needed: more than 66 %/],
+  ["votes", "A 20\nB 12\nC 7\nBeschlüsse bedürfen einer Zweidrittelmehrheit, also 26 Stimmen.", "A=20|B=12|C=7",
+    /names a quota.*Votes needed: Zweidrittel/],
 ];
