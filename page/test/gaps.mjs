@@ -5,8 +5,8 @@ const PHONE = { wide: 390, high: 844 }, FIRST = '[data-cell="rows.0.name"]';
 const FLEET = "User;Type;Uses;Needs alone\nAlbatros;DH8;300;20,5\nAlbatros;A320;2;40\nCargo;B744;2;60";
 const UNITS = "Ann\tlots\t3 apples\t2\nBo\tmany\t4 pears\t5 of 6\nx\t?\t!\t7";
 /** What a property of the style is, of all that a selector finds: each value once. */
-const styleOf = (page, selector, name) => page.run(`[...new Set([...document.querySelectorAll('${selector}')].map((one) => `
-  + `getComputedStyle(one).${name}))].join()`);
+const styleOf = (page, selector, name) => page.run(`[...new Set([...document.querySelectorAll('${selector}')]
+  .map((one) => getComputedStyle(one).${name}))].join()`);
 
 async function asked(page, expect) {
   await page.paste(FIRST, UNITS);
