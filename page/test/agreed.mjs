@@ -43,6 +43,13 @@ export const agreed = [
     expect("opened again", await chosen(page), "shapley");
   }],
 
+  ["of votes the power is saved for a spreadsheet", "votes", async (page, expect) => {
+    await settle(page);
+    const [head, first] = (await savedFile(page, "Save the table (CSV)")).split("\r\n");
+    expect("its columns", head, "Voter,Votes,\"of all, %\",\"Power, %\",\"Power, exact\"");
+    expect("a voter", first, "France,4,23.5,23.3,7÷30");
+  }],
+
   ["the prices that were agreed on stand on the sheet", "market", async (page, expect) => {
     await settle(page);
     const ways = "[...document.querySelector('[data-cell=\"paper.agreed\"]').options].map(({ value }) => value).join()";

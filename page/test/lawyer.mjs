@@ -49,7 +49,7 @@ async function besideNucleolus(page, expect) {
   expect("not before it is whole", await page.run("document.querySelector('.shares .against')"), null);
   await propose(page);
   expect("the title", await page.text(".shares thead .against"), "against the answer");
-  const cells = "[...document.querySelectorAll('.shares td.against')]";
+  const cells = "[...document.querySelectorAll('.shares :is(tbody, .sum) td.against')]";
   const column = await page.run(`${cells}.map((td) => td.textContent).join()`);
   const wanted = "−12\u202f599.88,+2\u202f925.37,−1\u202f074.87,+6\u202f249.38,+1\u202f000.00,+3\u202f500.00,0.00";
   expect("more and less", column, wanted);

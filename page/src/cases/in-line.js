@@ -1,7 +1,8 @@
 // Names and numbers in one line, as a sentence has them: "Vance 41, Ruiz 26.5 and Ott 7.5".
 import { isSumWord } from "../game/names.js";
+import { quotasIn } from "./clauses.js";
 import { WHOEVER } from "./leaders.js";
-import { QUOTA } from "./quota.js";
+import { QUOTA, WHOM } from "./quota.js";
 import { ESTATE } from "./whole-words.js";
 
 const MOST_LETTERS = 2000; // of a text with such a line
@@ -37,6 +38,15 @@ function itemsBy(way, line) {
   return found.length > 1 && new Set(found.map(([name]) => name)).size === found.length ? found : null;
 }
 
+const OF_VOTES = new RegExp(`\\s(?:${WHOM})$`, "iu");
+
+/** Items without the word for votes behind some of the numbers, as in "Ghent has 12 votes, Lyon 9". */
+function bareItems(items) {
+  const count = items.filter(([, number]) => OF_VOTES.test(number)).length;
+  if (!count || count === items.length) return items;
+  return items.map(([name, number, ...more]) => [name, number.replace(OF_VOTES, ""), ...more]);
+}
+
 /** The same of what stands behind a colon: {items, said}, `said` being the words before it. */
 export function saidItemsOf(line) {
   const items = itemsOf(line), ways = items ? [] : SAID.map((one) => one.exec(line) ?? []);
@@ -50,24 +60,32 @@ function sentencesOf(line) {
   return some.filter((one) => saidItemsOf(one).items).length === 1 ? some : [line];
 }
 
+const YEARS = /(?<!\d)(?:19|20)\d\d(?!\d)/g;
+/** Whether words beside a list in one line say nothing that counts: no quota, no number but of a year or an item. */
+const isTalk = (text) => /^\d{1,2}$/.test(text) || (!/\d/.test(text.replace(YEARS, "")) && !quotasIn(text).length);
+
 /** Rows with a row for each name of a line of names and numbers, if one line is such and none is another row: {rows,
- * isParted}. Of two such lines with the same names each row has both numbers. Words before a list are a line above. */
+ * isParted, left}. Of two such lines with the same names each row has both numbers. Words before a list are a line
+ * above; in prose, of several sentences, they are `left` out. */
 export function partedInLine(rows) {
   const all = rows.map((row) => row.join(",").trim().replace(/\s+/g, " "));
-  if (all.reduce((sum, { length }) => sum + length, 0) > MOST_LETTERS) return { rows, isParted: false };
-  const lines = all.flatMap(sentencesOf);
+  if (all.reduce((sum, { length }) => sum + length, 0) > MOST_LETTERS) return { rows, isParted: false, left: [] };
+  const parts = all.map(sentencesOf), lines = parts.flat(), left = [];
+  const inProse = new Set(parts.filter(({ length }) => length > 1).flat());
   const found = lines.map(saidItemsOf), [one, two, other] = found.filter(({ items }) => items);
   const numberOf = (name) => two.items.find(([own]) => own === name)?.[1];
   const isPair = two && !other && two.items.length === one.items.length && one.items.every(([own]) => numberOf(own));
   const isWhole = (line) => [QUOTA, ESTATE].some((one) => one.test(line.replace(/\s\P{L}*$/u, "")));
   const isOther = (line, k) => !found[k].items && SHORT.test(line) && !isWhole(line);
-  if (!one || (two && !isPair) || lines.some(isOther)) return { rows, isParted: false };
+  if (!one || (two && !isPair) || lines.some(isOther)) return { rows, isParted: false, left };
   const whole = (line) => [line.replace(/,(?=\S)(?!\d)/g, ", ")];
-  const own = one.items.map((item) => (isPair ? [...item, numberOf(item[0])] : item));
-  const rowsOf = ({ items, said }, k) => [
-    ...(items && !said ? [] : [whole(said ?? lines[k])]), ...(found[k] === one ? own : []),
-  ];
-  return { rows: found.flatMap(rowsOf), isParted: true };
+  const own = bareItems(one.items).map((item) => (isPair ? [...item, numberOf(item[0])] : item));
+  const rowsOf = ({ items, said }, k) => {
+    const text = said ?? lines[k], isLeft = inProse.has(lines[k]) && isTalk(text) && (said || !items);
+    if (isLeft) left.push(text);
+    return [...(isLeft || (items && !said) ? [] : [whole(text)]), ...(found[k] === one ? own : [])];
+  };
+  return { rows: found.flatMap(rowsOf), isParted: true, left };
 }
 
 const MONEY = "(?=(?:\\p{Sc}|[A-Z]{3})?\\s?\\d)", NEXT = `[;,]?\\s+(?:and|und|et|y|e|en)\\s+${MONEY}|[;,]\\s+${MONEY}`;

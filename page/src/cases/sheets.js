@@ -42,7 +42,7 @@ export function isProse([[text = "", more] = [], other]) {
  * there is nothing but clauses that name quotas. */
 function tableIn(pasted, { single, isFirst }) {
   const whole = { rows: pasted, notes: [] }, saved = answerFault(pasted);
-  const { rows: given, isParted } = isFirst ? partedInLine(pasted) : whole;
+  const { rows: given, isParted, left: talk = [] } = isFirst ? partedInLine(pasted) : whole;
   const isEstate = single && !single.second && isFirst;
   const isKnown = (text) => single.heads.test(text.replace(BEHIND, "")); // taken as what there is
   const { rows: numbered, pages } = isFirst ? withoutPages(given) : { rows: pasted, pages: [] };
@@ -61,7 +61,7 @@ function tableIn(pasted, { single, isFirst }) {
   const { rows: headed, left: titles } = isEstate ? headsFirst(said) : { rows: said, left: [] };
   const { rows, left } = unframed(headed), all = [above, lines, around, titles, left, clauses];
   const out = inOrder(all.flat(), given), told = [isParted && IN_LINE, marksText(marks), isListed && LISTED];
-  return { given, rows, out, notes: [leftText([...out, ...pages]), ...told, ...counted] };
+  return { given, rows, out, notes: [leftText([...out, ...pages, ...talk]), ...told, ...counted] };
 }
 
 /** What is told of the marks of notes. */

@@ -13,6 +13,7 @@ import { pinnedNote, pinTools, sinceKept } from "./pinned.js";
 import { outOfBounds } from "./own-bounds.js";
 import { stayingText } from "./own-rows.js";
 import { ownInput, proposalSum } from "./proposal-cells.js";
+import { powerLines } from "./power-lines.js";
 import { CALCULATED } from "./questions.js";
 import { airlineLines, besideLines, roundingLines, shareLines } from "./table-lines.js";
 import { changeBelow, todayTitle } from "./today.js";
@@ -314,6 +315,7 @@ export function tablesOf({ points, game }, { rows, format, coarse, today, pinned
   });
   const beside = besideLines(rows, own, { today, pinned: game.ballots ? null : pinned, proposal, game }, format);
   const proposed = proposal?.totals ? [{ title: "Your proposal", totals: proposal.totals }] : [];
-  return [shareLines(rows, own, format, beside), airlineLines(rows, [...own, ...proposed], format),
-    roundingLines(own, format, coarse)];
+  const power = game.ballots && points.find(({ key }) => key === "shapley"); // before the division of a prize
+  return [...(power ? [powerLines(game, power.shares, format)] : []), shareLines(rows, own, format, beside),
+    airlineLines(rows, [...own, ...proposed], format), roundingLines(own, format, coarse)];
 }

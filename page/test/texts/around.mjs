@@ -110,4 +110,7 @@ export const AROUND = [
   ["votes", `${PARTNERS}\nDecision by qualified majority (> 66 %)`, IN_PARTNERS, /Votes needed: more than 66 %/],
   ["votes", "A 20\nB 12\nC 7\nBeschlüsse bedürfen einer Zweidrittelmehrheit, also 26 Stimmen.", "A=20|B=12|C=7",
     /names a quota.*Votes needed: Zweidrittel/],
+  ["votes", "7. Weights. The council took note of the weights for 2027: Ghent has 12 votes, Aachen 10 and Lyon 9. A "
+    + "decision requires at least 16 of the 31 votes. Dr Jans asked whether Lyon counts.", "Ghent=12|Aachen=10|Lyon=9",
+  /Left out, .*“Weights”.*Votes needed: 16 of 31/],
 ];
