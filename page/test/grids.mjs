@@ -67,7 +67,8 @@ export class Desk {
       setEntry: (by) => Object.assign(this, { mark: by }) && Object.assign(typed, { isMarked: true }),
     }).flat(Infinity).filter(Boolean) : [];
     const textOf = (some) => some.map((one) => one.textContent).join(" ");
-    return { reading, buttons: buttonsIn([this.grid, ...asked]), said: textOf(said), asked: textOf(asked) };
+    const [buttons, answers] = [[this.grid], said].map((some) => buttonsIn([...some, ...asked]));
+    return { reading, buttons, answers, said: textOf(said), asked: textOf(asked) };
   }
 
   /** What stands in the cells, empty ones of a row as "". */

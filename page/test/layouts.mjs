@@ -27,9 +27,9 @@ async function judged({ id, cell, text, mark, wanted }) {
   const ways = [], go = async (path) => {
     const desk = new Desk(id, mark);
     await desk.paste(cell, text);
-    for (const k of path) await settled(desk.read().buttons[k].on.click({}));
-    const { buttons, said, ...now } = desk.read();
-    const asked = [...buttons.keys()].filter((k) => buttons[k].textContent !== "Put it back"); // which is no question
+    for (const k of path) await settled(desk.read().answers[k].on.click({}));
+    const { answers, said, ...now } = desk.read();
+    const asked = [...answers.keys()].filter((k) => answers[k].textContent !== "Put it back"); // which is no question
     if (asked.length && path.length < MOST_ASKED) for (const k of asked) await go([...path, k]);
     else ways.push({ said, found: foundAt(now) });
   };

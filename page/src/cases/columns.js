@@ -64,7 +64,7 @@ export function columnsFor(columns, headings, more = {}) {
   const asked = fit.rivals() ?? fit.words() ?? fit.amounts();
   if (asked) return { asked };
   fit.rest();
-  return { targets: fit.targets, isGuess: Boolean(fit.isGuess) };
+  return { targets: fit.targets, isGuess: Boolean(fit.isGuess), isUnclear: fit.isUnclear };
 }
 
 class Fit {
@@ -122,7 +122,9 @@ class Fit {
     const ahead = words.filter(({ c, isFull }) => isFull && at.length > 0 && at.every((one) => one.c > c));
     const isTwo = !this.headings && ahead.length > 1 && !this.free(isType).length;
     if (column && isTwo) return { column, at: ahead, isOnly: true };
-    this.give(column ? words.slice(0, 1) : [], [column]);
+    const isNamed = ({ isFull, texts }) => isFull && new Set(texts).size === texts.length;
+    const named = words[0]?.isFull ? words[0] : words.find(isNamed) ?? words[0]; // remarks have gaps
+    this.give(column && named ? [named] : [], [column]);
     this.give(this.headings ? [] : words.filter((one) => this.isOpen(one) && one.isFull), this.free(isType));
     if (!column || words.length || !at.length) return null;
     const isClear = this.headings && at.length === 1 && !hasTypes && !this.free(({ number }) => number).length;
@@ -142,6 +144,9 @@ class Fit {
     const [, ...more] = this.all.filter((one) => one.isWords && !one.isNumbers); // names beside names have numbers each
     const isBeside = more.some(({ c }) => numbers.some((one) => one.c > c));
     const isWide = !this.headings && !isBeside && numbers.length > own.length - 1 + this.most;
+    const hasNames = this.targets.some((own) => own?.wide) || this.all.some((one) => one.isWords && !one.isNumbers);
+    this.isUnclear = isWide && !hasNames && numbers.some(isCounting); // numbers that count may be names
+    if (this.isUnclear) return null;
     if ((this.headings || isWide) && column && !isClear && numbers.length > least) {
       return { column, at: numbers, isOnly: own.length === 1, canNone: !least };
     }
@@ -157,14 +162,21 @@ class Fit {
   }
 }
 
+/** Whether the numbers of a column are 1, 2, .., which may number the rows or be names. */
+function isCounting({ texts }) {
+  const counts = texts.filter((text) => /^\d+[.)]?$/.test(text)).map((text) => Number.parseInt(text, 10));
+  return counts.length > 1 && counts.every((count, k) => count === k + 1);
+}
+
 /** Why rows without headings that are wider than their columns can't be taken; null if they aren't. What was said to be
  * for none (`out`), and remarks behind the numbers, are no part of their width. */
-export function widthFault(rows, headings, { targets }, columns, out = []) {
+export function widthFault(rows, headings, { targets, isUnclear }, columns, out = []) {
   const spare = new Set([...out, ...remarksIn(rows, targets)]);
   const isLost = rows.some((row) => row.some((text, c) => text && !targets[c] && !spare.has(c)));
   const titles = columns.map(({ title }) => `“${title}”`).join(", "), be = columns.length > 1 ? "are" : "is";
-  return headings || !isLost ? null : `These rows have ${targets.length} cells, and here ${be} ${titles}. Copy those `
-    + "alone, or all with their headings.";
+  if (headings || !(isLost || isUnclear)) return null;
+  return `These rows have ${targets.length} cells, and here ${be} ${titles}. Copy those alone, or all with their `
+    + "headings.";
 }
 
 /** The places of remarks, of which none is a number, behind the numbers of rows. */
