@@ -29,6 +29,9 @@ export const agreed = [
     expect("what is proved", text, /These numbers have no certificate\./);
     expect("what has to be the same", text, /its column “By what each adds” has to be the same/);
     expect("nothing of another rule", /nucleolus/.test(text), false);
+    await page.run("document.body.dataset.print = 'all'; dispatchEvent(new Event('beforeprint'))");
+    expect("where everything is printed", await page.text("#paper-head"), /The parties agreed on: by what each adds/);
+    await page.run("dispatchEvent(new Event('afterprint'))");
     const file = await savedFile(page, "Save the case");
     expect("in the file", file, /"agreed":"shapley"/);
     await page.type("numbers.7", "121");

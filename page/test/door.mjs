@@ -267,6 +267,9 @@ const messy = [
     await pasted(page, [["Creditor", "Claim"], ["X", 1500], ["Y", 2500]]);
     await told(page, "#answer .lead", /X gets 500\.00 and Y gets 500\.00: together 1000\.00/);
     expect("who claims", await cells(page), "1000|X|1500|Y|2500");
+    await told(page, "#case .pasted", /The estate is still 1000\./);
+    await page.type("estate", "2000");
+    expect("no more once it is typed", /still 1000/.test(await page.text("#case .pasted")), false);
   }],
   ["door: amounts in two currencies aren’t added", "estate", async (page, expect) => {
     await pasted(page, [["Creditor", "Claim"], ["Alpha", "€ 100.50"], ["Beta", "EUR 200"], ["Gamma", "CHF 300"]]);

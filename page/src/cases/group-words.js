@@ -7,7 +7,7 @@ import { fullNames, parted, withAllBut, withoutSome } from "./short-groups.js";
 
 const MOST_TOLD = 4; // groups in other words that are named
 export const NOBODY = /^(∅|none|nobody|no ?one|empty( set)?|niemand|personne|[-–—]|0|)$/i;
-const AND = /\s*(?:[&,/;|]|\b(?:and|und|et|y|e|en|och|with|mit|avec)\b|(?<=\s)u\.(?=\s))\s*/u;
+const AND = /\s*(?:[&,/;|]|(?<=\s)(?:and|und|et|y|e|en|och|with|mit|avec)(?=\s)|(?<=\s)u\.(?=\s))\s*/u;
 const TOGETHER = new RegExp(`[\\s,]+(?:${WITH})$`, "iu");
 const RANGE = /^(.{1,60}?) (\d{1,2})(?:\s?[-–]\s?| (?:to|bis|à) )(\d{1,2})$/u;
 export const LONE = "alone|only|(?:all )?by (?:itself|themselves|himself|herself)|on (?:its|his|her|their) own|"

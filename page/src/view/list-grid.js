@@ -10,7 +10,9 @@ import { readNumber } from "../exact/decimals.js";
 import { withEscapes } from "../game/names.js";
 import { cellInput, moveByKeys, pasteCells, removal } from "./cells.js";
 import { askAgain, askIn, button, el, refill, unask } from "./dom.js";
-import { askBroken, askClause, askHead, askPair, offersOf, withoutGone } from "./list-offers.js";
+import {
+  askBroken, askClause, askHead, askPair, offersOf, stillText, unsay, withoutGone,
+} from "./list-offers.js";
 import { askNames } from "./names-asked.js";
 
 const ROWS = "rows."; // what the cells of the list are called by
@@ -293,7 +295,7 @@ class ListGrid {
     const isWhole = r === 0 && (isExample || (hasNames && !isNew && (headings || rows.length > 1)));
     const isOther = (row, k) => !this.isBlank(row) && (isWhole || k >= r + rows.length);
     const isOver = !isExample && !(isWhole && kept === "all") && typed.rows.some(isOther)
-      && (isWhole ? `The rows before are gone (Undo).${this.stillText(number)}` : "The rows below stay as they were.");
+      && (isWhole ? `The rows before are gone (Undo).${stillText(this, number)}` : "The rows below stay as they were.");
     if (isWhole) this.leave(isExample);
     Object.assign(typed, { ...asks, notTwice: false, beside, amounts, ...(kind.isVote && { isPercent }) });
     if (number) typed[kind.single.key] = number;
@@ -310,14 +312,6 @@ class ListGrid {
     this.showSingles();
     this.show();
     this.onChange();
-  }
-
-  /** What stays above a list that takes the place of another. */
-  stillText(number) {
-    const { kind: { single, second }, typed } = this;
-    return [!number && single, typed.secondQuota !== undefined && second.single].map((one) => {
-      return one && typed[one.key].trim() ? ` ${one.title} is still ${typed[one.key]}.` : "";
-    }).join("");
   }
 
   /** Says what became of a pasted list; a column or line that was left out, or nothing taken, is seen at once. */
@@ -392,6 +386,7 @@ class ListGrid {
       cell: key, value: this.typed[key], isNumber: true, label: title,
       onInput: (text) => {
         this.typed[key] = text;
+        unsay(this, key);
         this.showOffers();
         this.onChange();
       },

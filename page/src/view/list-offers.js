@@ -58,6 +58,23 @@ function lineOf({ line, rows, targets }, mark) {
   return line?.quotas ? { ...line, quotas: apartQuotas(line.quotas, votes, mark) } : line;
 }
 
+/** What stays above a list that takes the place of another: the estate, or the quotas, but for a pasted `number`. */
+export function stillText(grid, number) {
+  const { kind: { single, second }, typed } = grid;
+  const all = [!number && single, typed.secondQuota !== undefined && second.single].filter(Boolean);
+  const kept = all.filter(({ key }) => typed[key].trim());
+  grid.stills = new Map(kept.map(({ key, title }) => [key, ` ${title} is still ${typed[key]}.`]));
+  return [...grid.stills.values()].join("");
+}
+
+/** That is no more said of a number once it is typed. */
+export function unsay({ said: { firstChild }, stills, typed: { offered } }, key) {
+  const sentence = stills?.get(key);
+  if (!sentence || !firstChild) return;
+  firstChild.textContent = firstChild.textContent.replace(sentence, "");
+  if (offered) offered.told = offered.told.replace(sentence, "");
+}
+
 /** Puts a row that was left out below the others: it counts. */
 function putBack(grid, { name, row }) {
   const { typed } = grid, place = typed.rows.findLastIndex((one) => !grid.isBlank(one)) + 1;

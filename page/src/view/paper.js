@@ -4,7 +4,7 @@ import { countText } from "../exact/decimals.js";
 import { masksBySize } from "../game/groups.js";
 import { OWN_PROVED, provedText } from "../tell/proved.js";
 import { plainPoints, quoted } from "../tell/rule-names.js";
-import { agreedChoice, agreedColumn } from "./agreed.js";
+import { agreedChoice, agreedColumn, agreedText } from "./agreed.js";
 import { button, el, refill } from "./dom.js";
 import { dayText, showSheet } from "./sheet.js";
 import { unitOf, unitText } from "./unit.js";
@@ -39,8 +39,8 @@ export function paperPart(session, typed) {
   const { isVote } = session.kind, agreed = el("div");
   const element = el("div", { class: "paper-part" },
     el("p", { class: "hint" }, "One page for a board or a court: who, how much, a picture, the reasons, what is ",
-      "agreed on, and how to check it. Or everything on this page, with the amounts that were worked out, and the ",
-      "check of a line if it is of this case."),
+      "agreed on, and how to check it. Or everything on this page, with the amounts that were worked out, and a ",
+      "check of a line against this case."),
     agreed,
     field("heading", "Heading", typed.heading ?? session.kind.title, true),
     typed.isPastedOver && typed.heading && el("p", { class: "hint" }, `The heading is still “${typed.heading}”.`),
@@ -105,9 +105,16 @@ export class Paper {
     return [
       el("p", {}, own && el("b", {}, own), own && " – ", dayText()),
       what === "all" && isCase && this.still() && el("p", {}, el("b", {}, this.still())),
+      what === "all" && isCase && this.agreed(),
       what === "all" && unit && !(isCase && this.session.kind.isVote) && el("p", {}, `All amounts are in ${unit}.`),
       what === "all" && isCase && !this.view.isHidden && this.proved(),
     ];
+  }
+
+  /** What was agreed on. */
+  agreed() {
+    const text = agreedText(agreedColumn(this.session, this.view.typed));
+    return text && el("p", {}, el("b", {}, text));
   }
 
   /** What is proved of the answer. */

@@ -285,4 +285,5 @@ export const GROUPS = [
     + "Tiles and Paper    63,000", "Tiles|Paper|42,000.50|36,500|63,000", /Left out, .*“Cost per .*Page 3 of 8”/],
   ["costs", "Lot    Price\nAnn    640\nBo    480\nAnn and Bo    980\n\nValid until 31 March 2027.        Page 6 of 11",
     "Ann|Bo|640|480|980", /Left out, .*“Valid until 31 March 2027\. Page 6 of 11”/],
+  ["gains", "Pen-y-Bont alone 30\nHafod alone 0\nPen-y-Bont and Hafod together 90", "Pen-y-Bont|Hafod|30|0|90"],
 ];
